@@ -1,0 +1,5 @@
+pub mod Ref
+pub mod Obj
+pub mod State
+pub mod Keeps
+pub mod Read
