@@ -3,3 +3,6 @@ pub mod Obj
 pub mod State
 pub mod Keeps
 pub mod Read
+pub mod End
+pub mod Operation
+pub mod Context
