@@ -6,3 +6,8 @@ pub mod Read
 pub mod End
 pub mod Operation
 pub mod Context
+pub mod Arithmetic
+pub mod Number
+pub mod Instance
+pub mod Enter
+pub mod Exec
