@@ -128,6 +128,13 @@ popped n c = with_stack (take (length c.stack - n) c.stack) c
 abbrev pub stored : ℕ → Ref → Context → Context
 stored i x c = with_stack (slice_set c.stack i x) c
 
+-- the context that an object is, changed
+abbrev pub edit_context : (Context → Context) → Obj → Obj
+edit_context f (Ptr class format hash slots) = Ptr class format hash slots
+edit_context f (Raw class format hash bytes) = Raw class format hash bytes
+edit_context f (Method class format hash header literals bytecodes) = Method class format hash header literals bytecodes
+edit_context f (Ctx c) = Ctx (f c)
+
 -- A returned activation is dead: sender nil, pc nil, an empty stack. Its receiver, method, closure, size and hash stay.
 abbrev pub dead : ℕ → Context → Context
 dead nil c = record c { sender = ref.Obj nil; pc = None; stack = [] }
