@@ -26,3 +26,5 @@ pub mod Settle
 pub mod PrimRun
 pub mod PrimTable
 pub mod Due
+pub mod Step
+pub mod Report
