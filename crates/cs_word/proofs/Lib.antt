@@ -1,0 +1,2 @@
+mod Floor
+mod Shifts

@@ -67,9 +67,9 @@ pub fn rem(a: i32, b: i32) -> Option<i32>
     if b == 0 {
         None
     } else if b > 0 {
-        Some(a.rem_euclid(b))
+        narrowed(i64::from(a.rem_euclid(b)))
     } else {
-        Some(-((-a).rem_euclid(-b)))
+        narrowed(i64::from(-((-a).rem_euclid(-b))))
     }
 }
 

@@ -43,7 +43,7 @@ impl Oop {
     {
         let word = self.0;
         if word % 2 == 1 {
-            Kind::Small(shifted_value(word))
+            Kind::Small(word.cast_signed() >> 1)
         } else if word % 4 == 2 {
             Kind::Character(word / 4)
         } else if word % 8 == 0 {
@@ -59,12 +59,10 @@ impl Oop {
         ensures word { IfSome result (λ o. o.0 ≡ small_word v) }
         ensures kind { IfSome result (λ o. kind_of o.0 ≡ Kind.Small v) }
     {
-        if v < -(1 << 30) || v >= 1 << 30 {
-            None
-        } else if v < 0 {
-            Some(Oop(SIGN + 2 * (v + (1 << 30)) as u32 + 1))
+        if -(1 << 30) <= v && v < 1 << 30 {
+            Some(Oop((v.cast_unsigned() << 1) + 1))
         } else {
-            Some(Oop(2 * v as u32 + 1))
+            None
         }
     }
 
@@ -78,16 +76,3 @@ impl Oop {
     }
 }
 
-/// The sign bit of a word.
-const SIGN: u32 = 1 << 31;
-
-/// The word shifted right by one as a signed number.
-fn shifted_value(word: u32) -> i32
-    ensures { result ≡ small_value word }
-{
-    if word < SIGN {
-        (word / 2) as i32
-    } else {
-        ((word / 2) as i32 - (1 << 30)) - (1 << 30)
-    }
-}
