@@ -50,11 +50,11 @@ shr-floor (negsuc m) n = refl
 -- from 31 bits on, a shift to the right leaves the sign alone
 pub shr-capped : (a : ℤ) (k n : ℕ) → IsSmall a → k ≡ min n 31 → shr_z a (2 ^ k) ≡ int_div_euclid a (pos (2 ^ n))
 shr-capped a k n small capped = elim (cases_lt n 31) [
-      inl below ↦ let same : k ≡ n = omega arith in ap (λ i. shr_z a (2 ^ i)) same ∙ shr-floor a n
-    | inr above ↦
-        let same : k ≡ 31 = omega arith in
-        ap (λ i. shr_z a (2 ^ i)) same ∙ shr-vanishes a n small (omega arith)
-    ]
+  | inl below ↦ let same : k ≡ n = omega arith in ap (λ i. shr_z a (2 ^ i)) same ∙ shr-floor a n
+  | inr above ↦
+      let same : k ≡ 31 = omega arith in
+      ap (λ i. shr_z a (2 ^ i)) same ∙ shr-vanishes a n small (omega arith)
+]
 
 -- the magnitude of a SmallInteger
 pub magnitude : (a : ℤ) → IsSmall a → unsigned_abs a ≤ 2 ^ 30

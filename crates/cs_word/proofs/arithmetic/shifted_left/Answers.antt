@@ -17,6 +17,6 @@ returns-else-amount-gt30 c =
     let left : to_z w64 (of_z w64 c.from.result) ≡ c.args.a = omega (arith, ints) in
     let right : to_z w64 (of_z w64 c.from-else-amount-gt30.result) ≡ pos (2 ^ c.args.amount) = omega (arith, ints, bound) in
     let fits : FitsSigned w64 (c.args.a *ℤ power) =
-        fits_signed_mul w64 c.args.a power (2 ^ 30) (2 ^ 30) (magnitude c.args.a c.requires) bound (omega arith) in
+    fits_signed_mul w64 c.args.a power (2 ^ 30) (2 ^ 30) (magnitude c.args.a c.requires) bound (omega arith) in
     c.narrowed.ensures
     ∙ ap if_small (ap₂ (λ x y. to_z w64 (of_z w64 (x *ℤ y))) left right ∙ to_z-of_z w64 (c.args.a *ℤ power) fits)
