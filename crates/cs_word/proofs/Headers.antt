@@ -1,5 +1,5 @@
 -- Laws of headers, for the crates above.
-use Rattle.std.proofs.Common.{◌≡◌, ℕ, ◌<◌, ◌^◌, refl, arith}
+use Rattle.std.proofs.Common.{◌≡◌, ◌<◌, ◌^◌, arith}
 use Rattle.std.proofs.lemmas.Grind.{common_steps}
 use Rattle.cs_word.specs.declared.header.Header.{Header}
 use Rattle.cs_word.specs.Header.{header_of, header_bits, flag_bits, IsWritable}

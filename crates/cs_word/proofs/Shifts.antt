@@ -8,7 +8,7 @@ use Rattle.std.specs.Int.RustNames.{unsigned_abs}
 use Rattle.std.proofs.lemmas.Bool.{cases_lt}
 use Rattle.std.proofs.lemmas.Int.{ints}
 use Rattle.cs_word.specs.Word.{IsSmall}
-use Rattle.cs_word.specs.Arithmetic.{if_small}
+use Rattle.cs_model.specs.Arithmetic.{if_small}
 
 -- 2^n for an n above 30
 large : (n : ℕ) → 30 < n → 2 ^ 31 ≤ 2 ^ n

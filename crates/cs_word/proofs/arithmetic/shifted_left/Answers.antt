@@ -1,7 +1,7 @@
-use Rattle.std.proofs.Common.{◌≡◌, ℤ, pos, sym, ap, ap₂, ◌∙◌, ◌*ℤ◌, ◌^◌, ◌<◌, ◌≤◌, arith, to_z, of_z, w32, w64, FitsSigned}
+use Rattle.std.proofs.Common.{◌≡◌, pos, sym, ap, ap₂, ◌∙◌, ◌*ℤ◌, ◌^◌, ◌<◌, ◌≤◌, arith, to_z, of_z, w32, w64, FitsSigned}
 use Rattle.std.proofs.lemmas.Int.{ints, to_z-of_z, fits_signed_mul}
 use Rattle.std.proofs.Math.Nat.{pow-le-pow_right}
-use Rattle.cs_word.specs.Arithmetic.{if_small}
+use Rattle.cs_model.specs.Arithmetic.{if_small}
 use Rattle.cs_word.proofs.Shifts.{if_small-large, magnitude}
 use Rattle.cs_word.proofs.arithmetic.shifted_left.Goals as goal
 
