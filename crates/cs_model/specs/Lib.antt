@@ -11,3 +11,4 @@ pub mod Number
 pub mod Instance
 pub mod Enter
 pub mod Exec
+pub mod Decode
