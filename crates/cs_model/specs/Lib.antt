@@ -28,3 +28,4 @@ pub mod PrimTable
 pub mod Due
 pub mod Step
 pub mod Report
+pub mod Decode
