@@ -1,0 +1,4 @@
+pub mod Format
+pub mod Object
+pub mod Header
+pub mod Layout
