@@ -4,9 +4,9 @@ use Rattle.std.specs.Prelude.{◌≡◌, ℕ, zero, suc, ◌+◌, ◌*◌, ◌/�
 use Rattle.std.specs.Prelude.{if◌then◌else◌, nat_le, min, length, slice_index, take, drop, replicate, flat_map, vec_capacity}
 use Rattle.std.specs.List.{AllByRecursion}
 use Rattle.cs_heap.specs.Format.{is_shape}
-use Rattle.cs_heap.specs.Header.{bits_of, header_of}
 use Rattle.cs_heap.specs.Object.{Memory, Object, base, body_units, units, units_before}
-use Rattle.cs_heap.specs.declared.header.Header.{Header}
+use Rattle.cs_word.specs.Header.{flag_bits, header_bits, header_of}
+use Rattle.cs_word.specs.declared.header.Header.{Header}
 use Rattle.cs_heap.specs.declared.Heap.TheInside.{Inside}
 
 -- ---- from objects to words
@@ -34,7 +34,7 @@ abbrev pub row : ℕ → List ℕ → List ℕ
 row bits words = overflow (length words) ++ bits % 2 ^ 32 ∷ bits / 2 ^ 32 ∷ words ++ padding (length words)
 
 unfoldable pub words_of : Object → List ℕ
-words_of x = row (bits_of (header x)) x.words
+words_of x = row (header_bits (header x)) x.words
 
 -- the units of an object of so many slots, with a value at its header
 abbrev pub marked : {X : Type 0} → X → X → ℕ → List X
@@ -98,7 +98,7 @@ memory h = record { limit = h.limit; objects = objects h }
 -- what the bits of a header hold
 pub record IsStorable (x : Object) : Type 0 where
   pub class : x.class < 2 ^ 22
-  pub flags : x.flags < 32
+  pub flags : flag_bits x.flags < 2 ^ 5
   pub shape : IsTrue (is_shape x.format (length x.words))
   pub hash : x.hash < 2 ^ 22
   pub count : length x.words < 2 ^ 32

@@ -1,4 +1,3 @@
 pub mod Format
 pub mod Object
-pub mod Header
 pub mod Layout

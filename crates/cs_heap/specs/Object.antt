@@ -3,11 +3,12 @@ use Rattle.std.specs.Prelude.{ℕ, zero, suc, ◌+◌, ◌*◌, ◌/◌, ◌%◌
 use Rattle.std.specs.Prelude.{if◌then◌else◌, nat_le, max, map, length, slice_index, slice_set, slice_get, option_map, option_and_then, sum_by, replicate}
 use Rattle.std.specs.Option.{option_map_or}
 use Rattle.cs_heap.specs.Format.{is_pointers}
+use Rattle.cs_word.specs.declared.header.Flags.{Flags}
 
 -- An object: the index of its class, its header flags, its format and identity hash, its birth, and its slots as words.
 pub record Object : Type 0 where
   pub class : ℕ
-  pub flags : ℕ
+  pub flags : Flags
   pub format : ℕ
   pub hash : ℕ
   pub birth : ℕ
@@ -124,10 +125,13 @@ next_of objects address = option_and_then (λ k. address_of objects (k + 1)) (in
 abbrev pub new_slot : ℕ → ℕ
 new_slot format = if is_pointers format then base else 0
 
+abbrev pub no_flags : Flags
+no_flags = record { 0 = 0 }
+
 abbrev pub new_object : ℕ → ℕ → ℕ → ℕ → Object
 new_object class format slots birth = record {
   class = class;
-  flags = 0;
+  flags = no_flags;
   format = format;
   hash = 0;
   birth = birth;

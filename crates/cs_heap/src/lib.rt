@@ -9,7 +9,6 @@
 //! is a number that whoever makes an object gives to it, to know it by for ever.
 #![tactic(auto)]
 
-mod header;
 mod rows;
 
 ghost use Rattle.std.specs.Prelude.{◌≡◌, ℕ, ◌+◌, ◌*◌, ◌<◌, ◌≤◌, ◌^◌, ◌↔◌, [], ◌∷◌, ◌++◌, IfOk, IsErr, IsTrue, OnErr, option_map};
@@ -17,8 +16,8 @@ ghost use Rattle.cs_heap.specs.Format.{is_shape};
 ghost use Rattle.cs_heap.specs.Object.{address_of, birth_of, byte_of, class_of, format_of, hash_of, is_object, new_object};
 ghost use Rattle.cs_heap.specs.Object.{next_address, next_of, size as size_of, slot_count_of, slot_of, used, with_byte, with_hash, with_slot};
 
-use cs_word::Oop;
-use header::Header;
+use bitflags::Flags as _;
+use cs_word::{Flags, Header, Oop};
 use std::alloc::{AllocError, Global};
 use std::marker::Model;
 
@@ -124,7 +123,7 @@ impl Heap {
         let unit = self.marks.len() + rows::units_before(slots) as usize;
         let header = Header {
             class,
-            flags: 0,
+            flags: Flags::empty(),
             format,
             hash: 0,
             slots: slots.min(255) as u8,

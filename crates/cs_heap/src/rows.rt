@@ -2,14 +2,13 @@
 #![tactic(auto)]
 
 ghost use Rattle.std.specs.Prelude.{◌≡◌, ℕ, ◌+◌, ◌*◌, ◌-◌, ◌/◌, ◌%◌, ◌<◌, ◌≤◌, ◌^◌, ◌==◌, ◌++◌, Some, None, if◌then◌else◌, nat_le, length, replicate, slice_index, slice_set, vec_len, vec_capacity};
-ghost use Rattle.cs_heap.specs.Header.{bits_of};
+ghost use Rattle.cs_word.specs.Header.{header_bits, IsWritable};
 ghost use Rattle.cs_heap.specs.Object.{body_units as body_units_of, byte_in as byte_of_word, new_slot as new_slot_of};
 ghost use Rattle.cs_heap.specs.Object.{size, units, units_before as units_before_of, with_byte_in as word_with_byte};
 ghost use Rattle.cs_heap.specs.Layout.{count_in, header_in, marked, row, unit_in};
 
 use crate::BASE;
-use crate::header::Header;
-use cs_word::Oop;
+use cs_word::{Header, Oop};
 
 /// The units that stand before the header of an object of so many slots.
 pub(crate) fn units_before(slots: u32) -> u32
@@ -80,10 +79,8 @@ pub(crate) fn header_at(words: &[u32], unit: usize) -> Header
 /// Writes a header to a unit.
 pub(crate) fn set_header(words: &mut Vec<u32>, unit: usize, header: Header)
     requires unit { 2 * unit + 1 < vec_len words.old }
-    requires class { header.class < 2 ^ 22 }
-    requires format { header.format < 32 }
-    requires hash { header.hash < 2 ^ 22 }
-    ensures items { words.new.items ≡ slice_set (slice_set words.old.items (2 * unit) (bits_of header % 2 ^ 32)) (2 * unit + 1) (bits_of header / 2 ^ 32) }
+    requires header { IsWritable header }
+    ensures items { words.new.items ≡ slice_set (slice_set words.old.items (2 * unit) (header_bits header % 2 ^ 32)) (2 * unit + 1) (header_bits header / 2 ^ 32) }
     ensures capacity { vec_capacity words.old ≤ vec_capacity words.new }
 {
     let bits = header.write();
@@ -130,11 +127,9 @@ fn fill<T: Copy>(row: &mut Vec<T>, n: usize, value: T)
 
 /// Adds the words of an object whose slots all hold one value.
 pub(crate) fn push_object(words: &mut Vec<u32>, header: Header, slots: u32, value: u32)
-    requires class { header.class < 2 ^ 22 }
-    requires format { header.format < 32 }
-    requires hash { header.hash < 2 ^ 22 }
+    requires header { IsWritable header }
     requires room { vec_len words.old + size slots ≤ vec_capacity words.old }
-    ensures items { words.new.items ≡ words.old.items ++ row (bits_of header) (replicate slots value) }
+    ensures items { words.new.items ≡ words.old.items ++ row (header_bits header) (replicate slots value) }
     ensures capacity { vec_capacity words.old ≤ vec_capacity words.new }
 {
     if slots >= 255 {
