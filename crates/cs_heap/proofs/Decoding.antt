@@ -48,13 +48,13 @@ header_of-header_bits h class format hash slots flags =
         made (all % 2 ^ 22) class (header_flags all) n (all / 2 ^ 24 % 2 ^ 5) format (all / 2 ^ 32 % 2 ^ 22) hash (all / 2 ^ 56) slots
         class_is (omega (arith, bit_i, bit_r, bit_p, bit_g, bit_m)) format_is hash_is slots_is
 
-abbrev stored_header : Object → ℕ
+abbrev pub stored_header : Object → ℕ
 stored_header x = header_bits (header x)
 
 pub bits_back : (n : ℕ) → n % 2 ^ 32 + n / 2 ^ 32 * 2 ^ 32 ≡ n
 bits_back n = omega arith
 
-shape_below : (format slots : ℕ) → is_shape format slots ≡ true → format < 2 ^ 5
+pub shape_below : (format slots : ℕ) → is_shape format slots ≡ true → format < 2 ^ 5
 shape_below format slots h = grind (arith, nat_tests)
 
 -- the header of what can be stored is read back
@@ -65,7 +65,7 @@ header_back x ok =
 -- ---- one object in front of others
 
 -- the words of the object itself, in front of others
-in_front : (x : Object) (rest : List ℕ) (j : ℕ) → j < size (length x.words) → get_or (words_of x ++ rest) j 0 ≡ get_or (row (stored_header x) x.words) j 0
+pub in_front : (x : Object) (rest : List ℕ) (j : ℕ) → j < size (length x.words) → get_or (words_of x ++ rest) j 0 ≡ get_or (row (stored_header x) x.words) j 0
 in_front x rest j h =
     get_or_append_left (words_of x) rest 0 j (omega (arith, length-words_of x))
     ∙ ap (λ (zs : List ℕ). get_or zs j 0) (words_of_is x)

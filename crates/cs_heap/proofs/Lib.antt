@@ -1,2 +1,4 @@
-pub mod OneObject
-pub mod Decoding
+pub mod Places
+mod OneObject
+mod Decoding
+mod Standing

@@ -103,11 +103,16 @@ pub record IsStorable (x : Object) : Type 0 where
   pub hash : x.hash < 2 ^ 22
   pub count : length x.words < 2 ^ 32
 
+-- these objects stand in the heap, and nothing else
+pub record IsLaid (h : Inside) (xs : List Object) : Type 0 where
+  pub words : h.words.items ≡ flat_map words_of xs
+  pub births : h.births.items ≡ flat_map births_of xs
+  pub marks : h.marks.items ≡ flat_map marks_of xs
+  pub storable : AllByRecursion IsStorable xs
+
+-- the objects are within the limit, for which there is room
 pub record IsHeap (h : Inside) : Type 0 where
-  pub words : h.words.items ≡ flat_map words_of (objects h)
-  pub births : h.births.items ≡ flat_map births_of (objects h)
-  pub marks : h.marks.items ≡ flat_map marks_of (objects h)
-  pub storable : AllByRecursion IsStorable (objects h)
+  pub laid : IsLaid h (objects h)
   pub within : length h.words.items ≤ h.limit
   pub least : 4096 ≤ h.limit
   pub most : h.limit ≤ 67108864

@@ -1,0 +1,18 @@
+use Rattle.std.proofs.Common.{rules, ◌≡◌, ℕ, ◌+◌, ◌*◌, ◌<◌, ◌≤◌, ◌^◌, ◌↔◌, [], ◌∷◌, ◌++◌, IfOk, IsErr, IsTrue, OnErr, option_map, ◌-◌, length, ◌/◌, ◌%◌, Bool, true, false, nat_eq, nat_lt, List, slice_index_or, slice_set, bit_and, bit_or, Fits, w8, w32, w64, Bor, MutBor}
+use Rattle.cs_heap.specs.Format.{is_shape}
+use Rattle.cs_heap.specs.Object.{address_of, birth_of, byte_of, class_of, format_of, hash_of, is_object, new_object, next_address, next_of}
+use Rattle.cs_heap.specs.Object.{size as size_of}
+use Rattle.cs_heap.specs.Object.{slot_count_of, slot_of, used, with_byte, with_hash, with_slot}
+use Rattle.cs_heap.proofs.Heap.is_object.Goals as goal
+
+-- src/lib.rt:155:5
+pub returns-then-unit-len : goal.returns-then-unit-len
+returns-then-unit-len c = ?
+
+-- src/lib.rt:155:5
+pub returns-else-unit-len : goal.returns-else-unit-len
+returns-else-unit-len c = ?
+
+-- src/lib.rt:155:5
+pub returns-in-None : goal.returns-in-None
+returns-in-None c = ?
