@@ -2,3 +2,4 @@ pub mod Places
 mod OneObject
 mod Decoding
 mod Standing
+mod Seen

@@ -3,8 +3,9 @@
 use Rattle.std.specs.Prelude.{◌≡◌, ℕ, zero, suc, ◌+◌, ◌*◌, ◌/◌, ◌%◌, ◌-◌, ◌^◌, ◌<◌, ◌≤◌, ◌==◌, ◌&&◌, IsTrue, List, [], ◌∷◌, ◌++◌, Option, Some, None}
 use Rattle.std.specs.Prelude.{if◌then◌else◌, nat_le, min, length, slice_index, take, drop, replicate, flat_map, vec_capacity}
 use Rattle.std.specs.List.{AllByRecursion}
+use Rattle.std.specs.Option.{option_map_or}
 use Rattle.cs_heap.specs.Format.{is_shape}
-use Rattle.cs_heap.specs.Object.{Memory, Object, base, body_units, units, units_before}
+use Rattle.cs_heap.specs.Object.{Memory, Object, base, body_units, class_of, format_of, hash_of, no_flags, object_at, slot_count_of, units, units_before}
 use Rattle.cs_word.specs.Header.{flag_bits, header_bits, header_of}
 use Rattle.cs_word.specs.declared.header.Header.{Header}
 use Rattle.cs_heap.specs.declared.Heap.TheInside.{Inside}
@@ -19,6 +20,16 @@ header x = record {
   format = x.format;
   hash = x.hash;
   slots = min 255 (length x.words);
+}
+
+-- the header of the object at an address
+abbrev pub header_seen : List Object → ℕ → Header
+header_seen xs address = record {
+  class = class_of xs address;
+  flags = option_map_or (λ x. x.flags) (object_at xs address) no_flags;
+  format = format_of xs address;
+  hash = hash_of xs address;
+  slots = min 255 (slot_count_of xs address);
 }
 
 -- what stands before the header of an object of so many slots: from 255 on the count, and 255 in the top byte

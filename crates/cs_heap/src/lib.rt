@@ -12,6 +12,7 @@
 mod rows;
 
 ghost use Rattle.std.specs.Prelude.{◌≡◌, ℕ, ◌+◌, ◌*◌, ◌<◌, ◌≤◌, ◌^◌, ◌↔◌, [], ◌∷◌, ◌++◌, IfOk, IsErr, IsTrue, OnErr, option_map};
+ghost use Rattle.cs_word.specs.Header.{IsWritable};
 ghost use Rattle.cs_heap.specs.Format.{is_shape};
 ghost use Rattle.cs_heap.specs.Object.{address_of, birth_of, byte_of, class_of, format_of, hash_of, is_object, new_object};
 ghost use Rattle.cs_heap.specs.Object.{next_address, next_of, size as size_of, slot_count_of, slot_of, used, with_byte, with_hash, with_slot};
@@ -80,6 +81,8 @@ pub fn is_shape_allowed(format: u8, slots: u32) -> bool
 }
 
 impl Heap {
+    ghost use Rattle.cs_heap.specs.Layout.{header_seen};
+
     /// An empty heap whose objects may take `limit_words` words. It reserves all memory that it will ever use.
     pub fn new(alloc: Global, limit_words: u32) -> Result<Heap, AllocError>
         requires least { 4096 ≤ limit_words }
@@ -184,7 +187,7 @@ impl Heap {
         ensures value { result ≡ class_of self.now.objects o.0 }
         ensures below { result < 2 ^ 22 }
     {
-        rows::header_at(&self.words, rows::unit_of(o)).class
+        self.header(o).class
     }
 
     /// The object's format.
@@ -193,7 +196,7 @@ impl Heap {
         ensures value { result ≡ format_of self.now.objects o.0 }
         ensures shape { IsTrue (is_shape result (slot_count_of self.now.objects o.0)) }
     {
-        rows::header_at(&self.words, rows::unit_of(o)).format
+        self.header(o).format
     }
 
     /// How many slots of 4 bytes the object has.
@@ -210,7 +213,7 @@ impl Heap {
         ensures value { result ≡ hash_of self.now.objects o.0 }
         ensures below { result < 2 ^ 22 }
     {
-        rows::header_at(&self.words, rows::unit_of(o)).hash
+        self.header(o).hash
     }
 
     /// The object's birth.
@@ -260,12 +263,21 @@ impl Heap {
         requires below { h < 2 ^ 22 }
         ensures { self.new ≡ record self.old { objects = with_hash self.old.objects o.0 h } }
     {
-        let unit = rows::unit_of(o);
         let header = Header {
             hash: h,
-            ..rows::header_at(&self.words, unit)
+            ..self.header(o)
         };
-        rows::set_header(&mut self.words, unit, header);
+        rows::set_header(&mut self.words, rows::unit_of(o), header);
+    }
+
+    /// The object's header.
+    fn header(&self, o: Oop) -> Header
+        requires { IsTrue (is_object self.now.objects o.0) }
+        ensures value { result ≡ header_seen self.now.objects o.0 }
+        ensures writable { IsWritable result }
+        ensures shape { IsTrue (is_shape result.format (slot_count_of self.now.objects o.0)) }
+    {
+        rows::header_at(&self.words, rows::unit_of(o))
     }
 }
 

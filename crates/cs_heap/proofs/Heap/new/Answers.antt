@@ -1,14 +1,24 @@
-use Rattle.std.proofs.Common.{rules, ◌≡◌, ℕ, ◌+◌, ◌*◌, ◌<◌, ◌≤◌, ◌^◌, ◌↔◌, [], ◌∷◌, ◌++◌, IfOk, IsErr, IsTrue, OnErr, option_map, ◌-◌, length, ◌/◌, ◌%◌, Bool, true, false, nat_eq, nat_lt, List, slice_index_or, slice_set, bit_and, bit_or, Fits, w8, w32, w64, Bor, MutBor}
-use Rattle.cs_heap.specs.Format.{is_shape}
-use Rattle.cs_heap.specs.Object.{address_of, birth_of, byte_of, class_of, format_of, hash_of, is_object, new_object, next_address, next_of}
-use Rattle.cs_heap.specs.Object.{size as size_of}
-use Rattle.cs_heap.specs.Object.{slot_count_of, slot_of, used, with_byte, with_hash, with_slot}
+use Rattle.std.proofs.Common.{◌≡◌, ℕ, zero, suc, ◌+◌, ◌*◌, ◌/◌, ◌%◌, ◌^◌, ◌-◌, ◌<◌, ◌≤◌, Bool, true, false, cond, List, [], ◌∷◌, ◌++◌, length, get_or, replicate, Option, Some, None, option_map, option_and_then, is_some, refl, ap, ap₂, sym, ◌∙◌, arith, leb, eqb, min, subst}
+use Rattle.cs_heap.specs.Layout.{objects_in}
+use Rattle.cs_heap.specs.declared.Heap.TheInside.{Inside}
+use Rattle.cs_heap.proofs.Standing.{laid_now, objects_are}
+use Rattle.cs_heap.specs.Layout.{IsLaid}
 use Rattle.cs_heap.proofs.Heap.new.Goals as goal
 
--- src/lib.rt:94:9
 pub invariant_of-result : goal.invariant_of-result
-invariant_of-result c = ?
+invariant_of-result c =
+    let new : Inside = record { words = c.in_ok-words.words; births = c.in_ok-births.births; marks = c.in_ok-marks.marks; limit = c.args.limit_words } in
+    record {
+      laid = laid_now new [] (record { words = c.in_ok-words.ensures.items; births = c.in_ok-births.ensures.items; marks = c.in_ok-marks.ensures.items; storable = tt });
+      within = omega (arith, ap length c.in_ok-words.ensures.items);
+      least = omega arith;
+      most = omega arith;
+      word_room = omega (arith, c.in_ok-words.ensures.exact);
+      birth_room = omega (arith, c.in_ok-births.ensures.exact);
+      mark_room = omega (arith, c.in_ok-marks.ensures.exact);
+    }
 
--- src/lib.rt:84:5
 pub returns-clause-empty : goal.returns-clause-empty
-returns-clause-empty c = ?
+returns-clause-empty c =
+    let new : Inside = record { words = c.in_ok-words.words; births = c.in_ok-births.births; marks = c.in_ok-marks.marks; limit = c.args.limit_words } in
+    objects_are new [] (record { words = c.in_ok-words.ensures.items; births = c.in_ok-births.ensures.items; marks = c.in_ok-marks.ensures.items; storable = tt })

@@ -1,22 +1,27 @@
-use Rattle.std.proofs.Common.{rules, ◌≡◌, ℕ, ◌+◌, ◌*◌, ◌<◌, ◌≤◌, ◌^◌, ◌↔◌, [], ◌∷◌, ◌++◌, IfOk, IsErr, IsTrue, OnErr, option_map, ◌-◌, length, ◌/◌, ◌%◌, Bool, true, false, nat_eq, nat_lt, List, slice_index_or, slice_set, bit_and, bit_or, Fits, w8, w32, w64, Bor, MutBor}
-use Rattle.cs_heap.specs.Format.{is_shape}
-use Rattle.cs_heap.specs.Object.{address_of, birth_of, byte_of, class_of, format_of, hash_of, is_object, new_object, next_address, next_of}
-use Rattle.cs_heap.specs.Object.{size as size_of}
-use Rattle.cs_heap.specs.Object.{slot_count_of, slot_of, used, with_byte, with_hash, with_slot}
+use Rattle.std.proofs.Common.{◌≡◌, ℕ, zero, suc, ◌+◌, ◌*◌, ◌/◌, ◌%◌, ◌^◌, ◌-◌, ◌<◌, ◌≤◌, Bool, true, false, cond, List, [], ◌∷◌, ◌++◌, length, get_or, replicate, Option, Some, None, option_map, option_and_then, is_some, refl, ap, ap₂, sym, ◌∙◌, arith, leb, eqb, min, subst}
+use Rattle.cs_heap.specs.Object.{Memory, Object, base, body_units, next_address, set_word, size, slot_counts, units, units_before, used}
+use Rattle.cs_heap.specs.Layout.{count_in, header_in}
+use Rattle.cs_word.specs.declared.header.Header.{Header}
+use Rattle.cs_heap.proofs.Seen.{field_is, seen}
+use Rattle.cs_heap.proofs.Standing.{unit_of}
 use Rattle.cs_heap.proofs.Heap.slot_count.Goals as goal
 
--- src/lib.rt:204:42
 pub unit_of-requires : goal.unit_of-requires
-unit_of-requires c = ?
+unit_of-requires c = (seen c.self.inside c.args.self.now c.self.invariant c.self.view_is c.args.o.0 c.requires).known_there.above
 
--- src/lib.rt:204:9
 pub slot_count_at-requires-clause-within : goal.slot_count_at-requires-clause-within
-slot_count_at-requires-clause-within c = ?
+slot_count_at-requires-clause-within c = let s = seen c.self.inside c.args.self.now c.self.invariant c.self.view_is c.args.o.0 c.requires in
+    omega (arith, s.known_there.there.body_within, c.unit_of.ensures, ap length c.deref.ensures.value)
 
--- src/lib.rt:204:9
 pub slot_count_at-requires-clause-before : goal.slot_count_at-requires-clause-before
-slot_count_at-requires-clause-before c = ?
+slot_count_at-requires-clause-before c =
+    let s = seen c.self.inside c.args.self.now c.self.invariant c.self.view_is c.args.o.0 c.requires in
+    let t = s.known_there.there in
+    let slots = ap (λ (h : Header). h.slots) (ap₂ (λ (ws : List ℕ) (u : ℕ). header_in ws (2 * u)) c.deref.ensures.value c.unit_of.ensures ∙ t.header_is) in
+    λ top. let above = t.before (omega (arith, slots, top)) in omega (arith, above, c.unit_of.ensures)
 
--- src/lib.rt:200:5
 pub returns : goal.returns
-returns c = ?
+returns c =
+    let s = seen c.self.inside c.args.self.now c.self.invariant c.self.view_is c.args.o.0 c.requires in
+    c.slot_count_at.ensures ∙ ap₂ count_in c.deref.ensures.value c.unit_of.ensures
+    ∙ s.known_there.there.count_is ∙ sym (field_is c.self.inside c.args.self.now.objects c.args.o.0 s (λ (x : Object). length x.words))

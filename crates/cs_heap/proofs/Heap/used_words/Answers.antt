@@ -1,10 +1,8 @@
-use Rattle.std.proofs.Common.{rules, ◌≡◌, ℕ, ◌+◌, ◌*◌, ◌<◌, ◌≤◌, ◌^◌, ◌↔◌, [], ◌∷◌, ◌++◌, IfOk, IsErr, IsTrue, OnErr, option_map, ◌-◌, length, ◌/◌, ◌%◌, Bool, true, false, nat_eq, nat_lt, List, slice_index_or, slice_set, bit_and, bit_or, Fits, w8, w32, w64, Bor, MutBor}
-use Rattle.cs_heap.specs.Format.{is_shape}
-use Rattle.cs_heap.specs.Object.{address_of, birth_of, byte_of, class_of, format_of, hash_of, is_object, new_object, next_address, next_of}
-use Rattle.cs_heap.specs.Object.{size as size_of}
-use Rattle.cs_heap.specs.Object.{slot_count_of, slot_of, used, with_byte, with_hash, with_slot}
+use Rattle.std.proofs.Common.{◌≡◌, ℕ, zero, suc, ◌+◌, ◌*◌, ◌/◌, ◌%◌, ◌^◌, ◌-◌, ◌<◌, ◌≤◌, Bool, true, false, cond, List, [], ◌∷◌, ◌++◌, length, get_or, replicate, Option, Some, None, option_map, option_and_then, is_some, refl, ap, ap₂, sym, ◌∙◌, arith, leb, eqb, min, subst}
+use Rattle.cs_heap.specs.Object.{Memory, Object, base, body_units, next_address, set_word, size, slot_counts, units, units_before, used}
+use Rattle.cs_heap.proofs.Standing.{laid_seen, length-all_words}
 use Rattle.cs_heap.proofs.Heap.used_words.Goals as goal
 
--- src/lib.rt:138:5
 pub returns-clause-value : goal.returns-clause-value
-returns-clause-value c = ?
+returns-clause-value c = let laid = laid_seen c.self.inside c.args.self.now c.self.invariant c.self.view_is in
+    omega (arith, c.len.ensures, c.self.inside.words.ok.0, ap length laid.words, length-all_words c.args.self.now.objects)
