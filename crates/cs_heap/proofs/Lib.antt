@@ -1,0 +1,5 @@
+pub mod Places
+mod OneObject
+mod Decoding
+mod Standing
+mod Seen
