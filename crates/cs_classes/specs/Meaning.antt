@@ -5,11 +5,10 @@ use Rattle.std.specs.Option.{option_map_or}
 use Rattle.std.specs.Ordering.{nat_cmp}
 use Rattle.std.specs.FinMap.{FinMap, from_entries, entries}
 use Rattle.cs_word.specs.declared.Kind.{Kind}
-use Rattle.cs_word.specs.declared.Kind.TheVariants.{Small, Character, Object, Link}
+use Rattle.cs_word.specs.declared.Kind.TheVariants as kind
 use Rattle.cs_word.specs.Word.{kind_of}
 use Rattle.cs_heap.specs.Format.{is_pointers, is_method, unused_units}
-use Rattle.cs_heap.specs.Object as heap
-use Rattle.cs_heap.specs.Object.{birth_of, byte_in}
+use Rattle.cs_heap.specs.Object.{Object, birth_of, byte_in}
 use Rattle.cs_model.specs.Ref.{Ref, natural_of}
 use Rattle.cs_model.specs.Ref as ref
 use Rattle.cs_model.specs.Obj.{Obj, Context, Ptr, Raw, Method, Ctx, context_class, context_fields, literal_count}
@@ -19,24 +18,24 @@ use Rattle.cs_classes.specs.declared.Roots.{Roots}
 -- ---- words
 
 -- An address names the object that is there by its birth. A link stands in no object, and is read as 0.
-abbrev pub ref_of_kind : List heap.Object → Kind → Ref
-ref_of_kind objects (Small value) = ref.Small value
-ref_of_kind objects (Character code) = ref.Char code
-ref_of_kind objects (Object address) = ref.Obj (birth_of objects address)
-ref_of_kind objects (Link word) = ref.Small (pos 0)
+abbrev pub ref_of_kind : List Object → Kind → Ref
+ref_of_kind objects (kind.Small value) = ref.Small value
+ref_of_kind objects (kind.Character code) = ref.Char code
+ref_of_kind objects (kind.Object address) = ref.Obj (birth_of objects address)
+ref_of_kind objects (kind.Link word) = ref.Small (pos 0)
 
 -- the reference that a word is
-unfoldable pub ref_of : List heap.Object → ℕ → Ref
+unfoldable pub ref_of : List Object → ℕ → Ref
 ref_of objects word = ref_of_kind objects (kind_of word)
 
-abbrev pub refs_of : List heap.Object → List ℕ → List Ref
+abbrev pub refs_of : List Object → List ℕ → List Ref
 refs_of objects = map (ref_of objects)
 
 abbrev pub count_of_kind : Kind → Option ℕ
-count_of_kind (Small value) = natural_of value
-count_of_kind (Character code) = None
-count_of_kind (Object address) = None
-count_of_kind (Link word) = None
+count_of_kind (kind.Small value) = natural_of value
+count_of_kind (kind.Character code) = None
+count_of_kind (kind.Object address) = None
+count_of_kind (kind.Link word) = None
 
 -- the number that a word is, where it is a SmallInteger that isn't negative
 unfoldable pub count_of : ℕ → Option ℕ
@@ -62,7 +61,7 @@ abbrev pub depth_in : List ℕ → ℕ
 depth_in words = unwrap_or (count_of (slice_index words 2)) 0
 
 -- The slots of a context: sender, pc, stackp, method, closure, receiver, and its stack, of which stackp says the depth.
-unfoldable pub context_of : List heap.Object → ℕ → List ℕ → Context
+unfoldable pub context_of : List Object → ℕ → List ℕ → Context
 context_of objects hash words = record {
   hash = hash;
   sender = ref_of objects (slice_index words 0);
@@ -86,31 +85,31 @@ literals_in words = take (literal_count (header_in words)) (drop 1 words)
 abbrev pub code_in : List ℕ → List ℕ
 code_in words = drop (1 + literal_count (header_in words)) words
 
-unfoldable pub method_of : List heap.Object → heap.Object → Obj
+unfoldable pub method_of : List Object → Object → Obj
 method_of objects x = Method x.class x.format x.hash (header_in x.words) (refs_of objects (literals_in x.words)) (used_bytes x.format (code_in x.words))
 
 -- whether an object is a context
-abbrev pub is_context : heap.Object → Bool
+abbrev pub is_context : Object → Bool
 is_context x = x.class == context_class
 
 -- the object of the model that an object of the heap is
-abbrev pub obj_of : List heap.Object → heap.Object → Obj
+abbrev pub obj_of : List Object → Object → Obj
 obj_of objects x = if is_context x then Ctx (context_of objects x.hash x.words) else
     (if is_pointers x.format then Ptr x.class x.format x.hash (refs_of objects x.words) else
     (if is_method x.format then method_of objects x else Raw x.class x.format x.hash (used_bytes x.format x.words)))
 
 -- all objects by their births
-unfoldable pub objects_of : List heap.Object → FinMap nat_cmp Obj
+unfoldable pub objects_of : List Object → FinMap nat_cmp Obj
 objects_of objects = from_entries (map (λ x. (x.birth, obj_of objects x)) objects)
 
 -- ---- the whole
 
 -- the births of the classes by their class indices
-unfoldable pub classes_of : List heap.Object → FinMap nat_cmp ℕ → FinMap nat_cmp ℕ
+unfoldable pub classes_of : List Object → FinMap nat_cmp ℕ → FinMap nat_cmp ℕ
 classes_of objects table = from_entries (map (λ e. (e.0, birth_of objects e.1)) (entries table))
 
 -- the birth of the object in this place of the heap
-abbrev pub birth_at : List heap.Object → ℕ → ℕ
+abbrev pub birth_at : List Object → ℕ → ℕ
 birth_at objects k = option_map_or (λ x. x.birth) (slice_get objects k) 0
 
 -- the header bytes, of which those at places 8 to 23 count as 0
@@ -119,7 +118,7 @@ header_of bytes = take 8 bytes ++ replicate 16 0 ++ drop 24 bytes
 
 -- The kept parts of the state that a heap, a class table and the roots stand for, where this context is active. The
 -- first three objects are nil, false and true.
-abbrev pub kept_of : List heap.Object → FinMap nat_cmp ℕ → Roots → Option ℕ → Kept
+abbrev pub kept_of : List Object → FinMap nat_cmp ℕ → Roots → Option ℕ → Kept
 kept_of objects table roots active = record {
   objects = objects_of objects;
   rest = record {

@@ -72,7 +72,7 @@ impl Classes {
     pub fn new(alloc: Global) -> Result<Classes, AllocError>
         ensures empty { IfOk result (λ classes. classes ≡ empty) }
     {
-        let mut entries = Vec::with_capacity(alloc, ENTRIES as usize)?;
+        let mut entries = Vec::new(alloc);
         entries.resize(ENTRIES as usize, None)?;
         Ok(Classes { entries })
     }
