@@ -3,3 +3,11 @@ pub mod Obj
 pub mod State
 pub mod Keeps
 pub mod Read
+pub mod End
+pub mod Operation
+pub mod Context
+pub mod Arithmetic
+pub mod Number
+pub mod Instance
+pub mod Enter
+pub mod Exec
