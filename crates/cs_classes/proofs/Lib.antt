@@ -1,1 +1,4 @@
 pub mod Tables
+pub mod Heaps
+pub mod Refs
+pub mod Sorts

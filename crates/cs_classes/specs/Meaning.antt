@@ -1,6 +1,6 @@
 -- What a heap means: the words of its objects as references, its objects as objects of the model, and with a class table
 -- and the roots the kept parts of a state.
-use Rattle.std.specs.Prelude.{◌≡◌, ℕ, ℤ, pos, ◌+◌, ◌-◌, ◌*◌, ◌==◌, Bool, if◌then◌else◌, nat_le, List, [], ◌∷◌, ◌++◌, length, map, take, drop, replicate, slice_index, slice_get, Option, Some, None, unwrap_or}
+use Rattle.std.specs.Prelude.{◌≡◌, ℕ, ℤ, pos, ◌+◌, ◌-◌, ◌*◌, ◌==◌, Bool, if◌then◌else◌, nat_le, List, [], ◌∷◌, ◌++◌, length, map, take, drop, replicate, slice_index, slice_get, Option, Some, None, unwrap_or, option_map}
 use Rattle.std.specs.Option.{option_map_or}
 use Rattle.std.specs.Ordering.{nat_cmp}
 use Rattle.std.specs.FinMap.{FinMap, from_entries, entries}
@@ -8,7 +8,7 @@ use Rattle.cs_word.specs.declared.Kind.{Kind}
 use Rattle.cs_word.specs.declared.Kind.TheVariants as kind
 use Rattle.cs_word.specs.Word.{kind_of}
 use Rattle.cs_heap.specs.Format.{is_pointers, is_method, unused_units}
-use Rattle.cs_heap.specs.Object.{Object, birth_of, byte_in}
+use Rattle.cs_heap.specs.Object.{Object, birth_of, byte_in, object_at}
 use Rattle.cs_model.specs.Ref.{Ref, natural_of}
 use Rattle.cs_model.specs.Ref as ref
 use Rattle.cs_model.specs.Obj.{Obj, Context, Ptr, Raw, Method, Ctx, context_class, context_fields, literal_count}
@@ -27,9 +27,6 @@ ref_of_kind objects (kind.Link word) = ref.Small (pos 0)
 -- the reference that a word is
 unfoldable pub ref_of : List Object → ℕ → Ref
 ref_of objects word = ref_of_kind objects (kind_of word)
-
-abbrev pub refs_of : List Object → List ℕ → List Ref
-refs_of objects = map (ref_of objects)
 
 abbrev pub count_of_kind : Kind → Option ℕ
 count_of_kind (kind.Small value) = natural_of value
@@ -61,15 +58,15 @@ abbrev pub depth_in : List ℕ → ℕ
 depth_in words = unwrap_or (count_of (slice_index words 2)) 0
 
 -- The slots of a context: sender, pc, stackp, method, closure, receiver, and its stack, of which stackp says the depth.
-unfoldable pub context_of : List Object → ℕ → List ℕ → Context
-context_of objects hash words = record {
+unfoldable pub context_of : (ℕ → Ref) → ℕ → List ℕ → Context
+context_of refer hash words = record {
   hash = hash;
-  sender = ref_of objects (slice_index words 0);
+  sender = refer (slice_index words 0);
   pc = count_of (slice_index words 1);
-  method = ref_of objects (slice_index words 3);
-  closure = ref_of objects (slice_index words 4);
-  receiver = ref_of objects (slice_index words 5);
-  stack = refs_of objects (take (depth_in words) (drop context_fields words));
+  method = refer (slice_index words 3);
+  closure = refer (slice_index words 4);
+  receiver = refer (slice_index words 5);
+  stack = map refer (take (depth_in words) (drop context_fields words));
   size = length words - context_fields;
 }
 
@@ -85,22 +82,26 @@ literals_in words = take (literal_count (header_in words)) (drop 1 words)
 abbrev pub code_in : List ℕ → List ℕ
 code_in words = drop (1 + literal_count (header_in words)) words
 
-unfoldable pub method_of : List Object → Object → Obj
-method_of objects x = Method x.class x.format x.hash (header_in x.words) (refs_of objects (literals_in x.words)) (used_bytes x.format (code_in x.words))
+unfoldable pub method_of : (ℕ → Ref) → Object → Obj
+method_of refer x = Method x.class x.format x.hash (header_in x.words) (map refer (literals_in x.words)) (used_bytes x.format (code_in x.words))
 
 -- whether an object is a context
 abbrev pub is_context : Object → Bool
 is_context x = x.class == context_class
 
--- the object of the model that an object of the heap is
-abbrev pub obj_of : List Object → Object → Obj
-obj_of objects x = if is_context x then Ctx (context_of objects x.hash x.words) else
-    (if is_pointers x.format then Ptr x.class x.format x.hash (refs_of objects x.words) else
-    (if is_method x.format then method_of objects x else Raw x.class x.format x.hash (used_bytes x.format x.words)))
+-- the object of the model that an object of the heap is, where this is what its words refer to
+unfoldable pub obj_of : (ℕ → Ref) → Object → Obj
+obj_of refer x = if is_context x then Ctx (context_of refer x.hash x.words) else
+    (if is_pointers x.format then Ptr x.class x.format x.hash (map refer x.words) else
+    (if is_method x.format then method_of refer x else Raw x.class x.format x.hash (used_bytes x.format x.words)))
+
+-- the object at an address, if there is one
+abbrev pub meaning_at : List Object → ℕ → Option Obj
+meaning_at objects address = option_map (obj_of (ref_of objects)) (object_at objects address)
 
 -- all objects by their births
 unfoldable pub objects_of : List Object → FinMap nat_cmp Obj
-objects_of objects = from_entries (map (λ x. (x.birth, obj_of objects x)) objects)
+objects_of objects = from_entries (map (λ x. (x.birth, obj_of (ref_of objects) x)) objects)
 
 -- ---- the whole
 
