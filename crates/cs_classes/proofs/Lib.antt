@@ -2,3 +2,4 @@ pub mod Tables
 pub mod Heaps
 pub mod Refs
 pub mod Sorts
+pub mod Objects
