@@ -1,0 +1,5 @@
+pub mod Tables
+pub mod Heaps
+pub mod Refs
+pub mod Sorts
+pub mod Objects
