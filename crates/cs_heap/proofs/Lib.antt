@@ -2,4 +2,5 @@ pub mod Places
 mod OneObject
 mod Decoding
 mod Standing
+mod Marks
 mod Seen

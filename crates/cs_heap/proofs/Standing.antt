@@ -104,6 +104,7 @@ module _ (h : Inside) (before after : List Object) (x : Object) (laid : IsLaid h
     where
       slots : (header_in h.words.items (2 * u)).slots ≡ min 255 (length x.words)
       slots = ap (λ (a : Header). a.slots) (read_header u e)
+
       go : (b : Bool) → leb 255 (length x.words) ≡ b → count_in h.words.items u ≡ length x.words
       go true is =
           let long : 255 ≤ length x.words = grind (arith, nat_tests) in
@@ -125,12 +126,13 @@ module _ (h : Inside) (before after : List Object) (x : Object) (laid : IsLaid h
       → 2 * u ≡ used before + 2 * units_before (length x.words) → (get_or all u 0 ≡ v) × (u < length all)
   read_marked all front part rest u v is size_is part_is e =
       let here : u ≡ length front + units_before (length x.words) = omega (arith, e, size_is) in
-      let long : length part ≡ units (length x.words) = ap length part_is ∙ length-marked v (length x.words) in
-      (ap (λ (zs : List ℕ). get_or zs u 0) is
-      ∙ get-middle front (part ++ rest) (length front) u (units_before (length x.words)) refl here
-      ∙ get_or_append_left part rest 0 (units_before (length x.words)) (omega (arith, long))
-      ∙ ap (λ (zs : List ℕ). get_or zs (units_before (length x.words)) 0) part_is ∙ value_marked v (length x.words),
-      omega (arith, ap length is, length-append front (part ++ rest), length-append part rest, long, here))
+      let long : length part ≡ units (length x.words) = ap length part_is ∙ length-marked v (length x.words) in (
+        ap (λ (zs : List ℕ). get_or zs u 0) is
+            ∙ get-middle front (part ++ rest) (length front) u (units_before (length x.words)) refl here
+            ∙ get_or_append_left part rest 0 (units_before (length x.words)) (omega (arith, long))
+            ∙ ap (λ (zs : List ℕ). get_or zs (units_before (length x.words)) 0) part_is ∙ value_marked v (length x.words),
+        omega (arith, ap length is, length-append front (part ++ rest), length-append part rest, long, here),
+      )
 
   pub there : (u : ℕ) → 2 * u ≡ used before + 2 * units_before (length x.words) → IsThere h u x
   there u e =
@@ -168,10 +170,10 @@ module _ (h : Inside) (before after : List Object) (x : Object) (laid : IsLaid h
   write_slot u i v e less =
       write_word (2 * u + 2 + i) (2 * units_before (length x.words) + 2 + i) v (omega (arith, e)) (omega (arith, less, fits_body (length x.words)))
       ∙ ap (λ (zs : List ℕ). flat_map words_of before ++ (zs ++ flat_map words_of after))
-        (ap (λ (zs : List ℕ). set zs (2 * units_before (length x.words) + 2 + i) v) (words_of_is x)
-        ∙ row-set_slot (stored_header x) x.words i v less
-        ∙ ap (λ (m : ℕ). row (header_bits (header_with m)) (set x.words i v)) (sym (length-set x.words i v))
-        ∙ sym (words_of_is (set_word i v x)))
+      (ap (λ (zs : List ℕ). set zs (2 * units_before (length x.words) + 2 + i) v) (words_of_is x)
+      ∙ row-set_slot (stored_header x) x.words i v less
+      ∙ ap (λ (m : ℕ). row (header_bits (header_with m)) (set x.words i v)) (sym (length-set x.words i v))
+      ∙ sym (words_of_is (set_word i v x)))
       ∙ sym (flat_map-append words_of before (set_word i v x ∷ after))
     where
       header_with : ℕ → Header
@@ -184,10 +186,10 @@ module _ (h : Inside) (before after : List Object) (x : Object) (laid : IsLaid h
       let new = stored_header y in
       ap (λ (zs : List ℕ). set zs (2 * u + 1) (new / 2 ^ 32)) (write_word (2 * u) j (new % 2 ^ 32) e (omega arith))
       ∙ set-middle (flat_map words_of before) (set (words_of x) j (new % 2 ^ 32)) (flat_map words_of after) (used before) (2 * u + 1) (j + 1) (new / 2 ^ 32)
-        (length-all_words before) (omega (arith, e)) (omega (arith, length-set (words_of x) j (new % 2 ^ 32), length-words_of x))
+      (length-all_words before) (omega (arith, e)) (omega (arith, length-set (words_of x) j (new % 2 ^ 32), length-words_of x))
       ∙ ap (λ (zs : List ℕ). flat_map words_of before ++ (zs ++ flat_map words_of after))
-        (ap (λ (zs : List ℕ). set (set zs j (new % 2 ^ 32)) (j + 1) (new / 2 ^ 32)) (words_of_is x)
-        ∙ row-set_header (stored_header x) new x.words ∙ ap (row new) (sym same) ∙ sym (words_of_is y))
+      (ap (λ (zs : List ℕ). set (set zs j (new % 2 ^ 32)) (j + 1) (new / 2 ^ 32)) (words_of_is x)
+      ∙ row-set_header (stored_header x) new x.words ∙ ap (row new) (sym same) ∙ sym (words_of_is y))
       ∙ sym (flat_map-append words_of before (y ∷ after))
 
 -- ---- the heap as a whole

@@ -76,6 +76,11 @@ count_in words unit = let count = (header_in words (2 * unit)).slots in
 abbrev pub unit_in : ℕ → Option ℕ
 unit_in address = if nat_le base address && address % 8 == 0 then Some ((address - base) / 8) else None
 
+-- the address of the object whose first word is in a unit: its header is there or, behind a count, in the next unit
+abbrev pub address_from : List ℕ → ℕ → Option ℕ
+address_from marks unit = if nat_le (length marks) unit then None
+    else (if slice_index marks unit == 0 then Some (base + 8 * (unit + 1)) else Some (base + 8 * unit))
+
 abbrev pub object_in : Header → ℕ → List ℕ → Object
 object_in header birth words = record {
   class = header.class;

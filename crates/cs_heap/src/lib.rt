@@ -168,7 +168,7 @@ impl Heap {
     pub fn first(&self) -> Option<Oop>
         ensures { option_map (λ o. o.0) result ≡ address_of self.now.objects 0 }
     {
-        rows::header_from(&self.marks, 0)
+        rows::object_from(&self.marks, 0)
     }
 
     /// The object right behind `o`; None exactly where `o` is the last.
@@ -178,7 +178,7 @@ impl Heap {
     {
         let unit = rows::unit_of(o);
         let slots = rows::slot_count_at(&self.words, unit);
-        rows::header_from(&self.marks, unit + 1 + rows::body_units(slots) as usize)
+        rows::object_from(&self.marks, unit + 1 + rows::body_units(slots) as usize)
     }
 
     /// The index of the object's class in the class table.

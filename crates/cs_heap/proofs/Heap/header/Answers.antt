@@ -1,4 +1,4 @@
-use Rattle.std.proofs.Common.{◌≡◌, ℕ, zero, suc, ◌+◌, ◌*◌, ◌/◌, ◌%◌, ◌^◌, ◌-◌, ◌<◌, ◌≤◌, Bool, true, false, cond, List, [], ◌∷◌, ◌++◌, length, get_or, replicate, Option, Some, None, option_map, option_and_then, is_some, refl, ap, ap₂, sym, ◌∙◌, arith, leb, eqb, min, subst}
+use Rattle.std.proofs.Common.{◌≡◌, ℕ, zero, suc, ◌+◌, ◌*◌, ◌/◌, ◌%◌, ◌^◌, ◌-◌, ◌<◌, ◌≤◌, Bool, true, false, cond, List, [], ◌∷◌, ◌++◌, length, get_or, replicate, Option, Some, None, option_map, option_and_then, is_some, refl, ap, ap₂, sym, ◌∙◌, arith, leb, eqb, min, max, subst, append_assoc, length-append}
 use Rattle.cs_heap.specs.Object.{Memory, Object, base, body_units, next_address, set_word, size, slot_counts, units, units_before, used}
 use Rattle.cs_heap.specs.Format.{is_shape}
 use Rattle.cs_heap.specs.Layout.{header_in}
