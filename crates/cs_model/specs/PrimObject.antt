@@ -1,6 +1,6 @@
 -- Primitives on objects (Blue Book, part four: array and stream, storage management; the numbers are this machine's own).
-use Rattle.std.specs.Prelude.{ℕ, ℤ, pos, negsuc, ◌+◌, ◌-◌, ◌*◌, ◌/◌, ◌%◌, ◌==◌, ◌&&◌, ◌||◌, not, Bool, true, false, nat_lt, nat_le, if◌then◌else◌, List, [], ◌∷◌, length, replicate, find, Option, Some, None, is_some, option_map, option_and_then, slice_get, unwrap_or}
-use Rattle.std.specs.FinMap.{get, entries}
+use Rattle.std.specs.Prelude.{ℕ, zero, suc, ℤ, pos, negsuc, ◌+◌, ◌-◌, ◌*◌, ◌/◌, ◌%◌, ◌==◌, ◌&&◌, ◌||◌, not, Bool, true, false, nat_lt, nat_le, if◌then◌else◌, List, [], ◌∷◌, length, replicate, Option, Some, None, is_some, option_map, option_and_then, slice_get, unwrap_or}
+use Rattle.std.specs.FinMap.{get}
 use Rattle.cs_model.specs.declared.stop.Stop.TheVariants as why
 use Rattle.cs_model.specs.Ref.{Ref, Small, Char, birth_of, index_of, same_ref}
 use Rattle.cs_model.specs.Ref as ref
@@ -170,12 +170,19 @@ hash_prim k args = with_count k 0 args
 
 -- ---- 77, 78: the instances of a class, by rising births
 
-abbrev pub has_index : ℕ → Obj → Bool
-has_index index o = class_index_in o == index
+-- an object of the class index that is no context
+abbrev pub has_index : ℕ → Option Obj → Bool
+has_index index None = false
+has_index index (Some o) = class_index_in o == index && not (is_context o)
 
--- the first object of the class index whose birth isn't below `from`
+-- of so many births from `i` on, the first one whose object has the class index
+unfoldable pub first_instance : ℕ → Kept → ℕ → ℕ → Option Ref
+first_instance zero k index i = None
+first_instance (suc n) k index i = if has_index index (object_at k i) then Some (ref.Obj i) else first_instance n k index (i + 1)
+
+-- the first object of the class index whose birth isn't below `from`; all births are below the next one
 unfoldable pub instance_from : Kept → ℕ → ℕ → Option Ref
-instance_from k index from = option_map (λ e. ref.Obj e.0) (find (λ e. nat_le from e.0 && has_index index e.1) (entries k.objects))
+instance_from k index from = first_instance (k.rest.next - from) k index from
 
 -- the index of a class that stands in the class table at its hash
 abbrev pub entry_index : Kept → ℕ → Option Obj → Option ℕ
