@@ -3,3 +3,4 @@ pub mod Heaps
 pub mod Refs
 pub mod Sorts
 pub mod Objects
+pub mod Edits
