@@ -4,3 +4,4 @@ pub mod Refs
 pub mod Sorts
 pub mod Objects
 pub mod Edits
+pub mod Contexts
