@@ -5,3 +5,4 @@ pub mod Sorts
 pub mod Objects
 pub mod Edits
 pub mod Contexts
+pub mod Sounds
