@@ -17,8 +17,12 @@ pub record Holds (s : Store) (k : Kept) : Type 0 where
   pub context : (j : ℕ) (x : Object) → slice_get s.memory.objects j ≡ Some x → is_context x ≡ true → is_context_at (object_at k x.birth) ≡ true
   pub rest : (kept_of s.memory.objects s.table s.roots k.rest.active).rest ≡ k.rest
 
--- A context is active, all that the state names is there, and the heap holds what it must.
-pub record IsReady (s : Store) (k : Kept) : Type 0 where
+-- all that the state names is there, and the heap holds what it must
+pub record IsSound (s : Store) (k : Kept) : Type 0 where
   pub closed : Keeps k k
-  pub running : IsRunning k
   pub holds : Holds s k
+
+-- and a context is active
+pub record IsReady (s : Store) (k : Kept) : Type 0 where
+  pub sound : IsSound s k
+  pub running : IsRunning k

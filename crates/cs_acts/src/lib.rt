@@ -4,7 +4,9 @@
 //! world's own matter. Whoever goes through the calls of `World` alone can't see the difference.
 #![tactic(auto)]
 
+mod act;
 mod world;
 
+pub use act::Act;
 pub use cs_classes::{Loaded, Roots};
 pub use world::World;

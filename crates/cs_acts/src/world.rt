@@ -1,13 +1,15 @@
 //! The trait of all worlds.
-ghost use Rattle.std.specs.Prelude.{◌≡◌, ◌<◌, ◌-◌, true, slice_get, unwrap_or};
+ghost use Rattle.std.specs.Prelude.{◌≡◌, ◌<◌, ◌-◌, ℕ, true, IsSome, Option, Some, slice_get, unwrap_or};
 ghost use Rattle.cs_model.specs.Obj.{lies_in};
 ghost use Rattle.cs_model.specs.State.{Kept};
 ghost use Rattle.cs_model.specs.Keeps.{Keeps};
 ghost use Rattle.cs_model.specs.Read.{active_context, depth_of, method_of, pc_of, receiver_of, size_of, stack_of};
 ghost use Rattle.cs_model.specs.Operation.{nil_of, pop_of, push_of, set_pc_of};
+ghost use Rattle.cs_acts.specs.declared.act.Act.{Act};
 ghost use Rattle.cs_acts.specs.Names.{IsNamed, KeepsNames, Names, Store, name_of};
-ghost use Rattle.cs_acts.specs.Ready.{IsReady};
+ghost use Rattle.cs_acts.specs.Ready.{IsReady, IsSound};
 
+use crate::Act;
 use cs_classes::{Classes, Roots};
 use cs_heap::Heap;
 use cs_word::Oop;
@@ -22,6 +24,8 @@ pub trait World {
 
     ghost store: { Self → Store };
 
+    ghost act: { Self → Act → Option ℕ };
+
     /// The heap, for reading.
     fn heap(&self) -> &Heap
         ensures { result.now ≡ (store self.now).memory };
@@ -33,6 +37,17 @@ pub trait World {
     /// The special-object array, the last hash, the next birth and the image header.
     fn roots(&self) -> &Roots
         ensures { result.now ≡ (store self.now).roots };
+
+    /// The active context; Gone exactly where none is active.
+    fn active(&self) -> Act
+        requires { IsSound (store self.now) (view self.now) }
+        ensures { act self.now result ≡ (view self.now).rest.active };
+
+    /// The birth of the context that an act stands for.
+    fn act_birth(&self, a: Act) -> u64
+        requires sound { IsSound (store self.now) (view self.now) }
+        requires stands { IsSome (act self.now a) }
+        ensures { act self.now a ≡ Some result };
 
     /// The receiver of the active context.
     fn receiver(&self) -> Oop
