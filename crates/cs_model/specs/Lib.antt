@@ -29,3 +29,5 @@ pub mod Due
 pub mod Step
 pub mod Report
 pub mod Decode
+pub mod Built
+pub mod Line
