@@ -128,21 +128,30 @@ object_at-with_object_other os a b f h other =
     go (Some k) (Some j) d e = slice_get-at_index_other k j f os (λ same. other (same_address os a b k d (e ∙ ap Some (sym same))))
 
 -- births stay
-pub birth_of-with_object : (os : List Object) (a b : ℕ) (f : Object → Object) → IsEdit f → birth_of (with_object os a f) b ≡ birth_of os b
+pub births-at_index : (k j : ℕ) (f : Object → Object) (xs : List Object) → IsEdit f
+    → option_map_or (λ (y : Object). y.birth) (slice_get (at_index k f xs) j) 0 ≡ option_map_or (λ (y : Object). y.birth) (slice_get xs j) 0
 unfolding at_index
-birth_of-with_object os a b f h =
-    ap (λ (o : Option ℕ). option_map_or (λ (y : Object). y.birth) (option_and_then (slice_get (with_object os a f)) o) 0) (index_of-with_object os a b f h) ∙ go (index_of os a) (index_of os b)
+births-at_index k j f [] h = refl
+births-at_index zero zero f (x ∷ xs) h = h.birth x
+births-at_index zero (suc j) f (x ∷ xs) h = refl
+births-at_index (suc k) zero f (x ∷ xs) h = refl
+births-at_index (suc k) (suc j) f (x ∷ xs) h = births-at_index k j f xs h
+
+pub birth_at-with_object : (os : List Object) (a j : ℕ) (f : Object → Object) → IsEdit f
+    → option_map_or (λ (y : Object). y.birth) (slice_get (with_object os a f) j) 0 ≡ option_map_or (λ (y : Object). y.birth) (slice_get os j) 0
+birth_at-with_object os a j f h = go (index_of os a)
   where
-    births : (k j : ℕ) (xs : List Object) → option_map_or (λ (y : Object). y.birth) (slice_get (at_index k f xs) j) 0 ≡ option_map_or (λ (y : Object). y.birth) (slice_get xs j) 0
-    births k j [] = refl
-    births zero zero (x ∷ xs) = h.birth x
-    births zero (suc j) (x ∷ xs) = refl
-    births (suc k) zero (x ∷ xs) = refl
-    births (suc k) (suc j) (x ∷ xs) = births k j xs
-    go : (o p : Option ℕ) → option_map_or (λ (y : Object). y.birth) (option_and_then (slice_get (option_map_or (λ (k : ℕ). at_index k f os) o os)) p) 0 ≡ option_map_or (λ (y : Object). y.birth) (option_and_then (slice_get os) p) 0
-    go None p = refl
-    go (Some k) None = refl
-    go (Some k) (Some j) = births k j os
+    go : (o : Option ℕ) → option_map_or (λ (y : Object). y.birth) (slice_get (option_map_or (λ (k : ℕ). at_index k f os) o os) j) 0 ≡ option_map_or (λ (y : Object). y.birth) (slice_get os j) 0
+    go None = refl
+    go (Some k) = births-at_index k j f os h
+
+pub birth_of-with_object : (os : List Object) (a b : ℕ) (f : Object → Object) → IsEdit f → birth_of (with_object os a f) b ≡ birth_of os b
+birth_of-with_object os a b f h =
+    ap (λ (o : Option ℕ). option_map_or (λ (y : Object). y.birth) (option_and_then (slice_get (with_object os a f)) o) 0) (index_of-with_object os a b f h) ∙ go (index_of os b)
+  where
+    go : (o : Option ℕ) → option_map_or (λ (y : Object). y.birth) (option_and_then (slice_get (with_object os a f)) o) 0 ≡ option_map_or (λ (y : Object). y.birth) (option_and_then (slice_get os) o) 0
+    go None = refl
+    go (Some j) = birth_at-with_object os a j f h
 
 -- ---- one object more
 

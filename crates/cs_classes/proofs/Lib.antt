@@ -6,3 +6,4 @@ pub mod Objects
 pub mod Edits
 pub mod Contexts
 pub mod Sounds
+pub mod Wholes
