@@ -1,15 +1,15 @@
 -- What the heap's functions read at an address, and how a caller sees what they write.
-use Rattle.std.proofs.Common.{◌≡◌, ℕ, ◌+◌, ◌*◌, ◌/◌, ◌%◌, ◌^◌, ◌-◌, ◌<◌, ◌≤◌, true, List, [], ◌∷◌, ◌++◌, length, get_or, is_some, Option, refl, ap, ap₂, sym, ◌∙◌, subst, arith, min}
+use Rattle.std.proofs.Common.{◌≡◌, ℕ, ◌+◌, ◌*◌, ◌/◌, ◌%◌, ◌^◌, ◌<◌, ◌≤◌, true, List, [], ◌∷◌, ◌++◌, length, get_or, is_some, Option, refl, ap, ap₂, sym, ◌∙◌, arith, min}
 use Rattle.std.proofs.Math.ListN.{set}
 use Rattle.std.proofs.lemmas.Grind.{get_or_default_zero, flat_map-append}
-use Rattle.std.proofs.lemmas.List.{append-nil, length-set, length-replicate}
+use Rattle.std.proofs.lemmas.List.{append-nil, length-set}
 use Rattle.std.specs.Prelude.{flat_map, vec_capacity, replicate}
 use Rattle.std.specs.Option.{option_map_or}
 use Rattle.cs_heap.specs.Format.{is_shape}
-use Rattle.cs_heap.specs.Object.{Memory, Object, body_units, field_of, index_of, new_object, new_slot, object_at, size, set_word, slot_count_of, units, used, with_hash, with_object, with_slot}
-use Rattle.cs_heap.specs.Layout.{IsHeap, IsLaid, IsStorable, births_of, header, header_in, header_seen, marked, marks_of, memory, objects, row, words_of}
+use Rattle.cs_heap.specs.Object.{Memory, Object, field_of, index_of, new_object, new_slot, object_at, size, set_word, slot_count_of, with_hash, with_slot}
+use Rattle.cs_heap.specs.Layout.{IsHeap, IsLaid, IsStorable, births_of, header, header_seen, marks_of, memory, objects, row, words_of}
 use Rattle.cs_heap.specs.declared.Heap.TheInside.{Inside}
-use Rattle.cs_heap.proofs.OneObject.{births_of_is, fits_body, length-copies, length-row, marks_of_is, words_of_is}
+use Rattle.cs_heap.proofs.OneObject.{length-copies, length-row, words_of_is}
 use Rattle.cs_heap.proofs.Decoding.{shape_below, stored_header}
 use Rattle.cs_heap.proofs.Places.{Found, has_index, has_number, object_at-found}
 use Rattle.cs_heap.proofs.Standing.{IsKnown, IsThere, all-push, changed, known, laid_now, laid_seen, limit_seen, objects_are, unit_of, write_header, write_slot}
