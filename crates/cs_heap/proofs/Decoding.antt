@@ -5,7 +5,7 @@ use Rattle.std.proofs.lemmas.List.{get_or_append_left}
 use Rattle.std.proofs.lemmas.Bool.Decides.{nat_tests}
 use Rattle.std.specs.Prelude.{flat_map}
 use Rattle.std.specs.List.{AllByRecursion}
-use Rattle.cs_heap.specs.Format.{is_shape}
+use Rattle.cs_heap.specs.Format.{format_allows}
 use Rattle.cs_heap.specs.Object.{Object, size, units, units_before}
 use Rattle.cs_heap.specs.Layout.{IsStorable, births_of, first_count, first_object, header, header_in, object_in, objects_in, overflow, padding, row, words_of}
 use Rattle.cs_heap.proofs.OneObject.{births_of_is, count_in_row, high_in_row, length-marked, length-overflow, length-words_of, low_in_row, mark_in_row, value_marked, words_of_is}
@@ -54,7 +54,7 @@ stored_header x = header_bits (header x)
 pub bits_back : (n : ℕ) → n % 2 ^ 32 + n / 2 ^ 32 * 2 ^ 32 ≡ n
 bits_back n = omega arith
 
-pub shape_below : (format slots : ℕ) → is_shape format slots ≡ true → format < 2 ^ 5
+pub shape_below : (format slots : ℕ) → format_allows format slots ≡ true → format < 2 ^ 5
 shape_below format slots h = grind (arith, nat_tests)
 
 -- the header of what can be stored is read back

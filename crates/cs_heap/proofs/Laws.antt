@@ -1,10 +1,10 @@
 -- The laws of the object memory, for the crates above: what is read after a write and after an allocation, and how the
 -- addresses lie.
 use Rattle.std.proofs.Common.{◌≡◌, ◌≢◌, ◌⊎◌, inl, inr, ℕ, zero, suc, ◌+◌, ◌*◌, ◌/◌, ◌%◌, ◌<◌, ◌≤◌, Bool, true, false, List, [], ◌∷◌, ◌++◌, length, get_or, Option, Some, None, option_map, option_and_then, is_some, refl, ap, sym, ◌∙◌, arith, get_or-set_same, get_or-set_other, length-append}
-use Rattle.std.proofs.lemmas.List.{length-set}
+use Rattle.std.proofs.lemmas.List.{length-replicate, length-set}
 use Rattle.std.specs.Prelude.{slice_get, slice_set, sum_by}
 use Rattle.std.specs.Option.{option_map_or}
-use Rattle.cs_heap.specs.Object.{Object, address_among, address_of, at_index, base, byte_in, byte_of, field_of, hash_of, header_address, index_among, index_of, is_object, next_address, next_of, object_at, set_word, size, slot_count_of, slot_counts, slot_of, units, used, with_byte, with_byte_in, with_hash, with_object, with_slot}
+use Rattle.cs_heap.specs.Object.{Object, address_among, address_of, at_index, base, byte_in, byte_of, field_of, hash_of, header_address, index_among, index_of, is_object, new_object, new_slot, next_address, next_of, object_at, set_word, size, slot_count_of, slot_counts, slot_of, units, used, with_byte, with_byte_in, with_hash, with_object, with_slot}
 use Rattle.cs_heap.proofs.Places.{Found, address_past, found_by_address, found_by_index, has_index, index_split, next_of-found, object_at-found, used-append, used-cons, used-push}
 
 -- ---- addresses and indices
@@ -297,19 +297,38 @@ byte_of-with_byte_other_object xs a i b c j other =
 abbrev pub pushed : List Object → Object → List Object
 pushed xs y = xs ++ y ∷ []
 
--- the new object has the next address and the next index
-pub index_of-new : (xs : List Object) (y : Object) → index_of (pushed xs y) (next_address xs (length y.words)) ≡ Some (length xs)
-index_of-new xs y = index_split xs [] y base (next_address xs (length y.words)) refl
+pub length-new_words : (class format slots birth : ℕ) → length (new_object class format slots birth).words ≡ slots
+length-new_words class format slots birth = length-replicate slots (new_slot format)
 
-pub object_at-new : (xs : List Object) (y : Object) → object_at (pushed xs y) (next_address xs (length y.words)) ≡ Some y
-object_at-new xs y = ap (option_and_then (slice_get (pushed xs y))) (index_of-new xs y) ∙ last xs
+-- the address that `allocate` answers, in the form of the laws below
+pub next_address-new : (xs : List Object) (a class format slots birth : ℕ) → a ≡ next_address xs slots → a ≡ next_address xs (length (new_object class format slots birth).words)
+next_address-new xs a class format slots birth h = h ∙ ap (next_address xs) (sym (length-new_words class format slots birth))
+
+-- the new object has the next address and the next index
+pub index_of-new : (xs : List Object) (y : Object) (a : ℕ) → a ≡ next_address xs (length y.words) → index_of (pushed xs y) a ≡ Some (length xs)
+index_of-new xs y a h = index_split xs [] y base a h
+
+pub is_object-new : (xs : List Object) (y : Object) (a : ℕ) → a ≡ next_address xs (length y.words) → is_object (pushed xs y) a ≡ true
+is_object-new xs y a h = ap is_some (index_of-new xs y a h)
+
+pub object_at-new : (xs : List Object) (y : Object) (a : ℕ) → a ≡ next_address xs (length y.words) → object_at (pushed xs y) a ≡ Some y
+object_at-new xs y a h = ap (option_and_then (slice_get (pushed xs y))) (index_of-new xs y a h) ∙ last xs
   where
     last : (xs : List Object) → slice_get (xs ++ y ∷ []) (length xs) ≡ Some y
     last [] = refl
     last (x ∷ xs) = last xs
 
-pub field_of-new : (g : Object → ℕ) (xs : List Object) (y : Object) → field_of g (pushed xs y) (next_address xs (length y.words)) ≡ g y
-field_of-new g xs y = ap (λ (o : Option Object). option_map_or g o 0) (object_at-new xs y)
+pub field_of-new : (g : Object → ℕ) (xs : List Object) (y : Object) (a : ℕ) → a ≡ next_address xs (length y.words) → field_of g (pushed xs y) a ≡ g y
+field_of-new g xs y a h = ap (λ (o : Option Object). option_map_or g o 0) (object_at-new xs y a h)
+
+-- a change of the new object is another new object
+pub with_object-new : (xs : List Object) (y : Object) (a : ℕ) (f : Object → Object) → a ≡ next_address xs (length y.words) → with_object (pushed xs y) a f ≡ pushed xs (f y)
+unfolding at_index
+with_object-new xs y a f h = ap (λ (o : Option ℕ). option_map_or (λ k. at_index k f (pushed xs y)) o (pushed xs y)) (index_of-new xs y a h) ∙ last xs
+  where
+    last : (xs : List Object) → at_index (length xs) f (xs ++ y ∷ []) ≡ xs ++ f y ∷ []
+    last [] = refl
+    last (x ∷ xs) = ap (λ (zs : List Object). x ∷ zs) (last xs)
 
 -- before, nothing was there
 pub no_object-next : (xs : List Object) (slots : ℕ) → is_object xs (next_address xs slots) ≡ false
@@ -358,7 +377,7 @@ is_object-pushed xs y a h =
     new_is k f past =
         let within = index_of-below (pushed xs y) a k f.index_is in
         let last : length xs ≡ k = omega (arith, past, within, length-append xs (y ∷ [])) in
-        index_of-injective (pushed xs y) a (next_address xs (length y.words)) k f.index_is (index_of-new xs y ∙ ap Some last)
+        index_of-injective (pushed xs y) a (next_address xs (length y.words)) k f.index_is (index_of-new xs y (next_address xs (length y.words)) refl ∙ ap Some last)
 
     old_is : (k : ℕ) → Found (pushed xs y) a k → k < length xs → is_object xs a ≡ true
     old_is k f within = has (address_of xs k) refl (address_of-below xs k within)

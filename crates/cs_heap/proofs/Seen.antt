@@ -5,7 +5,7 @@ use Rattle.std.proofs.lemmas.Grind.{get_or_default_zero, flat_map-append}
 use Rattle.std.proofs.lemmas.List.{append-nil, length-set}
 use Rattle.std.specs.Prelude.{flat_map, vec_capacity, replicate}
 use Rattle.std.specs.Option.{option_map_or}
-use Rattle.cs_heap.specs.Format.{is_shape}
+use Rattle.cs_heap.specs.Format.{format_allows}
 use Rattle.cs_heap.specs.Object.{Memory, Object, field_of, index_of, new_object, new_slot, object_at, size, set_word, slot_count_of, with_hash, with_slot}
 use Rattle.cs_heap.specs.Layout.{IsHeap, IsLaid, IsStorable, births_of, header, header_seen, marks_of, memory, objects, row, words_of}
 use Rattle.cs_heap.specs.declared.Heap.TheInside.{Inside}
@@ -111,7 +111,7 @@ slot_stored h new m address place i v ok is less at words births marks roomy =
     let stored : IsStorable (set_word i v x) = record {
       class = k.there.storable.class;
       flags = k.there.storable.flags;
-      shape = ap (is_shape x.format) long ∙ k.there.storable.shape;
+      shape = ap (format_allows x.format) long ∙ k.there.storable.shape;
       hash = k.there.storable.hash;
       count = omega (arith, long, k.there.storable.count);
     } in
@@ -185,11 +185,11 @@ new_words class format slots birth flags count value none count_is value_is =
     (count_is ∙ omega (arith, length-copies slots (new_slot format)))
     ∙ sym (words_of_is (new_object class format slots birth))
 
-pub new_storable : (class format slots birth : ℕ) → class < 2 ^ 22 → is_shape format slots ≡ true → slots < 2 ^ 32 → IsStorable (new_object class format slots birth)
+pub new_storable : (class format slots birth : ℕ) → class < 2 ^ 22 → format_allows format slots ≡ true → slots < 2 ^ 32 → IsStorable (new_object class format slots birth)
 new_storable class format slots birth below shape few = record {
   class = below;
   flags = omega arith;
-  shape = ap (is_shape format) (length-copies slots (new_slot format)) ∙ shape;
+  shape = ap (format_allows format) (length-copies slots (new_slot format)) ∙ shape;
   hash = omega arith;
   count = omega (arith, few, length-copies slots (new_slot format));
 }

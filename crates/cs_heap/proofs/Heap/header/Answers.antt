@@ -1,6 +1,6 @@
 use Rattle.std.proofs.Common.{ℕ, ◌*◌, List, length, ap, ap₂, sym, ◌∙◌, arith, subst}
 use Rattle.cs_heap.specs.Object.{Object}
-use Rattle.cs_heap.specs.Format.{is_shape}
+use Rattle.cs_heap.specs.Format.{format_allows}
 use Rattle.cs_heap.specs.Layout.{header_in}
 use Rattle.cs_word.specs.Header.{IsWritable}
 use Rattle.cs_word.specs.declared.header.Header.{Header}
@@ -32,5 +32,5 @@ returns-clause-shape c =
     let s = seen c.self.inside c.args.self.now c.self.invariant c.self.view_is c.args.o.0 c.requires in
     let is = c.header_at.ensures ∙ ap₂ (λ (ws : List ℕ) (u : ℕ). header_in ws (2 * u)) c.deref.ensures.value c.unit_of.ensures
     ∙ s.known_there.there.header_is in
-    ap₂ is_shape (ap (λ (h : Header). h.format) is) (field_is c.self.inside c.args.self.now.objects c.args.o.0 s (λ (x : Object). length x.words))
+    ap₂ format_allows (ap (λ (h : Header). h.format) is) (field_is c.self.inside c.args.self.now.objects c.args.o.0 s (λ (x : Object). length x.words))
     ∙ s.known_there.there.storable.shape
