@@ -13,6 +13,7 @@ use Rattle.cs_word.specs.Word.{kind_of}
 use Rattle.std.proofs.lemmas.Bool.{cases_eq}
 use Rattle.std.proofs.lemmas.List.{length-append}
 use Rattle.cs_heap.specs.Object.{Object, at_index, base, birth_of, is_object, object_at, with_object}
+use Rattle.cs_heap.proofs.Laws.{is_object-old, is_object-with_object, length-with_object}
 use Rattle.cs_model.specs.Ref.{Ref}
 use Rattle.cs_model.specs.Ref as ref
 use Rattle.cs_model.specs.Obj.{Ctx, Method, Obj, Ptr}
@@ -22,7 +23,7 @@ use Rattle.cs_model.specs.Instance.{with_class}
 use Rattle.cs_classes.specs.declared.Roots.{Roots}
 use Rattle.cs_classes.specs.Meaning.{birth_at, classes_of, context_of, depth_in, is_context, kept_of, literals_in, meaning_at, obj_of, objects_of, ref_of, ref_of_kind}
 use Rattle.cs_classes.specs.Sound.{IsSound, IsSoundObject, IsWhole, is_reference, is_reference_kind, nil_of, references_in}
-use Rattle.cs_classes.proofs.Heaps.{object_there, IsEdit, birth_at-with_object, birth_of-object_at, birth_of-push, birth_of-with_object, element_within, is_object-object_at, is_object-push, is_object-with_object, length-at_index, slice_get-at_index_other, slice_get-at_index_same, slice_get-push, stands, with_object-stands}
+use Rattle.cs_classes.proofs.Heaps.{object_there, IsEdit, birth_at-with_object, birth_of-object_at, birth_of-push, birth_of-with_object, is_object-object_at, slice_get-at_index_other, slice_get-at_index_same, slice_get-push, stands, with_object-stands}
 use Rattle.cs_classes.proofs.Objects.{AreApart, Comes, IsFresh, get-objects_of, objects_of-comes, objects_of-push, objects_of-with_object}
 use Rattle.cs_classes.proofs.Refs.{is_reference-push, nil_of-push, nil_of-with_object, ref_of-push}
 use Rattle.cs_classes.proofs.Sorts.{AContext, AMethod, Bytes, Pointers, Sort, obj_of-alike, obj_of-bytes, obj_of-context, obj_of-method, obj_of-pointers, pass_drop, pass_take, references-method, references-pointers, sort_of}
@@ -125,14 +126,14 @@ whole-with_object os table roots a x f edit w there new =
     let list = with_object-stands os a x s.0 f s.1 in
     record {
       heap = sound-with_object os a x f edit w.heap there new;
-      first = omega (arith, w.first, ap length list, length-at_index s.0 f os);
+      first = omega (arith, w.first, length-with_object os a f);
       nil = nil_of-with_object os a f edit ∙ w.nil;
       births = λ k y h. let z = before s.0 k y (subst (λ (ys : List Object). slice_get ys k ≡ Some y) list h) in
           subst (λ (n : ℕ). n < roots.next_birth) z.1.1.0 (w.births k z.0 z.1.0);
       indices = λ k y h. let z = before s.0 k y (subst (λ (ys : List Object). slice_get ys k ≡ Some y) list h) in
           subst (λ (n : ℕ). is_some (get table n) ≡ true) z.1.1.1 (w.indices k z.0 z.1.0);
-      classes = λ i b e. is_object-with_object os a b f edit ∙ w.classes i b e;
-      special = is_object-with_object os a roots.special.0 f edit ∙ w.special;
+      classes = λ i b e. is_object-with_object os a b f edit.slots ∙ w.classes i b e;
+      special = is_object-with_object os a roots.special.0 f edit.slots ∙ w.special;
     }
   where
     before : (k j : ℕ) (y : Object) → slice_get (at_index k f os) j ≡ Some y → (z : Object) × ((slice_get os j ≡ Some z) × ((z.birth ≡ y.birth) × (z.class ≡ y.class)))
@@ -204,8 +205,8 @@ whole-push os table roots y w next class new = record {
   nil = nil_of-push os y (omega (arith, w.first)) ∙ w.nil;
   births = λ k x h. births k x (slice_get-push os y k x h);
   indices = λ k x h. indices k x (slice_get-push os y k x h);
-  classes = λ i b e. is_object-push os y b (w.classes i b e);
-  special = is_object-push os y roots.special.0 w.special;
+  classes = λ i b e. is_object-old os y b (w.classes i b e);
+  special = is_object-old os y roots.special.0 w.special;
 }
   where
     births : (k : ℕ) (x : Object) → (slice_get os k ≡ Some x) ⊎ ((k ≡ length os) × (y ≡ x)) → x.birth < roots.next_birth + 1

@@ -6,7 +6,7 @@ use Rattle.std.specs.FinMap.{FinMap, get}
 use Rattle.cs_word.specs.declared.Kind.{Kind}
 use Rattle.cs_word.specs.declared.Kind.TheVariants as kind
 use Rattle.cs_word.specs.Word.{kind_of}
-use Rattle.cs_heap.specs.Format.{is_method, is_pointers, is_shape}
+use Rattle.cs_heap.specs.Format.{is_method, is_pointers, format_allows}
 use Rattle.cs_heap.specs.Object.{Object, address_of, base, is_object}
 use Rattle.cs_model.specs.Obj.{context_fields, is_header, literal_count}
 use Rattle.cs_classes.specs.declared.Roots.{Roots}
@@ -49,7 +49,7 @@ pub record IsSoundMethod (x : Object) : Type 0 where
   pub literals : literal_count (header_in x.words) + (if nat_lt 0 (unused_bytes x.format) then 1 else 0) < length x.words
 
 pub record IsSoundObject (objects : List Object) (x : Object) : Type 0 where
-  pub shape : IsTrue (is_shape x.format (length x.words))
+  pub shape : IsTrue (format_allows x.format (length x.words))
   pub references : AllPass (is_reference objects) (references_in x)
   pub context : IsTrue (is_context x) → IsSoundContext objects x
   pub method : IsTrue (is_method x.format) → IsSoundMethod x
