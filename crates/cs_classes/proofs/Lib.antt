@@ -7,3 +7,4 @@ pub mod Edits
 pub mod Contexts
 pub mod Sounds
 pub mod Wholes
+pub mod Writes
