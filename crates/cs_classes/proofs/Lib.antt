@@ -6,3 +6,6 @@ pub mod Objects
 pub mod Edits
 pub mod Contexts
 pub mod Sounds
+pub mod Wholes
+pub mod Writes
+pub mod Makings
