@@ -1,11 +1,11 @@
 -- What the calls of `Pages` find in its fields and make of them.
-use Rattle.std.proofs.Common.{◌≡◌, ◌≢◌, ℕ, suc, ◌+◌, ◌-◌, ◌<◌, ◌≤◌, ◌↔◌, List, ◌∷◌, length, get_or, set, true, eqb, sym, ◌∙◌, ap, subst, arith, not, IsTrue, Contains}
+use Rattle.std.proofs.Common.{◌≡◌, ◌≢◌, ap, length, ℕ, ◌+◌, ◌-◌, ◌<◌, ◌≤◌, ◌↔◌, List, ◌∷◌, get_or, set, eqb, sym, ◌∙◌, subst, arith, not, IsTrue, Contains}
 use Rattle.std.proofs.lemmas.Bool.{eqb-false, ne_eqb, not-true, not_from_false}
 use Rattle.std.proofs.lemmas.List.{get_or_read}
-use Rattle.cs_pages.specs.Order.{Order, without, IsSound, IsFree}
+use Rattle.cs_pages.specs.Order.{Order, without, IsFree}
 use Rattle.cs_pages.specs.Ring.{chain, order_of, IsRing}
 use Rattle.cs_pages.specs.declared.Pages.TheInside.{Inside}
-use Rattle.cs_pages.proofs.Lists.{lacks_not, length-without, without-lacks, free_room}
+use Rattle.cs_pages.proofs.Lists.{lacks_not, length-without, without-lacks, without-others, free_room}
 use Rattle.cs_pages.proofs.Links.{last_of, length-chain, linked_last}
 use Rattle.cs_pages.proofs.Rings.{pages_in, ring_order, ring_start, page_in_range, older_in_range, newer_in_range, used_link, linked_use, ring_without, ring_with}
 
@@ -29,6 +29,8 @@ pub record Freed (s : Inside) (p ahead behind : ℕ) : Type 0 where
   pub ring : IsRing (older_without s p ahead behind) (newer_without s ahead behind) (order_of (older_without s p ahead behind) s.total (s.used - 1))
   pub order : order_of (older_without s p ahead behind) s.total (s.used - 1) ≡ record (kept s) { recent = without p (kept s).recent }
   pub free : IsFree (order_of (older_without s p ahead behind) s.total (s.used - 1)) p
+  pub others : (q : ℕ) → q ≢ p → Contains (order_of (older_without s p ahead behind) s.total (s.used - 1)).recent q ↔ Contains (kept s).recent q
+  pub count : length (order_of (older_without s p ahead behind) s.total (s.used - 1)).recent + 1 ≡ length (kept s).recent
 
 pub freed : (s : Inside) (p ahead behind : ℕ) → HasRing s → Contains (kept s).recent p
     → ahead ≡ get_or s.older.items p ahead → behind ≡ get_or s.newer.items p behind → Freed s p ahead behind
@@ -38,16 +40,19 @@ freed s p ahead behind ring used read_older read_newer =
     let is_ahead : ahead ≡ get_or s.older.items p 0 = get_or_read s.older.items p ahead (omega (arith, ring.older_len)) read_older 0 in
     let is_behind : behind ≡ get_or s.newer.items p 0 = get_or_read s.newer.items p behind (omega (arith, ring.newer_len)) read_newer 0 in
     let after : IsRing (older_without s p ahead behind) (newer_without s ahead behind) (pages_in s.total (without p xs)) =
-      rw (is_ahead, is_behind) (ring_without s.older.items s.newer.items s.total xs ring p used) in
+    rw (is_ahead, is_behind) (ring_without s.older.items s.newer.items s.total xs ring p used) in
     let order : order_of (older_without s p ahead behind) s.total (s.used - 1) ≡ pages_in s.total (without p xs) =
-      ring_order (older_without s p ahead behind) (newer_without s ahead behind) s.total (without p xs) after (s.used - 1)
-        (omega (arith, length-without p xs ring.sound.distinct used, length-chain s.older.items s.total s.used)) in
+    ring_order (older_without s p ahead behind) (newer_without s ahead behind) s.total (without p xs) after (s.used - 1)
+    (omega (arith, length-without p xs ring.sound.distinct used, length-chain s.older.items s.total s.used)) in
     record {
       ahead_in = rw is_ahead (older_in_range s.older.items s.newer.items s.total xs ring p used);
       behind_in = rw is_behind (newer_in_range s.older.items s.newer.items s.total xs ring p used);
       ring = subst (λ o. IsRing (older_without s p ahead behind) (newer_without s ahead behind) o) (sym order) after;
       order = order;
-      free = subst (λ o. IsFree o p) (sym order) (below, lacks_not p (without p xs) (without-lacks p xs ring.sound.distinct used)) }
+      free = subst (λ o. IsFree o p) (sym order) (below, lacks_not p (without p xs) (without-lacks p xs ring.sound.distinct used));
+      others = λ q differ. subst (λ (o : Order). Contains o.recent q ↔ Contains xs q) (sym order) (without-others p xs q differ);
+      count = ap (λ (o : Order). length o.recent + 1) order ∙ length-without p xs ring.sound.distinct used;
+    }
 
 -- the fields after a page was put in front of another
 abbrev pub older_with : Inside → ℕ → ℕ → List ℕ
@@ -68,29 +73,31 @@ put_first s p second ring free read =
     let xs = chain s.older.items s.total s.used in
     let is_second : second ≡ get_or s.older.items s.total 0 = get_or_read s.older.items s.total second (omega (arith, ring.older_len)) read 0 in
     let after : IsRing (older_with s p second) (newer_with s p second) (pages_in s.total (p ∷ xs)) =
-      rw is_second (ring_with s.older.items s.newer.items s.total xs ring p free) in
+    rw is_second (ring_with s.older.items s.newer.items s.total xs ring p free) in
     let order : order_of (older_with s p second) s.total (s.used + 1) ≡ pages_in s.total (p ∷ xs) =
-      ring_order (older_with s p second) (newer_with s p second) s.total (p ∷ xs) after (s.used + 1)
-        (omega (arith, length-chain s.older.items s.total s.used)) in
+    ring_order (older_with s p second) (newer_with s p second) s.total (p ∷ xs) after (s.used + 1)
+    (omega (arith, length-chain s.older.items s.total s.used)) in
     record {
       second_in = rw is_second (ring_start s.older.items s.newer.items s.total xs ring);
       room = omega (arith, free_room (kept s) p ring.sound free, length-chain s.older.items s.total s.used);
       ring = subst (λ o. IsRing (older_with s p second) (newer_with s p second) o) (sym order) after;
-      order = order }
+      order = order;
+    }
 
 -- a page's link tells whether it is used
 pub link_tells : (s : Inside) (p link : ℕ) → HasRing s → p < s.total → link ≡ get_or s.older.items p link
     → IsTrue (not (eqb link p)) ↔ Contains (kept s).recent p
 link_tells s p link ring below read =
     let xs = chain s.older.items s.total s.used in
-    let is_link : link ≡ get_or s.older.items p 0 = get_or_read s.older.items p link (omega (arith, ring.older_len)) read 0 in
-    (λ moved. linked_use s.older.items s.newer.items s.total xs ring p below
-       (λ same. eqb-false link p (not-true (eqb link p) moved) (is_link ∙ same)),
-     λ used. not_from_false (eqb link p) (ne_eqb link p
-       (λ same. used_link s.older.items s.newer.items s.total xs ring p used (sym is_link ∙ same))))
+    let is_link : link ≡ get_or s.older.items p 0 = get_or_read s.older.items p link (omega (arith, ring.older_len)) read 0 in (
+      λ moved. linked_use s.older.items s.newer.items s.total xs ring p below
+          (λ same. eqb-false link p (not-true (eqb link p) moved) (is_link ∙ same)),
+      λ used. not_from_false (eqb link p) (ne_eqb link p
+          (λ same. used_link s.older.items s.newer.items s.total xs ring p used (sym is_link ∙ same))),
+    )
 
 -- the link by which the ring is closed leads to the least recent page
 pub least_link : (s : Inside) (link : ℕ) → HasRing s → link ≡ get_or s.newer.items s.total link → link ≡ last_of s.total (kept s).recent
 least_link s link ring read =
     get_or_read s.newer.items s.total link (omega (arith, ring.newer_len)) read 0
-      ∙ linked_last s.older.items s.newer.items s.total (kept s).recent s.total ring.linked
+    ∙ linked_last s.older.items s.newer.items s.total (kept s).recent s.total ring.linked

@@ -1,11 +1,11 @@
 -- What a write to the links does to the places that they lead through.
-use Rattle.std.proofs.Common.{◌≡◌, ◌≢◌, ℕ, zero, suc, ◌+◌, ◌<◌, ◌≤◌, List, [], ◌∷◌, ◌++◌, length, get_or, set, true, false, eqb, refl, sym, ◌∙◌, ap, subst, arith, get_or-set_other, get_or-set_same}
+use Rattle.std.proofs.Common.{◌≡◌, ℕ, zero, suc, ◌+◌, ◌<◌, List, [], ◌∷◌, ◌++◌, length, get_or, set, false, eqb, refl, sym, ◌∙◌, ap, subst, arith, get_or-set_other, get_or-set_same}
 use Rattle.std.specs.List.{IsDistinct, AllByRecursion}
 use Rattle.std.proofs.lemmas.Bool.{eqb-false}
 use Rattle.std.proofs.lemmas.List.{length-set}
 use Rattle.std.proofs.lemmas.Map.Keys.{IsDistinct-head, IsDistinct-tail}
-use Rattle.cs_pages.specs.Ring.{chain, Joined, Linked}
-use Rattle.cs_pages.proofs.Lists.{Lacks, eqb-flip, all_split, all_rest}
+use Rattle.cs_pages.specs.Ring.{chain, Linked}
+use Rattle.cs_pages.proofs.Lists.{Lacks, eqb-flip, all_split}
 
 -- the first of the places xs and b, and the last of a and the places xs
 abbrev pub first_of : List ℕ → ℕ → ℕ
@@ -60,17 +60,19 @@ pub older_kept : (older newer : List ℕ) (i v a : ℕ) (xs : List ℕ) (b : ℕ
     → Linked (set older i v) newer a xs b
 older_kept older newer i v a [] b linked lacks =
     (get_or-set_other older i a v 0 (eqb-false a i (eqb-flip i a lacks.0)) ∙ linked.0, linked.1)
-older_kept older newer i v a (x ∷ xs) b linked lacks =
-    ((get_or-set_other older i a v 0 (eqb-false a i (eqb-flip i a lacks.0)) ∙ linked.0.0, linked.0.1),
-     older_kept older newer i v x xs b linked.1 lacks.1)
+older_kept older newer i v a (x ∷ xs) b linked lacks = (
+  (get_or-set_other older i a v 0 (eqb-false a i (eqb-flip i a lacks.0)) ∙ linked.0.0, linked.0.1),
+  older_kept older newer i v x xs b linked.1 lacks.1,
+)
 
 pub newer_kept : (older newer : List ℕ) (i v a : ℕ) (xs : List ℕ) (b : ℕ) → Linked older newer a xs b → Lacks i (b ∷ xs)
     → Linked older (set newer i v) a xs b
 newer_kept older newer i v a [] b linked lacks =
     (linked.0, get_or-set_other newer i b v 0 (eqb-false b i (eqb-flip i b lacks.0)) ∙ linked.1)
-newer_kept older newer i v a (x ∷ xs) b linked lacks =
-    ((linked.0.0, get_or-set_other newer i x v 0 (eqb-false x i (eqb-flip i x lacks.1.0)) ∙ linked.0.1),
-     newer_kept older newer i v x xs b linked.1 (lacks.0, lacks.1.1))
+newer_kept older newer i v a (x ∷ xs) b linked lacks = (
+  (linked.0.0, get_or-set_other newer i x v 0 (eqb-false x i (eqb-flip i x lacks.1.0)) ∙ linked.0.1),
+  newer_kept older newer i v x xs b linked.1 (lacks.0, lacks.1.1),
+)
 
 -- the same places, led to from another one
 pub moved_start : (older newer : List ℕ) (a c : ℕ) (xs : List ℕ) (b : ℕ) → Linked older newer a xs b
@@ -79,10 +81,11 @@ pub moved_start : (older newer : List ℕ) (a c : ℕ) (xs : List ℕ) (b : ℕ)
     → Linked (set older c (first_of xs b)) (set newer (first_of xs b) c) c xs b
 moved_start older newer a c [] b linked c_in b_in in_range c_out b_out distinct =
     (get_or-set_same older c b 0 c_in, get_or-set_same newer b c 0 b_in)
-moved_start older newer a c (x ∷ xs) b linked c_in b_in in_range c_out b_out distinct =
-    ((get_or-set_same older c x 0 c_in, get_or-set_same newer x c 0 in_range.0),
-     newer_kept (set older c x) newer x c x xs b (older_kept older newer c x x xs b linked.1 c_out)
-       (eqb-flip b x b_out.0, IsDistinct-head eqb x xs distinct))
+moved_start older newer a c (x ∷ xs) b linked c_in b_in in_range c_out b_out distinct = (
+  (get_or-set_same older c x 0 c_in, get_or-set_same newer x c 0 in_range.0),
+  newer_kept (set older c x) newer x c x xs b (older_kept older newer c x x xs b linked.1 c_out)
+      (eqb-flip b x b_out.0, IsDistinct-head eqb x xs distinct),
+)
 
 -- a place is left out
 pub left_out : (older newer : List ℕ) (a : ℕ) (front : List ℕ) (p : ℕ) (back : List ℕ) (b : ℕ) → Linked older newer a (front ++ p ∷ back) b
@@ -92,7 +95,7 @@ pub left_out : (older newer : List ℕ) (a : ℕ) (front : List ℕ) (p : ℕ) (
 left_out older newer a [] p back b linked a_in b_in in_range distinct b_out =
     let apart : Lacks a (p ∷ back) = IsDistinct-head eqb a (p ∷ back) distinct in
     moved_start older newer p a back b linked.1 a_in b_in (seconds back in_range.1) apart.1 b_out.1
-      (IsDistinct-tail eqb p back (IsDistinct-tail eqb a (p ∷ back) distinct))
+    (IsDistinct-tail eqb p back (IsDistinct-tail eqb a (p ∷ back) distinct))
   where
     seconds : (xs : List ℕ) → AllByRecursion (λ x. (x < length older) × (x < length newer)) xs → AllByRecursion (λ x. x < length newer) xs
     seconds [] all = tt
@@ -104,24 +107,30 @@ left_out older newer a (x ∷ front) p back b linked a_in b_in in_range distinct
     let distinct_tail = IsDistinct-tail eqb a (x ∷ front ++ p ∷ back) distinct in
     let x_apart = all_split (λ y. eqb x y ≡ false) front (p ∷ back) (IsDistinct-head eqb x (front ++ p ∷ back) distinct_tail) in
     let a_last : eqb a last ≡ false = all_last (λ y. eqb a y ≡ false) x front a_apart.0.0 a_apart.0.1 in
-    let x_first : eqb x first ≡ false = all_first (λ y. eqb x y ≡ false) back b x_apart.1.1 (eqb-flip b x b_out.0) in
-    ((get_or-set_other older last a first 0 (eqb-false a last a_last) ∙ linked.0.0,
-      get_or-set_other newer first x last 0 (eqb-false x first x_first) ∙ linked.0.1),
-     left_out older newer x front p back b linked.1 in_range.0.0 b_in in_range.1 distinct_tail b_out.1)
+    let x_first : eqb x first ≡ false = all_first (λ y. eqb x y ≡ false) back b x_apart.1.1 (eqb-flip b x b_out.0) in (
+      (
+        get_or-set_other older last a first 0 (eqb-false a last a_last) ∙ linked.0.0,
+        get_or-set_other newer first x last 0 (eqb-false x first x_first) ∙ linked.0.1,
+      ),
+      left_out older newer x front p back b linked.1 in_range.0.0 b_in in_range.1 distinct_tail b_out.1,
+    )
 
 -- a place is put in front of all others, behind the place e that closes the ring
 pub put_in_front : (older newer : List ℕ) (e p : ℕ) (xs : List ℕ) → Linked older newer e xs e
     → p < length older → e < length older → p < length newer → e < length newer → AllByRecursion (λ x. x < length newer) xs
     → Lacks e (p ∷ xs) → Lacks p xs → IsDistinct eqb xs
     → let second = get_or older e 0 in
-      Linked (set (set older p second) e p) (set (set newer second p) p e) e (p ∷ xs) e
+    Linked (set (set older p second) e p) (set (set newer second p) p e) e (p ∷ xs) e
 put_in_front older newer e p xs linked p_older e_older p_newer e_newer in_range e_out p_out distinct =
     let second = get_or older e 0 in
     let moved : Linked (set older p second) (set newer second p) p xs e =
-      subst (λ (s : ℕ). Linked (set older p s) (set newer s p) p xs e) (sym (linked_first older newer e xs e linked))
-        (moved_start older newer e p xs e linked p_older e_newer in_range p_out e_out.1 distinct) in
-    ((get_or-set_same (set older p second) e p 0 (omega (arith, length-set older p second)),
-      get_or-set_same (set newer second p) p e 0 (omega (arith, length-set newer second p))),
-     newer_kept (set (set older p second) e p) (set newer second p) p e p xs e
-       (older_kept (set older p second) (set newer second p) e p p xs e moved e_out)
-       (eqb-flip e p e_out.0, p_out))
+    subst (λ (s : ℕ). Linked (set older p s) (set newer s p) p xs e) (sym (linked_first older newer e xs e linked))
+    (moved_start older newer e p xs e linked p_older e_newer in_range p_out e_out.1 distinct) in (
+      (
+        get_or-set_same (set older p second) e p 0 (omega (arith, length-set older p second)),
+        get_or-set_same (set newer second p) p e 0 (omega (arith, length-set newer second p)),
+      ),
+      newer_kept (set (set older p second) e p) (set newer second p) p e p xs e
+          (older_kept (set older p second) (set newer second p) e p p xs e moved e_out)
+          (eqb-flip e p e_out.0, p_out),
+    )

@@ -1,25 +1,25 @@
-//! The stack pages in order of last use: which page a new frame may take, and which one is to be
-//! given up where none is free.
+//! The stack pages in order of last use: which page is free to take new frames, and which one was
+//! used least recently, to be given up where none is free.
 //!
-//! The used pages are linked in a ring, in both directions, by their numbers. One more place, behind
-//! the last page, closes the ring and stands for no page. That a call of a machine that keeps its
-//! frames on pages touches the page it works on, and gives up the page that was used least recently,
-//! is this machine's own rule.
+//! The used pages are linked in a ring by their numbers, in both directions. The place behind the
+//! last page closes the ring and stands for no page. Keeping frames on pages and giving up the least
+//! recent one are this machine's own ways: no image can tell them.
 #![tactic(auto)]
 
-ghost use Rattle.std.specs.Prelude.{◌≡◌, ℕ, ◌+◌, ◌-◌, ◌<◌, ◌≤◌, ◌↔◌, List, [], ◌∷◌, length, slice_index, vec_len, IsTrue, IsNone, IfOk, IfSome, IfNone, Contains};
+ghost use Rattle.std.specs.Prelude.{◌≡◌, ◌≢◌, ℕ, ◌+◌, ◌-◌, ◌<◌, ◌≤◌, ◌↔◌, List, [], ◌∷◌, length, slice_index, vec_len, IsTrue, IsNone, IfOk, IfSome, IfNone, Contains};
 ghost use Rattle.cs_pages.specs.Order.{Order, without, IsSound, IsFree};
 
 use std::alloc::{AllocError, Global};
 use std::marker::Model;
 
-/// Pages numbered from 0, of which some are used, the used ones in order of last use.
+/// Pages numbered from 0, some of them used, and the used ones in order of last use.
 #[derive(Drop)]
 pub struct Pages {
-    /// Where the page used next before this one is; a free page leads to itself. Behind the last
-    /// page stands the place that closes the ring: from it on, the most recent page comes first.
+    // For a used page the one used next before it, and for the place behind the last page the most
+    // recent one. The least recent page leads to that place, and a free page to itself.
     older: Vec<u32>,
-    /// Where the page used next after this one is, for the used pages and the place behind the last.
+    // The same way back: for a used page the one used next after it, and for the place behind the last
+    // page the least recent one. What stands there for a free page means nothing.
     newer: Vec<u32>,
     total: u32,
     used: u32,
@@ -37,7 +37,8 @@ impl Model for Pages {
 }
 
 impl Pages {
-    /// That many pages, all of them free. NoMemory where memory is refused.
+    /// Makes that many pages, all of them free, with numbers from 0 on. Any number will do, and a
+    /// machine has at most 64. An error comes only where memory is refused.
     pub fn new(alloc: Global, pages: u32) -> Result<Pages, AllocError>
         ensures free { IfOk result (λ made. made ≡ record { total = pages; recent = [] }) }
         ensures sound { IfOk result IsSound }
@@ -68,7 +69,7 @@ impl Pages {
         self.used
     }
 
-    /// Whether a page is used: the test for the condition of `touch` and `free`.
+    /// Whether a page is used, which is the condition of `touch` and `free`.
     pub fn is_used(&self, page: u32) -> bool
         requires { page < self.now.total }
         ensures { IsTrue result ↔ Contains self.now.recent page }
@@ -76,7 +77,8 @@ impl Pages {
         self.older[page as usize] != page
     }
 
-    /// The page at place `k` in order of last use, counted from 0, the most recent first.
+    /// The page at place `k` from the most recent one, counted from 0. The condition is that more than
+    /// `k` pages are used.
     pub fn order(&self, k: u32) -> u32
         requires { k < length self.now.recent }
         ensures page { result ≡ slice_index self.now.recent k }
@@ -99,8 +101,8 @@ impl Pages {
         if page == self.total { None } else { Some(page) }
     }
 
-    /// Takes the free page of the lowest number and makes it the most recent. None exactly where all
-    /// pages are used, and then nothing changes.
+    /// Takes the free page of the lowest number, makes it the most recent and answers it. None exactly
+    /// where all pages are used, and then nothing changes.
     pub fn take_free(&mut self) -> Option<u32>
         ensures taken { IfSome result (λ page. self.new ≡ record self.old { recent = page ∷ self.old.recent }) }
         ensures was_free { IfSome result (IsFree self.old) }
@@ -109,28 +111,32 @@ impl Pages {
         ensures none { IfNone result (self.new ≡ self.old) }
         ensures sound { IsSound self.new }
     {
-        let Some(page) = self.first_free() else {
+        let Some(free) = self.first_free() else {
             return None;
         };
-        self.put_first(page);
-        Some(page)
+        self.put_first(free);
+        Some(free)
     }
 
-    /// Makes a used page the most recent.
+    /// Makes a used page the most recent. The others keep their order.
     pub fn touch(&mut self, page: u32)
         requires { Contains self.old.recent page }
         ensures first { self.new ≡ record self.old { recent = page ∷ without page self.old.recent } }
+        ensures same_pages { (q : ℕ) → Contains self.new.recent q ↔ Contains self.old.recent q }
+        ensures count { length self.new.recent ≡ length self.old.recent }
         ensures sound { IsSound self.new }
     {
         self.free(page);
         self.put_first(page);
     }
 
-    /// Gives a used page back, so that it is free.
+    /// Gives a used page back, so that it is free. The others keep their order.
     pub fn free(&mut self, page: u32)
         requires { Contains self.old.recent page }
         ensures freed { self.new ≡ record self.old { recent = without page self.old.recent } }
         ensures is_free { IsFree self.new page }
+        ensures others { (q : ℕ) → q ≢ page → (Contains self.new.recent q ↔ Contains self.old.recent q) }
+        ensures count { length self.new.recent + 1 ≡ length self.old.recent }
         ensures sound { IsSound self.new }
     {
         let older = self.older[page as usize];
@@ -141,8 +147,8 @@ impl Pages {
         self.used -= 1;
     }
 
-    // The free page of the lowest number. A look at each page in turn, of which a machine has at most
-    // 64, keeps the other calls free of a second list, that of the free pages.
+    // The free page of the lowest number. It looks at the pages in turn, at most 64 of a machine's: a
+    // second list, of the free pages, would have to be kept in every call.
     fn first_free(&self) -> Option<u32>
         ensures is_free { IfSome result (IsFree self.now) }
         ensures lowest { IfSome result (λ page. (q : ℕ) → q < page → Contains self.now.recent q) }

@@ -1,4 +1,4 @@
-use Rattle.std.proofs.Common.{◌≡◌, ℕ, ◌<◌, ◌≤◌, length, refl, sym, ap, subst, arith, below_more, Contains}
+use Rattle.std.proofs.Common.{◌≡◌, length, refl, sym, ap, subst, arith, below_more}
 use Rattle.std.proofs.lemmas.Bool.{both_ways}
 use Rattle.cs_pages.specs.Order.{Order, IsSound, IsFree}
 use Rattle.cs_pages.proofs.Lists.{free_room, none_free}

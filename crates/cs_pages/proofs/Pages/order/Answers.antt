@@ -1,4 +1,4 @@
-use Rattle.std.proofs.Common.{◌≡◌, ◌+◌, ◌<◌, length, get_or, sym, ◌∙◌, ap, subst, arith}
+use Rattle.std.proofs.Common.{◌≡◌, ◌<◌, length, get_or, sym, ◌∙◌, ap, subst, arith}
 use Rattle.std.proofs.lemmas.List.{get_or_read, get_or_default}
 use Rattle.cs_pages.specs.Order.{Order}
 use Rattle.cs_pages.proofs.Calls.{kept}
@@ -21,7 +21,7 @@ loop-preserved c = λ more.
     let page : c.loop.page ≡ get_or xs c.loop.counter 0 = c.loop.invariant (omega arith) in
     let below : get_or xs c.loop.counter 0 < s.total = c.self.invariant.sound.in_range c.loop.counter 0 (omega arith) in
     get_or_read s.older.items c.loop.page c.index-page-in-loop.result.now (omega (arith, c.self.invariant.older_len)) c.index-page-in-loop.ensures 0
-      ∙ (ap (λ p. get_or s.older.items p 0) page ∙ chain-next s.older.items s.total s.used c.loop.counter more)
+    ∙ (ap (λ p. get_or s.older.items p 0) page ∙ chain-next s.older.items s.total s.used c.loop.counter more)
 
 pub returns-clause-page : goal.returns-clause-page
 returns-clause-page c =
@@ -29,7 +29,7 @@ returns-clause-page c =
     let k_used : c.args.k < length (kept s).recent = subst (λ (o : Order). c.args.k < length o.recent) (sym c.self.view_is) c.requires in
     let at : c.loop.counter ≡ c.args.k = omega arith in
     rw (← c.self.view_is)
-      (c.loop.invariant (omega (arith, length-chain s.older.items s.total s.used)) ∙ ap (λ k. get_or (kept s).recent k 0) at)
+    (c.loop.invariant (omega (arith, length-chain s.older.items s.total s.used)) ∙ ap (λ k. get_or (kept s).recent k 0) at)
 
 pub returns-clause-used : goal.returns-clause-used
 returns-clause-used c =

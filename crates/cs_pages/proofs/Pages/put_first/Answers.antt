@@ -1,4 +1,4 @@
-use Rattle.std.proofs.Common.{◌<◌, ◌∷◌, sym, ◌∙◌, ap, subst, arith}
+use Rattle.std.proofs.Common.{◌∷◌, sym, ◌∙◌, ap, subst, arith}
 use Rattle.cs_pages.specs.Order.{Order, IsFree}
 use Rattle.cs_pages.proofs.Calls.{put_first}
 use Rattle.cs_pages.proofs.Pages.put_first.Goals as goal
@@ -21,14 +21,11 @@ invariant_of-self c =
     let done = put_first c.self.inside c.args.page c.index-second.result.now c.self.invariant free c.index-second.ensures in
     done.ring
 
-pub returns-clause-first : goal.returns-clause-first
-returns-clause-first c =
+pub returns : goal.returns
+returns c =
     let free = subst (λ (o : Order). IsFree o c.args.page) (sym c.self.view_is) c.requires in
     let done = put_first c.self.inside c.args.page c.index-second.result.now c.self.invariant free c.index-second.ensures in
-    done.order ∙ ap (λ (o : Order). record o { recent = c.args.page ∷ o.recent }) c.self.view_is
-
-pub returns-clause-sound : goal.returns-clause-sound
-returns-clause-sound c =
-    let free = subst (λ (o : Order). IsFree o c.args.page) (sym c.self.view_is) c.requires in
-    let done = put_first c.self.inside c.args.page c.index-second.result.now c.self.invariant free c.index-second.ensures in
-    done.ring.sound
+    record {
+      first = done.order ∙ ap (λ (o : Order). record o { recent = c.args.page ∷ o.recent }) c.self.view_is;
+      sound = done.ring.sound;
+    }

@@ -1,4 +1,4 @@
-use Rattle.std.proofs.Common.{◌≡◌, ℕ, ◌≤◌, length, sym, ◌∙◌, ap, subst, arith}
+use Rattle.std.proofs.Common.{length, sym, ◌∙◌, ap, arith}
 use Rattle.cs_pages.specs.Order.{Order}
 use Rattle.cs_pages.proofs.Links.{length-chain}
 use Rattle.cs_pages.proofs.Lists.{length-le_total}
