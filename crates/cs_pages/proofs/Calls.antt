@@ -16,32 +16,35 @@ kept s = order_of s.older.items s.total s.used
 abbrev pub HasRing : Inside → Type 0
 HasRing s = IsRing s.older.items s.newer.items (kept s)
 
--- the fields after a page was taken out, where its links led to `ahead` and `behind`
+-- the fields after a page was taken out, whose links led to `ahead` and `behind`
 abbrev pub older_without : Inside → ℕ → ℕ → ℕ → List ℕ
 older_without s p ahead behind = set (set s.older.items behind ahead) p p
 
 abbrev pub newer_without : Inside → ℕ → ℕ → List ℕ
 newer_without s ahead behind = set s.newer.items ahead behind
 
-pub record Freed (s : Inside) (p ahead behind : ℕ) : Type 0 where
+abbrev pub order_without : Inside → ℕ → ℕ → ℕ → Order
+order_without s p ahead behind = order_of (older_without s p ahead behind) s.total (s.used - 1)
+
+pub record Freed (s : Inside) (old : Order) (p ahead behind : ℕ) : Type 0 where
   pub ahead_in : ahead < s.total + 1
   pub behind_in : behind < s.total + 1
-  pub ring : IsRing (older_without s p ahead behind) (newer_without s ahead behind) (order_of (older_without s p ahead behind) s.total (s.used - 1))
-  pub order : order_of (older_without s p ahead behind) s.total (s.used - 1) ≡ record (kept s) { recent = without p (kept s).recent }
-  pub free : IsFree (order_of (older_without s p ahead behind) s.total (s.used - 1)) p
-  pub others : (q : ℕ) → q ≢ p → Contains (order_of (older_without s p ahead behind) s.total (s.used - 1)).recent q ↔ Contains (kept s).recent q
-  pub count : length (order_of (older_without s p ahead behind) s.total (s.used - 1)).recent + 1 ≡ length (kept s).recent
+  pub ring : IsRing (older_without s p ahead behind) (newer_without s ahead behind) (order_without s p ahead behind)
+  pub order : order_without s p ahead behind ≡ record old { recent = without p old.recent }
+  pub free : IsFree (order_without s p ahead behind) p
+  pub others : (q : ℕ) → q ≢ p → Contains (order_without s p ahead behind).recent q ↔ Contains old.recent q
+  pub count : length (order_without s p ahead behind).recent + 1 ≡ length old.recent
 
-pub freed : (s : Inside) (p ahead behind : ℕ) → HasRing s → Contains (kept s).recent p
-    → ahead ≡ get_or s.older.items p ahead → behind ≡ get_or s.newer.items p behind → Freed s p ahead behind
-freed s p ahead behind ring used read_older read_newer =
+freed_kept : (s : Inside) (p ahead behind : ℕ) → HasRing s → Contains (kept s).recent p
+    → ahead ≡ get_or s.older.items p ahead → behind ≡ get_or s.newer.items p behind → Freed s (kept s) p ahead behind
+freed_kept s p ahead behind ring used read_older read_newer =
     let xs = chain s.older.items s.total s.used in
     let below : p < s.total = page_in_range s.older.items s.newer.items s.total xs ring p used in
     let is_ahead : ahead ≡ get_or s.older.items p 0 = get_or_read s.older.items p ahead (omega (arith, ring.older_len)) read_older 0 in
     let is_behind : behind ≡ get_or s.newer.items p 0 = get_or_read s.newer.items p behind (omega (arith, ring.newer_len)) read_newer 0 in
     let after : IsRing (older_without s p ahead behind) (newer_without s ahead behind) (pages_in s.total (without p xs)) =
     rw (is_ahead, is_behind) (ring_without s.older.items s.newer.items s.total xs ring p used) in
-    let order : order_of (older_without s p ahead behind) s.total (s.used - 1) ≡ pages_in s.total (without p xs) =
+    let order : order_without s p ahead behind ≡ pages_in s.total (without p xs) =
     ring_order (older_without s p ahead behind) (newer_without s ahead behind) s.total (without p xs) after (s.used - 1)
     (omega (arith, length-without p xs ring.sound.distinct used, length-chain s.older.items s.total s.used)) in
     record {
@@ -54,6 +57,13 @@ freed s p ahead behind ring used read_older read_newer =
       count = ap (λ (o : Order). length o.recent + 1) order ∙ length-without p xs ring.sound.distinct used;
     }
 
+-- what `free` makes of its fields, which keep the order old
+pub freed : (s : Inside) (old : Order) (p ahead behind : ℕ) → kept s ≡ old → HasRing s → Contains old.recent p
+    → ahead ≡ get_or s.older.items p ahead → behind ≡ get_or s.newer.items p behind → Freed s old p ahead behind
+freed s old p ahead behind is ring used read_older read_newer =
+    subst (λ o. Freed s o p ahead behind) is
+    (freed_kept s p ahead behind ring (subst (λ (o : Order). Contains o.recent p) (sym is) used) read_older read_newer)
+
 -- the fields after a page was put in front of another
 abbrev pub older_with : Inside → ℕ → ℕ → List ℕ
 older_with s p second = set (set s.older.items p second) s.total p
@@ -61,20 +71,23 @@ older_with s p second = set (set s.older.items p second) s.total p
 abbrev pub newer_with : Inside → ℕ → ℕ → List ℕ
 newer_with s p second = set (set s.newer.items second p) p s.total
 
-pub record PutFirst (s : Inside) (p second : ℕ) : Type 0 where
+abbrev pub order_with : Inside → ℕ → ℕ → Order
+order_with s p second = order_of (older_with s p second) s.total (s.used + 1)
+
+pub record PutFirst (s : Inside) (old : Order) (p second : ℕ) : Type 0 where
   pub second_in : second < s.total + 1
   pub room : s.used + 1 ≤ s.total
-  pub ring : IsRing (older_with s p second) (newer_with s p second) (order_of (older_with s p second) s.total (s.used + 1))
-  pub order : order_of (older_with s p second) s.total (s.used + 1) ≡ record (kept s) { recent = p ∷ (kept s).recent }
+  pub ring : IsRing (older_with s p second) (newer_with s p second) (order_with s p second)
+  pub order : order_with s p second ≡ record old { recent = p ∷ old.recent }
 
-pub put_first : (s : Inside) (p second : ℕ) → HasRing s → IsFree (kept s) p
-    → second ≡ get_or s.older.items s.total second → PutFirst s p second
-put_first s p second ring free read =
+put_first_kept : (s : Inside) (p second : ℕ) → HasRing s → IsFree (kept s) p
+    → second ≡ get_or s.older.items s.total second → PutFirst s (kept s) p second
+put_first_kept s p second ring free read =
     let xs = chain s.older.items s.total s.used in
     let is_second : second ≡ get_or s.older.items s.total 0 = get_or_read s.older.items s.total second (omega (arith, ring.older_len)) read 0 in
     let after : IsRing (older_with s p second) (newer_with s p second) (pages_in s.total (p ∷ xs)) =
     rw is_second (ring_with s.older.items s.newer.items s.total xs ring p free) in
-    let order : order_of (older_with s p second) s.total (s.used + 1) ≡ pages_in s.total (p ∷ xs) =
+    let order : order_with s p second ≡ pages_in s.total (p ∷ xs) =
     ring_order (older_with s p second) (newer_with s p second) s.total (p ∷ xs) after (s.used + 1)
     (omega (arith, length-chain s.older.items s.total s.used)) in
     record {
@@ -83,6 +96,12 @@ put_first s p second ring free read =
       ring = subst (λ o. IsRing (older_with s p second) (newer_with s p second) o) (sym order) after;
       order = order;
     }
+
+-- what `put_first` makes of its fields, which keep the order old
+pub put_first : (s : Inside) (old : Order) (p second : ℕ) → kept s ≡ old → HasRing s → IsFree old p
+    → second ≡ get_or s.older.items s.total second → PutFirst s old p second
+put_first s old p second is ring free read =
+    subst (λ o. PutFirst s o p second) is (put_first_kept s p second ring (subst (λ o. IsFree o p) (sym is) free) read)
 
 -- a page's link tells whether it is used
 pub link_tells : (s : Inside) (p link : ℕ) → HasRing s → p < s.total → link ≡ get_or s.older.items p link

@@ -7,7 +7,7 @@ pub record Order : Type 0 where
   pub total : ℕ
   pub recent : List ℕ
 
--- no page is used twice over, and each used page is one of the total
+-- no page stands twice in the order, and each is one of the total
 pub record IsSound (order : Order) : Type 0 where
   pub distinct : IsDistinct nat_eq order.recent
   pub in_range : All (λ page. page < order.total) order.recent

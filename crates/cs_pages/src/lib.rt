@@ -55,7 +55,7 @@ impl Pages {
 
     /// How many pages there are, used and free.
     pub fn len(&self) -> u32
-        ensures { result ≡ self.now.total }
+        ensures total { result ≡ self.now.total }
     {
         self.total
     }
@@ -71,8 +71,8 @@ impl Pages {
 
     /// Whether a page is used, which is the condition of `touch` and `free`.
     pub fn is_used(&self, page: u32) -> bool
-        requires { page < self.now.total }
-        ensures { IsTrue result ↔ Contains self.now.recent page }
+        requires in_range { page < self.now.total }
+        ensures used { IsTrue result ↔ Contains self.now.recent page }
     {
         self.older[page as usize] != page
     }
@@ -80,7 +80,7 @@ impl Pages {
     /// The page at place `k` from the most recent one, counted from 0. The condition is that more than
     /// `k` pages are used.
     pub fn order(&self, k: u32) -> u32
-        requires { k < length self.now.recent }
+        requires within { k < length self.now.recent }
         ensures page { result ≡ slice_index self.now.recent k }
         ensures used { Contains self.now.recent result }
     {
@@ -120,7 +120,7 @@ impl Pages {
 
     /// Makes a used page the most recent. The others keep their order.
     pub fn touch(&mut self, page: u32)
-        requires { Contains self.old.recent page }
+        requires used { Contains self.old.recent page }
         ensures first { self.new ≡ record self.old { recent = page ∷ without page self.old.recent } }
         ensures same_pages { (q : ℕ) → Contains self.new.recent q ↔ Contains self.old.recent q }
         ensures count { length self.new.recent ≡ length self.old.recent }
@@ -132,7 +132,7 @@ impl Pages {
 
     /// Gives a used page back, so that it is free. The others keep their order.
     pub fn free(&mut self, page: u32)
-        requires { Contains self.old.recent page }
+        requires used { Contains self.old.recent page }
         ensures freed { self.new ≡ record self.old { recent = without page self.old.recent } }
         ensures is_free { IsFree self.new page }
         ensures others { (q : ℕ) → q ≢ page → (Contains self.new.recent q ↔ Contains self.old.recent q) }
@@ -165,7 +165,7 @@ impl Pages {
 
     // Makes a free page the most recent of the used ones.
     fn put_first(&mut self, page: u32)
-        requires { IsFree self.old page }
+        requires free { IsFree self.old page }
         ensures first { self.new ≡ record self.old { recent = page ∷ self.old.recent } }
         ensures sound { IsSound self.new }
     {

@@ -12,12 +12,12 @@ returns-then-not-is_used-clause-full c =
     let now = c.args.self.now in
     let sound : IsSound now = subst IsSound c.self.view_is c.self.invariant.sound in
     let total : now.total ≡ c.self.inside.total = ap (λ (o : Order). o.total) (sym c.self.view_is) in
-    let free : IsFree now c.loop-page.page = (omega arith, λ used. both_ways c.is_used.result c.if-not-is_used.true (c.is_used.ensures.1 used)) in
+    let free : IsFree now c.loop-page.page = (omega arith, λ used. both_ways c.is_used.result c.if-not-is_used.true (c.is_used.ensures.used.1 used)) in
     let room = free_room now c.loop-page.page sound free in
     (λ some. cc, λ full. absurd (omega (arith, room)))
 
 pub loop-page-preserved : goal.loop-page-preserved
-loop-page-preserved c = below_more _ _ c.loop-page.invariant (c.is_used.ensures.0 c.if-not-is_used.false)
+loop-page-preserved c = below_more _ _ c.loop-page.invariant (c.is_used.ensures.used.0 c.if-not-is_used.false)
 
 pub returns-clause-full : goal.returns-clause-full
 returns-clause-full c =

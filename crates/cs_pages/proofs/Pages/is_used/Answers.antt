@@ -5,5 +5,5 @@ use Rattle.cs_pages.proofs.Pages.is_used.Goals as goal
 
 pub returns : goal.returns
 returns c =
-    let below = subst (λ (o : Order). c.args.page < o.total) (sym c.self.view_is) c.requires in
-    rw (← c.self.view_is) (link_tells c.self.inside c.args.page c.index.result.now c.self.invariant below c.index.ensures)
+    let below = subst (λ (o : Order). c.args.page < o.total) (sym c.self.view_is) c.requires.in_range in
+    rw (← c.self.view_is) (record { used = link_tells c.self.inside c.args.page c.index.result.now c.self.invariant below c.index.ensures })

@@ -9,7 +9,7 @@ pub index-page-requires-in-loop : goal.index-page-requires-in-loop
 index-page-requires-in-loop c =
     let s = c.self.inside in let xs = (kept s).recent in
     let len : length xs ≡ s.used = length-chain s.older.items s.total s.used in
-    let k_used : c.args.k < length xs = subst (λ (o : Order). c.args.k < length o.recent) (sym c.self.view_is) c.requires in
+    let k_used : c.args.k < length xs = subst (λ (o : Order). c.args.k < length o.recent) (sym c.self.view_is) c.requires.within in
     let page : c.loop.page ≡ get_or xs c.loop.counter 0 = c.loop.invariant (omega arith) in
     let below : get_or xs c.loop.counter 0 < s.total = c.self.invariant.sound.in_range c.loop.counter 0 (omega arith) in
     omega (arith, c.self.invariant.older_len)
@@ -26,11 +26,11 @@ loop-preserved c = λ more.
 pub returns-clause-page : goal.returns-clause-page
 returns-clause-page c =
     let s = c.self.inside in
-    let k_used : c.args.k < length (kept s).recent = subst (λ (o : Order). c.args.k < length o.recent) (sym c.self.view_is) c.requires in
+    let k_used : c.args.k < length (kept s).recent = subst (λ (o : Order). c.args.k < length o.recent) (sym c.self.view_is) c.requires.within in
     let at : c.loop.counter ≡ c.args.k = omega arith in
     rw (← c.self.view_is)
     (c.loop.invariant (omega (arith, length-chain s.older.items s.total s.used)) ∙ ap (λ k. get_or (kept s).recent k 0) at)
 
 pub returns-clause-used : goal.returns-clause-used
 returns-clause-used c =
-    (c.args.k, c.requires, get_or_default c.args.self.now.recent c.args.k c.loop.page 0 c.requires ∙ sym (returns-clause-page c))
+    (c.args.k, c.requires.within, get_or_default c.args.self.now.recent c.args.k c.loop.page 0 c.requires.within ∙ sym (returns-clause-page c))
