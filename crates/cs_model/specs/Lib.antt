@@ -29,3 +29,4 @@ pub mod Due
 pub mod Step
 pub mod Report
 pub mod Decode
+pub mod Alike
