@@ -1,0 +1,2 @@
+mod Active
+mod Written

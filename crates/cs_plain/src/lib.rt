@@ -4,7 +4,10 @@
 //! stands between.
 #![tactic(auto)]
 
-ghost use Rattle.cs_plain.specs.View.{view_of};
+ghost use Rattle.std.specs.Prelude.{◌≡◌, ◌<◌, ◌^◌, pos, Some, unwrap_or};
+ghost use Rattle.cs_word.specs.Word.{small_word};
+ghost use Rattle.cs_classes.specs.Meaning.{count_of};
+ghost use Rattle.cs_acts.specs.Ready.{IsReady};
 
 use cs_acts::{Act, Loaded, Roots, World};
 use cs_classes::Classes;
@@ -29,7 +32,9 @@ const RECEIVER: u32 = 5;
 const STACK: u32 = 6;
 
 /// The number that a word is, and 0 where it is no SmallInteger or a negative one.
-fn count(word: Oop) -> u32 {
+fn count(word: Oop) -> u32
+    ensures { result ≡ unwrap_or (count_of word.0) 0 }
+{
     match word.kind() {
         Kind::Small(value) if value > 0 => value as u32,
         _ => 0,
@@ -37,13 +42,21 @@ fn count(word: Oop) -> u32 {
 }
 
 /// The word of a count below 2^30.
-fn count_word(count: u32) -> Oop {
+fn count_word(count: u32) -> Oop
+    requires { count < 2 ^ 30 }
+    ensures { result.0 ≡ small_word (pos count) }
+{
     Oop(2 * count + 1)
 }
 
 impl PlainWorld {
+    ghost use Rattle.cs_plain.specs.View.{stored_of, view_of};
+
     /// The active context.
-    fn active_context(&self) -> Oop {
+    fn active_context(&self) -> Oop
+        requires { IsReady (stored_of self.now) (view_of self.now) }
+        ensures { self.now.active ≡ Some result }
+    {
         let Some(context) = self.active else {
             unreachable!();
         };
@@ -52,9 +65,9 @@ impl PlainWorld {
 }
 
 impl World for PlainWorld {
-    ghost view = { view_of };
+    ghost use Rattle.cs_plain.specs.View.{act_of, stored_of, view_of};
 
-    ghost use Rattle.cs_plain.specs.View.{act_of, stored_of};
+    ghost view = { view_of };
 
     ghost stored = { stored_of };
 
