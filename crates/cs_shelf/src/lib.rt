@@ -8,8 +8,14 @@
 ghost use Rattle.std.specs.Prelude.{◌≡◌, ℕ, ◌<◌, ◌≤◌, ◌↔◌, List, Option, IfOk, OnOk, OnErr, IfSome, length, take, drop};
 ghost use Rattle.cs_shelf.specs.Outside.{Rose, Fault, read_fault, Appends};
 
+mod calls;
+mod entry;
+mod mem_shelf;
+mod mem_sink;
 mod whole;
 
+pub use mem_shelf::MemShelf;
+pub use mem_sink::MemSink;
 pub use whole::{ReadError, read_whole, write_whole};
 
 /// The outside refused a call, and counted it.
