@@ -1,5 +1,5 @@
 -- The entries of a shelf in memory: one is given a content.
-use Rattle.std.proofs.Common.{◌≡◌, ◌≢◌, ℕ, ◌<◌, List, [], ◌∷◌, Option, Some, None, Bool, true, false, cond, find, length, map, zero, suc, get_or, slice_set, ap, sym, subst, ◌∙◌, refl, arith, slice_get, option_and_then, option_map}
+use Rattle.std.proofs.Common.{◌≡◌, ◌≢◌, ℕ, ◌<◌, List, [], ◌∷◌, Option, Some, None, Bool, true, false, cond, find, length, map, zero, suc, get_or, slice_set, ap, sym, ◌∙◌, refl, arith, slice_get, option_and_then, option_map}
 use Rattle.std.specs.Prelude.{IfSome}
 use Rattle.std.specs.Str.{bytes_eq}
 use Rattle.std.proofs.lemmas.Slice.Eq.{bytes_eq-Decides}

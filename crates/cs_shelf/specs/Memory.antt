@@ -1,5 +1,5 @@
 -- The outside in memory, as its callers see it.
-use Rattle.std.specs.Prelude.{◌≡◌, ◌≢◌, ℕ, ◌-◌, ◌<◌, ◌≤◌, List, [], ◌∷◌, Option, Some, None, AllPairs, Contains, find, length, map, option_and_then, suc, zero}
+use Rattle.std.specs.Prelude.{◌≡◌, ◌≢◌, ℕ, ◌-◌, ◌<◌, List, [], ◌∷◌, Option, Some, None, AllPairs, Contains, find, length, map, option_and_then, suc, zero}
 use Rattle.std.specs.Str.{bytes_eq}
 use Rattle.cs_shelf.specs.Outside.{Fault, next_count}
 

@@ -10,12 +10,16 @@ ghost use Rattle.cs_shelf.specs.Outside.{Rose, Fault, read_fault, Appends};
 
 mod calls;
 mod entry;
+mod file_shelf;
 mod mem_shelf;
 mod mem_sink;
+mod out_sink;
 mod whole;
 
+pub use file_shelf::FileShelf;
 pub use mem_shelf::MemShelf;
 pub use mem_sink::MemSink;
+pub use out_sink::OutSink;
 pub use whole::{ReadError, read_whole, write_whole};
 
 /// The outside refused a call, and counted it.

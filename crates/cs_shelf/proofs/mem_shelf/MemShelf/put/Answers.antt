@@ -1,4 +1,4 @@
-use Rattle.std.proofs.Common.{◌≡◌, List, ◌∙◌, ap, sym, subst}
+use Rattle.std.proofs.Common.{List, ◌∙◌, ap, sym, subst}
 use Rattle.cs_shelf.specs.Memory.{EntryView, ShelfView, NamesDiffer, names_of, put_at}
 use Rattle.cs_shelf.proofs.Entries.{written, names_of-put_at, holds_after, others_after}
 use Rattle.cs_shelf.proofs.mem_shelf.MemShelf.put.Goals as goal

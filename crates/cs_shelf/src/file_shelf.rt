@@ -1,0 +1,85 @@
+//! Files as a shelf.
+
+ghost use Rattle.std.specs.Prelude.{◌≡◌, ◌≤◌, [], IfOk, None, false, length};
+
+use crate::{Failed, Shelf};
+use arrayvec::ArrayString;
+use std::io::{Read, Seek, SeekFrom};
+use std::rt::Files;
+use std::{fs, io};
+
+/// The most bytes that one read of a file asks for.
+const PIECE: usize = 4096;
+
+/// A shelf whose names are paths of files. It tells nothing of what they hold.
+#[derive(Drop)]
+pub struct FileShelf<'a, R: Files> {
+    runtime: &'a R,
+    faults: u64,
+    last: ArrayString<4096>,
+    last_read: bool,
+}
+
+impl<'a, R: Files> FileShelf<'a, R> {
+    /// A shelf that has not failed yet.
+    pub fn new(runtime: &'a R) -> FileShelf<'a, R>
+        ensures faults { ⟦<FileShelf<'a, R> as Shelf>⟧.fault_count result ≡ 0 }
+        ensures last { ⟦<FileShelf<'a, R> as Shelf>⟧.last_fault result ≡ record { name = []; was_read = false } }
+    {
+        FileShelf {
+            runtime,
+            faults: 0,
+            last: ArrayString::new(),
+            last_read: false,
+        }
+    }
+}
+
+/// Reads the file at a path from the place `at` on.
+fn read_file<R: Files>(runtime: &R, path: &str, at: u64, piece: &mut [u8]) -> io::Result<usize>
+    ensures { IfOk result (λ n. n ≤ length piece.old) }
+{
+    let mut file = fs::open(runtime, path)?;
+    file.seek(SeekFrom::Start(at))?;
+    file.read(piece)
+}
+
+impl<R: Files> Shelf for FileShelf<'_, R> {
+    ghost use Rattle.std.specs.Prelude.{None};
+
+    ghost fault_count = { λ s. s.faults };
+
+    ghost last_fault = { λ s. record { name = s.last.bytes; was_read = s.last_read } };
+
+    ghost content = { λ _ _. None };
+
+    fn read(&mut self, name: &str, at: u64, buffer: &mut [u8]) -> Result<usize, Failed> {
+        let mut piece = [0u8; PIECE];
+        let wanted = buffer.len().min(PIECE);
+        match read_file(self.runtime, name, at, &mut piece[..wanted]) {
+            Ok(n) => {
+                buffer[..n].copy_from_slice(&piece[..n]);
+                Ok(n)
+            }
+            Err(_) => {
+                self.faults = self.faults.saturating_add(1);
+                self.last.clear();
+                self.last.push_str(name);
+                self.last_read = true;
+                Err(Failed)
+            }
+        }
+    }
+
+    fn faults(&self) -> u64 {
+        self.faults
+    }
+
+    fn last(&self) -> &str {
+        self.last.as_str()
+    }
+
+    fn last_read(&self) -> bool {
+        self.last_read
+    }
+}
