@@ -2,22 +2,19 @@
 
 ghost use Rattle.std.specs.Prelude.{◌≡◌, ◌≤◌, [], IfOk, None, false, length};
 
+use crate::last_fault::LastFault;
+use crate::whole::PIECE;
 use crate::{Failed, Shelf};
-use arrayvec::ArrayString;
 use std::io::{Read, Seek, SeekFrom};
 use std::rt::Files;
 use std::{fs, io};
-
-/// The most bytes that one read of a file asks for.
-const PIECE: usize = 4096;
 
 /// A shelf whose names are paths of files. It tells nothing of what they hold.
 #[derive(Drop)]
 pub struct FileShelf<'a, R: Files> {
     runtime: &'a R,
     faults: u64,
-    last: ArrayString<4096>,
-    last_read: bool,
+    last: LastFault,
 }
 
 impl<'a, R: Files> FileShelf<'a, R> {
@@ -29,8 +26,7 @@ impl<'a, R: Files> FileShelf<'a, R> {
         FileShelf {
             runtime,
             faults: 0,
-            last: ArrayString::new(),
-            last_read: false,
+            last: LastFault::new(),
         }
     }
 }
@@ -49,7 +45,7 @@ impl<R: Files> Shelf for FileShelf<'_, R> {
 
     ghost fault_count = { λ s. s.faults };
 
-    ghost last_fault = { λ s. record { name = s.last.bytes; was_read = s.last_read } };
+    ghost last_fault = { λ s. s.last };
 
     ghost content = { λ _ _. None };
 
@@ -63,9 +59,7 @@ impl<R: Files> Shelf for FileShelf<'_, R> {
             }
             Err(_) => {
                 self.faults = self.faults.saturating_add(1);
-                self.last.clear();
-                self.last.push_str(name);
-                self.last_read = true;
+                self.last.set(name, true);
                 Err(Failed)
             }
         }
@@ -76,10 +70,10 @@ impl<R: Files> Shelf for FileShelf<'_, R> {
     }
 
     fn last(&self) -> &str {
-        self.last.as_str()
+        self.last.name()
     }
 
     fn last_read(&self) -> bool {
-        self.last_read
+        self.last.was_read()
     }
 }

@@ -11,9 +11,12 @@ ghost use Rattle.cs_shelf.specs.Outside.{Rose, Fault, read_fault, Appends};
 mod calls;
 mod entry;
 mod file_shelf;
+mod last_fault;
 mod mem_shelf;
 mod mem_sink;
 mod out_sink;
+#[cfg(test)]
+mod tests;
 mod whole;
 
 pub use file_shelf::FileShelf;

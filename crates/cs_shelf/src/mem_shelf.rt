@@ -6,8 +6,8 @@ ghost use Rattle.cs_shelf.specs.Outside.{Rose, read_fault};
 
 use crate::calls::Calls;
 use crate::entry::{Entry, content_named};
+use crate::last_fault::LastFault;
 use crate::{Failed, Shelf};
-use arrayvec::ArrayString;
 use std::alloc::{AllocError, Global};
 use std::marker::Model;
 
@@ -19,8 +19,7 @@ use std::marker::Model;
 pub struct MemShelf {
     entries: Vec<Entry>,
     calls: Calls,
-    last: ArrayString<4096>,
-    last_read: bool,
+    last: LastFault,
 }
 
 impl Model for MemShelf {
@@ -31,7 +30,7 @@ impl Model for MemShelf {
     ghost view = { λ s. record {
       entries = s.entries.items;
       calls = s.calls;
-      last = record { name = s.last.bytes; was_read = s.last_read };
+      last = s.last;
     } };
 
     ghost invariant = { λ s. NamesDiffer (names_of s.entries.items) };
@@ -57,8 +56,7 @@ impl MemShelf {
         Ok(MemShelf {
             entries: new_entries(alloc, names, room)?,
             calls: Calls::new(listed),
-            last: ArrayString::new(),
-            last_read: false,
+            last: LastFault::new(),
         })
     }
 
@@ -131,9 +129,7 @@ impl Shelf for MemShelf {
             }
             _ => {
                 self.calls.fail();
-                self.last.clear();
-                self.last.push_str(name);
-                self.last_read = true;
+                self.last.set(name, true);
                 Err(Failed)
             }
         }
@@ -144,10 +140,10 @@ impl Shelf for MemShelf {
     }
 
     fn last(&self) -> &str {
-        self.last.as_str()
+        self.last.name()
     }
 
     fn last_read(&self) -> bool {
-        self.last_read
+        self.last.was_read()
     }
 }

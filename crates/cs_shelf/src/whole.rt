@@ -7,7 +7,7 @@ use crate::{Failed, Shelf, Sink};
 use std::alloc::{AllocError, Global};
 
 /// The most bytes that one read asks for.
-const PIECE: usize = 4096;
+pub(crate) const PIECE: usize = 65_536;
 
 /// Writes all the bytes, each once and in order, in as many writes as it takes.
 ///

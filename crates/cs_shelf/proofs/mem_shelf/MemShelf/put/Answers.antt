@@ -17,7 +17,7 @@ returns-clause-after c =
     let put = written es c.args.k c.args.bytes.now _ _ (rw seen c.requires.index) c.index_mut.ensures.value c.put.ensures in
     let putting : ShelfView → ShelfView = λ v. record v { entries = put_at v.entries c.args.k c.args.bytes.now } in
     let with_entries : List EntryView → ShelfView =
-    λ xs. record { entries = xs; calls = c.self.inside.calls; last = record { name = c.self.inside.last.bytes; was_read = c.self.inside.last_read } } in
+    λ xs. record { entries = xs; calls = c.self.inside.calls; last = c.self.inside.last } in
     ap with_entries put ∙ ap putting c.self.view_is
 
 pub returns-clause-holds : goal.returns-clause-holds
