@@ -22,10 +22,10 @@ begins_more (Some bytes) now read piece after at n end begins same gives e f =
 
 -- a read gave nothing
 pub begins_all : (told now : Option (List ℕ)) (read : List ℕ) (at n room : ℕ) → Begins told read at
-    → now ≡ told → IfSome now (λ bytes. 0 < room → (n ≡ 0) ↔ (length bytes ≤ at)) → 0 < room → n ≡ 0
+    → now ≡ told → IfSome now (λ bytes. 0 < room → ((n ≡ 0) ↔ (length bytes ≤ at))) → 0 < room → n ≡ 0
     → IfSome told (λ bytes. read ≡ bytes)
 begins_all None now read at n room begins same ends some none = tt
 begins_all (Some bytes) now read at n room begins same ends some none =
-    let P : Option (List ℕ) → Type 0 = λ o. IfSome o (λ c. 0 < room → (n ≡ 0) ↔ (length c ≤ at)) in
+    let P : Option (List ℕ) → Type 0 = λ o. IfSome o (λ c. 0 < room → ((n ≡ 0) ↔ (length c ≤ at))) in
     let past : length bytes ≤ at = (subst P same ends some).0 none in
     sym (begins ∙ ap (λ (xs : List ℕ). read ++ xs) (drop_all at bytes past) ∙ append-nil read)

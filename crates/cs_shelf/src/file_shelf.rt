@@ -10,6 +10,9 @@ use std::rt::Files;
 use std::{fs, io};
 
 /// A shelf whose names are paths of files. It tells nothing of what they hold.
+///
+/// Each read opens the file anew, so that it depends on the name and the place alone, and asks for at
+/// most 64 KiB. Each error of the system is a fault.
 #[derive(Drop)]
 pub struct FileShelf<'a, R: Files> {
     runtime: &'a R,

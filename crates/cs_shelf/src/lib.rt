@@ -25,7 +25,7 @@ pub use mem_sink::MemSink;
 pub use out_sink::OutSink;
 pub use whole::{ReadError, read_whole, write_whole};
 
-/// The outside refused a call, and counted it.
+/// The outside refused a call, and its count of faults rose.
 #[derive(Clone, Copy, PartialEq, Eq, Debug)]
 pub struct Failed;
 
@@ -69,19 +69,19 @@ pub trait Shelf {
     /// answers how many it put there: at least one, unless the content ends at `at` or before it or
     /// the buffer is empty.
     ///
-    /// To put fewer than fit is no fault. The rest of the buffer stays as it was; after `Failed`, as
-    /// for a name without a content, nothing is said of the buffer. A name has at most 4,096 bytes of
-    /// UTF-8.
+    /// To put fewer than fit is no fault. The rest of the buffer stays as it was. A name without a
+    /// content gives `Failed`, and after `Failed` nothing is said of the buffer. A name has at most
+    /// 4,096 bytes of UTF-8.
     fn read(&mut self, name: &str, at: u64, buffer: &mut [u8]) -> Result<usize, Failed>
         requires name { length name.now ≤ 4096 }
         ensures part { IfOk result (λ n. n ≤ length buffer.old) }
         ensures bytes { IfOk result (λ n. IfSome (content self.old name.now)
             (λ bytes. take n buffer.new ≡ take n (drop at bytes))) }
         ensures end { IfOk result (λ n. IfSome (content self.old name.now)
-            (λ bytes. 0 < length buffer.old → (n ≡ 0) ↔ (length bytes ≤ at))) }
+            (λ bytes. 0 < length buffer.old → ((n ≡ 0) ↔ (length bytes ≤ at)))) }
         ensures rest { IfOk result (λ n. drop n buffer.new ≡ drop n buffer.old) }
 
-        // No read changes what a name holds.
+        // No read changes what a name holds. A failed one is the last fault, and an Ok one isn't.
         ensures contents { (other : List ℕ) → content self.new other ≡ content self.old other }
         ensures never_falls { fault_count self.old ≤ fault_count self.new }
         ensures cause { OnErr result (Rose (fault_count self.old) (fault_count self.new)) }
@@ -92,7 +92,7 @@ pub trait Shelf {
     fn faults(&self) -> u64
         ensures { result ≡ fault_count self.now };
 
-    /// The name that the call was about which failed last; before the first such call it says nothing.
+    /// The name that the call which failed last was about; before the first such call it means nothing.
     fn last(&self) -> &str
         ensures { result.now ≡ (last_fault self.now).name };
 

@@ -6,7 +6,8 @@ use crate::{Failed, Sink};
 use std::io;
 use std::io::Write;
 
-/// A sink over standard output. It tells nothing of what it took.
+/// A sink over standard output. It tells nothing of what it took. Each error of the system is a fault,
+/// and so is a write that took nothing of a piece which isn't empty.
 #[derive(Drop)]
 pub struct OutSink<'a, R: Print> {
     runtime: &'a R,

@@ -6,7 +6,7 @@ ghost use Rattle.cs_shelf.specs.Outside.{Rose, read_fault, Appends, AppendsPart}
 use crate::{Failed, Shelf, Sink};
 use std::alloc::{AllocError, Global};
 
-/// The most bytes that one read asks for.
+/// The most bytes that one read asks for, 64 KiB.
 pub(crate) const PIECE: usize = 65_536;
 
 /// Writes all the bytes, each once and in order, in as many writes as it takes.
