@@ -1,2 +1,3 @@
 mod Active
 mod Written
+mod Slots

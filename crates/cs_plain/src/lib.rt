@@ -7,6 +7,7 @@
 ghost use Rattle.std.specs.Prelude.{◌≡◌, ◌<◌, ◌^◌, pos, Some, unwrap_or};
 ghost use Rattle.cs_word.specs.Word.{small_word};
 ghost use Rattle.cs_classes.specs.Meaning.{count_of};
+ghost use Rattle.cs_model.specs.Ref.{natural_of};
 ghost use Rattle.cs_acts.specs.Ready.{IsReady};
 
 use cs_acts::{Act, Loaded, Roots, World};
@@ -31,12 +32,20 @@ const CLOSURE: u32 = 4;
 const RECEIVER: u32 = 5;
 const STACK: u32 = 6;
 
+/// The number itself, and 0 for a negative one.
+fn natural(value: i32) -> u32
+    ensures { result ≡ unwrap_or (natural_of value) 0 }
+{
+    if value < 0 { 0 } else { value as u32 }
+}
+
 /// The number that a word is, and 0 where it is no SmallInteger or a negative one.
+#[tactic(auto, unfolding(cs_classes::specs::Meaning::count_of))]
 fn count(word: Oop) -> u32
     ensures { result ≡ unwrap_or (count_of word.0) 0 }
 {
     match word.kind() {
-        Kind::Small(value) if value > 0 => value as u32,
+        Kind::Small(value) => natural(value),
         _ => 0,
     }
 }
