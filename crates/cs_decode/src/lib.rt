@@ -2,6 +2,8 @@
 //! words.
 #![tactic(auto)]
 
+mod assembler;
 mod decoder;
 
+pub use assembler::{assemble, name};
 pub use decoder::{BadCode, decode};

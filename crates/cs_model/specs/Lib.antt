@@ -12,3 +12,4 @@ pub mod Instance
 pub mod Enter
 pub mod Exec
 pub mod Decode
+pub mod Assemble
