@@ -127,7 +127,7 @@ below-has_form len code k x y low high = elim (cases_lt code k) [
     | inr above ↦ let test : nat_lt code k ≡ false = grind arith in rw test (high above)
     ]
 
-op_of-has_form : (code b c d : ℕ) → code < 256 → b < 256 → c < 256 → d < 256 → all_have_form (len_of code) (op_of code b c d) ≡ true
+pub op_of-has_form : (code b c d : ℕ) → code < 256 → b < 256 → c < 256 → d < 256 → all_have_form (len_of code) (op_of code b c d) ≡ true
 op_of-has_form code b c d below b_below c_below d_below =
     let len = len_of code in
     below-has_form len code 112 _ _

@@ -9,7 +9,7 @@ use Rattle.cs_model.specs.declared.instruction.Instr.{Instr}
 use Rattle.cs_model.specs.declared.instruction.Op.{Op}
 use Rattle.cs_model.specs.declared.instruction.Op.TheVariants.{PushRcvr, PushTemp, PushLit, PushLitVar, PopRcvr, PopTemp, PopLitVar, StoreRcvr, StoreTemp, StoreLitVar, PushSelf, PushTrue, PushFalse, PushNil, PushInt, ReturnSelf, ReturnTrue, ReturnFalse, ReturnNil, ReturnTop, BlockReturn, Send, SendSuper, Pop, Dup, ThisContext, NewArray, PopArray, Prim, PushVec, StoreVec, PopVec, Closure, Jump, JumpTrue, JumpFalse, Special, Common}
 use Rattle.cs_model.specs.Decode.{len_of, variable, constant, extended_push, extended_store, extended_pop, double_extended, array, jump, send, op_of, decode_at}
-use Rattle.cs_model.specs.Assemble.{has_form, fits_within, is_within, variable_bytes, send_bytes, super_bytes, with_number, jump_bytes, jump_false_bytes, plain_code, bytes_of}
+use Rattle.cs_model.specs.Assemble.{has_form, fits_within, is_within, variable_bytes, send_bytes, super_bytes, with_number, jump_bytes, jump_false_bytes, plain_code, bytes_of, assembled, IsInstr}
 
 -- ---- the rows of the table, for a first byte that isn't a numeral
 
@@ -470,3 +470,9 @@ assembles len BlockReturn form = plain BlockReturn len refl refl (omega arith) f
 assembles len Pop form = plain Pop len refl refl (omega arith) form
 assembles len Dup form = plain Dup len refl refl (omega arith) form
 assembles len ThisContext form = plain ThisContext len refl refl (omega arith) form
+
+-- the test is the fact: what has a form is an instruction
+pub has_form-IsInstr : (i : Instr) → has_form i.len i.op ≡ true → IsInstr i
+has_form-IsInstr i form =
+    let whole = assembles i.len i.op form in
+    record { bytes = assembled i; at = 0; are_bytes = whole.are_bytes; decoded = whole.decoded }

@@ -2,6 +2,7 @@
 
 ghost use Rattle.std.specs.Prelude.{◌≡◌, ℕ, ◌+◌, ◌<◌, ◌≤◌, ◌^◌, Some, None, IfOk, OnErr, slice_index};
 ghost use Rattle.cs_model.specs.Decode.{len_of, variable, constant, return_of, extended_push, extended_store, extended_pop, double_extended, array, extended, jump, send, op_of, decode_at};
+ghost use Rattle.cs_model.specs.Assemble.{IsInstr};
 
 use cs_model::{Instr, Op};
 
@@ -14,6 +15,7 @@ pub struct BadCode;
 #[tactic(auto, unfolding(cs_model::specs::Decode::decode_at))]
 pub fn decode(bytes: &[u8], at: u32) -> Result<Instr, BadCode>
     ensures instruction { IfOk result (λ i. decode_at bytes.now at ≡ Some i) }
+    ensures is_instr { IfOk result IsInstr }
     ensures none { OnErr result (decode_at bytes.now at ≡ None) }
 {
     let at = at as usize;
