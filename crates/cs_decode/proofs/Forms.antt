@@ -51,9 +51,9 @@ send-has_form code above below = grind (arith, common_steps)
 -- a number from k on is k, or from k + 1 on
 at_or_above : (P : ℕ → Type 0) (k n : ℕ) → P k → (k + 1 ≤ n → P n) → k ≤ n → P n
 at_or_above P k n here above from_k = elim (cases_lt k n) [
-      inl more ↦ above (omega arith)
-    | inr same ↦ let equal : k ≡ n = omega arith in subst P equal here
-    ]
+  | inl more ↦ above (omega arith)
+  | inr same ↦ let equal : k ≡ n = omega arith in subst P equal here
+]
 
 send_extended-has_form : (b : ℕ) → b < 256 → has_form 2 (Send (b % 32) (b / 32)) ≡ true
 send_extended-has_form b below = grind arith
@@ -113,19 +113,19 @@ same-has_form n len op same form = ap (λ k. has_form k op) same ∙ form
 
 jump_row : (code b : ℕ) → 144 ≤ code → code < 176 → b < 256 → has_form (len_of code) (jump code b) ≡ true
 jump_row code b above below b_below = elim (cases_lt code 160) [
-      inl low ↦ same-has_form 1 (len_of code) (jump code b) (len_of-short_jump code above low) (short_jump-has_form code b above low)
-    | inr high ↦
-        same-has_form 2 (len_of code) (jump code b) (len_of-long_jump code high below) (long_jump-has_form code b high below b_below)
-    ]
+  | inl low ↦ same-has_form 1 (len_of code) (jump code b) (len_of-short_jump code above low) (short_jump-has_form code b above low)
+  | inr high ↦
+      same-has_form 2 (len_of code) (jump code b) (len_of-long_jump code high below) (long_jump-has_form code b high below b_below)
+]
 
 -- a test splits a table in two
 below-has_form :
     (len code k : ℕ) (x y : Option Op) → (code < k → all_have_form len x ≡ true) → (k ≤ code → all_have_form len y ≡ true)
     → all_have_form len (if nat_lt code k then x else y) ≡ true
 below-has_form len code k x y low high = elim (cases_lt code k) [
-      inl below ↦ let test : nat_lt code k ≡ true = grind arith in rw test (low below)
-    | inr above ↦ let test : nat_lt code k ≡ false = grind arith in rw test (high above)
-    ]
+  | inl below ↦ let test : nat_lt code k ≡ true = grind arith in rw test (low below)
+  | inr above ↦ let test : nat_lt code k ≡ false = grind arith in rw test (high above)
+]
 
 pub op_of-has_form : (code b c d : ℕ) → code < 256 → b < 256 → c < 256 → d < 256 → all_have_form (len_of code) (op_of code b c d) ≡ true
 op_of-has_form code b c d below b_below c_below d_below =
@@ -147,9 +147,9 @@ op_of-has_form code b c d below b_below c_below d_below =
 -- bytes are below 256, and behind the end there is 0
 slice_index-byte : (bytes : List ℕ) (i : ℕ) → All (λ b. b < 256) bytes → slice_index bytes i < 256
 slice_index-byte bytes i are_bytes = elim (cases_lt i (length bytes)) [
-      inl within ↦ are_bytes i 0 within
-    | inr past ↦ rw get_or_past (omega arith)
-    ]
+  | inl within ↦ are_bytes i 0 within
+  | inr past ↦ rw get_or_past (omega arith)
+]
 
 -- what decodes comes in a form of its length
 decoded-has_form :

@@ -21,10 +21,10 @@ unfolding decode_at
 decode_at-none bytes at a b c d first second third fourth none =
     let code = slice_index bytes at in
     let here : op_of (slice_index bytes at) (slice_index bytes (at + 1)) (slice_index bytes (at + 2)) (slice_index bytes (at + 3)) ≡ None =
-        subst (λ n. op_of n (slice_index bytes (at + 1)) (slice_index bytes (at + 2)) (slice_index bytes (at + 3)) ≡ None) first
-        (subst (λ n. op_of a n (slice_index bytes (at + 2)) (slice_index bytes (at + 3)) ≡ None) second
-        (subst (λ n. op_of a b n (slice_index bytes (at + 3)) ≡ None) third
-        (subst (λ n. op_of a b c n ≡ None) fourth (sym none)))) in
+    subst (λ n. op_of n (slice_index bytes (at + 1)) (slice_index bytes (at + 2)) (slice_index bytes (at + 3)) ≡ None) first
+    (subst (λ n. op_of a n (slice_index bytes (at + 2)) (slice_index bytes (at + 3)) ≡ None) second
+    (subst (λ n. op_of a b n (slice_index bytes (at + 3)) ≡ None) third
+    (subst (λ n. op_of a b c n ≡ None) fourth (sym none)))) in
     none_either_way (nat_le (at + len_of code) (length bytes)) _ (len_of code) here
 
 -- bytes that are an instruction

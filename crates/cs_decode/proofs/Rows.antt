@@ -132,12 +132,12 @@ fits_within-cases :
     (one two three len index : ℕ) (P : ℕ → Type 0) → (index < one → P 1) → (index < two → P 2) → (index < three → P 3)
     → fits_within one two three len index ≡ true → P len
 fits_within-cases one two three len index P at_one at_two at_three fits = elim (cases_eq len 1) [
-      inl is_one ↦ subst P (sym is_one) (at_one (grind arith))
-    | inr not_one ↦ elim (cases_eq len 2) [
-          inl is_two ↦ subst P (sym is_two) (at_two (grind arith))
-        | inr not_two ↦ let is_three : len ≡ 3 = grind arith in subst P (sym is_three) (at_three (grind arith))
-        ]
-    ]
+  | inl is_one ↦ subst P (sym is_one) (at_one (grind arith))
+  | inr not_one ↦ elim (cases_eq len 2) [
+    | inl is_two ↦ subst P (sym is_two) (at_two (grind arith))
+    | inr not_two ↦ let is_three : len ≡ 3 = grind arith in subst P (sym is_three) (at_three (grind arith))
+  ]
+]
 
 variable_byte : (code : ℕ) (op : Op) → code < 112 → variable code ≡ op → Assembles (code ∷ []) op 1
 variable_byte code op below row =
@@ -264,9 +264,9 @@ both_below m k n l test = (grind arith, grind arith)
 -- an instruction that has one length alone
 at_length : (k : ℕ) (rest : Bool) (P : ℕ → Type 0) (len : ℕ) → (rest ≡ true → P k) → (len == k && rest) ≡ true → P len
 at_length k rest P len here form = elim (cases_eq len k) [
-      inl same ↦ let left : rest ≡ true = grind arith in subst P (sym same) (here left)
-    | inr other ↦ let no : nat_eq len k ≡ false = grind arith in absurd (grind arith)
-    ]
+  | inl same ↦ let left : rest ≡ true = grind arith in subst P (sym same) (here left)
+  | inr other ↦ let no : nat_eq len k ≡ false = grind arith in absurd (grind arith)
+]
 
 either :
     (t u : Bool) (x y : List ℕ) (op : Op) (len : ℕ) → (t ≡ true → Assembles x op len) → (u ≡ true → Assembles y op len)
@@ -280,9 +280,9 @@ by_length :
     (k : ℕ) (one other : Bool) (P : ℕ → Type 0) (len : ℕ) → (one ≡ true → P k) → (other ≡ true → P len)
     → (if len == k then one else other) ≡ true → P len
 by_length k one other P len at_k elsewhere form = elim (cases_eq len k) [
-      inl same ↦ let left : one ≡ true = grind arith in subst P (sym same) (at_k left)
-    | inr apart ↦ let left : other ≡ true = grind arith in elsewhere left
-    ]
+  | inl same ↦ let left : one ≡ true = grind arith in subst P (sym same) (at_k left)
+  | inr apart ↦ let left : other ≡ true = grind arith in elsewhere left
+]
 
 Send-assembles : (len lit args : ℕ) → has_form len (Send lit args) ≡ true → Assembles (bytes_of len (Send lit args)) (Send lit args) len
 Send-assembles len lit args form =
@@ -291,10 +291,10 @@ Send-assembles len lit args form =
     (λ one. let below = both_below lit 16 args 3 one in send_byte lit args below.0 below.1)
     (λ longer. by_length 2 _ _ P len
     (λ two. either (nat_lt lit 32 && nat_lt args 8) (nat_lt lit 64 && nat_lt args 4) _ _ (Send lit args) 2
-        (λ first. let below = both_below lit 32 args 8 first in send_two_bytes lit args below.0 below.1)
-        (λ second. let below = both_below lit 64 args 4 second in second_send_two_bytes lit args below.0 below.1) two)
+    (λ first. let below = both_below lit 32 args 8 first in send_two_bytes lit args below.0 below.1)
+    (λ second. let below = both_below lit 64 args 4 second in second_send_two_bytes lit args below.0 below.1) two)
     (λ three. at_length 3 (nat_lt lit 256 && nat_lt args 32) P len
-        (λ both. let below = both_below lit 256 args 32 both in send_three_bytes lit args below.0 below.1) three)
+    (λ both. let below = both_below lit 256 args 32 both in send_three_bytes lit args below.0 below.1) three)
     longer) form
 
 SendSuper-assembles :
@@ -304,7 +304,7 @@ SendSuper-assembles len lit args form =
     by_length 2 _ _ P len
     (λ two. let below = both_below lit 32 args 8 two in super_two_bytes lit args below.0 below.1)
     (λ three. at_length 3 (nat_lt lit 256 && nat_lt args 32) P len
-        (λ both. let below = both_below lit 256 args 32 both in super_three_bytes lit args below.0 below.1) three) form
+    (λ both. let below = both_below lit 256 args 32 both in super_three_bytes lit args below.0 below.1) three) form
 
 -- ---- jumps
 

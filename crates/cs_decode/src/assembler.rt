@@ -1,12 +1,12 @@
 //! From instructions to bytes, and to the assembler's words.
 
-use arrayvec::ArrayVec;
-use cs_model::{Instr, Op};
-
 ghost use Rattle.std.specs.Prelude.{◌≡◌, ℕ, ◌+◌, ◌*◌, ◌/◌, ◌<◌, ◌≤◌, ◌^◌, Some, length, IsTrue, ℤ, pos, negsuc, ◌≤ℤ◌, ◌<ℤ◌};
 ghost use Rattle.arrayvec.specs.ArrayVec.{array_vec_len};
 ghost use Rattle.cs_model.specs.Decode.{decode_at};
 ghost use Rattle.cs_model.specs.Assemble.{IsInstr, has_form, send_has_form, super_has_form, jump_has_form, jump_false_has_form, assembled, bytes_of, name_of, plain_code, plain_name, variable_bytes, send_bytes, super_bytes, with_number, jump_bytes, jump_false_bytes};
+
+use arrayvec::ArrayVec;
+use cs_model::{Instr, Op};
 
 /// The bytes of an instruction that some bytes decode to. There are `len` of them, and they decode
 /// to the instruction. Where it has more than one form of that length, the first is taken (131 before
@@ -141,7 +141,9 @@ fn packed(bytes: &[u8]) -> ArrayVec<u8, 4>
     ensures bytes { result.items ≡ bytes.now }
     ensures len { array_vec_len result ≡ length bytes.now }
 {
-    let Ok(packed) = ArrayVec::try_from(bytes) else { unreachable!() };
+    let Ok(packed) = ArrayVec::try_from(bytes) else {
+        unreachable!()
+    };
     packed
 }
 

@@ -7,3 +7,6 @@ mod decoder;
 
 pub use assembler::{assemble, name};
 pub use decoder::{BadCode, decode};
+
+#[cfg(test)]
+mod tests;
