@@ -9,6 +9,7 @@ use Rattle.cs_model.specs.declared.instruction.Op.{Op}
 use Rattle.cs_model.specs.declared.instruction.Op.TheVariants.{Send, SendSuper, Prim, Closure}
 use Rattle.cs_model.specs.Decode.{len_of, variable, constant, return_of, extended_push, extended_store, extended_pop, double_extended, array, extended, jump, send, op_of, decode_at}
 use Rattle.cs_model.specs.Assemble.{has_form, IsInstr}
+use Rattle.cs_decode.proofs.Table.{len_of-one, len_of-short_jump, len_of-long_jump, len_of-send}
 
 -- an instruction of so many bytes, where there is one, comes in a form of that length
 abbrev pub all_have_form : ℕ → Option Op → Bool
@@ -94,18 +95,6 @@ extended-has_form code b c d above below b_below c_below d_below =
     (at_or_above P 142 code two_bytes
     (at_or_above P 143 code (closure-has_form b c d b_below c_below d_below)
     (λ past. absurd (omega arith))))))))))))))))) above
-
-len_of-one : (code : ℕ) → code < 128 → len_of code ≡ 1
-len_of-one code below = grind arith
-
-len_of-short_jump : (code : ℕ) → 144 ≤ code → code < 160 → len_of code ≡ 1
-len_of-short_jump code above below = grind arith
-
-len_of-long_jump : (code : ℕ) → 160 ≤ code → code < 176 → len_of code ≡ 2
-len_of-long_jump code above below = grind arith
-
-len_of-send : (code : ℕ) → 176 ≤ code → len_of code ≡ 1
-len_of-send code above = grind arith
 
 -- a form of one length is a form of an equal one
 same-has_form : (n len : ℕ) (op : Op) → len ≡ n → has_form n op ≡ true → has_form len op ≡ true

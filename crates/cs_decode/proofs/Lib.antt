@@ -1,3 +1,4 @@
 pub mod Forms
-pub mod Places
+mod Places
 pub mod Rows
+mod Table

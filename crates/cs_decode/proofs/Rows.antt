@@ -10,49 +10,7 @@ use Rattle.cs_model.specs.declared.instruction.Op.{Op}
 use Rattle.cs_model.specs.declared.instruction.Op.TheVariants.{PushRcvr, PushTemp, PushLit, PushLitVar, PopRcvr, PopTemp, PopLitVar, StoreRcvr, StoreTemp, StoreLitVar, PushSelf, PushTrue, PushFalse, PushNil, PushInt, ReturnSelf, ReturnTrue, ReturnFalse, ReturnNil, ReturnTop, BlockReturn, Send, SendSuper, Pop, Dup, ThisContext, NewArray, PopArray, Prim, PushVec, StoreVec, PopVec, Closure, Jump, JumpTrue, JumpFalse, Special, Common}
 use Rattle.cs_model.specs.Decode.{len_of, variable, constant, extended_push, extended_store, extended_pop, double_extended, array, jump, send, op_of, decode_at}
 use Rattle.cs_model.specs.Assemble.{has_form, fits_within, is_within, variable_bytes, send_bytes, super_bytes, with_number, jump_bytes, jump_false_bytes, plain_code, bytes_of, assembled, IsInstr}
-
--- ---- the rows of the table, for a first byte that isn't a numeral
-
-op_of-variable : (code b c d : ℕ) → code < 112 → op_of code b c d ≡ Some (variable code)
-op_of-variable code b c d below = let test : nat_lt code 112 ≡ true = grind arith in rw test
-
-op_of-constant : (code b c d : ℕ) → 112 ≤ code → code < 120 → op_of code b c d ≡ Some (constant code)
-op_of-constant code b c d above below =
-    let test : nat_lt code 112 ≡ false = grind arith in
-    let last : nat_lt code 120 ≡ true = grind arith in
-    rw (test, last)
-
-op_of-jump : (code b c d : ℕ) → 144 ≤ code → code < 176 → op_of code b c d ≡ Some (jump code b)
-op_of-jump code b c d above below =
-    let to_112 : nat_lt code 112 ≡ false = grind arith in
-    let to_120 : nat_lt code 120 ≡ false = grind arith in
-    let to_126 : nat_lt code 126 ≡ false = grind arith in
-    let to_128 : nat_lt code 128 ≡ false = grind arith in
-    let to_144 : nat_lt code 144 ≡ false = grind arith in
-    let to_176 : nat_lt code 176 ≡ true = grind arith in
-    rw (to_112, to_120, to_126, to_128, to_144, to_176)
-
-op_of-send : (code b c d : ℕ) → 176 ≤ code → op_of code b c d ≡ Some (send code)
-op_of-send code b c d above =
-    let to_112 : nat_lt code 112 ≡ false = grind arith in
-    let to_120 : nat_lt code 120 ≡ false = grind arith in
-    let to_126 : nat_lt code 126 ≡ false = grind arith in
-    let to_128 : nat_lt code 128 ≡ false = grind arith in
-    let to_144 : nat_lt code 144 ≡ false = grind arith in
-    let to_176 : nat_lt code 176 ≡ false = grind arith in
-    rw (to_112, to_120, to_126, to_128, to_144, to_176)
-
-len_of-one : (code : ℕ) → code < 128 → len_of code ≡ 1
-len_of-one code below = grind arith
-
-len_of-short_jump : (code : ℕ) → 144 ≤ code → code < 160 → len_of code ≡ 1
-len_of-short_jump code above below = grind arith
-
-len_of-long_jump : (code : ℕ) → 160 ≤ code → code < 176 → len_of code ≡ 2
-len_of-long_jump code above below = grind arith
-
-len_of-send : (code : ℕ) → 176 ≤ code → len_of code ≡ 1
-len_of-send code above = grind arith
+use Rattle.cs_decode.proofs.Table.{len_of-one, len_of-short_jump, len_of-long_jump, len_of-send, op_of-variable, op_of-jump, op_of-send}
 
 -- ---- decoding by one row
 
