@@ -1,4 +1,4 @@
-pub mod Forms
+pub mod HasForm
 mod Places
-pub mod Rows
+pub mod Assembled
 mod Table

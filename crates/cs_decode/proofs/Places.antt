@@ -1,11 +1,11 @@
 -- Decoding at a place by the bytes that stand there.
-use Rattle.std.proofs.Common.{◌≡◌, ℕ, ◌+◌, ◌<◌, ◌≤◌, Bool, true, false, List, Option, Some, None, refl, ap, ◌∙◌, sym, subst, arith, slice_index, All, length, nat_le, if◌then◌else◌, option_map}
+use Rattle.std.proofs.Common.{◌≡◌, ℕ, ◌+◌, ◌<◌, Bool, true, false, List, Option, Some, None, refl, ap, ◌∙◌, sym, subst, slice_index, length, nat_le, if◌then◌else◌, option_map}
 use Rattle.cs_model.specs.declared.instruction.Instr.{Instr}
 use Rattle.cs_model.specs.declared.instruction.Op.{Op}
 use Rattle.cs_model.specs.Decode.{len_of, op_of, decode_at}
 use Rattle.cs_model.specs.Assemble.{IsInstr, has_form}
-use Rattle.cs_decode.proofs.Forms.{all_have_form, op_of-has_form}
-use Rattle.cs_decode.proofs.Rows.{has_form-IsInstr}
+use Rattle.cs_decode.proofs.HasForm.{all_have_form, op_of-has_form}
+use Rattle.cs_decode.proofs.Assembled.{has_form-IsInstr}
 
 none_either_way :
     (enough : Bool) (o : Option Op) (len : ℕ) → o ≡ None

@@ -4,9 +4,11 @@
 
 mod assembler;
 mod decoder;
+mod forms;
 
 pub use assembler::{assemble, name};
 pub use decoder::{BadCode, decode};
+pub use forms::is_instr;
 
 #[cfg(test)]
 mod tests;

@@ -1,11 +1,14 @@
 use super::*;
-use cs_model::Op;
+use cs_model::{Instr, Op};
 
 /// Whether these bytes are the instruction, all of it, and what it assembles to.
 fn reads_as(bytes: &[u8], op: Op) -> bool {
     match decode(bytes, 0) {
         Ok(i) => {
-            i.op == op && usize::from(i.len) == bytes.len() && assemble(&i).as_slice() == bytes
+            i.op == op
+                && usize::from(i.len) == bytes.len()
+                && is_instr(&i)
+                && assemble(&i).as_slice() == bytes
         }
         Err(BadCode) => false,
     }
@@ -148,6 +151,22 @@ const REFUSED: [&[u8]; 9] = [
 fn bad_codes(rt: HostRuntime) {
     for bytes in REFUSED {
         assert_eq!(rt; decode(bytes, 0), Err(BadCode), "{bytes:?}");
+    }
+}
+
+/// Operations that have no form of so many bytes.
+const FORMLESS: [(Op, u8); 5] = [
+    (Op::PushRcvr(16), 1),
+    (Op::PushTemp(5), 3),
+    (Op::Send { lit: 32, args: 4 }, 2),
+    (Op::Jump(9), 1),
+    (Op::Pop, 0),
+];
+
+#[test]
+fn forms(rt: HostRuntime) {
+    for (op, len) in FORMLESS {
+        assert!(rt; !is_instr(&Instr { op, len }), "{op:?} of {len}");
     }
 }
 

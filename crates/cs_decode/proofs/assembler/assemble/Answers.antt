@@ -1,7 +1,7 @@
 use Rattle.std.proofs.Common.{ap, ◌∙◌, length}
 use Rattle.cs_model.specs.Decode.{decode_at}
-use Rattle.cs_decode.proofs.Forms.{IsInstr-has_form}
-use Rattle.cs_decode.proofs.Rows.{assembles}
+use Rattle.cs_decode.proofs.HasForm.{IsInstr-has_form}
+use Rattle.cs_decode.proofs.Assembled.{assembles}
 use Rattle.cs_decode.proofs.assembler.assemble.Goals as goal
 
 pub bytes_of-requires : goal.bytes_of-requires

@@ -1,14 +1,13 @@
 -- What is assembled decodes to the instruction that it was.
-use Rattle.std.proofs.Common.{◌≡◌, ℕ, ◌+◌, ◌-◌, ◌*◌, ◌/◌, ◌%◌, ◌<◌, ◌≤◌, ℤ, pos, negsuc, ◌+ℤ◌, Bool, true, false, List, [], ◌∷◌, Option, Some, None, refl, arith, inl, inr, ap, ap₂, ◌∙◌, nat_lt, subst, sym, All, length, zero, suc, if◌then◌else◌, nat_eq}
+use Rattle.std.proofs.Common.{◌≡◌, ℕ, ◌+◌, ◌*◌, ◌/◌, ◌%◌, ◌<◌, ◌≤◌, ℤ, pos, negsuc, ◌+ℤ◌, Bool, true, false, List, [], ◌∷◌, Some, refl, arith, inl, inr, ap, ap₂, ◌∙◌, nat_lt, subst, sym, All, length, zero, suc, if◌then◌else◌, nat_eq}
 use Rattle.std.specs.Prelude.{◌==◌, ◌&&◌, ◌||◌, ◌-ℤ◌, ◌*ℤ◌}
 use Rattle.std.specs.Int.RustNames.{unsigned_abs}
-use Rattle.std.proofs.lemmas.Grind.{common_steps}
 use Rattle.std.proofs.lemmas.Int.{ints}
-use Rattle.std.proofs.lemmas.Bool.{cases_lt, cases_eq}
+use Rattle.std.proofs.lemmas.Bool.{cases_eq}
 use Rattle.cs_model.specs.declared.instruction.Instr.{Instr}
 use Rattle.cs_model.specs.declared.instruction.Op.{Op}
 use Rattle.cs_model.specs.declared.instruction.Op.TheVariants.{PushRcvr, PushTemp, PushLit, PushLitVar, PopRcvr, PopTemp, PopLitVar, StoreRcvr, StoreTemp, StoreLitVar, PushSelf, PushTrue, PushFalse, PushNil, PushInt, ReturnSelf, ReturnTrue, ReturnFalse, ReturnNil, ReturnTop, BlockReturn, Send, SendSuper, Pop, Dup, ThisContext, NewArray, PopArray, Prim, PushVec, StoreVec, PopVec, Closure, Jump, JumpTrue, JumpFalse, Special, Common}
-use Rattle.cs_model.specs.Decode.{len_of, variable, constant, extended_push, extended_store, extended_pop, double_extended, array, jump, send, op_of, decode_at}
+use Rattle.cs_model.specs.Decode.{len_of, variable, extended_push, extended_store, extended_pop, double_extended, array, jump, send, op_of, decode_at}
 use Rattle.cs_model.specs.Assemble.{has_form, fits_within, is_within, variable_bytes, send_bytes, super_bytes, with_number, jump_bytes, jump_false_bytes, plain_code, bytes_of, assembled, IsInstr}
 use Rattle.cs_decode.proofs.Table.{len_of-one, len_of-short_jump, len_of-long_jump, len_of-send, op_of-variable, op_of-jump, op_of-send}
 
