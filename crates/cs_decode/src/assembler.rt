@@ -147,7 +147,7 @@ fn packed(bytes: &[u8]) -> ArrayVec<u8, 4>
     packed
 }
 
-/// The code of an instruction without numbers.
+/// The code of an instruction without numbers, the last of which is `ThisContext`.
 fn plain_code(op: Op) -> u8
     ensures { result ≡ plain_code op }
 {
@@ -168,7 +168,8 @@ fn plain_code(op: Op) -> u8
     }
 }
 
-/// The assembler's word for an instruction.
+/// The assembler's word for an instruction. A send by its selector's place among the special
+/// selectors is `op` or `common`, and code 139 is `prim`.
 pub fn name(i: &Instr) -> &'static str
     ensures { result.now ≡ name_of i.now.op }
 {
@@ -202,7 +203,7 @@ pub fn name(i: &Instr) -> &'static str
     }
 }
 
-/// The assembler's word for an instruction without numbers.
+/// The assembler's word for an instruction without numbers, the last of which is `ThisContext`.
 fn plain_name(op: Op) -> &'static str
     ensures { result.now ≡ plain_name op }
 {

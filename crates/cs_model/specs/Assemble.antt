@@ -110,7 +110,7 @@ jump_bytes len offset =
 abbrev pub jump_false_bytes : ℕ → ℕ → List ℕ
 jump_false_bytes len offset = if len == 1 then (151 + offset) ∷ [] else with_number 172 offset
 
--- the code of an instruction without numbers
+-- the code of an instruction without numbers, the last of which is ThisContext
 abbrev pub plain_code : Op → ℕ
 plain_code PushSelf = 112
 plain_code PushTrue = 113
@@ -159,7 +159,7 @@ assembled i = bytes_of i.len i.op
 
 -- ---- the assembler's word
 
--- the word of an instruction without numbers
+-- the word of an instruction without numbers, the last of which is ThisContext
 abbrev pub plain_name : Op → List ℕ
 plain_name PushSelf = codes "self"
 plain_name PushTrue = codes "true"
