@@ -29,6 +29,7 @@ pub mod Due
 pub mod Step
 pub mod Report
 pub mod Decode
+pub mod Assemble
 pub mod Built
 pub mod Line
 pub mod Alike
