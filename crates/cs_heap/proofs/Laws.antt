@@ -1,6 +1,6 @@
 -- The laws of the object memory, for the crates above: what is read after a write and after an allocation, and how the
 -- addresses lie.
-use Rattle.std.proofs.Common.{◌≡◌, ◌≢◌, ◌⊎◌, inl, inr, ℕ, zero, suc, ◌+◌, ◌*◌, ◌/◌, ◌%◌, ◌<◌, ◌≤◌, Bool, true, false, List, [], ◌∷◌, ◌++◌, length, get_or, Option, Some, None, option_map, option_and_then, is_some, refl, ap, sym, ◌∙◌, arith, eqb, get_or-set_same, get_or-set_other, length-append}
+use Rattle.std.proofs.Common.{◌≡◌, ◌≢◌, ◌⊎◌, inl, inr, ℕ, zero, suc, ◌+◌, ◌*◌, ◌/◌, ◌%◌, ◌<◌, ◌≤◌, Bool, true, false, List, [], ◌∷◌, ◌++◌, length, get_or, map, Option, Some, None, option_map, option_and_then, is_some, refl, ap, sym, ◌∙◌, arith, eqb, get_or-set_same, get_or-set_other, length-append}
 use Rattle.std.proofs.lemmas.List.{length-replicate, length-set}
 use Rattle.std.proofs.lemmas.Bool.Decides.{nat_tests}
 use Rattle.std.specs.Prelude.{slice_get, slice_set, sum_by}
@@ -104,18 +104,26 @@ address_of-rising xs j k a b h i less = go xs base j k h i less
 abbrev pub KeepsCount : (Object → Object) → Type 0
 KeepsCount f = (x : Object) → length (f x).words ≡ length x.words
 
-slot_counts-at_index : (k : ℕ) (f : Object → Object) (xs : List Object) → KeepsCount f → slot_counts (at_index k f xs) ≡ slot_counts xs
+map-at_index : {Y : Type 0} (g : Object → Y) (k : ℕ) (f : Object → Object) (xs : List Object) → ((x : Object) → g (f x) ≡ g x) → map g (at_index k f xs) ≡ map g xs
 unfolding at_index
-slot_counts-at_index k f [] h = refl
-slot_counts-at_index zero f (x ∷ xs) h = ap (λ (n : ℕ). n ∷ slot_counts xs) (h x)
-slot_counts-at_index (suc k) f (x ∷ xs) h = ap (λ (ns : List ℕ). length x.words ∷ ns) (slot_counts-at_index k f xs h)
+map-at_index g k f [] h = refl
+map-at_index g zero f (x ∷ xs) h = ap (λ y. y ∷ map g xs) (h x)
+map-at_index g (suc k) f (x ∷ xs) h = ap (λ ys. g x ∷ ys) (map-at_index g k f xs h)
+
+-- what the change leaves alone, of all objects at once, as their births or their slot counts
+pub map-with_object : {Y : Type 0} (g : Object → Y) (xs : List Object) (a : ℕ) (f : Object → Object) → ((x : Object) → g (f x) ≡ g x) → map g (with_object xs a f) ≡ map g xs
+map-with_object g xs a f h = go (index_of xs a)
+  where
+    go : (o : Option ℕ) → map g (option_map_or (λ k. at_index k f xs) o xs) ≡ map g xs
+    go None = refl
+    go (Some k) = map-at_index g k f xs h
 
 pub slot_counts-with_object : (xs : List Object) (a : ℕ) (f : Object → Object) → KeepsCount f → slot_counts (with_object xs a f) ≡ slot_counts xs
-slot_counts-with_object xs a f h = go (index_of xs a)
-  where
-    go : (o : Option ℕ) → slot_counts (option_map_or (λ k. at_index k f xs) o xs) ≡ slot_counts xs
-    go None = refl
-    go (Some k) = slot_counts-at_index k f xs h
+slot_counts-with_object xs a f h = map-with_object (λ (x : Object). length x.words) xs a f h
+
+-- the change is one at the object's index
+pub with_object-index : (xs : List Object) (a k : ℕ) (f : Object → Object) → index_of xs a ≡ Some k → with_object xs a f ≡ at_index k f xs
+with_object-index xs a k f h = ap (λ (o : Option ℕ). option_map_or (λ (j : ℕ). at_index j f xs) o xs) h
 
 pub length-with_object : (xs : List Object) (a : ℕ) (f : Object → Object) → length (with_object xs a f) ≡ length xs
 unfolding at_index
@@ -145,13 +153,13 @@ address_of-with_object xs a k f h = ap (λ (ns : List ℕ). address_among ns bas
 pub next_address-with_object : (xs : List Object) (a slots : ℕ) (f : Object → Object) → KeepsCount f → next_address (with_object xs a f) slots ≡ next_address xs slots
 next_address-with_object xs a slots f h = ap (λ (n : ℕ). header_address (base + 4 * n) slots) (used-with_object xs a f h)
 
-slice_get-at_index_same : (k : ℕ) (f : Object → Object) (xs : List Object) → slice_get (at_index k f xs) k ≡ option_map f (slice_get xs k)
+pub slice_get-at_index_same : (k : ℕ) (f : Object → Object) (xs : List Object) → slice_get (at_index k f xs) k ≡ option_map f (slice_get xs k)
 unfolding at_index
 slice_get-at_index_same k f [] = refl
 slice_get-at_index_same zero f (x ∷ xs) = refl
 slice_get-at_index_same (suc k) f (x ∷ xs) = slice_get-at_index_same k f xs
 
-slice_get-at_index_other : (k j : ℕ) (f : Object → Object) (xs : List Object) → k ≢ j → slice_get (at_index k f xs) j ≡ slice_get xs j
+pub slice_get-at_index_other : (k j : ℕ) (f : Object → Object) (xs : List Object) → k ≢ j → slice_get (at_index k f xs) j ≡ slice_get xs j
 unfolding at_index
 slice_get-at_index_other k j f [] h = refl
 slice_get-at_index_other zero zero f (x ∷ xs) h = absurd (h refl)
