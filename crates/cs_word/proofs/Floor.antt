@@ -1,9 +1,9 @@
 -- Rounding down by a negative divisor is rounding down with both signs turned.
-use Rattle.std.proofs.Common.{◌≡◌, ℤ, pos, negsuc, ◌<ℤ◌, refl, arith, Some}
+use Rattle.std.proofs.Common.{◌≡◌, ℤ, pos, negsuc, ◌<ℤ◌, refl, arith}
 use Rattle.std.specs.Prelude.{neg_ℤ}
 use Rattle.std.proofs.lemmas.Int.{ints}
 use Rattle.std.specs.Int.{int_div_euclid, int_rem_euclid}
-use Rattle.cs_word.specs.Arithmetic.{floor_quotient, floor_remainder, if_small}
+use Rattle.cs_model.specs.Arithmetic.{floor_quotient, floor_remainder, if_small}
 
 pub floor_quotient_neg : (a b : ℤ) → b <ℤ pos 0 → floor_quotient a b ≡ if_small (int_div_euclid (neg_ℤ a) (neg_ℤ b))
 floor_quotient_neg a (pos n) h = absurd (omega (arith, ints, h))

@@ -8,7 +8,7 @@ use Rattle.std.specs.Int.RustNames.{unsigned_abs}
 use Rattle.std.proofs.lemmas.Bool.{cases_lt}
 use Rattle.std.proofs.lemmas.Int.{ints}
 use Rattle.cs_word.specs.Word.{IsSmall}
-use Rattle.cs_word.specs.Arithmetic.{if_small}
+use Rattle.cs_model.specs.Arithmetic.{if_small}
 
 -- 2^n for an n above 30
 large : (n : ℕ) → 30 < n → 2 ^ 31 ≤ 2 ^ n
@@ -50,11 +50,11 @@ shr-floor (negsuc m) n = refl
 -- from 31 bits on, a shift to the right leaves the sign alone
 pub shr-capped : (a : ℤ) (k n : ℕ) → IsSmall a → k ≡ min n 31 → shr_z a (2 ^ k) ≡ int_div_euclid a (pos (2 ^ n))
 shr-capped a k n small capped = elim (cases_lt n 31) [
-      inl below ↦ let same : k ≡ n = omega arith in ap (λ i. shr_z a (2 ^ i)) same ∙ shr-floor a n
-    | inr above ↦
-        let same : k ≡ 31 = omega arith in
-        ap (λ i. shr_z a (2 ^ i)) same ∙ shr-vanishes a n small (omega arith)
-    ]
+  | inl below ↦ let same : k ≡ n = omega arith in ap (λ i. shr_z a (2 ^ i)) same ∙ shr-floor a n
+  | inr above ↦
+      let same : k ≡ 31 = omega arith in
+      ap (λ i. shr_z a (2 ^ i)) same ∙ shr-vanishes a n small (omega arith)
+]
 
 -- the magnitude of a SmallInteger
 pub magnitude : (a : ℤ) → IsSmall a → unsigned_abs a ≤ 2 ^ 30

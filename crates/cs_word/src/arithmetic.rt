@@ -2,7 +2,7 @@
 
 ghost use Rattle.std.specs.Prelude.{◌≡◌, ℕ, ℤ, pos, ◌+ℤ◌, ◌-ℤ◌, ◌*ℤ◌, ◌<◌, ◌^◌};
 ghost use Rattle.cs_word.specs.Word.{IsSmall};
-ghost use Rattle.cs_word.specs.Arithmetic.{if_small, quotient, floor_quotient, floor_remainder, shifted, floor_div, floor_rem};
+ghost use Rattle.cs_model.specs.Arithmetic.{if_small, quotient, floor_quotient, floor_remainder, shifted, floor_div, floor_rem};
 
 /// The sum, or `None` exactly where it isn't a SmallInteger.
 pub fn add(a: i32, b: i32) -> Option<i32>
@@ -38,7 +38,11 @@ pub fn quo(a: i32, b: i32) -> Option<i32>
     requires b_small { IsSmall b }
     ensures { result ≡ quotient a b }
 {
-    if b == 0 { None } else { narrowed(i64::from(a) / i64::from(b)) }
+    if b == 0 {
+        None
+    } else {
+        narrowed(i64::from(a) / i64::from(b))
+    }
 }
 
 /// The quotient rounded down (`//`), or `None` exactly where `b` is 0 or the quotient isn't a
@@ -113,5 +117,9 @@ fn shifted_right(a: i32, amount: u32) -> i32
 fn narrowed(n: i64) -> Option<i32>
     ensures { result ≡ if_small n }
 {
-    if n < -(1 << 30) || n >= 1 << 30 { None } else { Some(n as i32) }
+    if n < -(1 << 30) || n >= 1 << 30 {
+        None
+    } else {
+        Some(n as i32)
+    }
 }

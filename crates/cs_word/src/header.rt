@@ -1,8 +1,8 @@
 //! The header of an object.
 
-use bitflags::{Flag, Flags as _, bitflag_items};
-
 ghost use Rattle.std.specs.Prelude.{⊤, ◌≡◌, [], ◌∷◌, codes, ◌<◌, ◌^◌, ◌*◌, ℕ};
+
+use bitflags::{Flag, Flags as _, bitflag_items};
 
 /// The marks of an object, a set of five bits: 0 `IS_IMMUTABLE`, 1 `REMEMBERED`, 2 `PINNED`,
 /// 3 `GREY` and 4 `MARKED`.

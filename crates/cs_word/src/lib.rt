@@ -72,7 +72,13 @@ impl Oop {
         ensures word { IfSome result (λ o. o.0 ≡ character_word c) }
         ensures kind { IfSome result (λ o. kind_of o.0 ≡ Kind.Character c) }
     {
-        if c < 1 << 30 { Some(Oop(4 * c + 2)) } else { None }
+        if c < 1 << 30 {
+            Some(Oop(4 * c + 2))
+        } else {
+            None
+        }
     }
 }
 
+#[cfg(test)]
+mod tests;

@@ -2,7 +2,7 @@ use Rattle.std.proofs.Common.{◌≡◌, pos, to_z, of_z, w32, w64, ap, ap₂, s
 use Rattle.std.specs.Prelude.{neg_ℤ}
 use Rattle.std.specs.Int.{int_div_euclid}
 use Rattle.std.proofs.lemmas.Int.{ints}
-use Rattle.cs_word.specs.Arithmetic.{if_small}
+use Rattle.cs_model.specs.Arithmetic.{if_small}
 use Rattle.cs_word.proofs.Floor.{floor_quotient_neg}
 use Rattle.cs_word.proofs.arithmetic.div.Goals as goal
 

@@ -40,3 +40,12 @@ floor_remainder a b = unless_zero b (if_small (floor_rem a b))
 abbrev pub shifted : ℤ → ℤ → Option ℤ
 shifted a (pos n) = if_small (a *ℤ pos (2 ^ n))
 shifted a (negsuc n) = Some (floor_div a (pos (2 ^ suc n)))
+
+-- `/` has an answer where the division leaves nothing
+abbrev pub if_divides : ℤ → Option ℤ → Option ℤ
+if_divides (pos zero) quotient = quotient
+if_divides (pos (suc n)) quotient = None
+if_divides (negsuc n) quotient = None
+
+abbrev pub exact_quotient : ℤ → ℤ → Option ℤ
+exact_quotient a b = unless_zero b (if_divides (floor_rem a b) (if_small (floor_div a b)))
