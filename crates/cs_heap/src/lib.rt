@@ -6,9 +6,8 @@
 //! of each other one is right behind the object before it. The address of an object is that of its
 //! header.
 //!
-//! The heap is seen as a list of objects in this order. Objects are added at its end and never move
-//! or go away. A birth is a number that whoever makes an object gives to it, to know it by for
-//! ever.
+//! Objects are added at the end, and never move or go away. A birth is a number of this machine's
+//! own, which whoever makes an object gives to it; Spur has none.
 #![tactic(auto)]
 
 mod rows;
@@ -29,7 +28,10 @@ pub const BASE: u32 = 65536;
 
 /// The object memory.
 ///
-/// It is seen as `limit`, the words that its objects may take, and `objects`, the list of them.
+/// It is seen as `limit`, the words that its objects may take, and `objects`, the list of them in
+/// the order of their addresses, each with class, flags, format, hash, birth and words. A call that
+/// takes an object has the condition that it is one of this heap, which `is_object` tests, and one
+/// that takes an index that it is in range, by `slot_count`.
 #[derive(Drop)]
 pub struct Heap {
     /// All objects' words, one object right behind another.
@@ -106,8 +108,9 @@ impl Heap {
     }
 
     /// Adds an object at the end, without flags and with hash 0. Where its format has pointers,
-    /// each slot holds the address of the first object, which an image has nil at; else each holds
-    /// 0.
+    /// each slot holds the address of the first object, which is nil in an image; else each is 0.
+    /// `HeapFull` comes exactly where the objects would take more words than the limit, and then
+    /// the heap is as it was.
     pub fn allocate(
         &mut self,
         class: u32,
@@ -244,7 +247,7 @@ impl Heap {
         rows::byte_in(self.slot(o, i / 4).0, i % 4)
     }
 
-    /// Stores `v` in slot `i`, counted from 0.
+    /// Stores `v` in slot `i`, counted from 0, and changes nothing else.
     pub fn set_slot(&mut self, o: Oop, i: u32, v: Oop)
         requires { i < slot_count_of self.old.objects o.0 }
         ensures { self.new ≡ record self.old { objects = with_slot self.old.objects o.0 i v.0 } }
@@ -252,7 +255,7 @@ impl Heap {
         self.words[rows::slot_place(o, i)] = v.0;
     }
 
-    /// Stores `b` in byte `i`, counted as `byte` counts.
+    /// Stores `b` in byte `i`, counted as `byte` counts, and changes nothing else.
     pub fn set_byte(&mut self, o: Oop, i: u32, b: u8)
         requires { i < 4 * slot_count_of self.old.objects o.0 }
         ensures { self.new ≡ record self.old { objects = with_byte self.old.objects o.0 i b } }
@@ -261,7 +264,7 @@ impl Heap {
         self.set_slot(o, i / 4, Oop(word));
     }
 
-    /// Gives the object the identity hash `h`.
+    /// Gives the object the identity hash `h`, of 22 bits, and changes nothing else.
     pub fn set_hash(&mut self, o: Oop, h: u32)
         requires object { IsTrue (is_object self.old.objects o.0) }
         requires below { h < 2 ^ 22 }
