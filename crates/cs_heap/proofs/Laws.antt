@@ -1,5 +1,6 @@
 -- The laws of the object memory, for the crates above: what is read after a write and after an allocation, and how the
--- addresses lie.
+-- addresses lie. A function over a heap often needs no proof file where it names the ruleset at the end of this file:
+-- #[tactic(auto, using(cs_heap::proofs::Laws::heap_laws))].
 use Rattle.std.proofs.Common.{◌≡◌, ◌≢◌, ◌⊎◌, inl, inr, ℕ, zero, suc, ◌+◌, ◌*◌, ◌/◌, ◌%◌, ◌<◌, ◌≤◌, Bool, true, false, List, [], ◌∷◌, ◌++◌, length, get_or, map, Option, Some, None, option_map, option_and_then, is_some, refl, ap, sym, ◌∙◌, arith, eqb, get_or-set_same, get_or-set_other, length-append}
 use Rattle.std.proofs.lemmas.List.{length-replicate, length-set}
 use Rattle.std.proofs.lemmas.Bool.Decides.{nat_tests}
