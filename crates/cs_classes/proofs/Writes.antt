@@ -18,7 +18,7 @@ use Rattle.cs_model.specs.Ref.{Ref}
 use Rattle.cs_model.specs.Ref as ref
 use Rattle.cs_model.specs.Obj.{Context, Obj, literal_count, popped, pushed, stored, with_pc, with_stack}
 use Rattle.cs_model.specs.Obj as model
-use Rattle.cs_model.specs.Context.{edit_context}
+use Rattle.cs_model.specs.Obj.{edit_context}
 use Rattle.cs_model.specs.State.{Kept}
 use Rattle.cs_model.specs.Operation.{edit_object, store_byte_of, store_of}
 use Rattle.cs_model.specs.Operation as operation
