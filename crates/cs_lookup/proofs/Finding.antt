@@ -3,9 +3,10 @@ use Rattle.std.proofs.Common.{◌≡◌, ℕ, zero, suc, ◌+◌, ◌-◌, ◌^�
 use Rattle.std.specs.Prelude.{slice_get, slice_index, nat_le, ◌==◌, unwrap_or}
 use Rattle.std.specs.List.{AllPass}
 use Rattle.std.proofs.lemmas.Bool.{false≢true, leb-false, eq-eqb, ne_eqb}
-use Rattle.std.proofs.lemmas.List.{drop-all, drop-map, length-map}
+use Rattle.std.proofs.lemmas.List.{drop_all, drop-map, length-map}
 use Rattle.std.proofs.lemmas.Option.{slice_get-get_or, slice_get-map, slice_get_past}
 use Rattle.std.proofs.Math.Seq.{drop-cons}
+use Rattle.cs_word.specs.declared.Oop.{Oop}
 use Rattle.cs_heap.specs.Object.{Object, slot_count_of, slot_of}
 use Rattle.cs_model.specs.Ref.{Ref, Small, same_ref}
 use Rattle.cs_model.specs.Obj.{Obj, at_least, slots_in}
@@ -16,23 +17,23 @@ use Rattle.cs_model.specs.Lookup as sought
 use Rattle.cs_classes.specs.Meaning.{ref_of}
 use Rattle.cs_classes.specs.Sound.{IsSound, is_reference}
 use Rattle.cs_classes.proofs.Refs.{same_ref-ref_of}
-use Rattle.cs_lookup.specs.Found.{HasObjects, has_slots, is_method_at}
-use Rattle.cs_lookup.proofs.Reading.{HasWords, has_words, is_method-at, refs_at, slots_of-none, slots_of-words, words_at}
+use Rattle.cs_lookup.specs.Found.{HasObjects, has_slots, is_method_at, refs_option}
+use Rattle.cs_lookup.proofs.Reading.{HasWords, has_words, is_method-at, refs_at, slots_in-words, slots_of-none, slots_of-words, words_at}
 
 -- ---- a value of an array of values
 
 abbrev pub values_of : Kept → Ref → List Ref
 values_of k x = list_or_empty (slots_in (object_of k x))
 
-pub value_there : (os : List Object) (k : Kept) (n w i : ℕ) (h : HasWords os k n w) → i < length (words_at os w) → slice_get (refs_at os w) i ≡ Some (ref_of os (slot_of os w i))
-value_there os k n w i h l = slice_get-map (ref_of os) (words_at os w) i ∙ ap (option_map (ref_of os)) (slice_get-get_or (words_at os w) i 0 l ∙ ap Some (sym (h.slot i)))
+pub value_there : (os : List Object) (n w i : ℕ) (h : HasWords os n w) → i < length (words_at os w) → slice_get (refs_at os w) i ≡ Some (ref_of os (slot_of os w i))
+value_there os n w i h l = slice_get-map (ref_of os) (words_at os w) i ∙ ap (option_map (ref_of os)) (slice_get-get_or (words_at os w) i 0 l ∙ ap Some (sym (h.slot i)))
 
-pub value_at : (os : List Object) (k : Kept) (w i : ℕ) → IsSound os → HasObjects os k → has_slots os (i + 1) w ≡ true → slice_get (values_of k (ref_of os w)) i ≡ Some (ref_of os (slot_of os w i))
+value_at : (os : List Object) (k : Kept) (w i : ℕ) → IsSound os → HasObjects os k → has_slots os (i + 1) w ≡ true → slice_get (values_of k (ref_of os w)) i ≡ Some (ref_of os (slot_of os w i))
 value_at os k w i sound has h =
-    let words = has_words os k (i + 1) w sound has h in
-    ap (λ (o : Option (List Ref)). slice_get (list_or_empty o) i) words.slots ∙ value_there os k (i + 1) w i words (omega (arith, words.enough))
+    let words = has_words os (i + 1) w sound h in
+    ap (λ (o : Option (List Ref)). slice_get (list_or_empty o) i) (slots_in-words os k (i + 1) w sound has h) ∙ value_there os (i + 1) w i words (omega (arith, words.enough))
 
-pub no_value_at : (os : List Object) (k : Kept) (w i : ℕ) → IsSound os → HasObjects os k → is_reference os w ≡ true → has_slots os (i + 1) w ≡ false → slice_get (values_of k (ref_of os w)) i ≡ None
+no_value_at : (os : List Object) (k : Kept) (w i : ℕ) → IsSound os → HasObjects os k → is_reference os w ≡ true → has_slots os (i + 1) w ≡ false → slice_get (values_of k (ref_of os w)) i ≡ None
 unfolding slots_of
 no_value_at os k w i sound has r h = go (slots_in (object_of k (ref_of os w))) (slots_of-none os k (i + 1) w sound has r h)
   where
@@ -43,8 +44,19 @@ no_value_at os k w i sound has r h = go (slots_in (object_of k (ref_of os w))) (
     go None h = refl
     go (Some xs) h = few xs (nat_le (i + 1) (length xs)) refl h
 
-pub if_method-at : (os : List Object) (k : Kept) (v : ℕ) (b : Bool) → IsSound os → HasObjects os k → is_reference os v ≡ true → is_method_at os v ≡ b → if_method k (Some (ref_of os v)) ≡ cond b (Some (ref_of os v)) None
+if_method-at : (os : List Object) (k : Kept) (v : ℕ) (b : Bool) → IsSound os → HasObjects os k → is_reference os v ≡ true → is_method_at os v ≡ b → if_method k (Some (ref_of os v)) ≡ cond b (Some (ref_of os v)) None
 if_method-at os k v b sound has r h = ap (λ (t : Bool). cond t (Some (ref_of os v)) None) (is_method-at os k v sound has r ∙ h)
+
+-- the value v at a position, where it is a method
+pub method_there : (os : List Object) (k : Kept) (w i v : ℕ) (b : Bool) → IsSound os → HasObjects os k → has_slots os (i + 1) w ≡ true → v ≡ slot_of os w i → is_method_at os v ≡ b
+    → if_method k (slice_get (values_of k (ref_of os w)) i) ≡ cond b (Some (ref_of os v)) None
+method_there os k w i v b sound has h is m =
+    let words = has_words os (i + 1) w sound h in
+    let named : is_reference os v ≡ true = ap (is_reference os) is ∙ words.reference i (omega (arith, words.enough)) in
+    ap (if_method k) (value_at os k w i sound has h ∙ ap (λ (u : ℕ). Some (ref_of os u)) (sym is)) ∙ if_method-at os k v b sound has named m
+
+pub no_method_there : (os : List Object) (k : Kept) (w i : ℕ) → IsSound os → HasObjects os k → is_reference os w ≡ true → has_slots os (i + 1) w ≡ false → if_method k (slice_get (values_of k (ref_of os w)) i) ≡ None
+no_method_there os k w i sound has r h = ap (if_method k) (no_value_at os k w i sound has r h)
 
 -- ---- a dictionary
 
@@ -59,13 +71,13 @@ from_position os k selector w i = find_among k (values_of k (ref_of os (slot_of 
 pub dictionary_begins : (os : List Object) (k : Kept) (selector : Ref) (w : ℕ) → IsSound os → HasObjects os k → has_slots os 2 w ≡ true → find_in_dictionary k selector (ref_of os w) ≡ from_position os k selector w 0
 unfolding find_in_dictionary
 dictionary_begins os k selector w sound has h =
-    let words = has_words os k 2 w sound has h in
-    ap (find_in k selector) (slots_of-words os k 2 w words)
+    let words = has_words os 2 w sound h in
+    ap (find_in k selector) (slots_of-words os k 2 w sound has h)
     ∙ ap (λ (o : Option Ref). find_among k (list_or_empty (option_and_then (λ (x : Ref). slots_in (object_of k x)) o)) selector 0 (drop 2 (refs_at os w)))
-      (value_there os k 2 w 1 words (omega (arith, words.enough)))
+      (value_there os 2 w 1 words (omega (arith, words.enough)))
 
-rest_of : (os : List Object) (k : Kept) (w i : ℕ) → HasWords os k 2 w → i + 2 < slot_count_of os w → drop (i + 2) (refs_at os w) ≡ ref_of os (slot_of os w (i + 2)) ∷ drop (suc i + 2) (refs_at os w)
-rest_of os k w i h l =
+rest_of : (os : List Object) (w i : ℕ) → HasWords os 2 w → i + 2 < slot_count_of os w → drop (i + 2) (refs_at os w) ≡ ref_of os (slot_of os w (i + 2)) ∷ drop (suc i + 2) (refs_at os w)
+rest_of os w i h l =
     let next : suc (i + 2) ≡ suc i + 2 = omega arith in
     drop-map (ref_of os) (i + 2) (words_at os w)
     ∙ ap (map (ref_of os)) (drop-cons (words_at os w) (i + 2) 0 (omega (arith, l, h.count)))
@@ -73,29 +85,38 @@ rest_of os k w i h l =
     ∙ ap (λ (rest : List Ref). ref_of os (slot_of os w (i + 2)) ∷ rest) (sym (drop-map (ref_of os) (suc i + 2) (words_at os w)))
 
 -- what the search does with the selector at position i
-step : (os : List Object) (k : Kept) (w s i : ℕ) (b : Bool) → IsSound os → HasWords os k 2 w → is_reference os s ≡ true → s < 2 ^ 32 → slot_of os w (i + 2) < 2 ^ 32 → i + 2 < slot_count_of os w
+step : (os : List Object) (k : Kept) (w s i : ℕ) (b : Bool) → IsSound os → HasWords os 2 w → is_reference os s ≡ true → s < 2 ^ 32 → slot_of os w (i + 2) < 2 ^ 32 → i + 2 < slot_count_of os w
     → (slot_of os w (i + 2) == s) ≡ b
     → from_position os k (ref_of os s) w i ≡ cond b (or_else (if_method k (slice_get (values_of k (ref_of os (slot_of os w 1))) i)) (from_position os k (ref_of os s) w (suc i))) (from_position os k (ref_of os s) w (suc i))
 unfolding find_among
 step os k w s i b sound h r fits slot_fits l e =
     let vs : List Ref = values_of k (ref_of os (slot_of os w 1)) in
     let same = same_ref-ref_of os (slot_of os w (i + 2)) s sound (h.reference (i + 2) (omega (arith, l, h.count))) r slot_fits fits in
-    ap (find_among k vs (ref_of os s) i) (rest_of os k w i h l)
+    ap (find_among k vs (ref_of os s) i) (rest_of os w i h l)
     ∙ ap (λ (t : Bool). cond t (or_else (if_method k (slice_get vs i)) (from_position os k (ref_of os s) w (suc i))) (from_position os k (ref_of os s) w (suc i))) (same ∙ e)
 
-pub next_other : (os : List Object) (k : Kept) (w s i : ℕ) → IsSound os → HasWords os k 2 w → is_reference os s ≡ true → s < 2 ^ 32 → slot_of os w (i + 2) < 2 ^ 32 → i + 2 < slot_count_of os w
+pub next_other : (os : List Object) (k : Kept) (w s i : ℕ) → IsSound os → HasWords os 2 w → is_reference os s ≡ true → s < 2 ^ 32 → slot_of os w (i + 2) < 2 ^ 32 → i + 2 < slot_count_of os w
     → (slot_of os w (i + 2) == s) ≡ false → from_position os k (ref_of os s) w i ≡ from_position os k (ref_of os s) w (suc i)
 next_other os k w s i sound h r fits slot_fits l e = step os k w s i false sound h r fits slot_fits l e
 
-pub next_same : (os : List Object) (k : Kept) (w s i : ℕ) → IsSound os → HasWords os k 2 w → is_reference os s ≡ true → s < 2 ^ 32 → slot_of os w (i + 2) < 2 ^ 32 → i + 2 < slot_count_of os w
+pub next_same : (os : List Object) (k : Kept) (w s i : ℕ) → IsSound os → HasWords os 2 w → is_reference os s ≡ true → s < 2 ^ 32 → slot_of os w (i + 2) < 2 ^ 32 → i + 2 < slot_count_of os w
     → (slot_of os w (i + 2) == s) ≡ true → (o : Option Ref) → o ≡ if_method k (slice_get (values_of k (ref_of os (slot_of os w 1))) i)
     → from_position os k (ref_of os s) w i ≡ or_else o (from_position os k (ref_of os s) w (suc i))
 next_same os k w s i sound h r fits slot_fits l e o is = step os k w s i true sound h r fits slot_fits l e ∙ ap (λ (p : Option Ref). or_else p (from_position os k (ref_of os s) w (suc i))) (sym is)
 
+-- a method is found, or none is
+pub some_found : (os : List Object) (o : Option Oop) (rest : Option Ref) → is_some o ≡ true → refs_option os o ≡ or_else (refs_option os o) rest
+some_found os None rest h = absurd (false≢true h)
+some_found os (Some m) rest h = refl
+
+pub none_found : (os : List Object) (o : Option Oop) (rest : Option Ref) → is_some o ≡ false → or_else (refs_option os o) rest ≡ rest
+none_found os None rest h = refl
+none_found os (Some m) rest h = absurd (false≢true (sym h))
+
 -- behind the last selector
-pub dictionary_ends : (os : List Object) (k : Kept) (selector : Ref) (w i : ℕ) → HasWords os k 2 w → slot_count_of os w ≤ i + 2 → from_position os k selector w i ≡ None
+pub dictionary_ends : (os : List Object) (k : Kept) (selector : Ref) (w i : ℕ) → HasWords os 2 w → slot_count_of os w ≤ i + 2 → from_position os k selector w i ≡ None
 unfolding find_among
-dictionary_ends os k selector w i h l = ap (find_among k (values_of k (ref_of os (slot_of os w 1))) selector i) (drop-all (i + 2) (refs_at os w) (omega (arith, l, h.count, length-map (words_at os w) (ref_of os))))
+dictionary_ends os k selector w i h l = ap (find_among k (values_of k (ref_of os (slot_of os w 1))) selector i) (drop_all (i + 2) (refs_at os w) (omega (arith, l, h.count, length-map (words_at os w) (ref_of os))))
 
 -- ---- the superclasses
 
@@ -106,19 +127,19 @@ not_a_class os k (suc n) w selector sound has r h = ap (λ (o : Option (List Ref
 
 pub too_many_classes : (os : List Object) (k : Kept) (w : ℕ) (selector : Ref) → IsSound os → HasObjects os k → has_slots os 3 w ≡ true → lookup_within 0 k selector (ref_of os w) ≡ sought.Loop
 unfolding lookup_within
-too_many_classes os k w selector sound has h = ap (λ (o : Option (List Ref)). cond (is_some o) sought.Loop sought.Missing) (slots_of-words os k 3 w (has_words os k 3 w sound has h))
+too_many_classes os k w selector sound has h = ap (λ (o : Option (List Ref)). cond (is_some o) sought.Loop sought.Missing) (slots_of-words os k 3 w sound has h)
 
-slot_in-refs : (os : List Object) (k : Kept) (n w i : ℕ) (h : HasWords os k n w) → i < length (words_at os w) → slot_in (refs_at os w) i ≡ ref_of os (slot_of os w i)
-slot_in-refs os k n w i h l = ap (λ (o : Option Ref). unwrap_or o (Small (pos 0))) (value_there os k n w i h l)
+slot_in-refs : (os : List Object) (n w i : ℕ) (h : HasWords os n w) → i < length (words_at os w) → slot_in (refs_at os w) i ≡ ref_of os (slot_of os w i)
+slot_in-refs os n w i h l = ap (λ (o : Option Ref). unwrap_or o (Small (pos 0))) (value_there os n w i h l)
 
 pub class_searched : (os : List Object) (k : Kept) (n w : ℕ) (selector : Ref) → IsSound os → HasObjects os k → has_slots os 3 w ≡ true
     → lookup_within (suc n) k selector (ref_of os w) ≡ or_above (find_in_dictionary k selector (ref_of os (slot_of os w 1))) (lookup_within n k selector (ref_of os (slot_of os w 0)))
 unfolding lookup_within
 class_searched os k n w selector sound has h =
-    let words = has_words os k 3 w sound has h in
-    ap (λ (o : Option (List Ref)). in_class k selector o (λ above. lookup_within n k selector above)) (slots_of-words os k 3 w words)
+    let words = has_words os 3 w sound h in
+    ap (λ (o : Option (List Ref)). in_class k selector o (λ above. lookup_within n k selector above)) (slots_of-words os k 3 w sound has h)
     ∙ ap₂ (λ (dictionary above : Ref). or_above (find_in_dictionary k selector dictionary) (lookup_within n k selector above))
-      (slot_in-refs os k 3 w 1 words (omega (arith, words.enough))) (slot_in-refs os k 3 w 0 words (omega (arith, words.enough)))
+      (slot_in-refs os 3 w 1 words (omega (arith, words.enough))) (slot_in-refs os 3 w 0 words (omega (arith, words.enough)))
 
 pub class_limit_is : class_limit ≡ 65536
 unfolding class_limit

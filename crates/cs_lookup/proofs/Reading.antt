@@ -65,33 +65,37 @@ abbrev pub refs_at : List Object → ℕ → List Ref
 refs_at os w = map (ref_of os) (words_at os w)
 
 -- a pointer object with at least n slots
-pub record HasWords (os : List Object) (k : Kept) (n w : ℕ) : Type 0 where
+pub record HasWords (os : List Object) (n w : ℕ) : Type 0 where
   pub there : is_object os w ≡ true
   pub count : slot_count_of os w ≡ length (words_at os w)
   pub enough : n ≤ length (words_at os w)
   pub slot : (i : ℕ) → slot_of os w i ≡ slice_index (words_at os w) i
   pub reference : (i : ℕ) → i < length (words_at os w) → is_reference os (slot_of os w i) ≡ true
-  pub slots : slots_in (object_of k (ref_of os w)) ≡ Some (refs_at os w)
 
-pub has_words : (os : List Object) (k : Kept) (n w : ℕ) → IsSound os → HasObjects os k → has_slots os n w ≡ true → HasWords os k n w
-has_words os k n w sound has h =
+-- what a pointer object with at least n slots is
+record IsThere (os : List Object) (n w : ℕ) : Type 0 where
+  known : is_object os w ≡ true
+  object : Object
+  there : object_at os w ≡ Some object
+  other : is_context object ≡ false
+  pointers : is_pointers object.format ≡ true
+  enough : n ≤ length object.words
+  words : words_at os w ≡ object.words
+
+is_there : (os : List Object) (n w : ℕ) → has_slots os n w ≡ true → IsThere os n w
+is_there os n w h =
     let known : is_object os w ≡ true = first (is_object os w) (not (class_of os w == 36)) (is_pointers (format_of os w)) (nat_le n (slot_count_of os w)) h in
     let there = object_there os w known in
     let x : Object = there.0 in
     let tests = parts (is_context x) (is_pointers x.format) (nat_le n (length x.words)) (sym (has_slots-at os n w x there.1) ∙ h) in
-    let s = sound_at os w x sound there.1 in
-    let words : words_at os w ≡ x.words = ap (λ (o : Option Object). option_map_or (λ (y : Object). y.words) o []) there.1 in
-    let slot : (i : ℕ) → slot_of os w i ≡ slice_index (words_at os w) i = λ i.
-    ap (λ (o : Option Object). option_map_or (λ (y : Object). slice_index y.words i) o 0) there.1 ∙ sym (ap (λ (ws : List ℕ). slice_index ws i) words) in
-    let references : AllPass (is_reference os) (words_at os w) = subst (AllPass (is_reference os)) (references-pointers x tests.1 ∙ sym words) s.references in
     record {
-      there = known;
-      count = ap (λ (o : Option Object). option_map_or (λ (y : Object). length y.words) o 0) there.1 ∙ sym (ap length words);
-      enough = subst (λ (ws : List ℕ). n ≤ length ws) (sym words) (leb-true n (length x.words) tests.2);
-      slot = slot;
-      reference = λ i l. subst (λ (v : ℕ). is_reference os v ≡ true) (sym (slot i)) (references i 0 l);
-      slots = ap slots_in (object_of-object os k w sound has known ∙ ap (option_map (obj_of (ref_of os))) there.1 ∙ ap Some (obj_of-pointers (ref_of os) x tests.0 tests.1))
-          ∙ sym (ap (λ (ws : List ℕ). Some (map (ref_of os) ws)) words);
+      known = known;
+      object = x;
+      there = there.1;
+      other = tests.0;
+      pointers = tests.1;
+      enough = leb-true n (length x.words) tests.2;
+      words = ap (λ (o : Option Object). option_map_or (λ (y : Object). y.words) o []) there.1;
     }
   where
     first : (a b c d : Bool) → (a && b && c && d) ≡ true → a ≡ true
@@ -103,11 +107,32 @@ has_words os k n w sound has h =
     parts false true false h = absurd (false≢true h)
     parts false false c h = absurd (false≢true h)
 
-pub slots_of-words : (os : List Object) (k : Kept) (n w : ℕ) (h : HasWords os k n w) → slots_of k n (ref_of os w) ≡ Some (refs_at os w)
+pub has_words : (os : List Object) (n w : ℕ) → IsSound os → has_slots os n w ≡ true → HasWords os n w
+has_words os n w sound h =
+    let t = is_there os n w h in
+    let x : Object = t.object in
+    let slot : (i : ℕ) → slot_of os w i ≡ slice_index (words_at os w) i = λ i.
+    ap (λ (o : Option Object). option_map_or (λ (y : Object). slice_index y.words i) o 0) t.there ∙ sym (ap (λ (ws : List ℕ). slice_index ws i) t.words) in
+    let references : AllPass (is_reference os) (words_at os w) = subst (AllPass (is_reference os)) (references-pointers x t.pointers ∙ sym t.words) (sound_at os w x sound t.there).references in
+    record {
+      there = t.known;
+      count = ap (λ (o : Option Object). option_map_or (λ (y : Object). length y.words) o 0) t.there ∙ sym (ap length t.words);
+      enough = subst (λ (ws : List ℕ). n ≤ length ws) (sym t.words) t.enough;
+      slot = slot;
+      reference = λ i l. subst (λ (v : ℕ). is_reference os v ≡ true) (sym (slot i)) (references i 0 l);
+    }
+
+pub slots_in-words : (os : List Object) (k : Kept) (n w : ℕ) → IsSound os → HasObjects os k → has_slots os n w ≡ true → slots_in (object_of k (ref_of os w)) ≡ Some (refs_at os w)
+slots_in-words os k n w sound has h =
+    let t = is_there os n w h in
+    ap slots_in (object_of-object os k w sound has t.known ∙ ap (option_map (obj_of (ref_of os))) t.there ∙ ap Some (obj_of-pointers (ref_of os) t.object t.other t.pointers))
+    ∙ sym (ap (λ (ws : List ℕ). Some (map (ref_of os) ws)) t.words)
+
+pub slots_of-words : (os : List Object) (k : Kept) (n w : ℕ) → IsSound os → HasObjects os k → has_slots os n w ≡ true → slots_of k n (ref_of os w) ≡ Some (refs_at os w)
 unfolding slots_of
-slots_of-words os k n w h =
-    let enough = le-leb n (length (refs_at os w)) (omega (arith, h.enough, length-map (words_at os w) (ref_of os))) in
-    ap (at_least n) h.slots ∙ rw enough refl
+slots_of-words os k n w sound has h =
+    let enough = le-leb n (length (refs_at os w)) (omega (arith, (has_words os n w sound h).enough, length-map (words_at os w) (ref_of os))) in
+    ap (at_least n) (slots_in-words os k n w sound has h) ∙ rw enough refl
 
 -- anything else has no such slots
 pub slots_of-none : (os : List Object) (k : Kept) (n w : ℕ) → IsSound os → HasObjects os k → is_reference os w ≡ true → has_slots os n w ≡ false → slots_of k n (ref_of os w) ≡ None
