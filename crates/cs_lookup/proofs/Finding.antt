@@ -120,19 +120,19 @@ dictionary_ends os k selector w i h l = ap (find_among k (values_of k (ref_of os
 
 -- ---- the superclasses
 
-pub not_a_class : (os : List Object) (k : Kept) (n w : ℕ) (selector : Ref) → IsSound os → HasObjects os k → is_reference os w ≡ true → has_slots os 3 w ≡ false → lookup_within n k selector (ref_of os w) ≡ sought.Missing
+not_a_class : (os : List Object) (k : Kept) (n w : ℕ) (selector : Ref) → IsSound os → HasObjects os k → is_reference os w ≡ true → has_slots os 3 w ≡ false → lookup_within n k selector (ref_of os w) ≡ sought.Missing
 unfolding lookup_within
 not_a_class os k zero w selector sound has r h = ap (λ (o : Option (List Ref)). cond (is_some o) sought.Loop sought.Missing) (slots_of-none os k 3 w sound has r h)
 not_a_class os k (suc n) w selector sound has r h = ap (λ (o : Option (List Ref)). in_class k selector o (λ above. lookup_within n k selector above)) (slots_of-none os k 3 w sound has r h)
 
-pub too_many_classes : (os : List Object) (k : Kept) (w : ℕ) (selector : Ref) → IsSound os → HasObjects os k → has_slots os 3 w ≡ true → lookup_within 0 k selector (ref_of os w) ≡ sought.Loop
+too_many_classes : (os : List Object) (k : Kept) (w : ℕ) (selector : Ref) → IsSound os → HasObjects os k → has_slots os 3 w ≡ true → lookup_within 0 k selector (ref_of os w) ≡ sought.Loop
 unfolding lookup_within
 too_many_classes os k w selector sound has h = ap (λ (o : Option (List Ref)). cond (is_some o) sought.Loop sought.Missing) (slots_of-words os k 3 w sound has h)
 
 slot_in-refs : (os : List Object) (n w i : ℕ) (h : HasWords os n w) → i < length (words_at os w) → slot_in (refs_at os w) i ≡ ref_of os (slot_of os w i)
 slot_in-refs os n w i h l = ap (λ (o : Option Ref). unwrap_or o (Small (pos 0))) (value_there os n w i h l)
 
-pub class_searched : (os : List Object) (k : Kept) (n w : ℕ) (selector : Ref) → IsSound os → HasObjects os k → has_slots os 3 w ≡ true
+class_searched : (os : List Object) (k : Kept) (n w : ℕ) (selector : Ref) → IsSound os → HasObjects os k → has_slots os 3 w ≡ true
     → lookup_within (suc n) k selector (ref_of os w) ≡ or_above (find_in_dictionary k selector (ref_of os (slot_of os w 1))) (lookup_within n k selector (ref_of os (slot_of os w 0)))
 unfolding lookup_within
 class_searched os k n w selector sound has h =
@@ -141,10 +141,61 @@ class_searched os k n w selector sound has h =
     ∙ ap₂ (λ (dictionary above : Ref). or_above (find_in_dictionary k selector dictionary) (lookup_within n k selector above))
       (slot_in-refs os 3 w 1 words (omega (arith, words.enough))) (slot_in-refs os 3 w 0 words (omega (arith, words.enough)))
 
-pub class_limit_is : class_limit ≡ 65536
+class_limit_is : class_limit ≡ 65536
 unfolding class_limit
 class_limit_is = refl
 
-pub lookup_begins : (k : Kept) (class selector : Ref) → lookup k class selector ≡ lookup_within class_limit k selector class
+-- Where n classes have been searched, a class is next from which the rest of the lookup goes on.
+pub record Searched (os : List Object) (class selector : ℕ) (n next : ℕ) : Type 0 where
+  pub named : is_reference os next ≡ true
+  pub rest : (k : Kept) → HasObjects os k → lookup k (ref_of os class) (ref_of os selector) ≡ lookup_within (class_limit - n) k (ref_of os selector) (ref_of os next)
+
+pub lookup_begins : (os : List Object) (class selector : ℕ) → is_reference os class ≡ true → Searched os class selector 0 class
 unfolding lookup
-lookup_begins k class selector = refl
+lookup_begins os class selector h = record { named = h; rest = λ k has. ap (λ (n : ℕ). lookup_within n k (ref_of os selector) (ref_of os class)) (omega arith) }
+
+-- what is no class ends the search
+pub lookup_missing : (os : List Object) (k : Kept) (class selector n next : ℕ) → IsSound os → HasObjects os k → Searched os class selector n next → has_slots os 3 next ≡ false
+    → sought.Missing ≡ lookup k (ref_of os class) (ref_of os selector)
+lookup_missing os k class selector n next sound has s h = sym (s.rest k has ∙ not_a_class os k (class_limit - n) next (ref_of os selector) sound has s.named h)
+
+pub lookup_loops : (os : List Object) (k : Kept) (class selector n next : ℕ) → IsSound os → HasObjects os k → Searched os class selector n next → 65536 ≤ n → has_slots os 3 next ≡ true
+    → sought.Loop ≡ lookup k (ref_of os class) (ref_of os selector)
+lookup_loops os k class selector n next sound has s l h =
+    let none : class_limit - n ≡ 0 = omega (arith, class_limit_is, l) in
+    sym (s.rest k has ∙ ap (λ (m : ℕ). lookup_within m k (ref_of os selector) (ref_of os next)) none ∙ too_many_classes os k next (ref_of os selector) sound has h)
+
+-- the next class is searched, and gives a method or doesn't
+lookup_next : (os : List Object) (k : Kept) (class selector n next dictionary above : ℕ) → IsSound os → HasObjects os k → Searched os class selector n next → n < 65536 → has_slots os 3 next ≡ true
+    → dictionary ≡ slot_of os next 1 → above ≡ slot_of os next 0 → (o : Option Ref) → o ≡ find_in_dictionary k (ref_of os selector) (ref_of os dictionary)
+    → lookup k (ref_of os class) (ref_of os selector) ≡ or_above o (lookup_within (class_limit - (n + 1)) k (ref_of os selector) (ref_of os above))
+lookup_next os k class selector n next dictionary above sound has s l h d a o e =
+    let one : class_limit - n ≡ suc (class_limit - (n + 1)) = omega (arith, class_limit_is, l) in
+    let rest : ℕ → Sought = λ u. lookup_within (class_limit - (n + 1)) k (ref_of os selector) (ref_of os u) in
+    s.rest k has
+    ∙ ap (λ (m : ℕ). lookup_within m k (ref_of os selector) (ref_of os next)) one
+    ∙ class_searched os k (class_limit - (n + 1)) next (ref_of os selector) sound has h
+    ∙ ap₂ (λ (u v : ℕ). or_above (find_in_dictionary k (ref_of os selector) (ref_of os u)) (rest v)) (sym d) (sym a)
+    ∙ ap (λ (p : Option Ref). or_above p (rest above)) (sym e)
+
+pub lookup_finds : (os : List Object) (k : Kept) (class selector n next dictionary : ℕ) (method : Oop) → IsSound os → HasObjects os k → Searched os class selector n next → n < 65536 → has_slots os 3 next ≡ true
+    → dictionary ≡ slot_of os next 1 → refs_option os (Some method) ≡ find_in_dictionary k (ref_of os selector) (ref_of os dictionary)
+    → sought.Method (ref_of os method.0) ≡ lookup k (ref_of os class) (ref_of os selector)
+lookup_finds os k class selector n next dictionary method sound has s l h d e =
+    sym (lookup_next os k class selector n next dictionary (slot_of os next 0) sound has s l h d refl (Some (ref_of os method.0)) e)
+
+pub lookup_goes_on : (os : List Object) (class selector n next dictionary above : ℕ) → IsSound os → Searched os class selector n next → n < 65536 → has_slots os 3 next ≡ true
+    → dictionary ≡ slot_of os next 1 → above ≡ slot_of os next 0 → ((k : Kept) → HasObjects os k → None ≡ find_in_dictionary k (ref_of os selector) (ref_of os dictionary))
+    → Searched os class selector (n + 1) above
+lookup_goes_on os class selector n next dictionary above sound s l h d a none =
+    let words = has_words os 3 next sound h in
+    record {
+      named = ap (is_reference os) a ∙ words.reference 0 (omega (arith, words.enough));
+      rest = λ k has. lookup_next os k class selector n next dictionary above sound has s l h d a None (none k has);
+    }
+
+-- the dictionary of a class is a reference
+pub dictionary_named : (os : List Object) (next dictionary : ℕ) → IsSound os → has_slots os 3 next ≡ true → dictionary ≡ slot_of os next 1 → is_reference os dictionary ≡ true
+dictionary_named os next dictionary sound h d =
+    let words = has_words os 3 next sound h in
+    ap (is_reference os) d ∙ words.reference 1 (omega (arith, words.enough))
