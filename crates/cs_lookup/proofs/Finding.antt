@@ -1,16 +1,14 @@
 -- The steps of a search through a dictionary and through the superclasses.
-use Rattle.std.proofs.Common.{◌≡◌, ℕ, zero, suc, ◌+◌, ◌-◌, ◌^◌, ◌<◌, ◌≤◌, Bool, true, false, cond, List, [], ◌∷◌, length, map, drop, Option, Some, None, option_map, option_and_then, is_some, refl, ap, ap₂, subst, sym, ◌∙◌, arith, get_or, pos}
-use Rattle.std.specs.Prelude.{slice_get, slice_index, nat_le, ◌==◌, unwrap_or}
-use Rattle.std.specs.List.{AllPass}
-use Rattle.std.proofs.lemmas.Bool.{false≢true, leb-false, eq-eqb, ne_eqb}
+use Rattle.std.proofs.Common.{◌≡◌, ℕ, zero, suc, ◌+◌, ◌-◌, ◌^◌, ◌<◌, ◌≤◌, Bool, true, false, cond, List, ◌∷◌, length, map, drop, Option, Some, None, option_map, option_and_then, is_some, refl, ap, ap₂, sym, ◌∙◌, arith, pos}
+use Rattle.std.specs.Prelude.{slice_get, nat_le, ◌==◌, unwrap_or}
+use Rattle.std.proofs.lemmas.Bool.{false≢true, leb-false}
 use Rattle.std.proofs.lemmas.List.{drop_all, drop-map, length-map}
 use Rattle.std.proofs.lemmas.Option.{slice_get-get_or, slice_get-map, slice_get_past}
 use Rattle.std.proofs.Math.Seq.{drop-cons}
 use Rattle.cs_word.specs.declared.Oop.{Oop}
 use Rattle.cs_heap.specs.Object.{Object, slot_count_of, slot_of}
-use Rattle.cs_model.specs.Ref.{Ref, Small, same_ref}
-use Rattle.cs_model.specs.Obj.{Obj, at_least, slots_in}
-use Rattle.cs_model.specs.Obj as model
+use Rattle.cs_model.specs.Ref.{Ref, Small}
+use Rattle.cs_model.specs.Obj.{at_least, slots_in}
 use Rattle.cs_model.specs.State.{Kept, object_of, slots_of}
 use Rattle.cs_model.specs.Lookup.{Sought, class_limit, find_among, find_in, find_in_dictionary, if_method, in_class, list_or_empty, lookup, lookup_within, or_above, or_else, slot_in}
 use Rattle.cs_model.specs.Lookup as sought
@@ -40,6 +38,7 @@ no_value_at os k w i sound has r h = go (slots_in (object_of k (ref_of os w))) (
     few : (xs : List Ref) (b : Bool) → nat_le (i + 1) (length xs) ≡ b → cond b (Some xs) None ≡ None → slice_get xs i ≡ None
     few xs true e h = absurd (cc)
     few xs false e h = slice_get_past xs i (omega (arith, leb-false (i + 1) (length xs) e))
+
     go : (o : Option (List Ref)) → at_least (i + 1) o ≡ None → slice_get (list_or_empty o) i ≡ None
     go None h = refl
     go (Some xs) h = few xs (nat_le (i + 1) (length xs)) refl h
@@ -74,7 +73,7 @@ dictionary_begins os k selector w sound has h =
     let words = has_words os 2 w sound h in
     ap (find_in k selector) (slots_of-words os k 2 w sound has h)
     ∙ ap (λ (o : Option Ref). find_among k (list_or_empty (option_and_then (λ (x : Ref). slots_in (object_of k x)) o)) selector 0 (drop 2 (refs_at os w)))
-      (value_there os 2 w 1 words (omega (arith, words.enough)))
+    (value_there os 2 w 1 words (omega (arith, words.enough)))
 
 rest_of : (os : List Object) (w i : ℕ) → HasWords os 2 w → i + 2 < slot_count_of os w → drop (i + 2) (refs_at os w) ≡ ref_of os (slot_of os w (i + 2)) ∷ drop (suc i + 2) (refs_at os w)
 rest_of os w i h l =
@@ -139,7 +138,7 @@ class_searched os k n w selector sound has h =
     let words = has_words os 3 w sound h in
     ap (λ (o : Option (List Ref)). in_class k selector o (λ above. lookup_within n k selector above)) (slots_of-words os k 3 w sound has h)
     ∙ ap₂ (λ (dictionary above : Ref). or_above (find_in_dictionary k selector dictionary) (lookup_within n k selector above))
-      (slot_in-refs os 3 w 1 words (omega (arith, words.enough))) (slot_in-refs os 3 w 0 words (omega (arith, words.enough)))
+    (slot_in-refs os 3 w 1 words (omega (arith, words.enough))) (slot_in-refs os 3 w 0 words (omega (arith, words.enough)))
 
 class_limit_is : class_limit ≡ 65536
 unfolding class_limit

@@ -1,10 +1,10 @@
 -- What a lookup reads of the heap is what the model reads of the state.
-use Rattle.std.proofs.Common.{◌≡◌, ℕ, zero, suc, ◌+◌, ◌<◌, ◌≤◌, Bool, true, false, cond, List, [], ◌∷◌, length, map, drop, Option, Some, None, option_map, option_and_then, is_some, refl, ap, subst, sym, ◌∙◌, arith, get_or, not, ◌%◌, ◌/◌, ℤ}
-use Rattle.std.specs.Prelude.{slice_get, slice_index, ◌&&◌, ◌==◌, nat_le}
+use Rattle.std.proofs.Common.{◌≡◌, ℕ, ◌<◌, ◌≤◌, Bool, true, false, cond, List, [], length, map, Option, Some, None, option_map, refl, ap, subst, sym, ◌∙◌, arith, not, ◌%◌, ◌/◌, ℤ}
+use Rattle.std.specs.Prelude.{slice_index, ◌&&◌, ◌==◌, nat_le}
 use Rattle.std.specs.List.{AllPass}
 use Rattle.std.specs.Option.{option_map_or}
 use Rattle.std.specs.FinMap.{get}
-use Rattle.std.proofs.lemmas.Bool.{false≢true, le-leb, leb-true, and_parts, lt-leb}
+use Rattle.std.proofs.lemmas.Bool.{false≢true, le-leb, leb-true}
 use Rattle.std.proofs.lemmas.List.{length-map}
 use Rattle.cs_word.specs.declared.Kind.{Kind}
 use Rattle.cs_word.specs.declared.Kind.TheVariants as kind
@@ -12,7 +12,6 @@ use Rattle.cs_word.specs.Word.{kind_of, small_value}
 use Rattle.cs_heap.specs.Format.{is_method, is_pointers}
 use Rattle.cs_heap.specs.Object.{Object, birth_of, class_of, format_of, is_object, object_at, slot_count_of, slot_of}
 use Rattle.cs_model.specs.Ref.{Ref}
-use Rattle.cs_model.specs.Ref as ref
 use Rattle.cs_model.specs.Obj.{Obj, at_least, slots_in}
 use Rattle.cs_model.specs.Obj as model
 use Rattle.cs_model.specs.State.{Kept, object_of, slots_of}
@@ -22,7 +21,7 @@ use Rattle.cs_classes.proofs.Heaps.{is_object-object_at, object_there}
 use Rattle.cs_classes.proofs.Objects.{get-objects_of}
 use Rattle.cs_classes.proofs.Refs.{ref_of-object}
 use Rattle.cs_classes.proofs.Sorts.{AContext, AMethod, Bytes, Pointers, Sort, obj_of-bytes, obj_of-context, obj_of-method, obj_of-pointers, not_pointers, references-pointers, sort_of}
-use Rattle.cs_classes.proofs.Sounds.{method_other, sound_at}
+use Rattle.cs_classes.proofs.Sounds.{sound_at}
 use Rattle.cs_lookup.specs.Found.{HasObjects, has_slots, is_method_at}
 
 -- the kind of an address is itself
@@ -101,6 +100,7 @@ is_there os n w h =
     first : (a b c d : Bool) → (a && b && c && d) ≡ true → a ≡ true
     first true b c d h = refl
     first false b c d h = h
+
     parts : (a b c : Bool) → (not a && b && c) ≡ true → (a ≡ false) × (b ≡ true) × (c ≡ true)
     parts true b c h = absurd (false≢true h)
     parts false true true h = (refl, refl, refl)
@@ -141,7 +141,7 @@ slots_of-none os k n w sound has r h = go (is_object os w) refl
   where
     at : (x : Object) → object_at os w ≡ Some x → Sort x → at_least n (slots_in (Some (obj_of (ref_of os) x))) ≡ None
     at x e (AContext c) = ap (λ (o : Obj). at_least n (slots_in (Some o))) (obj_of-context (ref_of os) x c)
-    at x e (Pointers o p) = 
+    at x e (Pointers o p) =
         let few : nat_le n (length (map (ref_of os) x.words)) ≡ false = ap (nat_le n) (length-map x.words (ref_of os)) ∙ last (is_context x) (is_pointers x.format) (nat_le n (length x.words)) o p (sym (has_slots-at os n w x e) ∙ h) in
         ap (λ (q : Obj). at_least n (slots_in (Some q))) (obj_of-pointers (ref_of os) x o p) ∙ rw few refl
       where
@@ -151,6 +151,7 @@ slots_of-none os k n w sound has r h = go (is_object os w) refl
         last false false c p q h = absurd (false≢true q)
     at x e (AMethod o p m) = ap (λ (q : Obj). at_least n (slots_in (Some q))) (obj_of-method (ref_of os) x o p m)
     at x e (Bytes o p m) = ap (λ (q : Obj). at_least n (slots_in (Some q))) (obj_of-bytes (ref_of os) x o p m)
+
     go : (b : Bool) → is_object os w ≡ b → at_least n (slots_in (object_of k (ref_of os w))) ≡ None
     go true e =
         let there = object_there os w e in
@@ -164,6 +165,7 @@ is_method-at os k w sound has r = go (is_object os w) refl
   where
     format : (x : Object) → object_at os w ≡ Some x → format_of os w ≡ x.format
     format x e = ap (λ (o : Option Object). option_map_or (λ (y : Object). y.format) o 0) e
+
     at : (x : Object) → IsSoundObject os x → Sort x → model.is_method (Some (obj_of (ref_of os) x)) ≡ is_method x.format
     at x s (AContext c) = ap (λ (o : Obj). model.is_method (Some o)) (obj_of-context (ref_of os) x c) ∙ sym (ap is_method (s.context c).format)
     at x s (Pointers o p) = ap (λ (q : Obj). model.is_method (Some q)) (obj_of-pointers (ref_of os) x o p) ∙ sym (no_method (is_method x.format) refl)
@@ -173,6 +175,7 @@ is_method-at os k w sound has r = go (is_object os w) refl
         no_method false e = e
     at x s (AMethod o p m) = ap (λ (q : Obj). model.is_method (Some q)) (obj_of-method (ref_of os) x o p m) ∙ sym m
     at x s (Bytes o p m) = ap (λ (q : Obj). model.is_method (Some q)) (obj_of-bytes (ref_of os) x o p m) ∙ sym m
+
     go : (b : Bool) → is_object os w ≡ b → model.is_method (object_of k (ref_of os w)) ≡ (is_object os w && is_method (format_of os w))
     go true e =
         let there = object_there os w e in

@@ -1,5 +1,5 @@
 -- What a lookup reads of the heap, and what it answers.
-use Rattle.std.specs.Prelude.{◌≡◌, ℕ, ◌==◌, ◌&&◌, not, Bool, true, nat_le, List, Option, Some, None, option_map}
+use Rattle.std.specs.Prelude.{◌≡◌, ℕ, ◌==◌, ◌&&◌, not, Bool, true, nat_le, List, Option, option_map}
 use Rattle.cs_word.specs.declared.Oop.{Oop}
 use Rattle.cs_heap.specs.Format.{is_method, is_pointers}
 use Rattle.cs_heap.specs.Object.{Object, class_of, format_of, is_object, slot_count_of}

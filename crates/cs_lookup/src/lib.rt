@@ -99,14 +99,21 @@ fn method_at(heap: &Heap, values: Oop, position: u32) -> Option<Oop>
         return None;
     }
     let value = heap.slot(values, position);
-    if is_method(heap, value) { Some(value) } else { None }
+    if is_method(heap, value) {
+        Some(value)
+    } else {
+        None
+    }
 }
 
 /// Whether a word is a pointer object, which no context is, with at least so many slots.
 fn has_slots(heap: &Heap, o: Oop, least: u32) -> bool
     ensures { result ≡ has_slots_at heap.now.objects least o.0 }
 {
-    heap.is_object(o) && heap.class_index(o) != CONTEXT_CLASS && heap.format(o) < 6 && heap.slot_count(o) >= least
+    heap.is_object(o)
+        && heap.class_index(o) != CONTEXT_CLASS
+        && heap.format(o) < 6
+        && heap.slot_count(o) >= least
 }
 
 /// Whether a word is a method.

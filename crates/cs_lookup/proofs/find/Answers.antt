@@ -1,5 +1,4 @@
-use Rattle.std.proofs.Common.{sym, ◌∙◌, ap, arith}
-use Rattle.cs_lookup.specs.Found.{refs_option}
+use Rattle.std.proofs.Common.{sym, ◌∙◌, arith}
 use Rattle.cs_lookup.proofs.Finding.{dictionary_named, lookup_begins, lookup_finds, lookup_goes_on, lookup_loops, lookup_missing}
 use Rattle.cs_lookup.proofs.find.Goals as goal
 

@@ -1,9 +1,8 @@
-use Rattle.std.proofs.Common.{◌≡◌, ℕ, suc, ◌+◌, ◌<◌, ◌^◌, true, false, ap, sym, ◌∙◌, arith}
+use Rattle.std.proofs.Common.{◌≡◌, ℕ, suc, ◌+◌, ◌<◌, ◌^◌, true, ap, sym, ◌∙◌, arith}
 use Rattle.std.specs.Prelude.{◌==◌, slice_get}
 use Rattle.cs_heap.specs.Object.{slot_count_of, slot_of}
 use Rattle.cs_model.specs.Lookup.{if_method}
 use Rattle.cs_classes.specs.Meaning.{ref_of}
-use Rattle.cs_lookup.specs.Found.{refs_option}
 use Rattle.cs_classes.specs.Sound.{is_reference}
 use Rattle.cs_lookup.proofs.Finding.{dictionary_begins, dictionary_ends, from_position, none_found, some_found, values_of, next_other, next_same, no_dictionary}
 use Rattle.cs_lookup.proofs.Reading.{has_words}

@@ -1,5 +1,4 @@
-use Rattle.std.proofs.Common.{◌≡◌, ℕ, true}
-use Rattle.cs_heap.specs.Object.{slot_of}
+use Rattle.std.proofs.Common.{◌≡◌}
 use Rattle.cs_model.specs.Lookup.{find_in_dictionary}
 use Rattle.cs_model.specs.State.{Kept}
 use Rattle.cs_classes.specs.Meaning.{ref_of}
