@@ -19,7 +19,7 @@ use Rattle.cs_model.specs.Ref as ref
 use Rattle.cs_model.specs.Obj.{Obj}
 use Rattle.cs_model.specs.State.{IsHeld, Kept, NamesHeld, RestHeld, put, with_rest}
 use Rattle.cs_model.specs.Operation.{add_of, edit_found, edit_object}
-use Rattle.cs_model.specs.Instance.{with_class}
+use Rattle.cs_model.specs.Instance.{with_class, with_last_hash}
 use Rattle.cs_classes.specs.declared.Roots.{Roots}
 use Rattle.cs_classes.specs.Meaning.{birth_at, classes_of, context_of, depth_in, kept_of, literals_in, obj_of, objects_of, ref_of, ref_of_kind}
 use Rattle.cs_classes.specs.Sound.{IsSound, IsSoundObject, IsWhole, is_reference, is_reference_kind}
@@ -294,3 +294,26 @@ kept_of-roots os table roots active w running = record {
     class_held : (index i : ℕ) (o : Option ℕ) → get table index ≡ o → option_map (birth_of os) o ≡ Some i → IsHeld (kept_of os table roots active) (ref.Obj i)
     class_held index i None e h = absurd (cc)
     class_held index i (Some a) e h = let is : birth_of os a ≡ i = cc in subst (λ (n : ℕ). IsHeld (kept_of os table roots active) (ref.Obj n)) is (object_held a (w.classes index a e))
+
+-- what is there is below the next birth
+pub kept_of-below : (os : List Object) (table : FinMap nat_cmp ℕ) (roots : Roots) (i : ℕ) (o : Obj) → IsWhole os table roots → get (objects_of os) i ≡ Some o → i < roots.next_birth
+kept_of-below os table roots i o w h =
+    let from = objects_of-comes os i o w.heap.apart h in
+    subst (λ (b : ℕ). b < roots.next_birth) from.birth (w.births from.place from.object from.element)
+
+-- ---- another hash is the last one that was given
+
+pub whole-last_hash : (os : List Object) (table : FinMap nat_cmp ℕ) (roots : Roots) (hash : ℕ) → IsWhole os table roots → IsWhole os table (record roots { last_hash = hash })
+whole-last_hash os table roots hash w = record {
+  heap = w.heap;
+  first = w.first;
+  nil = w.nil;
+  births = w.births;
+  indices = w.indices;
+  classes = w.classes;
+  special = w.special;
+}
+
+pub kept_of-last_hash : (os : List Object) (table : FinMap nat_cmp ℕ) (roots : Roots) (active : Option ℕ) (hash : ℕ)
+    → kept_of os table (record roots { last_hash = hash }) active ≡ with_rest (with_last_hash hash (kept_of os table roots active).rest) (kept_of os table roots active)
+kept_of-last_hash os table roots active hash = refl
