@@ -15,6 +15,10 @@ pub record Keeps (v m : Kept) : Type 0 where
   pub roots : RestHeld v
   pub rest : v.rest ≡ m.rest
 
+-- each birth that v has, t has: what was held still is
+pub record Grows (v t : Kept) : Type 0 where
+  pub held : (i : ℕ) → IsSome (object_at v i) → IsSome (object_at t i)
+
 -- states alike in this way: the kept parts keep, the run parts are equal, and the timer's semaphore is there
 pub record KeepsState (s t : State) : Type 0 where
   pub kept : Keeps s.kept t.kept

@@ -31,3 +31,4 @@ pub mod Report
 pub mod Decode
 pub mod Built
 pub mod Line
+pub mod Alike
