@@ -3,3 +3,7 @@ pub mod Obj
 pub mod State
 pub mod Keeps
 pub mod Read
+pub mod Words
+pub mod ImageFile
+pub mod ImageFault
+pub mod Image
