@@ -1,5 +1,5 @@
 -- The state that the file of an image describes, or its first fault.
-use Rattle.std.specs.Prelude.{ℕ, zero, suc, ◌==◌, Bool, if◌then◌else◌, List, [], ◌∷◌, length, map, slice_get, zip, find, Option, Some, None, option_map, Result, Ok, Err}
+use Rattle.std.specs.Prelude.{ℕ, zero, suc, ◌*◌, ◌==◌, Bool, if◌then◌else◌, List, [], ◌∷◌, length, map, slice_get, zip, find, Option, Some, None, option_map, Result, Ok, Err}
 use Rattle.std.specs.Option.{option_map_or}
 use Rattle.std.specs.Ordering.{nat_cmp}
 use Rattle.std.specs.FinMap.{FinMap, empty, insert, from_entries}
@@ -8,7 +8,7 @@ use Rattle.cs_model.specs.Ref as ref
 use Rattle.cs_model.specs.Obj.{Obj}
 use Rattle.cs_model.specs.State.{Kept, Rest}
 use Rattle.cs_model.specs.Words.{obj_by}
-use Rattle.cs_model.specs.ImageFile.{special_address, last_hash_in, header_in, heap_in, births_in, next_birth_in, FileObject, cut_of, File, file_of, visible, address_in, nil_in}
+use Rattle.cs_model.specs.ImageFile.{special_address, last_hash_in, header_in, words_in, births_in, next_birth_in, FileObject, cut_of, File, file_of, visible, address_in, nil_in}
 use Rattle.cs_model.specs.ImageFault.{ImageFault, is_too_long, is_short, is_bad_format, is_bad_header_size, is_bad_length, bad_object, is_over, is_bad_table, bad_ref, bad_class, bad_context, is_bad_roots, is_bad_births, unless_nil, entry_in, table_size}
 use Rattle.cs_model.specs.ImageFault as fault
 
@@ -56,6 +56,10 @@ described bytes = let f = file_of bytes in let births = births_in bytes (length 
 abbrev pub when : Bool → ImageFault → Option ImageFault
 when b fault = if b then Some fault else None
 
+-- a fault of a place, which its definition counts in words
+abbrev pub at_word : (ℕ → ImageFault) → Option ℕ → Option ImageFault
+at_word fault place = option_map (λ word. fault (4 * word)) place
+
 -- the first that is there
 abbrev pub first_of : List (Option ImageFault) → Option ImageFault
 first_of [] = None
@@ -70,12 +74,12 @@ fault_of bytes limit = let f = file_of bytes in first_of (
     ∷ when (is_bad_format bytes) fault.BadFormat
     ∷ when (is_bad_header_size bytes) fault.BadHeaderSize
     ∷ when (is_bad_length bytes) fault.BadLength
-    ∷ option_map fault.BadObject (bad_object (cut_of (heap_in bytes)))
+    ∷ at_word fault.BadObject (bad_object (cut_of (words_in bytes)))
     ∷ when (is_over f limit) fault.OverLimit
     ∷ when (is_bad_table f) fault.BadTable
-    ∷ option_map fault.BadRef (bad_ref f)
-    ∷ option_map fault.BadClass (bad_class f)
-    ∷ option_map fault.BadContext (bad_context f)
+    ∷ at_word fault.BadRef (bad_ref f)
+    ∷ at_word fault.BadClass (bad_class f)
+    ∷ at_word fault.BadContext (bad_context f)
     ∷ when (is_bad_roots f (special_address bytes)) fault.BadRoots
     ∷ when (is_bad_births bytes (length (visible f))) fault.BadBirths
     ∷ [])

@@ -1,8 +1,8 @@
--- What can be wrong with the file of an image. Each fault is stated over the objects into which the file is cut, and `at` is
--- a heap place, which counts bytes from the heap's first one.
+-- What can be wrong with the file of an image. Each fault is stated over the objects into which the file is cut. Where a
+-- fault has a place, `at` counts bytes from the heap's first one.
 use Rattle.std.specs.Prelude.{ℕ, zero, suc, ◌+◌, ◌-◌, ◌*◌, ◌/◌, ◌%◌, ◌^◌, ◌==◌, ◌&&◌, ◌||◌, not, Bool, true, false, nat_le, nat_lt, if◌then◌else◌, List, [], ◌∷◌, length, take, slice_index, slice_get, find, flat_map, sum_by, Option, Some, None, is_some, option_map, option_and_then}
 use Rattle.std.specs.Option.{option_map_or, option_or}
-use Rattle.std.specs.List.{list_any, list_all}
+use Rattle.std.specs.List.{list_any, list_all, enumerate_from}
 use Rattle.cs_model.specs.Obj.{context_class, context_fields, words_of_slots, literal_count, is_header, lies_between}
 use Rattle.cs_model.specs.Words.{natural_in_word, is_pointer_format, is_method_format, has_shape, header_in_words, literals_in_words, bytecode_count}
 use Rattle.cs_model.specs.ImageFile.{u32_at, heap_size, old_base, has_births, birth_count, births_in, next_birth_in, FileObject, Cut, stands, is_hidden, is_visible, File, visible, named, names, nil_in, is_nil}
@@ -125,15 +125,10 @@ is_bad_table f = not (begins_well f && list_all (is_page f) (page_words f) && ha
 
 -- ---- references
 
--- words of 4 bytes from a place on, each with its own
-abbrev pub placed : ℕ → List ℕ → List (ℕ × ℕ)
-placed place [] = []
-placed place (word ∷ words) = (place, word) ∷ placed (place + 4) words
-
--- an object's words that may name objects: the slots of a pointer object, and the literals of a method
+-- an object's words that may name objects, each with its place: the slots of a pointer object, and a method's literals
 abbrev pub references : FileObject → List (ℕ × ℕ)
-references o = if is_pointer_format o.format then placed (o.place + 8) o.words
-    else (if is_method_format o.format then placed (o.place + 12) (literals_in_words o.words) else [])
+references o = if is_pointer_format o.format then enumerate_from (o.place + 2) o.words
+    else (if is_method_format o.format then enumerate_from (o.place + 3) (literals_in_words o.words) else [])
 
 -- a word of low bits 00 that isn't the address of a visible object
 abbrev pub is_lost : File → ℕ → Bool

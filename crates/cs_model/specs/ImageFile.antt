@@ -48,8 +48,9 @@ last_hash_in bytes = u32_at bytes 20 % 2 ^ 22
 abbrev pub header_in : List ℕ → List ℕ
 header_in bytes = take 8 bytes ++ replicate 16 0 ++ take 40 (drop 24 bytes)
 
-abbrev pub heap_in : List ℕ → List ℕ
-heap_in bytes = take (heap_size bytes) (drop 64 bytes)
+-- the heap's words of 4 bytes, which follow the header
+unfoldable pub words_in : List ℕ → List ℕ
+words_in bytes = u32s_at (heap_size bytes / 4) bytes 64
 
 -- ---- the birth section, which may follow the heap: the next birth, a count and so many births
 
@@ -66,10 +67,10 @@ births_in bytes n = if has_births bytes then u64s_at (birth_count bytes) bytes (
 abbrev pub next_birth_in : List ℕ → ℕ → ℕ
 next_birth_in bytes n = if has_births bytes then u64_at bytes (64 + heap_size bytes) else n
 
--- ---- the objects of the heap
+-- ---- the objects of the heap, in which all places count words
 
--- An object where it lies: the heap places of its first word and of its header; class index, format and identity hash; and
--- its slots as words.
+-- An object where it lies: the places of its first word and of its header; class index, format and identity hash; and its
+-- slots.
 pub record FileObject : Type 0 where
   pub first : ℕ
   pub place : ℕ
@@ -78,32 +79,43 @@ pub record FileObject : Type 0 where
   pub hash : ℕ
   pub words : List ℕ
 
--- the body of so many slots: 8 bytes at least, rounded up to 8
-abbrev pub body_size : ℕ → ℕ
-body_size slots = 8 * max 1 ((slots + 1) / 2)
+-- the 64 bits that stand in two words
+abbrev pub bits_at : List ℕ → ℕ → ℕ
+bits_at heap at = slice_index heap at + 2 ^ 32 * slice_index heap (at + 1)
 
--- the heap place behind an object
+-- what the top byte of 64 bits holds: the slot count of a header, and 255 in an overflow word
+abbrev pub top_byte : ℕ → ℕ
+top_byte bits = bits / 2 ^ 56
+
+-- where an object of so many slots ends whose header is at a place: its body has two words at least, and an even count
+abbrev pub end_at : ℕ → ℕ → ℕ
+end_at place slots = place + 2 + 2 * max 1 ((slots + 1) / 2)
+
 abbrev pub end_of : FileObject → ℕ
-end_of o = o.place + 8 + body_size (length o.words)
+end_of o = end_at o.place (length o.words)
+
+-- the object with this header and so many slots
+abbrev pub object_with : List ℕ → ℕ → ℕ → ℕ → ℕ → FileObject
+object_with heap first place header slots = record {
+  first = first;
+  place = place;
+  class = header % 2 ^ 22;
+  format = header / 2 ^ 24 % 2 ^ 5;
+  hash = header / 2 ^ 32 % 2 ^ 22;
+  words = take slots (drop (place + 2) heap);
+}
 
 -- the object of so many slots whose header is at a place, where it ends within the heap
-unfoldable pub object_with : List ℕ → ℕ → ℕ → ℕ → Option FileObject
-object_with heap first place slots = let header = u64_at heap place in
-    if nat_le (place + 8 + body_size slots) (length heap) then Some (record {
-      first = first;
-      place = place;
-      class = header % 2 ^ 22;
-      format = header / 2 ^ 24 % 2 ^ 5;
-      hash = header / 2 ^ 32 % 2 ^ 22;
-      words = u32s_at slots heap (place + 8);
-    }) else None
+abbrev pub object_within : List ℕ → ℕ → ℕ → ℕ → Option FileObject
+object_within heap first place slots = if nat_le (end_at place slots) (length heap)
+    then Some (object_with heap first place (bits_at heap place) slots) else None
 
 -- the object whose first word is at a place: a header with the slot count in its top byte, or, where that is 255, an
--- overflow word with the count in its other bytes, followed by a header of count 255
+-- overflow word with the count in its other bytes, followed by a header whose top byte is 255 too
 unfoldable pub object_from : List ℕ → ℕ → Option FileObject
-object_from heap first = let header = u64_at heap first in
-    if not (header / 2 ^ 56 == 255) then object_with heap first first (header / 2 ^ 56)
-    else (if u64_at heap (first + 8) / 2 ^ 56 == 255 then object_with heap first (first + 8) (header % 2 ^ 56) else None)
+object_from heap first = let bits = bits_at heap first in
+    if not (top_byte bits == 255) then object_within heap first first (top_byte bits)
+    else (if top_byte (bits_at heap (first + 2)) == 255 then object_within heap first (first + 2) (bits % 2 ^ 56) else None)
 
 -- objects one right behind another, and the place where none is whole, if it comes to that
 pub record Cut : Type 0 where
@@ -117,15 +129,18 @@ abbrev pub cut_behind : ℕ → Option FileObject → (FileObject → Cut) → C
 cut_behind place None rest = record { objects = []; torn = Some place }
 cut_behind place (Some o) rest = in_front o (rest o)
 
+abbrev pub nothing : Cut
+nothing = record { objects = []; torn = None }
+
 -- a heap from a place on, cut into at most `most` objects
 unfoldable pub cut_from : ℕ → List ℕ → ℕ → Cut
-cut_from zero heap place = record { objects = []; torn = None }
-cut_from (suc most) heap place = if nat_le (length heap) place then record { objects = []; torn = None }
+cut_from zero heap place = nothing
+cut_from (suc most) heap place = if nat_le (length heap) place then nothing
     else cut_behind place (object_from heap place) (λ o. cut_from most heap (end_of o))
 
--- a heap cut into its objects, each of which takes 8 bytes or more
+-- a heap cut into its objects, of which it has fewer than words
 abbrev pub cut_of : List ℕ → Cut
-cut_of heap = cut_from (length heap / 8) heap 0
+cut_of heap = cut_from (length heap) heap 0
 
 -- ---- which objects count
 
@@ -145,13 +160,14 @@ pub record File : Type 0 where
   pub objects : List FileObject
 
 unfoldable pub file_of : List ℕ → File
-file_of bytes = record { base = old_base bytes; objects = filter stands (cut_of (heap_in bytes)).objects }
+file_of bytes = record { base = old_base bytes; objects = filter stands (cut_of (words_in bytes)).objects }
 
 unfoldable pub visible : File → List FileObject
 visible f = filter is_visible f.objects
 
+-- the old address of an object, which is that of its header, in bytes
 abbrev pub address_in : File → FileObject → ℕ
-address_in f o = o.place + f.base
+address_in f o = f.base + 4 * o.place
 
 -- the object that a word names: the one whose header is at this address
 unfoldable pub named : File → ℕ → Option FileObject

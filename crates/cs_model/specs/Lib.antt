@@ -7,3 +7,11 @@ pub mod Words
 pub mod ImageFile
 pub mod ImageFault
 pub mod Image
+pub mod End
+pub mod Operation
+pub mod Context
+pub mod Arithmetic
+pub mod Number
+pub mod Instance
+pub mod Enter
+pub mod Exec

@@ -4,7 +4,9 @@
 #![tactic(auto)]
 
 mod event;
+mod instruction;
 mod stop;
 
 pub use event::{Event, EventKind};
+pub use instruction::{Instr, Op};
 pub use stop::Stop;
