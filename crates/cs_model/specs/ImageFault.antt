@@ -4,7 +4,7 @@ use Rattle.std.specs.Prelude.{ℕ, zero, suc, ◌+◌, ◌-◌, ◌*◌, ◌/◌
 use Rattle.std.specs.Option.{option_map_or, option_or}
 use Rattle.std.specs.List.{list_any, list_all, enumerate_from}
 use Rattle.cs_model.specs.Obj.{context_class, context_fields, words_of_slots, literal_count, is_header, lies_between}
-use Rattle.cs_model.specs.Words.{natural_in_word, is_pointer_format, is_method_format, has_shape, header_in_words, literals_in_words, bytecode_count}
+use Rattle.cs_model.specs.Words.{natural_in_word, is_pointer_format, is_method_format, has_shape, unused_bytes, header_in_words, literals_in_words, bytecode_count}
 use Rattle.cs_model.specs.ImageFile.{u32_at, heap_size, old_base, has_births, birth_count, births_in, next_birth_in, FileObject, Cut, stands, is_hidden, is_visible, File, visible, named, names, nil_in, is_nil}
 
 pub data ImageFault : Type 0 where
@@ -46,10 +46,10 @@ is_bad_length bytes =
 
 -- ---- objects
 
--- a method's literals fit its slots, with one slot more behind them where the format says that bytes are unused
+-- a method has a valid header, and its literals fit, with a slot behind them where the format says that bytes are unused
 abbrev pub is_method_body : ℕ → List ℕ → Bool
 is_method_body format words = option_map_or is_header (natural_in_word (slice_index words 0)) false
-    && nat_le ((if format == 24 then 1 else 2) + literal_count (header_in_words words)) (length words)
+    && nat_lt (literal_count (header_in_words words) + (if nat_lt 0 (unused_bytes format) then 1 else 0)) (length words)
 
 abbrev pub is_well_formed : FileObject → Bool
 is_well_formed o = has_shape o.format (length o.words) && (not (is_method_format o.format) || is_method_body o.format o.words)

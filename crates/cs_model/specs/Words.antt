@@ -1,7 +1,6 @@
 -- What the words of an object mean in 32-bit Spur, wherever they lie: in a file or in the object memory. Which object a
 -- word names is left open here, for a file and a memory have addresses of their own.
-use Rattle.std.specs.Prelude.{ℕ, ℤ, pos, ◌+◌, ◌-◌, ◌*◌, ◌/◌, ◌%◌, ◌^◌, ◌-ℤ◌, ◌==◌, ◌&&◌, ◌||◌, Bool, nat_le, nat_lt, if◌then◌else◌, List, map, length, take, drop, flat_map, slice_index, Option, Some, None, unwrap_or}
-use Rattle.std.specs.Int.{bytes_low_first}
+use Rattle.std.specs.Prelude.{ℕ, ℤ, pos, ◌+◌, ◌-◌, ◌*◌, ◌/◌, ◌%◌, ◌^◌, ◌-ℤ◌, ◌==◌, ◌&&◌, ◌||◌, Bool, nat_le, nat_lt, if◌then◌else◌, List, [], ◌∷◌, map, length, take, drop, slice_index, Option, Some, None, unwrap_or}
 use Rattle.cs_model.specs.Ref.{Ref, Small, Char}
 use Rattle.cs_model.specs.Obj.{Obj, Ptr, Raw, Method, Ctx, Context, context_class, context_fields, literal_count}
 
@@ -19,34 +18,42 @@ ref_by named word = if word % 2 == 1 then Small (small_value word) else (if word
 abbrev pub natural_in_word : ℕ → Option ℕ
 natural_in_word word = if word % 2 == 1 && nat_lt word (2 ^ 31) then Some (word / 2) else None
 
--- the bytes of words, of each the lowest first
-abbrev pub bytes_of_words : List ℕ → List ℕ
-bytes_of_words words = flat_map (bytes_low_first 0 4) words
+-- byte j of a word, counted from the lowest
+abbrev pub byte_in : ℕ → ℕ → ℕ
+byte_in word j = word / 256 ^ j % 256
+
+-- the bytes of these words, the lowest of each first
+unfoldable pub bytes_of_words : List ℕ → List ℕ
+bytes_of_words [] = []
+bytes_of_words (w ∷ words) = byte_in w 0 ∷ byte_in w 1 ∷ byte_in w 2 ∷ byte_in w 3 ∷ bytes_of_words words
 
 -- ---- formats
 
 -- 0 no fields; 1 named, 2 indexed, 3 named and indexed fields; 4 weak; 5 ephemeron
 abbrev pub is_pointer_format : ℕ → Bool
-is_pointer_format format = nat_le format 5
-
--- 24 to 27 compiled methods
-abbrev pub is_method_format : ℕ → Bool
-is_method_format format = nat_le 24 format && nat_le format 27
+is_pointer_format format = nat_lt format 6
 
 -- 9 units of 64 bits; 10 of 32; 12 and 13 of 16; 16 to 19 bytes
 abbrev pub is_raw_format : ℕ → Bool
-is_raw_format format = format == 9 || format == 10 || format == 12 || format == 13 || nat_le 16 format && nat_le format 19
+is_raw_format format = format == 9 || format == 10 || format == 12 || format == 13 || nat_le 16 format && nat_lt format 20
 
--- the bytes at the end of the last slot that are unused, which the low bits of a format count in its units
+-- 24 to 27 compiled methods
+abbrev pub is_method_format : ℕ → Bool
+is_method_format format = nat_le 24 format && nat_lt format 28
+
+-- how many units at the end of the last slot are unused: units of 16 bits in 12 and 13, else bytes
+abbrev pub unused_units : ℕ → ℕ
+unused_units format = if nat_le 24 format then format - 24 else (if nat_le 16 format then format - 16 else format - 12)
+
 abbrev pub unused_bytes : ℕ → ℕ
-unused_bytes format = if format == 13 then 2 else (if nat_le 16 format then format % 4 else 0)
+unused_bytes format = if nat_le 16 format then unused_units format else 2 * unused_units format
 
 -- an object of this format may have so many slots: none without fields, pairs for units of 64 bits, and at least one
--- where bytes are unused
+-- where units are unused
 abbrev pub has_shape : ℕ → ℕ → Bool
 has_shape format slots = (is_pointer_format format || is_raw_format format || is_method_format format)
     && (if format == 0 then slots == 0 else
-    (if format == 9 then slots % 2 == 0 else unused_bytes format == 0 || nat_lt 0 slots))
+        (if format == 9 then slots % 2 == 0 else unused_units format == 0 || nat_lt 0 slots))
 
 -- weak objects are read as ones with named and indexed fields, and ephemerons as ones with named fields
 abbrev pub plain_format : ℕ → ℕ
