@@ -1,7 +1,9 @@
 //! Loading an image: from the bytes of a file to its objects in memory.
 #![tactic(auto)]
 
+mod cut;
 mod error;
+mod file;
 mod header;
 
 pub use error::ImageError;
