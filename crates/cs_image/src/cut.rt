@@ -8,7 +8,7 @@ use cs_word::Header;
 use crate::file::Placed;
 
 /// The word at a place, and 0 past the end.
-fn word_at(words: &[u32], at: usize) -> u32
+pub(crate) fn word_at(words: &[u32], at: usize) -> u32
     ensures { result ≡ slice_index words.now at }
 {
     if at < words.len() { words[at] } else { 0 }

@@ -3,6 +3,7 @@
 ghost use Rattle.std.specs.Prelude.{◌≡◌, ◌<◌, ◌≤◌, ◌+◌, ◌*◌, IfSome, length, option_and_then, option_map, slice_get, take, drop};
 ghost use Rattle.cs_model.specs.ImageFile.{named, nil_in};
 
+use crate::cut::word_at;
 use std::marker::Model;
 
 /// Where an object lies in the file, in words from the heap's first one, and what its header says.
@@ -61,10 +62,7 @@ impl FileHeap {
         if word < self.base || (word - self.base) % 4 != 0 {
             return None;
         }
-        let place = ((word - self.base) / 4) as usize;
-        if place >= self.starts.len() || self.starts[place] == 0 {
-            return None;
-        }
-        Some(self.starts[place] as usize - 1)
+        let number = word_at(&self.starts, ((word - self.base) / 4) as usize);
+        if number == 0 { None } else { Some(number as usize - 1) }
     }
 }
