@@ -41,14 +41,14 @@ named_none h inv word none = find_none (λ o. address_in (file_in h) o == word) 
     let placed : m.0.place ≡ o.place = ap (λ (x : FileObject). x.place) m.2 in
     eqb_no _ _ (λ named_here.
       let at0 = none m.0.place (ap (λ (p : ℕ). h.base + 4 * p) placed ∙ named_here) in
-      let atk = inv.found k m.0 m.1 in
+      let atk = inv.index.found k m.0 m.1 in
       absurd (omega (arith, at0, atk))))
 
 -- and else the object whose number is there
 pub named_some : (h : Inside) → IsFileHeap h → (word place k : ℕ) → h.base + 4 * place ≡ word → slice_index h.starts.items place ≡ k + 1
     → named (file_in h) word ≡ slice_get (file_in h).objects k
 unfolding named
-named_some h inv word place k here starts = go (slice_get h.objects.items k) refl (inv.only place k starts)
+named_some h inv word place k here starts = go (slice_get h.objects.items k) refl (inv.index.only place k starts)
   where
     go : (r : Option Placed) → slice_get h.objects.items k ≡ r → option_map (λ (o : Placed). o.place) r ≡ Some place
         → find (λ o. address_in (file_in h) o == word) (map (object_of h.words.items) h.objects.items) ≡ slice_get (map (object_of h.words.items) h.objects.items) k
@@ -62,13 +62,13 @@ named_some h inv word place k here starts = go (slice_get h.objects.items k) ref
           let also : m.0.place ≡ y.place = ap (λ (x : FileObject). x.place) m.2 in
           eqb_no _ _ (λ named_here.
             let there : y.place ≡ place = omega (arith, named_here, here) in
-            let atj : slice_index h.starts.items m.0.place ≡ j + 1 = inv.found j m.0 m.1 in
+            let atj : slice_index h.starts.items m.0.place ≡ j + 1 = inv.index.found j m.0 m.1 in
             let same : slice_index h.starts.items m.0.place ≡ slice_index h.starts.items place = ap (slice_index h.starts.items) (also ∙ there) in
             absurd (omega (arith, atj, same, starts, below)))) ∙ sym got
 
 -- the number is one of an object
 pub numbered : (h : Inside) → IsFileHeap h → (place k : ℕ) → slice_index h.starts.items place ≡ k + 1 → k < length h.objects.items
-numbered h inv place k starts = go (slice_get h.objects.items k) refl (inv.only place k starts)
+numbered h inv place k starts = go (slice_get h.objects.items k) refl (inv.index.only place k starts)
   where
     go : (r : Option Placed) → slice_get h.objects.items k ≡ r → option_map (λ (o : Placed). o.place) r ≡ Some place → k < length h.objects.items
     go None e only = absurd (cc)

@@ -1,6 +1,8 @@
 -- The objects of a file as the loader keeps them.
-use Rattle.std.specs.Prelude.{◌≡◌, ℕ, suc, ◌+◌, ◌*◌, ◌<◌, ◌≤◌, ◌^◌, List, length, map, take, drop, slice_index, slice_get, option_map, Option, Some}
-use Rattle.cs_model.specs.ImageFile.{FileObject, File}
+use Rattle.std.specs.Prelude.{◌≡◌, ℕ, suc, ◌+◌, ◌*◌, ◌<◌, ◌≤◌, ◌^◌, ◌&&◌, not, Bool, true, List, length, map, take, drop, slice_index, slice_get, option_map, Option, Some}
+use Rattle.std.specs.Option.{option_map_or}
+use Rattle.cs_model.specs.ImageFile.{FileObject, File, stands}
+use Rattle.cs_model.specs.ImageFault.{is_well_formed}
 use Rattle.cs_image.specs.declared.file.Placed.{Placed}
 use Rattle.cs_image.specs.declared.file.FileHeap.TheInside.{Inside}
 
@@ -15,17 +17,21 @@ object_of heap o = record {
   words = take o.slots (drop (o.place + 2) heap);
 }
 
+-- no object is whole there, or it should be well formed and isn't
+abbrev pub is_faulty : Option FileObject → Bool
+is_faulty o = option_map_or (λ x. stands x && not (is_well_formed x)) o true
+
 abbrev pub file_in : Inside → File
 file_in h = record { base = h.base; objects = map (object_of h.words.items) h.objects.items }
 
--- an object's slots lie within the heap
-abbrev pub LiesIn : ℕ → Placed → Type 0
-LiesIn size o = o.place + 2 + o.slots ≤ size
+-- In a heap of so many words, the objects' slots lie within it, and their numbers, counted from 1, stand at their headers'
+-- places and nowhere else.
+pub record IsIndexed (size : ℕ) (objects : List Placed) (starts : List ℕ) : Type 0 where
+  pub long : length starts ≡ size
+  pub within : (k : ℕ) (o : Placed) → slice_get objects k ≡ Some o → o.place + 2 + o.slots ≤ size
+  pub found : (k : ℕ) (o : Placed) → slice_get objects k ≡ Some o → slice_index starts o.place ≡ k + 1
+  pub only : (place k : ℕ) → slice_index starts place ≡ k + 1 → option_map (λ o. o.place) (slice_get objects k) ≡ Some place
 
--- The numbers of the objects stand at their headers: each where it should, and none elsewhere.
 pub record IsFileHeap (h : Inside) : Type 0 where
   pub size : length h.words.items ≤ 2 ^ 27
-  pub starts : length h.starts.items ≡ length h.words.items
-  pub within : (k : ℕ) (o : Placed) → slice_get h.objects.items k ≡ Some o → LiesIn (length h.words.items) o
-  pub found : (k : ℕ) (o : Placed) → slice_get h.objects.items k ≡ Some o → slice_index h.starts.items o.place ≡ k + 1
-  pub only : (place k : ℕ) → slice_index h.starts.items place ≡ k + 1 → option_map (λ o. o.place) (slice_get h.objects.items k) ≡ Some place
+  pub index : IsIndexed (length h.words.items) h.objects.items h.starts.items

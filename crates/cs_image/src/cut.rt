@@ -1,11 +1,20 @@
 //! Cutting the heap of a file into its objects.
 
-ghost use Rattle.std.specs.Prelude.{◌≡◌, ◌<◌, ◌≤◌, ◌+◌, ◌*◌, ◌^◌, length, option_map, slice_index};
+ghost use Rattle.std.specs.Prelude.{◌≡◌, ◌<◌, ◌≤◌, ◌+◌, ◌*◌, ◌^◌, IfSome, length, option_map, slice_index, is_none, max};
 ghost use Rattle.cs_model.specs.ImageFile.{bits_at as bits_of, end_at as end_of, object_from, object_within as object_within_of};
-ghost use Rattle.cs_image.specs.Heap.{object_of};
+ghost use Rattle.std.specs.Prelude.{filter};
+ghost use Rattle.cs_model.specs.ImageFile.{cut_of, stands};
+ghost use Rattle.cs_model.specs.ImageFault.{bad_object};
+ghost use Rattle.cs_model.specs.ImageFault as fault;
+ghost use Rattle.cs_model.specs.Image.{at_word};
+ghost use Rattle.cs_image.specs.Heap.{object_of, is_faulty};
+ghost use Rattle.cs_image.specs.Answer.{Tells};
 
 use cs_word::Header;
-use crate::file::Placed;
+use std::alloc::Global;
+use crate::error::ImageError;
+use crate::file::{FileHeap, Placed};
+use crate::shape::is_body;
 
 /// The word at a place, and 0 past the end.
 pub(crate) fn word_at(words: &[u32], at: usize) -> u32
@@ -34,7 +43,9 @@ fn end_at(place: u32, slots: u64) -> u64
 fn object_within(words: &[u32], first: u32, place: u32, slots: u64) -> Option<Placed>
     requires size { length words.now ≤ 2 ^ 27 }
     requires slots { slots < 2 ^ 56 }
-    ensures { option_map (object_of words.now) result ≡ object_within_of words.now first place slots }
+    ensures value { option_map (object_of words.now) result ≡ object_within_of words.now first place slots }
+    ensures within { IfSome result (λ o. end_of o.place o.slots ≤ length words.now) }
+    ensures header { IfSome result (λ o. o.place ≡ place) }
 {
     if end_at(place, slots) > words.len() as u64 {
         return None;
@@ -50,12 +61,23 @@ fn object_within(words: &[u32], first: u32, place: u32, slots: u64) -> Option<Pl
     })
 }
 
+/// The slots of an object.
+pub(crate) fn slots_of<'a>(words: &'a [u32], o: &Placed) -> &'a [u32]
+    requires { o.now.place + 2 + o.now.slots ≤ length words.now }
+    ensures { result.now ≡ (object_of words.now o.now).words }
+{
+    let from = o.place as usize + 2;
+    &words[from..from + o.slots as usize]
+}
+
 /// The object whose first word is at `first`; None exactly where no object is whole there.
 #[tactic(auto, unfolding(cs_model::specs::ImageFile::object_from))]
 fn object_at(words: &[u32], first: u32) -> Option<Placed>
     requires size { length words.now ≤ 2 ^ 27 }
     requires first { first < length words.now }
-    ensures { option_map (object_of words.now) result ≡ object_from words.now first }
+    ensures value { option_map (object_of words.now) result ≡ object_from words.now first }
+    ensures within { IfSome result (λ o. end_of o.place o.slots ≤ length words.now) }
+    ensures behind { IfSome result (λ o. first ≤ o.place) }
 {
     let bits = bits_at(words, first);
     let count = bits >> 56;
@@ -66,4 +88,48 @@ fn object_at(words: &[u32], first: u32) -> Option<Placed>
         return None;
     }
     object_within(words, first, first + 2, bits % (1 << 56))
+}
+
+/// The object whose first word is at `first`; None exactly where no object is whole there, or where one that isn't skipped
+/// isn't well formed.
+fn sound_object_at(words: &[u32], first: u32) -> Option<Placed>
+    requires size { length words.now ≤ 2 ^ 27 }
+    requires first { first < length words.now }
+    ensures value { IfSome result (λ o. Some (object_of words.now o) ≡ object_from words.now first) }
+    ensures fault { is_none result ≡ is_faulty (object_from words.now first) }
+    ensures within { IfSome result (λ o. end_of o.place o.slots ≤ length words.now) }
+    ensures behind { IfSome result (λ o. first ≤ o.place) }
+{
+    let o = object_at(words, first)?;
+    if o.class != 0 && !is_body(o.format, slots_of(words, &o)) {
+        return None;
+    }
+    Some(o)
+}
+
+/// The objects of a heap that aren't skipped.
+pub(crate) fn cut(alloc: Global, base: u32, words: Vec<u32>) -> Result<FileHeap, ImageError>
+    requires { length words.items ≤ 2 ^ 27 }
+    ensures { Tells (at_word fault.BadObject (bad_object (cut_of words.items)))
+        (λ file. file ≡ record { base = base; objects = filter stands (cut_of words.items).objects }) result }
+{
+    let mut starts = vec![in alloc; 0u32; words.len()]?;
+    let mut objects = Vec::new(alloc);
+    let mut at = 0;
+    while (at as usize) < words.len() {
+        let Some(o) = sound_object_at(&words, at) else {
+            return Err(ImageError::BadObject { at: 4 * at });
+        };
+        if o.class != 0 {
+            starts[o.place as usize] = objects.len() as u32 + 1;
+            objects.push(o)?;
+        }
+        at = end_at(o.place, u64::from(o.slots)) as u32;
+    }
+    Ok(FileHeap {
+        base,
+        words,
+        objects,
+        starts,
+    })
 }

@@ -1,5 +1,7 @@
 //! Why an image is refused.
 
+use std::alloc::{AllocError, AllocFailed};
+
 /// Why an image is refused: the first fault of its file, in the order in which they stand here, and within one kind the one
 /// of the lowest place. `at` counts bytes from the heap's first one.
 #[derive(Clone, Copy, PartialEq, Eq, Debug)]
@@ -47,4 +49,26 @@ pub enum ImageError {
     HasBirths,
     /// The memory for the objects was refused. This is no fault of the file.
     NoMemory,
+}
+
+impl From<AllocError> for ImageError {
+    ghost use Rattle.std.specs.Prelude.{◌≡◌};
+    ghost use Rattle.cs_image.specs.declared.error.ImageError.TheVariants.{NoMemory};
+
+    ghost from_gives = { λ _ e. e ≡ NoMemory };
+
+    fn from(_refused: AllocError) -> ImageError {
+        ImageError::NoMemory
+    }
+}
+
+impl<T: Drop> From<AllocFailed<T>> for ImageError {
+    ghost use Rattle.std.specs.Prelude.{◌≡◌};
+    ghost use Rattle.cs_image.specs.declared.error.ImageError.TheVariants.{NoMemory};
+
+    ghost from_gives = { λ _ e. e ≡ NoMemory };
+
+    fn from(_refused: AllocFailed<T>) -> ImageError {
+        ImageError::NoMemory
+    }
 }

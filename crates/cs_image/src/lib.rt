@@ -5,5 +5,6 @@ mod cut;
 mod error;
 mod file;
 mod header;
+mod shape;
 
 pub use error::ImageError;

@@ -51,8 +51,11 @@ abbrev pub is_method_body : ℕ → List ℕ → Bool
 is_method_body format words = option_map_or is_header (natural_in_word (slice_index words 0)) false
     && nat_lt (literal_count (header_in_words words) + (if nat_lt 0 (unused_bytes format) then 1 else 0)) (length words)
 
+abbrev pub is_body : ℕ → List ℕ → Bool
+is_body format words = has_shape format (length words) && (not (is_method_format format) || is_method_body format words)
+
 abbrev pub is_well_formed : FileObject → Bool
-is_well_formed o = has_shape o.format (length o.words) && (not (is_method_format o.format) || is_method_body o.format o.words)
+is_well_formed o = is_body o.format o.words
 
 -- the first word of the first object that isn't well formed, or else the place where no object is whole
 unfoldable pub bad_object : Cut → Option ℕ
