@@ -3,6 +3,7 @@ use Rattle.std.specs.Prelude.{◌≡◌, ℕ, suc, ◌+◌, ◌*◌, ◌<◌, �
 use Rattle.std.specs.Option.{option_map_or}
 use Rattle.cs_model.specs.ImageFile.{FileObject, File, stands}
 use Rattle.cs_model.specs.ImageFault.{is_well_formed}
+use Rattle.cs_image.specs.declared.file.FileObject.{FileObject as Found}
 use Rattle.cs_image.specs.declared.file.Placed.{Placed}
 use Rattle.cs_image.specs.declared.file.FileHeap.TheInside.{Inside}
 
@@ -15,6 +16,17 @@ object_of heap o = record {
   format = o.format;
   hash = o.hash;
   words = take o.slots (drop (o.place + 2) heap);
+}
+
+-- the object that a value of the code is
+abbrev pub seen : Found → FileObject
+seen o = record {
+  first = o.first;
+  place = o.place;
+  class = o.class;
+  format = o.format;
+  hash = o.hash;
+  words = o.words.now;
 }
 
 -- no object is whole there, or it should be well formed and isn't
@@ -34,4 +46,5 @@ pub record IsIndexed (size : ℕ) (objects : List Placed) (starts : List ℕ) : 
 
 pub record IsFileHeap (h : Inside) : Type 0 where
   pub size : length h.words.items ≤ 2 ^ 27
+  pub fits : h.base + 4 * length h.words.items ≤ 2 ^ 32
   pub index : IsIndexed (length h.words.items) h.objects.items h.starts.items

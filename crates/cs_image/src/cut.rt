@@ -109,7 +109,8 @@ fn sound_object_at(words: &[u32], first: u32) -> Option<Placed>
 
 /// The objects of a heap that aren't skipped.
 pub(crate) fn cut(alloc: Global, base: u32, words: Vec<u32>) -> Result<FileHeap, ImageError>
-    requires { length words.items ≤ 2 ^ 27 }
+    requires size { length words.items ≤ 2 ^ 27 }
+    requires fits { base + 4 * length words.items ≤ 2 ^ 32 }
     ensures { Tells (at_word fault.BadObject (bad_object (cut_of words.items)))
         (λ file. file ≡ record { base = base; objects = filter stands (cut_of words.items).objects }) result }
 {

@@ -1,9 +1,10 @@
 //! The objects of a file, found by the words that name them.
 
 ghost use Rattle.std.specs.Prelude.{◌≡◌, ◌<◌, ◌≤◌, ◌+◌, ◌*◌, IfSome, length, option_and_then, option_map, slice_get, take, drop};
-ghost use Rattle.cs_model.specs.ImageFile.{named, nil_in};
+ghost use Rattle.cs_model.specs.ImageFile.{is_nil, named, nil_in};
+ghost use Rattle.cs_model.specs.ImageFault.{unless_nil};
 
-use crate::cut::word_at;
+use crate::cut::{slots_of, word_at};
 use std::marker::Model;
 
 /// Where an object lies in the file, in words from the heap's first one, and what its header says.
@@ -20,6 +21,22 @@ pub(crate) struct Placed {
     pub(crate) hash: u32,
     /// How many slots it has.
     pub(crate) slots: u32,
+}
+
+/// An object of a file.
+#[derive(Clone, Copy)]
+pub(crate) struct FileObject<'a> {
+    /// The place of its first word, counted in words from the heap's first one.
+    pub(crate) first: u32,
+    /// The place of its header, counted in the same way.
+    pub(crate) place: u32,
+    /// The index of its class.
+    pub(crate) class: u32,
+    pub(crate) format: u8,
+    /// Its identity hash.
+    pub(crate) hash: u32,
+    /// Its slots.
+    pub(crate) words: &'a [u32],
 }
 
 /// The objects of a file that aren't skipped, in order.
@@ -47,11 +64,31 @@ impl Model for FileHeap {
 }
 
 impl FileHeap {
+    ghost use Rattle.cs_image.specs.Heap.{seen};
+
     /// How many objects there are.
     pub(crate) fn len(&self) -> usize
         ensures { result ≡ length self.now.objects }
     {
         self.objects.len()
+    }
+
+    /// An object by its number.
+    pub(crate) fn get(&self, number: usize) -> Option<FileObject<'_>>
+        ensures { option_map seen result ≡ slice_get self.now.objects number }
+    {
+        if number >= self.objects.len() {
+            return None;
+        }
+        let o = self.objects[number];
+        Some(FileObject {
+            first: o.first,
+            place: o.place,
+            class: o.class,
+            format: o.format,
+            hash: o.hash,
+            words: slots_of(&self.words, &o),
+        })
     }
 
     /// The number of the object that a word names, counted from 0.
@@ -64,5 +101,39 @@ impl FileHeap {
         }
         let number = word_at(&self.starts, ((word - self.base) / 4) as usize);
         if number == 0 { None } else { Some(number as usize - 1) }
+    }
+
+    /// The object that a word names.
+    pub(crate) fn named(&self, word: u32) -> Option<FileObject<'_>>
+        ensures { option_map seen result ≡ named self.now word }
+    {
+        match self.number_named(word) {
+            Some(number) => self.get(number),
+            None => None,
+        }
+    }
+
+    /// The address of nil, which is the first object.
+    pub(crate) fn nil(&self) -> u32
+        ensures { result ≡ nil_in self.now }
+    {
+        if self.objects.is_empty() {
+            return 0;
+        }
+        self.base + 4 * self.objects[0].place
+    }
+
+    /// Whether a word is the address of nil.
+    pub(crate) fn is_nil(&self, word: u32) -> bool
+        ensures { result ≡ is_nil self.now word }
+    {
+        word == self.nil()
+    }
+
+    /// The object that a word names, if that isn't nil.
+    pub(crate) fn unless_nil(&self, word: u32) -> Option<FileObject<'_>>
+        ensures { option_map seen result ≡ unless_nil self.now word }
+    {
+        if self.is_nil(word) { None } else { self.named(word) }
     }
 }
