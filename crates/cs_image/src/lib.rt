@@ -6,5 +6,6 @@ mod error;
 mod file;
 mod header;
 mod shape;
+mod table;
 
 pub use error::ImageError;
