@@ -1,6 +1,6 @@
 //! The objects of a file, found by the words that name them.
 
-ghost use Rattle.std.specs.Prelude.{◌≡◌, ◌<◌, ◌≤◌, ◌+◌, ◌*◌, IfSome, length, option_and_then, option_map, slice_get, take, drop};
+ghost use Rattle.std.specs.Prelude.{◌≡◌, ◌<◌, ◌≤◌, ◌+◌, ◌*◌, ◌^◌, IfSome, length, option_and_then, option_map, slice_get, take, drop};
 ghost use Rattle.cs_model.specs.ImageFile.{is_nil, named, nil_in};
 ghost use Rattle.cs_model.specs.ImageFault.{unless_nil};
 
@@ -75,20 +75,31 @@ impl FileHeap {
 
     /// An object by its number.
     pub(crate) fn get(&self, number: usize) -> Option<FileObject<'_>>
-        ensures { option_map seen result ≡ slice_get self.now.objects number }
+        ensures value { option_map seen result ≡ slice_get self.now.objects number }
+        ensures within { IfSome result (λ o. length o.words.now ≤ 2 ^ 27) }
     {
-        if number >= self.objects.len() {
-            return None;
+        if number < self.objects.len() {
+            Some(self.object(number))
+        } else {
+            None
         }
+    }
+
+    /// An object that is there, by its number.
+    pub(crate) fn object(&self, number: usize) -> FileObject<'_>
+        requires { number < length self.now.objects }
+        ensures value { slice_get self.now.objects number ≡ Some (seen result) }
+        ensures within { result.place + 2 + length result.words.now ≤ 2 ^ 27 }
+    {
         let o = self.objects[number];
-        Some(FileObject {
+        FileObject {
             first: o.first,
             place: o.place,
             class: o.class,
             format: o.format,
             hash: o.hash,
             words: slots_of(&self.words, &o),
-        })
+        }
     }
 
     /// The number of the object that a word names, counted from 0.
@@ -105,7 +116,8 @@ impl FileHeap {
 
     /// The object that a word names.
     pub(crate) fn named(&self, word: u32) -> Option<FileObject<'_>>
-        ensures { option_map seen result ≡ named self.now word }
+        ensures value { option_map seen result ≡ named self.now word }
+        ensures within { IfSome result (λ o. length o.words.now ≤ 2 ^ 27) }
     {
         match self.number_named(word) {
             Some(number) => self.get(number),

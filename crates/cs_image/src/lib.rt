@@ -1,10 +1,13 @@
 //! Loading an image: from the bytes of a file to its objects in memory.
 #![tactic(auto)]
 
+mod context;
 mod cut;
 mod error;
 mod file;
 mod header;
+mod reference;
+mod roots;
 mod shape;
 mod table;
 
