@@ -3,7 +3,7 @@
 use Rattle.std.specs.Prelude.{◌≡◌, ℕ, pos, ◌+◌, ◌-◌, ◌==◌, ◌&&◌, ◌||◌, not, Bool, true, false, nat_lt, nat_le, if◌then◌else◌, List, ◌++◌, length, take, replicate, Option, Some, None, is_some, slice_get}
 use Rattle.cs_model.specs.Ref.{Ref, Small, index_of}
 use Rattle.cs_model.specs.Ref as ref
-use Rattle.cs_model.specs.Obj.{Obj, Context, Ptr, Raw, Method, Ctx, class_index_in, context_fields, context_in, is_method, lies_in, with_pc, with_stack, stored}
+use Rattle.cs_model.specs.Obj.{Obj, Context, Ptr, Raw, Method, Ctx, class_index_in, context_fields, context_in, is_method, lies_in, with_pc, with_stack, stored, edit_context}
 use Rattle.cs_model.specs.State.{Kept, object_at, object_of, is_nil, put}
 use Rattle.cs_model.specs.Operation.{edit_found, nil_of}
 
@@ -76,12 +76,6 @@ with_field k i v c =
     if i == 4 then record c { closure = v } else
     if i == 5 then record c { receiver = v } else
     stored (i - context_fields) v c
-
-abbrev pub edit_context : (Context → Context) → Obj → Obj
-edit_context f (Ptr class format hash slots) = Ptr class format hash slots
-edit_context f (Raw class format hash bytes) = Raw class format hash bytes
-edit_context f (Method class format hash header literals bytecodes) = Method class format hash header literals bytecodes
-edit_context f (Ctx c) = Ctx (f c)
 
 unfoldable pub context_put : Kept → ℕ → ℕ → Ref → Kept
 context_put k birth i v = edit_found (edit_context (with_field k i v)) birth (object_at k birth) k

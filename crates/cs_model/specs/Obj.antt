@@ -44,6 +44,10 @@ is_context (Raw class format hash bytes) = false
 is_context (Method class format hash header literals bytecodes) = false
 is_context (Ctx c) = true
 
+abbrev pub is_context_at : Option Obj → Bool
+is_context_at None = false
+is_context_at (Some o) = is_context o
+
 -- the fields of a context that come before its stack
 abbrev pub context_fields : ℕ
 context_fields = 6
@@ -127,6 +131,13 @@ popped n c = with_stack (take (length c.stack - n) c.stack) c
 
 abbrev pub stored : ℕ → Ref → Context → Context
 stored i x c = with_stack (slice_set c.stack i x) c
+
+-- the context that an object is, changed
+abbrev pub edit_context : (Context → Context) → Obj → Obj
+edit_context f (Ptr class format hash slots) = Ptr class format hash slots
+edit_context f (Raw class format hash bytes) = Raw class format hash bytes
+edit_context f (Method class format hash header literals bytecodes) = Method class format hash header literals bytecodes
+edit_context f (Ctx c) = Ctx (f c)
 
 -- A returned activation is dead: sender nil, pc nil, an empty stack. Its receiver, method, closure, size and hash stay.
 abbrev pub dead : ℕ → Context → Context

@@ -147,7 +147,7 @@ suspend_of k = with_rest (activate None k.rest) k
 
 -- the active context dies, its sender is active, and the value is pushed
 unfoldable pub leave_of : Kept → Ref → Kept
-leave_of k x = push_of (resume_of (kill_of k (active_birth k)) (unwrap_or (birth_of (active_context k).sender) 0)) x
+leave_of k x = push_of (resume_of (kill_of k (active_birth k)) (unwrap_or (birth_of (active_context k).sender) k.rest.nil)) x
 
 -- contexts die, the target is active, and the value is pushed
 unfoldable pub kill_all : List ℕ → Kept → Kept

@@ -24,8 +24,9 @@ class_of k x = option_map (λ i. ref.Obj i) (get k.rest.classes (class_index_of 
 abbrev pub blank : Context
 blank = record { hash = 0; sender = Small (pos 0); pc = None; method = Small (pos 0); closure = Small (pos 0); receiver = Small (pos 0); stack = []; size = 0 }
 
+-- the birth of the active context; where none is active that of nil, which is no context but always there
 abbrev pub active_birth : Kept → ℕ
-active_birth k = unwrap_or k.rest.active 0
+active_birth k = unwrap_or k.rest.active k.rest.nil
 
 -- the active context
 unfoldable pub active_context : Kept → Context

@@ -1,0 +1,6 @@
+pub mod Places
+mod OneObject
+mod Decoding
+mod Standing
+mod Marks
+mod Seen
