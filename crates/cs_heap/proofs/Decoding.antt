@@ -1,16 +1,15 @@
 -- What was laid out is read again.
-use Rattle.std.proofs.Common.{◌≡◌, ℕ, zero, suc, ◌+◌, ◌*◌, ◌/◌, ◌%◌, ◌^◌, ◌-◌, ◌<◌, ◌≤◌, Bool, true, false, cond, List, [], ◌∷◌, ◌++◌, length, take, drop, get_or, replicate, refl, ap, ap₂, sym, ◌∙◌, arith, eqb, leb, min, max, append_assoc, length-append}
+use Rattle.std.proofs.Common.{◌≡◌, ℕ, zero, suc, ◌+◌, ◌*◌, ◌/◌, ◌%◌, ◌^◌, ◌<◌, ◌≤◌, Bool, true, false, List, [], ◌∷◌, ◌++◌, length, take, drop, get_or, refl, ap, ap₂, sym, ◌∙◌, arith, eqb, leb, append_assoc, length-append}
 use Rattle.std.proofs.Math.Seq.{take-append_seam, drop-append_seam}
 use Rattle.std.proofs.lemmas.List.{get_or_append_left}
 use Rattle.std.proofs.lemmas.Bool.Decides.{nat_tests}
 use Rattle.std.specs.Prelude.{flat_map}
 use Rattle.std.specs.List.{AllByRecursion}
-use Rattle.cs_heap.specs.Format.{is_shape}
-use Rattle.cs_heap.specs.Object.{Object, body_units, size, units, units_before}
-use Rattle.cs_heap.specs.Layout.{IsStorable, births_of, first_count, first_object, header, header_in, marked, object_in, objects_in, overflow, padding, row, words_of}
-use Rattle.cs_heap.proofs.OneObject.{births_of_is, count_in_row, fits_body, high_in_row, length-copies, length-marked, length-overflow, length-row, length-words_of, low_in_row, mark_in_row, value_marked, words_of_is}
+use Rattle.cs_heap.specs.Format.{format_allows}
+use Rattle.cs_heap.specs.Object.{Object, size, units, units_before}
+use Rattle.cs_heap.specs.Layout.{IsStorable, births_of, first_count, first_object, header, header_in, object_in, objects_in, overflow, padding, row, words_of}
+use Rattle.cs_heap.proofs.OneObject.{births_of_is, count_in_row, high_in_row, length-marked, length-overflow, length-words_of, low_in_row, mark_in_row, value_marked, words_of_is}
 use Rattle.cs_word.specs.Header.{bit, flag_bits, header_bits, header_flags, header_of}
-use Rattle.cs_word.specs.declared.header.Flags.{Flags}
 use Rattle.cs_word.specs.declared.header.Header.{Header}
 
 -- ---- the header
@@ -55,7 +54,7 @@ stored_header x = header_bits (header x)
 pub bits_back : (n : ℕ) → n % 2 ^ 32 + n / 2 ^ 32 * 2 ^ 32 ≡ n
 bits_back n = omega arith
 
-pub shape_below : (format slots : ℕ) → is_shape format slots ≡ true → format < 2 ^ 5
+pub shape_below : (format slots : ℕ) → format_allows format slots ≡ true → format < 2 ^ 5
 shape_below format slots h = grind (arith, nat_tests)
 
 -- the header of what can be stored is read back

@@ -1,4 +1,5 @@
 pub mod Places
+pub mod Laws
 mod OneObject
 mod Decoding
 mod Standing

@@ -1,14 +1,14 @@
 -- What the marks tell: which addresses are objects, and where the next object is.
-use Rattle.std.proofs.Common.{◌≡◌, ◌≢◌, ℕ, zero, suc, ◌+◌, ◌*◌, ◌/◌, ◌%◌, ◌-◌, ◌<◌, ◌≤◌, Bool, true, false, cond, List, [], ◌∷◌, ◌++◌, length, get_or, replicate, Option, Some, None, is_some, refl, ap, ap₂, sym, ◌∙◌, subst, arith, eqb, ltb, leb, not, ◌&&◌, append_assoc, length-append}
-use Rattle.std.proofs.lemmas.List.{get_or-append-add, get_or-append_right, get_or_append_left, append-nil}
+use Rattle.std.proofs.Common.{◌≡◌, ◌≢◌, ℕ, zero, suc, ◌+◌, ◌*◌, ◌/◌, ◌%◌, ◌-◌, ◌<◌, ◌≤◌, Bool, true, false, cond, List, [], ◌∷◌, ◌++◌, length, get_or, replicate, Some, None, is_some, refl, ap, sym, ◌∙◌, subst, arith, eqb, leb, not, ◌&&◌, length-append}
+use Rattle.std.proofs.lemmas.List.{get_or-append-add, get_or-append_right, get_or_append_left}
 use Rattle.std.proofs.lemmas.Grind.{flat_map-append}
 use Rattle.std.proofs.lemmas.Bool.Decides.{nat_tests}
 use Rattle.std.specs.Prelude.{flat_map}
-use Rattle.cs_heap.specs.Object.{Object, address_of, base, body_units, header_address, index_of, size, units, units_before, used}
+use Rattle.cs_heap.specs.Object.{Object, address_of, base, body_units, header_address, index_of, units, units_before, used}
 use Rattle.cs_heap.specs.Layout.{IsLaid, address_from, marked, marks_of, unit_in}
 use Rattle.cs_heap.specs.declared.Heap.TheInside.{Inside}
 use Rattle.cs_heap.proofs.OneObject.{length-marked, marks_of_is}
-use Rattle.cs_heap.proofs.Places.{Found, Split, address_past, address_split, found_is, split_here, split_next, used-append}
+use Rattle.cs_heap.proofs.Places.{Split, address_past, address_split, found_is, split_here, split_next, used-append}
 use Rattle.cs_heap.proofs.Standing.{length-all_marks}
 
 blank : (n u : ℕ) → get_or {A = ℕ} (replicate n 0) u 0 ≡ 0

@@ -1,10 +1,10 @@
 -- Where an object stands: its address and its index lead to one another.
-use Rattle.std.proofs.Common.{◌≡◌, ℕ, zero, suc, ◌+◌, ◌*◌, ◌/◌, ◌%◌, ◌-◌, ◌<◌, ◌≤◌, Bool, true, false, cond, List, [], ◌∷◌, ◌++◌, length, map, Option, Some, None, option_map, option_and_then, is_some, refl, ap, sym, ◌∙◌, arith, eqb, length-append}
+use Rattle.std.proofs.Common.{◌≡◌, ℕ, zero, suc, ◌+◌, ◌*◌, ◌<◌, ◌≤◌, Bool, true, false, cond, List, [], ◌∷◌, ◌++◌, length, Option, Some, None, option_map, option_and_then, is_some, refl, ap, sym, ◌∙◌, arith, eqb}
 use Rattle.std.proofs.lemmas.List.Sums.{sum_by-cons}
 use Rattle.std.proofs.lemmas.Bool.Decides.{nat_tests}
 use Rattle.std.specs.Prelude.{slice_get}
 use Rattle.std.specs.Option.{option_map_or}
-use Rattle.cs_heap.specs.Object.{Object, address_among, address_of, at_index, base, header_address, index_among, index_of, next_of, object_at, size, slot_counts, units, units_before, used, with_object}
+use Rattle.cs_heap.specs.Object.{Object, address_among, address_of, at_index, base, header_address, index_among, index_of, next_of, object_at, size, slot_counts, units, used, with_object}
 
 -- The objects fall into those before, object x, which is the k-th and has the address, and those behind it. The first
 -- word of the first one is at `at`.
@@ -77,7 +77,7 @@ split_by_index (x ∷ xs) at address (suc k) h = split_next x xs at address k (s
 
 -- ---- and back
 
-index_split : (before after : List Object) (x : Object) (at address : ℕ) → address ≡ header_address (at + 4 * used before) (length x.words)
+pub index_split : (before after : List Object) (x : Object) (at address : ℕ) → address ≡ header_address (at + 4 * used before) (length x.words)
     → index_among (slot_counts (before ++ x ∷ after)) at address ≡ Some (length before)
 unfolding index_among
 index_split [] after x at address h =

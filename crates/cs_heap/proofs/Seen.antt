@@ -1,15 +1,15 @@
 -- What the heap's functions read at an address, and how a caller sees what they write.
-use Rattle.std.proofs.Common.{◌≡◌, ℕ, ◌+◌, ◌*◌, ◌/◌, ◌%◌, ◌^◌, ◌-◌, ◌<◌, ◌≤◌, true, List, [], ◌∷◌, ◌++◌, length, get_or, is_some, Option, refl, ap, ap₂, sym, ◌∙◌, subst, arith, min}
+use Rattle.std.proofs.Common.{◌≡◌, ℕ, ◌+◌, ◌*◌, ◌/◌, ◌%◌, ◌^◌, ◌<◌, ◌≤◌, true, List, [], ◌∷◌, ◌++◌, length, get_or, is_some, Option, refl, ap, ap₂, sym, ◌∙◌, arith, min}
 use Rattle.std.proofs.Math.ListN.{set}
 use Rattle.std.proofs.lemmas.Grind.{get_or_default_zero, flat_map-append}
-use Rattle.std.proofs.lemmas.List.{append-nil, length-set, length-replicate}
+use Rattle.std.proofs.lemmas.List.{append-nil, length-set}
 use Rattle.std.specs.Prelude.{flat_map, vec_capacity, replicate}
 use Rattle.std.specs.Option.{option_map_or}
-use Rattle.cs_heap.specs.Format.{is_shape}
-use Rattle.cs_heap.specs.Object.{Memory, Object, body_units, field_of, index_of, new_object, new_slot, object_at, size, set_word, slot_count_of, units, used, with_hash, with_object, with_slot}
-use Rattle.cs_heap.specs.Layout.{IsHeap, IsLaid, IsStorable, births_of, header, header_in, header_seen, marked, marks_of, memory, objects, row, words_of}
+use Rattle.cs_heap.specs.Format.{format_allows}
+use Rattle.cs_heap.specs.Object.{Memory, Object, field_of, index_of, new_object, new_slot, object_at, size, set_word, slot_count_of, with_hash, with_slot}
+use Rattle.cs_heap.specs.Layout.{IsHeap, IsLaid, IsStorable, births_of, header, header_seen, marks_of, memory, objects, row, words_of}
 use Rattle.cs_heap.specs.declared.Heap.TheInside.{Inside}
-use Rattle.cs_heap.proofs.OneObject.{births_of_is, fits_body, length-copies, length-row, marks_of_is, words_of_is}
+use Rattle.cs_heap.proofs.OneObject.{length-copies, length-row, words_of_is}
 use Rattle.cs_heap.proofs.Decoding.{shape_below, stored_header}
 use Rattle.cs_heap.proofs.Places.{Found, has_index, has_number, object_at-found}
 use Rattle.cs_heap.proofs.Standing.{IsKnown, IsThere, all-push, changed, known, laid_now, laid_seen, limit_seen, objects_are, unit_of, write_header, write_slot}
@@ -111,7 +111,7 @@ slot_stored h new m address place i v ok is less at words births marks roomy =
     let stored : IsStorable (set_word i v x) = record {
       class = k.there.storable.class;
       flags = k.there.storable.flags;
-      shape = ap (is_shape x.format) long ∙ k.there.storable.shape;
+      shape = ap (format_allows x.format) long ∙ k.there.storable.shape;
       hash = k.there.storable.hash;
       count = omega (arith, long, k.there.storable.count);
     } in
@@ -185,11 +185,11 @@ new_words class format slots birth flags count value none count_is value_is =
     (count_is ∙ omega (arith, length-copies slots (new_slot format)))
     ∙ sym (words_of_is (new_object class format slots birth))
 
-pub new_storable : (class format slots birth : ℕ) → class < 2 ^ 22 → is_shape format slots ≡ true → slots < 2 ^ 32 → IsStorable (new_object class format slots birth)
+pub new_storable : (class format slots birth : ℕ) → class < 2 ^ 22 → format_allows format slots ≡ true → slots < 2 ^ 32 → IsStorable (new_object class format slots birth)
 new_storable class format slots birth below shape few = record {
   class = below;
   flags = omega arith;
-  shape = ap (is_shape format) (length-copies slots (new_slot format)) ∙ shape;
+  shape = ap (format_allows format) (length-copies slots (new_slot format)) ∙ shape;
   hash = omega arith;
   count = omega (arith, few, length-copies slots (new_slot format));
 }

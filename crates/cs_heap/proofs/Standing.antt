@@ -1,14 +1,13 @@
 -- What stands in the heap's words, births and marks at an object, and what a write to it leaves.
-use Rattle.std.proofs.Common.{◌≡◌, ℕ, zero, suc, ◌+◌, ◌*◌, ◌/◌, ◌%◌, ◌^◌, ◌-◌, ◌<◌, ◌≤◌, Bool, true, false, cond, List, [], ◌∷◌, ◌++◌, length, get_or, refl, ap, ap₂, sym, ◌∙◌, subst, arith, eqb, leb, min, append_assoc, length-append}
+use Rattle.std.proofs.Common.{◌≡◌, ℕ, ◌+◌, ◌*◌, ◌/◌, ◌%◌, ◌^◌, ◌-◌, ◌<◌, ◌≤◌, Bool, true, false, List, [], ◌∷◌, ◌++◌, length, get_or, refl, ap, ap₂, sym, ◌∙◌, subst, arith, eqb, leb, min, length-append}
 use Rattle.std.proofs.Math.ListN.{set}
 use Rattle.std.proofs.lemmas.List.{get_or-append-add, get_or_append_left, length-set, set-append_left, set-append_right}
-use Rattle.std.proofs.lemmas.List.Sums.{sum_by-cons}
 use Rattle.std.proofs.lemmas.Grind.{flat_map-append}
 use Rattle.std.proofs.lemmas.Bool.Decides.{nat_tests}
-use Rattle.std.specs.Prelude.{flat_map, sum_by, vec_capacity}
+use Rattle.std.specs.Prelude.{flat_map}
 use Rattle.std.specs.List.{AllByRecursion}
-use Rattle.cs_heap.specs.Object.{Memory, Object, base, body_units, set_word, size, slot_counts, units, units_before, used, with_object, with_slot}
-use Rattle.cs_heap.specs.Layout.{IsHeap, IsLaid, IsStorable, births_of, count_in, header, header_in, marked, marks_of, memory, objects, objects_in, padding, row, words_of}
+use Rattle.cs_heap.specs.Object.{Memory, Object, base, body_units, set_word, size, units, units_before, used, with_object}
+use Rattle.cs_heap.specs.Layout.{IsHeap, IsLaid, IsStorable, births_of, count_in, header, header_in, marked, marks_of, memory, objects, objects_in, row, words_of}
 use Rattle.cs_heap.specs.declared.Heap.TheInside.{Inside}
 use Rattle.cs_heap.proofs.OneObject.{births_of_is, count_in_row, fits_body, high_in_row, length-marked, length-words_of, low_in_row, marks_of_is, row-set_header, row-set_slot, slot_in_row, value_marked, words_of_is}
 use Rattle.cs_heap.proofs.Decoding.{bits_back, enough_words, header_back, in_front, objects_back, stored_header}

@@ -4,7 +4,7 @@ use Rattle.std.specs.Prelude.{◌≡◌, ℕ, zero, suc, ◌+◌, ◌*◌, ◌/�
 use Rattle.std.specs.Prelude.{if◌then◌else◌, nat_le, min, length, slice_index, take, drop, replicate, flat_map, vec_capacity}
 use Rattle.std.specs.List.{AllByRecursion}
 use Rattle.std.specs.Option.{option_map_or}
-use Rattle.cs_heap.specs.Format.{is_shape}
+use Rattle.cs_heap.specs.Format.{format_allows}
 use Rattle.cs_heap.specs.Object.{Memory, Object, base, body_units, class_of, format_of, hash_of, no_flags, object_at, slot_count_of, units, units_before}
 use Rattle.cs_word.specs.Header.{flag_bits, header_bits, header_of}
 use Rattle.cs_word.specs.declared.header.Header.{Header}
@@ -115,7 +115,7 @@ memory h = record { limit = h.limit; objects = objects h }
 pub record IsStorable (x : Object) : Type 0 where
   pub class : x.class < 2 ^ 22
   pub flags : flag_bits x.flags < 2 ^ 5
-  pub shape : IsTrue (is_shape x.format (length x.words))
+  pub shape : IsTrue (format_allows x.format (length x.words))
   pub hash : x.hash < 2 ^ 22
   pub count : length x.words < 2 ^ 32
 

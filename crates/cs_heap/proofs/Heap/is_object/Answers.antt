@@ -1,6 +1,6 @@
-use Rattle.std.proofs.Common.{◌≡◌, ℕ, zero, suc, ◌+◌, ◌*◌, ◌/◌, ◌%◌, ◌^◌, ◌-◌, ◌<◌, ◌≤◌, Bool, true, false, cond, List, [], ◌∷◌, ◌++◌, length, get_or, replicate, Option, Some, None, option_map, option_and_then, is_some, refl, ap, ap₂, sym, ◌∙◌, arith, leb, eqb, min, max, subst, append_assoc, length-append}
+use Rattle.std.proofs.Common.{◌≡◌, ℕ, ◌+◌, ◌*◌, ◌<◌, false, get_or, Some, None, is_some, refl, ap, sym, ◌∙◌, arith, eqb}
 use Rattle.std.proofs.Common.{not, ltb}
-use Rattle.cs_heap.specs.Object.{Memory, Object, base, body_units, next_address, set_word, size, slot_counts, units, units_before, used}
+use Rattle.cs_heap.specs.Object.{base}
 use Rattle.std.proofs.lemmas.Bool.Decides.{nat_tests}
 use Rattle.cs_heap.specs.Object.{index_of, is_object}
 use Rattle.cs_heap.specs.Layout.{unit_in}

@@ -1,12 +1,12 @@
-use Rattle.std.proofs.Common.{◌≡◌, ℕ, zero, suc, ◌+◌, ◌*◌, ◌/◌, ◌%◌, ◌^◌, ◌-◌, ◌<◌, ◌≤◌, Bool, true, false, cond, List, [], ◌∷◌, ◌++◌, length, get_or, replicate, Option, Some, None, option_map, option_and_then, is_some, refl, ap, ap₂, sym, ◌∙◌, arith, leb, eqb, min, max, subst, append_assoc, length-append}
-use Rattle.cs_heap.specs.Object.{Memory, Object, base, body_units, next_address, set_word, size, slot_counts, units, units_before, used}
+use Rattle.std.proofs.Common.{◌≡◌, ℕ, ◌+◌, ◌*◌, List, [], ◌∷◌, ◌++◌, length, ap, ap₂, sym, ◌∙◌, arith, subst, append_assoc, length-append}
+use Rattle.cs_heap.specs.Object.{Object, body_units, used}
 use Rattle.cs_heap.specs.Object.{address_of}
 use Rattle.cs_heap.specs.Layout.{IsLaid, address_from, count_in, header_in}
 use Rattle.cs_word.specs.declared.header.Header.{Header}
 use Rattle.cs_heap.proofs.Marks.{walk}
 use Rattle.cs_heap.proofs.Places.{next_of-found, object_above, used-push}
-use Rattle.cs_heap.proofs.Seen.{field_is, seen}
-use Rattle.cs_heap.proofs.Standing.{laid_seen, length-all_marks, length-all_words, unit_of}
+use Rattle.cs_heap.proofs.Seen.{seen}
+use Rattle.cs_heap.proofs.Standing.{laid_seen, length-all_marks, length-all_words}
 use Rattle.cs_heap.proofs.Heap.next.Goals as goal
 
 pub unit_of-unit-requires : goal.unit_of-unit-requires
