@@ -1,9 +1,11 @@
 -- What an object means when one of its words or bytes is written.
-use Rattle.std.proofs.Common.{◌≡◌, ℕ, zero, suc, ◌+◌, ◌-◌, ◌*◌, ◌/◌, ◌%◌, ◌^◌, ◌<◌, ◌≤◌, Bool, true, false, List, [], ◌∷◌, ◌++◌, length, map, take, drop, refl, ap, ap₂, sym, ◌∙◌, arith, get_or, set}
+use Rattle.std.proofs.Common.{◌≡◌, ℕ, zero, suc, ◌+◌, ◌-◌, ◌*◌, ◌/◌, ◌%◌, ◌^◌, ◌<◌, ◌≤◌, Bool, true, false, List, [], ◌∷◌, ◌++◌, length, map, take, drop, refl, ap, ap₂, sym, ◌∙◌, arith, get_or, set, cond, eqb, ◌⊎◌, inl, inr}
 use Rattle.std.specs.Prelude.{slice_index, unwrap_or}
+use Rattle.std.proofs.lemmas.Bool.{cases_eq, eq-eqb, ne_eqb}
 use Rattle.std.proofs.lemmas.List.{drop-set-add, drop-set-lt, get_or-drop, get_or-set_other, length-set, map-set, take-set-le}
 use Rattle.cs_heap.specs.Format.{is_method, is_pointers}
 use Rattle.cs_heap.specs.Object.{Object, byte_in, set_word, with_byte_in}
+use Rattle.cs_heap.proofs.Laws.{byte_in-with_byte_in_other, byte_in-with_byte_in_same}
 use Rattle.cs_model.specs.Ref.{Ref}
 use Rattle.cs_model.specs.Obj.{Method, Obj, Ptr, Raw, literal_count}
 use Rattle.cs_model.specs.Operation.{with_byte, with_hash, with_slot}
@@ -58,59 +60,29 @@ obj_of-set_literal refer x i v o m h l =
 
 -- ---- bytes
 
-byte_same : (w j b : ℕ) → j < 4 → b < 256 → byte_in (with_byte_in w j b) j ≡ b
-byte_same w zero b h f = omega (arith, f)
-byte_same w (suc zero) b h f = omega (arith, f)
-byte_same w (suc (suc zero)) b h f = omega (arith, f)
-byte_same w (suc (suc (suc zero))) b h f = omega (arith, f)
-byte_same w (suc (suc (suc (suc j)))) b h f = absurd (omega (arith, h))
-
-byte_other_01 : (w b : ℕ) → b < 256 → byte_in (with_byte_in w 0 b) 1 ≡ byte_in w 1
-byte_other_01 w b f = omega (arith, f)
-
-byte_other_02 : (w b : ℕ) → b < 256 → byte_in (with_byte_in w 0 b) 2 ≡ byte_in w 2
-byte_other_02 w b f = omega (arith, f)
-
-byte_other_03 : (w b : ℕ) → b < 256 → byte_in (with_byte_in w 0 b) 3 ≡ byte_in w 3
-byte_other_03 w b f = omega (arith, f)
-
-byte_other_10 : (w b : ℕ) → b < 256 → byte_in (with_byte_in w 1 b) 0 ≡ byte_in w 0
-byte_other_10 w b f = omega (arith, f)
-
-byte_other_12 : (w b : ℕ) → b < 256 → byte_in (with_byte_in w 1 b) 2 ≡ byte_in w 2
-byte_other_12 w b f = omega (arith, f)
-
-byte_other_13 : (w b : ℕ) → b < 256 → byte_in (with_byte_in w 1 b) 3 ≡ byte_in w 3
-byte_other_13 w b f = omega (arith, f)
-
-byte_other_20 : (w b : ℕ) → b < 256 → byte_in (with_byte_in w 2 b) 0 ≡ byte_in w 0
-byte_other_20 w b f = omega (arith, f)
-
-byte_other_21 : (w b : ℕ) → b < 256 → byte_in (with_byte_in w 2 b) 1 ≡ byte_in w 1
-byte_other_21 w b f = omega (arith, f)
-
-byte_other_23 : (w b : ℕ) → b < 256 → byte_in (with_byte_in w 2 b) 3 ≡ byte_in w 3
-byte_other_23 w b f = omega (arith, f)
-
-byte_other_30 : (w b : ℕ) → b < 256 → byte_in (with_byte_in w 3 b) 0 ≡ byte_in w 0
-byte_other_30 w b f = omega (arith, f)
-
-byte_other_31 : (w b : ℕ) → b < 256 → byte_in (with_byte_in w 3 b) 1 ≡ byte_in w 1
-byte_other_31 w b f = omega (arith, f)
-
-byte_other_32 : (w b : ℕ) → b < 256 → byte_in (with_byte_in w 3 b) 2 ≡ byte_in w 2
-byte_other_32 w b f = omega (arith, f)
-
 four : (a b c d w x y z : ℕ) (ws : List ℕ) → a ≡ w → b ≡ x → c ≡ y → d ≡ z → a ∷ b ∷ c ∷ d ∷ ws ≡ w ∷ x ∷ y ∷ z ∷ ws
 four a b c d w x y z ws e f g h = λ i. e i ∷ f i ∷ g i ∷ h i ∷ ws
 
+-- byte k of a word whose byte j is written
+byte_after : (w j k b : ℕ) → j < 4 → b < 256 → k < 4 → byte_in (with_byte_in w j b) k ≡ cond (eqb k j) b (byte_in w k)
+byte_after w j k b h f l = go (cases_eq k j)
+  where
+    go : (k ≡ j) ⊎ (k ≡ j → ⊥) → byte_in (with_byte_in w j b) k ≡ cond (eqb k j) b (byte_in w k)
+    go (inl e) = let same = eq-eqb k j e in rw same (ap (byte_in (with_byte_in w j b)) e ∙ byte_in-with_byte_in_same w j b h f)
+    go (inr e) = let other = ne_eqb k j e in rw other (byte_in-with_byte_in_other w j k b h l e f)
+
 bytes_of-word : (w j b : ℕ) (ws : List ℕ) → j < 4 → b < 256 → bytes_of (with_byte_in w j b ∷ ws) ≡ set (bytes_of (w ∷ ws)) j b
 unfolding bytes_of
-bytes_of-word w zero b ws h f = four _ _ _ _ _ _ _ _ (bytes_of ws) (byte_same w 0 b h f) (byte_other_01 w b f) (byte_other_02 w b f) (byte_other_03 w b f)
-bytes_of-word w (suc zero) b ws h f = four _ _ _ _ _ _ _ _ (bytes_of ws) (byte_other_10 w b f) (byte_same w 1 b h f) (byte_other_12 w b f) (byte_other_13 w b f)
-bytes_of-word w (suc (suc zero)) b ws h f = four _ _ _ _ _ _ _ _ (bytes_of ws) (byte_other_20 w b f) (byte_other_21 w b f) (byte_same w 2 b h f) (byte_other_23 w b f)
-bytes_of-word w (suc (suc (suc zero))) b ws h f = four _ _ _ _ _ _ _ _ (bytes_of ws) (byte_other_30 w b f) (byte_other_31 w b f) (byte_other_32 w b f) (byte_same w 3 b h f)
-bytes_of-word w (suc (suc (suc (suc j)))) b ws h f = absurd (omega (arith, h))
+bytes_of-word w j b ws h f = go j h (λ k l. byte_after w j k b h f l)
+  where
+    go : (i : ℕ) → i < 4 → ((k : ℕ) → k < 4 → byte_in (with_byte_in w j b) k ≡ cond (eqb k i) b (byte_in w k))
+        → byte_in (with_byte_in w j b) 0 ∷ byte_in (with_byte_in w j b) 1 ∷ byte_in (with_byte_in w j b) 2 ∷ byte_in (with_byte_in w j b) 3 ∷ bytes_of ws
+        ≡ set (byte_in w 0 ∷ byte_in w 1 ∷ byte_in w 2 ∷ byte_in w 3 ∷ bytes_of ws) i b
+    go zero l at = four _ _ _ _ _ _ _ _ (bytes_of ws) (at 0 (omega arith)) (at 1 (omega arith)) (at 2 (omega arith)) (at 3 (omega arith))
+    go (suc zero) l at = four _ _ _ _ _ _ _ _ (bytes_of ws) (at 0 (omega arith)) (at 1 (omega arith)) (at 2 (omega arith)) (at 3 (omega arith))
+    go (suc (suc zero)) l at = four _ _ _ _ _ _ _ _ (bytes_of ws) (at 0 (omega arith)) (at 1 (omega arith)) (at 2 (omega arith)) (at 3 (omega arith))
+    go (suc (suc (suc zero))) l at = four _ _ _ _ _ _ _ _ (bytes_of ws) (at 0 (omega arith)) (at 1 (omega arith)) (at 2 (omega arith)) (at 3 (omega arith))
+    go (suc (suc (suc (suc i)))) l at = absurd (omega (arith, l))
 
 pub bytes_of-set : (ws : List ℕ) (q j b : ℕ) → j < 4 → b < 256 → bytes_of (set ws q (with_byte_in (get_or ws q 0) j b)) ≡ set (bytes_of ws) (4 * q + j) b
 unfolding bytes_of

@@ -6,3 +6,5 @@ pub mod Objects
 pub mod Edits
 pub mod Contexts
 pub mod Sounds
+pub mod Wholes
+pub mod Writes

@@ -7,12 +7,12 @@ use Rattle.std.proofs.lemmas.Bool.Decides.{nat_tests}
 use Rattle.std.proofs.lemmas.List.{get_or-set_other, get_or-set_same, length-set}
 use Rattle.std.proofs.lemmas.List.Elements.{All-set}
 use Rattle.std.proofs.lemmas.Option.{slice_get_within}
-use Rattle.cs_heap.specs.Format.{is_method, is_pointers, is_shape}
+use Rattle.cs_heap.specs.Format.{is_method, is_pointers, format_allows}
 use Rattle.cs_heap.specs.Object.{Object, at_index, birth_of, is_object, object_at, set_word, with_object}
 use Rattle.cs_model.specs.Obj.{is_header, literal_count}
 use Rattle.cs_classes.specs.Meaning.{count_of, depth_in, header_in, is_context, literals_in}
 use Rattle.cs_classes.specs.Sound.{IsSound, IsSoundContext, IsSoundMethod, IsSoundObject, is_reference, nil_of, references_in}
-use Rattle.cs_classes.proofs.Heaps.{IsEdit, element_within, slice_get-at_index_other, slice_get-at_index_same, slice_get-push, stands, with_object-stands}
+use Rattle.cs_classes.proofs.Heaps.{IsEdit, slice_get-at_index_other, slice_get-at_index_same, slice_get-push, stands, with_object-stands}
 use Rattle.cs_classes.proofs.Objects.{AreApart, IsFresh}
 use Rattle.cs_classes.proofs.Refs.{is_reference-push, is_reference-with_object, nil_of-push, nil_of-with_object}
 use Rattle.cs_classes.proofs.Edits.{literals_in-set, literals_in-set_code}
@@ -132,13 +132,13 @@ sound-push os y sound fresh new = record {
 
 -- ---- sound changes of one object
 
-shape_set : (format : ℕ) (ws : List ℕ) (i v : ℕ) → IsTrue (is_shape format (length ws)) → IsTrue (is_shape format (length (set ws i v)))
-shape_set format ws i v h = subst (λ (n : ℕ). IsTrue (is_shape format n)) (sym (length-set ws i v)) h
+allows_set : (format : ℕ) (ws : List ℕ) (i v : ℕ) → IsTrue (format_allows format (length ws)) → IsTrue (format_allows format (length (set ws i v)))
+allows_set format ws i v h = subst (λ (n : ℕ). IsTrue (format_allows format n)) (sym (length-set ws i v)) h
 
 -- a slot of a pointer object
 pub sound-set_slot : (os : List Object) (x : Object) (i v : ℕ) → IsSoundObject os x → is_context x ≡ false → is_pointers x.format ≡ true → is_reference os v ≡ true → IsSoundObject os (set_word i v x)
 sound-set_slot os x i v s other p h = record {
-  shape = shape_set x.format x.words i v s.shape;
+  shape = allows_set x.format x.words i v s.shape;
   references = subst (AllPass (is_reference os)) (sym (references-pointers (set_word i v x) p))
       (All-set (λ (w : ℕ). is_reference os w ≡ true) x.words i v h (subst (AllPass (is_reference os)) (references-pointers x p) s.references));
   context = λ c. absurd (false≢true (sym other ∙ c));
@@ -152,7 +152,7 @@ sound_method os x i v s m h all =
     let header : header_in (set x.words i v) ≡ header_in x.words = ap (λ (w : ℕ). unwrap_or (count_of w) 0) word in
     let old = s.method m in
     record {
-      shape = shape_set x.format x.words i v s.shape;
+      shape = allows_set x.format x.words i v s.shape;
       references = subst (AllPass (is_reference os)) (sym (references-method (set_word i v x) m)) all;
       context = λ c. absurd (false≢true (sym (method_other os x s m) ∙ c));
       method = λ _. record {
@@ -175,7 +175,7 @@ sound-set_code os x i v s m h =
 -- a word of raw bytes
 pub sound-set_bytes : (os : List Object) (x : Object) (i v : ℕ) → IsSoundObject os x → is_context x ≡ false → is_pointers x.format ≡ false → is_method x.format ≡ false → IsSoundObject os (set_word i v x)
 sound-set_bytes os x i v s other p m = record {
-  shape = shape_set x.format x.words i v s.shape;
+  shape = allows_set x.format x.words i v s.shape;
   references = subst (AllPass (is_reference os)) (sym (none (set_word i v x) p m)) (λ k d l. absurd (omega (arith, l)));
   context = λ c. absurd (false≢true (sym other ∙ c));
   method = λ n. absurd (false≢true (sym m ∙ n));
@@ -198,7 +198,7 @@ sound-set_context os x i v s c w =
     let pointers : is_pointers x.format ≡ true = ap is_pointers old.format in
     let slots : length (set x.words i v) ≡ length x.words = length-set x.words i v in
     record {
-      shape = shape_set x.format x.words i v s.shape;
+      shape = allows_set x.format x.words i v s.shape;
       references = subst (AllPass (is_reference os)) (sym (references-pointers (set_word i v x) pointers)) (All-set (λ (u : ℕ). is_reference os u ≡ true) x.words i v w.reference whole.references);
       context = λ _. record {
         format = old.format;
