@@ -1,9 +1,9 @@
 -- When a world can be asked for something.
-use Rattle.std.specs.Prelude.{◌≡◌, ℕ, true, false, slice_get, Some}
+use Rattle.std.specs.Prelude.{◌≡◌, ℕ, Bool, true, false, ◌&&◌, nat_lt, nat_le, length, slice_get, Option, Some, None}
 use Rattle.cs_heap.specs.Object.{Object}
 use Rattle.cs_classes.specs.Meaning.{obj_of, ref_of, is_context, kept_of}
 use Rattle.cs_classes.specs.Sound.{IsWhole}
-use Rattle.cs_model.specs.Obj.{is_context_at}
+use Rattle.cs_model.specs.Obj.{Obj, Ptr, Raw, Method, Ctx, is_context_at}
 use Rattle.cs_model.specs.State.{Kept, object_at}
 use Rattle.cs_model.specs.Keeps.{Keeps}
 use Rattle.cs_model.specs.Read.{IsRunning}
@@ -26,3 +26,11 @@ pub record IsSound (s : Store) (k : Kept) : Type 0 where
 pub record IsReady (s : Store) (k : Kept) : Type 0 where
   pub sound : IsSound s k
   pub running : IsRunning k
+
+-- the slots that may be written: those of a pointer object, and the literals of a method behind its header
+abbrev pub is_storable : Option Obj → ℕ → Bool
+is_storable None i = false
+is_storable (Some (Ptr class format hash slots)) i = nat_lt i (length slots)
+is_storable (Some (Raw class format hash bytes)) i = false
+is_storable (Some (Method class format hash header literals bytecodes)) i = nat_lt 0 i && nat_le i (length literals)
+is_storable (Some (Ctx c)) i = false

@@ -5,7 +5,6 @@
 #![tactic(auto)]
 
 mod act;
-pub mod read;
 mod world;
 
 pub use act::Act;

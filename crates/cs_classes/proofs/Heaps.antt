@@ -38,6 +38,11 @@ birth_of-object_at os a x h = ap (λ (o : Option Object). option_map_or (λ (y :
 pub object_there : (os : List Object) (a : ℕ) → is_object os a ≡ true → (x : Object) × (object_at os a ≡ Some x)
 object_there os a h = let f = has_index os a h in (f.1.split.x, object_at-found os a f.0 f.1)
 
+pub element_within : {X : Type 0} (xs : List X) (k : ℕ) → k < length xs → (x : X) × (slice_get xs k ≡ Some x)
+element_within [] k h = absurd (omega (arith, h))
+element_within (x ∷ xs) zero h = (x, refl)
+element_within (x ∷ xs) (suc k) h = element_within xs k (omega (arith, h))
+
 -- ---- one object changes
 
 pub slice_get-at_index_same : (k : ℕ) (f : Object → Object) (xs : List Object) → slice_get (at_index k f xs) k ≡ option_map f (slice_get xs k)

@@ -8,3 +8,4 @@ pub mod Contexts
 pub mod Sounds
 pub mod Wholes
 pub mod Writes
+pub mod Makings

@@ -17,14 +17,14 @@ use Rattle.cs_heap.proofs.Laws.{is_object-old, is_object-with_object, length-wit
 use Rattle.cs_model.specs.Ref.{Ref}
 use Rattle.cs_model.specs.Ref as ref
 use Rattle.cs_model.specs.Obj.{Ctx, Method, Obj, Ptr}
-use Rattle.cs_model.specs.State.{ContextHeld, IsHeld, Kept, NamesHeld, Rest, put, with_rest}
+use Rattle.cs_model.specs.State.{IsHeld, Kept, NamesHeld, RestHeld, put, with_rest}
 use Rattle.cs_model.specs.Operation.{add_of, edit_found, edit_object}
 use Rattle.cs_model.specs.Instance.{with_class}
 use Rattle.cs_classes.specs.declared.Roots.{Roots}
 use Rattle.cs_classes.specs.Meaning.{birth_at, classes_of, context_of, depth_in, is_context, kept_of, literals_in, meaning_at, obj_of, objects_of, ref_of, ref_of_kind}
 use Rattle.cs_classes.specs.Sound.{IsSound, IsSoundObject, IsWhole, is_reference, is_reference_kind, nil_of, references_in}
-use Rattle.cs_classes.proofs.Heaps.{object_there, IsEdit, birth_at-with_object, birth_of-object_at, birth_of-push, birth_of-with_object, is_object-object_at, slice_get-at_index_other, slice_get-at_index_same, slice_get-push, stands, with_object-stands}
-use Rattle.cs_classes.proofs.Objects.{AreApart, Comes, IsFresh, get-objects_of, objects_of-comes, objects_of-push, objects_of-with_object}
+use Rattle.cs_classes.proofs.Heaps.{object_there, element_within, IsEdit, birth_at-with_object, birth_of-object_at, birth_of-push, birth_of-with_object, is_object-object_at, slice_get-at_index_other, slice_get-at_index_same, slice_get-push, stands, with_object-stands}
+use Rattle.cs_classes.proofs.Objects.{AreApart, Comes, IsFresh, get-objects_of, get-objects_of-element, objects_of-comes, objects_of-push, objects_of-with_object}
 use Rattle.cs_classes.proofs.Refs.{is_reference-push, nil_of-push, nil_of-with_object, ref_of-push}
 use Rattle.cs_classes.proofs.Sorts.{AContext, AMethod, Bytes, Pointers, Sort, obj_of-alike, obj_of-bytes, obj_of-context, obj_of-method, obj_of-pointers, pass_drop, pass_take, references-method, references-pointers, sort_of}
 use Rattle.cs_classes.proofs.Sounds.{sound-push, sound-with_object, sound_at, whole_context}
@@ -265,3 +265,25 @@ pub kept_of-closed : (os : List Object) (table : FinMap nat_cmp ℕ) (roots : Ro
 kept_of-closed os table roots active i o sound h =
     let from = objects_of-comes os i o sound.apart h in
     subst (NamesHeld (kept_of os table roots active)) from.meaning (obj_of-held os table roots active from.object sound (sound.each from.place from.object from.element))
+
+birth_at-held : (os : List Object) (table : FinMap nat_cmp ℕ) (roots : Roots) (active : Option ℕ) (k : ℕ) → IsSound os → k < length os → IsHeld (kept_of os table roots active) (ref.Obj (birth_at os k))
+birth_at-held os table roots active k sound l =
+    let x = element_within os k l in
+    ap is_some (ap (λ (o : Option Object). get (objects_of os) (option_map_or (λ (y : Object). y.birth) o 0)) x.1 ∙ get-objects_of-element os k x.0 sound.apart x.1)
+
+pub kept_of-roots : (os : List Object) (table : FinMap nat_cmp ℕ) (roots : Roots) (active : Option ℕ) → IsWhole os table roots
+    → ((i : ℕ) → active ≡ Some i → IsHeld (kept_of os table roots active) (ref.Obj i)) → RestHeld (kept_of os table roots active)
+kept_of-roots os table roots active w running = record {
+  nil = birth_at-held os table roots active 0 w.heap (omega (arith, w.first));
+  false_ = birth_at-held os table roots active 1 w.heap (omega (arith, w.first));
+  true_ = birth_at-held os table roots active 2 w.heap (omega (arith, w.first));
+  special = object_held roots.special.0 w.special;
+  classes = λ index i e. class_held index i (get table index) refl (sym (get-classes_of os table index) ∙ e);
+  active = running;
+}
+  where
+    object_held : (a : ℕ) → is_object os a ≡ true → IsHeld (kept_of os table roots active) (ref.Obj (birth_of os a))
+    object_held a h = let x = object_there os a h in ap is_some (get-objects_of os a w.heap h ∙ ap (option_map (obj_of (ref_of os))) x.1)
+    class_held : (index i : ℕ) (o : Option ℕ) → get table index ≡ o → option_map (birth_of os) o ≡ Some i → IsHeld (kept_of os table roots active) (ref.Obj i)
+    class_held index i None e h = absurd (cc)
+    class_held index i (Some a) e h = let is : birth_of os a ≡ i = cc in subst (λ (n : ℕ). IsHeld (kept_of os table roots active) (ref.Obj n)) is (object_held a (w.classes index a e))

@@ -16,9 +16,8 @@ use Rattle.cs_heap.specs.Object.{Object, birth_of, object_at, set_word, slot_of,
 use Rattle.cs_heap.specs.Object as heap
 use Rattle.cs_model.specs.Ref.{Ref}
 use Rattle.cs_model.specs.Ref as ref
-use Rattle.cs_model.specs.Obj.{Context, Obj, literal_count, popped, pushed, stored, with_pc, with_stack}
+use Rattle.cs_model.specs.Obj.{edit_context, Context, Obj, literal_count, popped, pushed, stored, with_pc, with_stack}
 use Rattle.cs_model.specs.Obj as model
-use Rattle.cs_model.specs.Context.{edit_context}
 use Rattle.cs_model.specs.State.{Kept}
 use Rattle.cs_model.specs.Operation.{edit_object, store_byte_of, store_of}
 use Rattle.cs_model.specs.Operation as operation
