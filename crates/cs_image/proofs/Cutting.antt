@@ -118,11 +118,21 @@ get_pushed [] y (suc k) x e = absurd (cc)
 get_pushed (z ∷ xs) y zero x e = inl e
 get_pushed (z ∷ xs) y (suc k) x e = elim (get_pushed xs y k x e) [ inl h ↦ inl h | inr h ↦ inr (ap suc h.0, h.1) ]
 
-index_more : (size : ℕ) (objects : List Placed) (starts : List ℕ) (o : Placed) → IsIndexed size objects starts → slice_index starts o.place ≡ 0
-    → o.place + 2 + o.slots ≤ size → IsIndexed size (objects ++ o ∷ []) (set starts o.place (length objects + 1))
-index_more size objects starts o i free lies = record {
+-- an object lies within the heap, its class index and hash fit a header, and it is well formed
+record IsIn (heap : List ℕ) (o : Placed) : Type 0 where
+  within : o.place + 2 + o.slots ≤ length heap
+  class : o.class < 2 ^ 22
+  hash : o.hash < 2 ^ 22
+  well_formed : is_well_formed (object_of heap o) ≡ true
+
+index_more : (heap : List ℕ) (objects : List Placed) (starts : List ℕ) (o : Placed) → IsIndexed heap objects starts → slice_index starts o.place ≡ 0
+    → IsIn heap o → IsIndexed heap (objects ++ o ∷ []) (set starts o.place (length objects + 1))
+index_more heap objects starts o i free lies = record {
   long = length-set starts o.place (length objects + 1) ∙ i.long;
-  within = λ k x e. elim (get_pushed objects o k x e) as (λ _. x.place + 2 + x.slots ≤ size) [ inl h ↦ i.within k x h | inr h ↦ rw h.1 lies ];
+  within = λ k x e. (each k x e).within;
+  class = λ k x e. (each k x e).class;
+  hash = λ k x e. (each k x e).hash;
+  well_formed = λ k x e. (each k x e).well_formed;
   found = λ k x e. elim (get_pushed objects o k x e) as (λ _. get_or (set starts o.place (length objects + 1)) x.place 0 ≡ k + 1) [
     | inl h ↦ let other : x.place ≢ o.place = (λ same. absurd (omega (arith, free, i.found k x h, ap (slice_index starts) same))) in
         get_or-set_other starts o.place x.place (length objects + 1) 0 other ∙ i.found k x h
@@ -137,8 +147,13 @@ index_more size objects starts o i free lies = record {
   ];
 }
   where
+    each : (k : ℕ) (x : Placed) → slice_get (objects ++ o ∷ []) k ≡ Some x → IsIn heap x
+    each k x e = elim (get_pushed objects o k x e) [
+          | inl h ↦ record { within = i.within k x h; class = i.class k x h; hash = i.hash k x h; well_formed = i.well_formed k x h }
+          | inr h ↦ rw h.1 lies
+        ]
     here : get_or (set starts o.place (length objects + 1)) o.place 0 ≡ length objects + 1
-    here = get_or-set_same starts o.place (length objects + 1) 0 (omega (arith, i.long, lies))
+    here = get_or-set_same starts o.place (length objects + 1) 0 (omega (arith, i.long, lies.within))
     old : (place k : ℕ) → option_map (λ (x : Placed). x.place) (slice_get objects k) ≡ Some place → (r : Option Placed) → slice_get objects k ≡ r
         → option_map (λ (x : Placed). x.place) (slice_get (objects ++ o ∷ []) k) ≡ Some place
     old place k e None is = absurd (cc)
@@ -148,7 +163,7 @@ index_more size objects starts o i free lies = record {
 pub record IsCutTo (words : List ℕ) (objects : List Placed) (starts : List ℕ) (at : ℕ) : Type 0 where
   pub kept : map (object_of words) objects ++ filter stands (rest words at).objects ≡ filter stands (cut_of words).objects
   pub fault : bad_object (rest words at) ≡ bad_object (cut_of words)
-  pub index : IsIndexed (length words) objects starts
+  pub index : IsIndexed words objects starts
   pub ahead : (place : ℕ) → at ≤ place → slice_index starts place ≡ 0
   pub count : length objects ≤ at
 
@@ -159,6 +174,9 @@ none_cut words = record {
   index = record {
     long = length-replicate (length words) 0;
     within = λ k o e. absurd (cc);
+    class = λ k o e. absurd (cc);
+    hash = λ k o e. absurd (cc);
+    well_formed = λ k o e. absurd (cc);
     found = λ k o e. absurd (cc);
     only = λ place k e. let z = zeros (length words) place in absurd (omega (arith, e, z));
   };
@@ -178,16 +196,20 @@ pub record IsNext (words : List ℕ) (at : ℕ) (o : Placed) : Type 0 where
   sound : is_faulty (object_from words at) ≡ false
   within : end_at o.place o.slots ≤ length words
   behind : at ≤ o.place
+  class : o.class < 2 ^ 22
+  hash : o.hash < 2 ^ 22
 
 -- and was looked for in the slice of the words
 pub next_is : (words heap : List ℕ) → heap ≡ words → (at : ℕ) (o : Placed) → at < length words → Some (object_of heap o) ≡ object_from heap at
-    → false ≡ is_faulty (object_from heap at) → end_at o.place o.slots ≤ length heap → at ≤ o.place → IsNext words at o
-next_is words heap same at o h e f w b = record {
+    → false ≡ is_faulty (object_from heap at) → end_at o.place o.slots ≤ length heap → at ≤ o.place → o.class < 2 ^ 22 → o.hash < 2 ^ 22 → IsNext words at o
+next_is words heap same at o h e f w b class hash = record {
   here = h;
   is = let P : List ℕ → Type 0 = λ ws. Some (object_of ws o) ≡ object_from ws at in subst P same e;
   sound = let P : List ℕ → Type 0 = λ ws. is_faulty (object_from ws at) ≡ false in subst P same (sym f);
   within = let P : List ℕ → Type 0 = λ ws. end_at o.place o.slots ≤ length ws in subst P same w;
   behind = b;
+  class = class;
+  hash = hash;
 }
 
 slots_lie : (words : List ℕ) (o : Placed) → end_at o.place o.slots ≤ length words → o.place + 2 + o.slots ≤ length words
@@ -231,7 +253,8 @@ next_kept words objects starts at o i n kept = record {
       ∙ append_assoc (map (object_of words) objects) (object_of words o ∷ []) (filter stands (rest words (end_at o.place o.slots)).objects)
       ∙ ap (λ (rest_of : List FileObject). map (object_of words) objects ++ rest_of) (sym left) ∙ i.kept;
   fault = next_fault words at o n ∙ i.fault;
-  index = index_more (length words) objects starts o i.index (i.ahead o.place n.behind) (slots_lie words o n.within);
+  index = index_more words objects starts o i.index (i.ahead o.place n.behind)
+      (record { within = slots_lie words o n.within; class = n.class; hash = n.hash; well_formed = formed (is_well_formed (object_of words o)) refl });
   ahead = λ place p. let other : place ≢ o.place = (λ same. absurd (omega (arith, p, same))) in
       get_or-set_other starts o.place place (length objects + 1) 0 other ∙ i.ahead place (omega (arith, p, n.behind));
   count = let more = length-append objects (o ∷ []) in omega (arith, i.count, n.behind, more);
@@ -239,6 +262,11 @@ next_kept words objects starts at o i n kept = record {
   where
     is_in : stands (object_of words o) ≡ true
     is_in = grind (arith, nat_tests, kept)
+    formed : (b : Bool) → is_well_formed (object_of words o) ≡ b → b ≡ true
+    formed true e = refl
+    formed false e =
+        let faulty : is_faulty (Some (object_of words o)) ≡ true = rw (is_in, e) refl in
+        absurd (cc (sym faulty ∙ ap is_faulty n.is ∙ n.sound))
     left : filter stands (rest words at).objects ≡ object_of words o ∷ filter stands (rest words (end_at o.place o.slots)).objects
     left = ap (λ (c : Cut). filter stands c.objects) (next_rest words at o n) ∙ rw is_in refl
 

@@ -36,15 +36,19 @@ is_faulty o = option_map_or (λ x. stands x && not (is_well_formed x)) o true
 abbrev pub file_in : Inside → File
 file_in h = record { base = h.base; objects = map (object_of h.words.items) h.objects.items }
 
--- In a heap of so many words, the objects' slots lie within it, and their numbers, counted from 1, stand at their headers'
--- places and nowhere else.
-pub record IsIndexed (size : ℕ) (objects : List Placed) (starts : List ℕ) : Type 0 where
-  pub long : length starts ≡ size
-  pub within : (k : ℕ) (o : Placed) → slice_get objects k ≡ Some o → o.place + 2 + o.slots ≤ size
+-- The objects lie within the heap, their class indices and hashes fit a header, and they are well formed. Their numbers,
+-- counted from 1, stand at their headers' places
+-- and nowhere else.
+pub record IsIndexed (heap : List ℕ) (objects : List Placed) (starts : List ℕ) : Type 0 where
+  pub long : length starts ≡ length heap
+  pub within : (k : ℕ) (o : Placed) → slice_get objects k ≡ Some o → o.place + 2 + o.slots ≤ length heap
+  pub class : (k : ℕ) (o : Placed) → slice_get objects k ≡ Some o → o.class < 2 ^ 22
+  pub hash : (k : ℕ) (o : Placed) → slice_get objects k ≡ Some o → o.hash < 2 ^ 22
+  pub well_formed : (k : ℕ) (o : Placed) → slice_get objects k ≡ Some o → is_well_formed (object_of heap o) ≡ true
   pub found : (k : ℕ) (o : Placed) → slice_get objects k ≡ Some o → slice_index starts o.place ≡ k + 1
   pub only : (place k : ℕ) → slice_index starts place ≡ k + 1 → option_map (λ o. o.place) (slice_get objects k) ≡ Some place
 
 pub record IsFileHeap (h : Inside) : Type 0 where
   pub size : length h.words.items ≤ 2 ^ 27
   pub fits : h.base + 4 * length h.words.items ≤ 2 ^ 32
-  pub index : IsIndexed (length h.words.items) h.objects.items h.starts.items
+  pub index : IsIndexed h.words.items h.objects.items h.starts.items

@@ -44,6 +44,8 @@ fn object_within(words: &[u32], first: u32, place: u32, slots: u64) -> Option<Pl
     requires size { length words.now ≤ 2 ^ 27 }
     requires slots { slots < 2 ^ 56 }
     ensures value { option_map (object_of words.now) result ≡ object_within_of words.now first place slots }
+    ensures class { IfSome result (λ o. o.class < 2 ^ 22) }
+    ensures hash { IfSome result (λ o. o.hash < 2 ^ 22) }
     ensures within { IfSome result (λ o. end_of o.place o.slots ≤ length words.now) }
     ensures header { IfSome result (λ o. o.place ≡ place) }
 {
@@ -76,6 +78,8 @@ fn object_at(words: &[u32], first: u32) -> Option<Placed>
     requires size { length words.now ≤ 2 ^ 27 }
     requires first { first < length words.now }
     ensures value { option_map (object_of words.now) result ≡ object_from words.now first }
+    ensures class { IfSome result (λ o. o.class < 2 ^ 22) }
+    ensures hash { IfSome result (λ o. o.hash < 2 ^ 22) }
     ensures within { IfSome result (λ o. end_of o.place o.slots ≤ length words.now) }
     ensures behind { IfSome result (λ o. first ≤ o.place) }
 {
@@ -96,6 +100,8 @@ fn sound_object_at(words: &[u32], first: u32) -> Option<Placed>
     requires size { length words.now ≤ 2 ^ 27 }
     requires first { first < length words.now }
     ensures value { IfSome result (λ o. Some (object_of words.now o) ≡ object_from words.now first) }
+    ensures class { IfSome result (λ o. o.class < 2 ^ 22) }
+    ensures hash { IfSome result (λ o. o.hash < 2 ^ 22) }
     ensures fault { is_none result ≡ is_faulty (object_from words.now first) }
     ensures within { IfSome result (λ o. end_of o.place o.slots ≤ length words.now) }
     ensures behind { IfSome result (λ o. first ≤ o.place) }

@@ -1,8 +1,8 @@
 //! The objects of a file, found by the words that name them.
 
-ghost use Rattle.std.specs.Prelude.{◌≡◌, ◌<◌, ◌≤◌, ◌+◌, ◌*◌, ◌^◌, IfSome, length, option_and_then, option_map, slice_get, take, drop};
-ghost use Rattle.cs_model.specs.ImageFile.{is_nil, named, nil_in};
-ghost use Rattle.cs_model.specs.ImageFault.{unless_nil};
+ghost use Rattle.std.specs.Prelude.{◌≡◌, ◌<◌, ◌≤◌, ◌+◌, ◌*◌, ◌^◌, ◌==◌, true, IfSome, length, option_map, slice_get, take, drop};
+ghost use Rattle.cs_model.specs.ImageFile.{address_in, is_nil, named, nil_in};
+ghost use Rattle.cs_model.specs.ImageFault.{is_body, unless_nil};
 
 use crate::cut::{slots_of, word_at};
 use std::marker::Model;
@@ -65,6 +65,7 @@ impl Model for FileHeap {
 
 impl FileHeap {
     ghost use Rattle.cs_image.specs.Heap.{seen};
+    ghost use Rattle.cs_image.specs.Loading.{number_of};
 
     /// How many objects there are.
     pub(crate) fn len(&self) -> usize
@@ -90,6 +91,9 @@ impl FileHeap {
         requires { number < length self.now.objects }
         ensures value { slice_get self.now.objects number ≡ Some (seen result) }
         ensures within { result.place + 2 + length result.words.now ≤ 2 ^ 27 }
+        ensures class { result.class < 2 ^ 22 }
+        ensures hash { result.hash < 2 ^ 22 }
+        ensures well_formed { is_body result.format result.words.now ≡ true }
     {
         let o = self.objects[number];
         FileObject {
@@ -104,8 +108,7 @@ impl FileHeap {
 
     /// The number of the object that a word names, counted from 0.
     pub(crate) fn number_named(&self, word: u32) -> Option<usize>
-        ensures number { named self.now word ≡ option_and_then (slice_get self.now.objects) result }
-        ensures within { IfSome result (λ k. k < length self.now.objects) }
+        ensures { result ≡ number_of (λ o. address_in self.now o == word) self.now.objects }
     {
         if word < self.base || (word - self.base) % 4 != 0 {
             return None;

@@ -25,7 +25,7 @@ pub loop-at-preserved : goal.loop-at-preserved
 loop-at-preserved c =
     let o : Placed = c.in-Some.o in
     let next = next_is c.args.words.items c.deref.result.now c.deref.ensures.value c.loop-at.at o (omega arith)
-        c.in-Some.ensures.value c.in-Some.ensures.fault c.in-Some.ensures.within c.in-Some.ensures.behind in
+        c.in-Some.ensures.value c.in-Some.ensures.fault c.in-Some.ensures.within c.in-Some.ensures.behind c.in-Some.ensures.class c.in-Some.ensures.hash in
     let end : c.end_at-at.result ≡ end_at o.place o.slots = c.end_at-at.ensures ∙ ap (end_at o.place) c.from.ensures in
     elim c.if-o-ne0.branch [
       | then-o-ne0+in_ok-push w ↦
