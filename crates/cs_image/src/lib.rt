@@ -6,6 +6,7 @@ mod cut;
 mod error;
 mod file;
 mod header;
+mod memory;
 mod reference;
 mod roots;
 mod shape;

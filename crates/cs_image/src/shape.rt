@@ -1,7 +1,7 @@
 //! What the words of an object must be for its format.
 
 ghost use Rattle.std.specs.Prelude.{◌≡◌, ◌<◌, ◌≤◌, ◌+◌, ◌*◌, ◌^◌, length, IsTrue};
-ghost use Rattle.cs_model.specs.Words.{bytecode_count, header_in_words, literals_in_words, has_shape as has_shape_of, is_method_format as is_method_of, natural_in_word};
+ghost use Rattle.cs_model.specs.Words.{bytecode_count, header_in_words, literals_in_words, is_method_format as is_method_of, natural_in_word};
 ghost use Rattle.cs_model.specs.ImageFault.{is_body as is_body_of, is_method_body as is_method_body_of};
 ghost use Rattle.cs_model.specs.Obj.{is_header as is_header_of, lies_between, literal_count as literal_count_of};
 
@@ -25,18 +25,6 @@ pub(crate) fn is_method(format: u8) -> bool
     24 <= format && format < 28
 }
 
-fn has_shape(format: u8, slots: u32) -> bool
-    ensures { result ≡ has_shape_of format slots }
-{
-    match format {
-        0 => slots == 0,
-        1..=5 | 10 | 12 | 16 | 24 => true,
-        9 => slots % 2 == 0,
-        13 | 17..=19 | 25..=27 => slots > 0,
-        _ => false,
-    }
-}
-
 /// Whether a method's header is valid: arguments are not more than temporaries, and these fit the context.
 fn is_header(header: u32) -> bool
     ensures { result ≡ is_header_of header }
@@ -56,7 +44,7 @@ pub(crate) fn literals(words: &[u32]) -> &[u32]
 }
 
 /// How many literals a method has, by its header.
-fn literal_count(words: &[u32]) -> usize
+pub(crate) fn literal_count(words: &[u32]) -> usize
     ensures { result ≡ literal_count_of (header_in_words words.now) }
 {
     natural(word_at(words, 0)).unwrap_or(0) as usize % (1 << 15)
@@ -92,5 +80,5 @@ pub(crate) fn is_body(format: u8, words: &[u32]) -> bool
     requires { length words.now < 2 ^ 32 }
     ensures { result ≡ is_body_of format words.now }
 {
-    has_shape(format, words.len() as u32) && (!is_method(format) || is_method_body(format, words))
+    cs_heap::format_allows(format, words.len() as u32) && (!is_method(format) || is_method_body(format, words))
 }
