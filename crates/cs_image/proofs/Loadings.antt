@@ -17,10 +17,11 @@ pub record IsLoadedTo (f : File) (objects : List Object) (birth k : ℕ) : Type 
   pub given_so : objects ++ loaded_from f birth (filter is_visible (drop k f.objects)) ≡ loaded_from f 0 (visible f)
   pub counted : used objects + total (drop k f.objects) ≡ total f.objects
   pub births : birth ≤ k
+  pub next : birth + length (filter is_visible (drop k f.objects)) ≡ length (visible f)
 
 pub none_loaded : (f : File) → IsLoadedTo f [] 0 0
 unfolding visible
-none_loaded f = record { given_so = refl; counted = omega arith; births = omega arith }
+none_loaded f = record { given_so = refl; counted = omega arith; births = omega arith; next = omega arith }
 
 pub length-loaded : (f : File) (birth : ℕ) (o : FileObject) → length (loaded f birth o).words ≡ length o.words
 length-loaded f birth o = length-map-range_with_len (loaded_word f o.format o.words) 0 (length o.words)
@@ -31,6 +32,7 @@ loaded_hidden f objects birth k x p e v = record {
   given_so = ap (λ (xs : List FileObject). objects ++ loaded_from f birth xs) (sym next) ∙ p.given_so;
   counted = ap (λ n. used objects + n) (sym (total_hidden f.objects k x e v)) ∙ p.counted;
   births = omega (arith, p.births);
+  next = ap (λ (xs : List FileObject). birth + length xs) (sym next) ∙ p.next;
 }
   where
     next : filter is_visible (drop k f.objects) ≡ filter is_visible (drop (k + 1) f.objects)
@@ -45,6 +47,7 @@ loaded_visible f objects birth k x p e v = record {
       (used (objects ++ loaded f birth x ∷ [])) (total_visible f.objects k x e v) p.counted
       (used-pushed objects (loaded f birth x) ∙ ap (λ n. used objects + size n) (length-loaded f birth x));
   births = omega (arith, p.births);
+  next = let one : length (filter is_visible (drop k f.objects)) ≡ suc (length (filter is_visible (drop (k + 1) f.objects))) = ap length next in omega (arith, p.next, one);
 }
   where
     next : filter is_visible (drop k f.objects) ≡ x ∷ filter is_visible (drop (k + 1) f.objects)
@@ -68,3 +71,8 @@ room_left f objects birth k limit x p e v over =
 pub all_loaded : (f : File) (objects : List Object) (birth k : ℕ) → IsLoadedTo f objects birth k → length f.objects ≤ k → objects ≡ loaded_from f 0 (visible f)
 all_loaded f objects birth k p h =
     sym (append-nil objects) ∙ ap (λ (xs : List FileObject). objects ++ loaded_from f birth (filter is_visible xs)) (sym (drop_of_length-le f.objects h)) ∙ p.given_so
+
+pub next_loaded : (f : File) (objects : List Object) (birth k : ℕ) → IsLoadedTo f objects birth k → length f.objects ≤ k → birth ≡ length (visible f)
+next_loaded f objects birth k p h =
+    let none : length (filter is_visible (drop k f.objects)) ≡ 0 = ap (λ (xs : List FileObject). length (filter is_visible xs)) (drop_of_length-le f.objects h) in
+    omega (arith, p.next, none)

@@ -2,9 +2,12 @@
 use Rattle.std.specs.Prelude.{ℕ, zero, suc, ◌+◌, ◌*◌, ◌%◌, ◌==◌, ◌&&◌, ◌||◌, Bool, nat_le, nat_lt, if◌then◌else◌, List, [], ◌∷◌, length, map, slice_index, slice_set, Option, Some, None, option_map}
 use Rattle.std.specs.Option.{option_map_or}
 use Rattle.std.specs.List.{range_with_len}
+use Rattle.std.specs.Ordering.{nat_cmp}
+use Rattle.std.specs.FinMap.{FinMap, empty, insert}
 use Rattle.cs_model.specs.Obj.{literal_count}
 use Rattle.cs_model.specs.Words.{is_pointer_format, is_method_format, header_in_words, plain_format}
 use Rattle.cs_model.specs.ImageFile.{FileObject, File, is_visible, address_in}
+use Rattle.cs_model.specs.ImageFault.{has_entry, entry_in}
 use Rattle.cs_heap.specs.Object.{Object, base, header_address, no_flags, size}
 
 -- which element passes first
@@ -56,3 +59,8 @@ loaded f birth o = record {
 abbrev pub loaded_from : File → ℕ → List FileObject → List Object
 loaded_from f birth [] = []
 loaded_from f birth (o ∷ objects) = loaded f birth o ∷ loaded_from f (birth + 1) objects
+
+-- the addresses of the classes of the indices below n
+abbrev pub classes_at : File → ℕ → FinMap nat_cmp ℕ
+classes_at f zero = empty
+classes_at f (suc n) = if has_entry f n then insert (classes_at f n) n (translated f (entry_in f n)) else classes_at f n

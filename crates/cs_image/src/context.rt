@@ -1,6 +1,6 @@
 //! The contexts of a file.
 
-ghost use Rattle.std.specs.Prelude.{◌≡◌, ◌<◌, ◌≤◌, ◌+◌, ◌-◌, ◌^◌, ◌==◌, ◌||◌, ◌&&◌, not, length};
+ghost use Rattle.std.specs.Prelude.{◌≡◌, ◌<◌, ◌≤◌, ◌+◌, ◌-◌, ◌^◌, ◌==◌, ◌||◌, ◌&&◌, not, IfSome, length};
 ghost use Rattle.cs_model.specs.ImageFile.{is_nil, is_visible, names};
 ghost use Rattle.cs_model.specs.ImageFault.{bad_context, is_context, is_method, is_pc_of, is_sound_context, is_stackp};
 ghost use Rattle.cs_image.specs.Heap.{seen};
@@ -111,7 +111,8 @@ fn is_bad(file: &FileHeap, o: &FileObject<'_>) -> bool
 
 /// The place of the first object of class index 36 that isn't what a context is.
 pub(crate) fn bad_context_place(file: &FileHeap) -> Option<u32>
-    ensures { result ≡ bad_context file.now }
+    ensures small { IfSome result (λ at. at < 2 ^ 30) }
+    ensures value { result ≡ bad_context file.now }
 {
     for number in 0..file.len() {
         let o = file.object(number);

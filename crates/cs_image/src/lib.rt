@@ -1,6 +1,7 @@
 //! Loading an image: from the bytes of a file to its objects in memory.
 #![tactic(auto)]
 
+mod check;
 mod context;
 mod cut;
 mod error;

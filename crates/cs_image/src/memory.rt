@@ -1,19 +1,22 @@
 //! The objects of a file in memory.
 
-ghost use Rattle.std.specs.Prelude.{◌≡◌, ◌<◌, ◌≤◌, ◌+◌, ◌*◌, ◌^◌, [], ◌∷◌, ◌++◌, true, false, IfOk, length};
-ghost use Rattle.cs_model.specs.ImageFile.{visible};
+ghost use Rattle.std.specs.Prelude.{◌≡◌, ◌<◌, ◌≤◌, ◌+◌, ◌*◌, ◌^◌, [], ◌∷◌, ◌++◌, true, false, IfOk, length, take};
+ghost use Rattle.cs_model.specs.ImageFile.{last_hash_in, special_address, visible};
 ghost use Rattle.cs_model.specs.ImageFault as fault;
-ghost use Rattle.cs_model.specs.ImageFault.{is_body, is_over};
+ghost use Rattle.cs_model.specs.ImageFault.{is_body, is_over, table_size};
 ghost use Rattle.cs_model.specs.Image.{when};
 ghost use Rattle.cs_model.specs.Words.{plain_format as plain_format_of};
 ghost use Rattle.cs_heap.specs.Object.{base, header_address, size, used};
 ghost use Rattle.cs_image.specs.Answer.{Tells};
 ghost use Rattle.cs_image.specs.Heap.{seen};
-ghost use Rattle.cs_image.specs.Loading.{address_named, addresses_of, loaded, loaded_from, loaded_word as loaded_word_of, refers, translated as translated_of};
+ghost use Rattle.cs_image.specs.Loading.{address_named, addresses_of, classes_at, loaded, loaded_from, loaded_word as loaded_word_of, refers, translated as translated_of};
 
 use crate::error::ImageError;
 use crate::file::{FileHeap, FileObject};
 use crate::shape::{is_method, literal_count};
+use crate::header::u32_at;
+use crate::table::{ENTRIES, entry};
+use cs_classes::{Classes, Roots};
 use cs_heap::{BASE, Heap};
 use cs_word::Oop;
 use std::alloc::{AllocError, Global};
@@ -119,14 +122,15 @@ fn load_object(heap: &mut Heap, file: &FileHeap, addresses: &[u32], o: &FileObje
     }
 }
 
-/// The visible objects of a file in a heap of so many words, with their births by place.
-pub(crate) fn load_objects(alloc: Global, file: &FileHeap, addresses: &[u32], limit_words: u32) -> Result<Heap, AllocError>
+/// The visible objects of a file in a heap of so many words, with their births by place, and the next birth.
+pub(crate) fn load_objects(alloc: Global, file: &FileHeap, addresses: &[u32], limit_words: u32) -> Result<(Heap, u64), AllocError>
     requires least { 4096 ≤ limit_words }
     requires most { limit_words ≤ 67108864 }
     requires addresses { addresses.now ≡ addresses_of file.now.objects 0 }
     requires room { is_over file.now limit_words ≡ false }
-    ensures limit { IfOk result (λ heap. heap.limit ≡ limit_words) }
-    ensures objects { IfOk result (λ heap. heap.objects ≡ loaded_from file.now 0 (visible file.now)) }
+    ensures limit { IfOk result (λ p. p.0.limit ≡ limit_words) }
+    ensures objects { IfOk result (λ p. p.0.objects ≡ loaded_from file.now 0 (visible file.now)) }
+    ensures next { IfOk result (λ p. p.1 ≡ length (visible file.now)) }
 {
     let mut heap = Heap::new(alloc, limit_words)?;
     let mut birth = 0;
@@ -137,5 +141,39 @@ pub(crate) fn load_objects(alloc: Global, file: &FileHeap, addresses: &[u32], li
             birth += 1;
         }
     }
-    Ok(heap)
+    Ok((heap, birth))
+}
+
+/// The class table of a file with the addresses in memory.
+pub(crate) fn load_classes(alloc: Global, file: &FileHeap, addresses: &[u32]) -> Result<Classes, AllocError>
+    requires { addresses.now ≡ addresses_of file.now.objects 0 }
+    ensures { IfOk result (λ classes. classes ≡ classes_at file.now table_size) }
+{
+    let mut classes = Classes::new(alloc)?;
+    for index in 0..ENTRIES {
+        let word = entry(file, index);
+        if !file.is_nil(word) {
+            classes.set_entry(index, Oop(translated(file, addresses, word)));
+        }
+    }
+    Ok(classes)
+}
+
+/// What an image keeps beside its objects and classes.
+pub(crate) fn load_roots(bytes: &[u8], file: &FileHeap, addresses: &[u32], next_birth: u64) -> Roots
+    requires long { 64 ≤ length bytes.now }
+    requires addresses { addresses.now ≡ addresses_of file.now.objects 0 }
+    ensures special { result.special.0 ≡ translated_of file.now (special_address bytes.now) }
+    ensures hash { result.last_hash ≡ last_hash_in bytes.now }
+    ensures next { result.next_birth ≡ next_birth }
+    ensures header { result.header ≡ take 64 bytes.now }
+{
+    let mut header = [0; 64];
+    header.copy_from_slice(&bytes[..64]);
+    Roots {
+        special: Oop(translated(file, addresses, u32_at(bytes, 16))),
+        last_hash: u32_at(bytes, 20) % (1 << 22),
+        next_birth,
+        header,
+    }
 }

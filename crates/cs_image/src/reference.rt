@@ -1,6 +1,6 @@
 //! References and class indices of a file's objects.
 
-ghost use Rattle.std.specs.Prelude.{◌≡◌, ◌<◌, ◌≤◌, ◌+◌, ◌^◌, ◌&&◌, ◌||◌, not, nat_lt, if◌then◌else◌, length, find, option_map};
+ghost use Rattle.std.specs.Prelude.{◌≡◌, ◌<◌, ◌≤◌, ◌+◌, ◌^◌, ◌&&◌, ◌||◌, not, nat_lt, IfSome, if◌then◌else◌, length, find, option_map};
 ghost use Rattle.std.specs.List.{enumerate_from};
 ghost use Rattle.cs_model.specs.ImageFile.{is_visible};
 ghost use Rattle.cs_model.specs.ImageFault.{bad_class, bad_ref, has_entry, is_lost, references};
@@ -25,8 +25,9 @@ fn is_lost_word(file: &FileHeap, word: u32) -> bool
 
 /// The place of the first lost one among these words, of which the first is at `place`.
 fn lost_in(file: &FileHeap, place: u32, words: &[u32]) -> Option<u32>
-    requires { place + length words.now < 2 ^ 32 }
-    ensures { result ≡ option_map (λ e. e.0) (find (λ e. is_lost file.now e.1) (enumerate_from place words.now)) }
+    requires { place + length words.now < 2 ^ 30 }
+    ensures small { IfSome result (λ at. at < 2 ^ 30) }
+    ensures value { result ≡ option_map (λ e. e.0) (find (λ e. is_lost file.now e.1) (enumerate_from place words.now)) }
 {
     for (i, word) in words.iter().enumerate() {
         if is_lost_word(file, *word) {
@@ -39,7 +40,8 @@ fn lost_in(file: &FileHeap, place: u32, words: &[u32]) -> Option<u32>
 /// The place of the first lost word of an object.
 fn lost_in_object(file: &FileHeap, o: &FileObject<'_>) -> Option<u32>
     requires { o.now.place + 2 + length o.now.words.now ≤ 2 ^ 27 }
-    ensures { result ≡ option_map (λ e. e.0) (find (λ e. is_lost file.now e.1) (references (seen o.now))) }
+    ensures small { IfSome result (λ at. at < 2 ^ 30) }
+    ensures value { result ≡ option_map (λ e. e.0) (find (λ e. is_lost file.now e.1) (references (seen o.now))) }
 {
     if o.format < 6 {
         return lost_in(file, o.place + 2, o.words);
@@ -53,7 +55,8 @@ fn lost_in_object(file: &FileHeap, o: &FileObject<'_>) -> Option<u32>
 /// The place of the first lost word of an object, if that is visible.
 fn lost_in_visible(file: &FileHeap, o: &FileObject<'_>) -> Option<u32>
     requires { o.now.place + 2 + length o.now.words.now ≤ 2 ^ 27 }
-    ensures { result ≡ (if is_visible (seen o.now) then
+    ensures small { IfSome result (λ at. at < 2 ^ 30) }
+    ensures value { result ≡ (if is_visible (seen o.now) then
         option_map (λ e. e.0) (find (λ e. is_lost file.now e.1) (references (seen o.now))) else None) }
 {
     if o.class == 16 { None } else { lost_in_object(file, o) }
@@ -61,7 +64,8 @@ fn lost_in_visible(file: &FileHeap, o: &FileObject<'_>) -> Option<u32>
 
 /// The place of the first word that should be the address of a visible object, and isn't.
 pub(crate) fn bad_reference(file: &FileHeap) -> Option<u32>
-    ensures { result ≡ bad_ref file.now }
+    ensures small { IfSome result (λ at. at < 2 ^ 30) }
+    ensures value { result ≡ bad_ref file.now }
 {
     for number in 0..file.len() {
         let o = file.object(number);
@@ -81,7 +85,8 @@ fn has_bad_class(file: &FileHeap, o: &FileObject<'_>) -> bool
 
 /// The place of the first visible object whose class index is that of an immediate or has no entry.
 pub(crate) fn bad_class_place(file: &FileHeap) -> Option<u32>
-    ensures { result ≡ bad_class file.now }
+    ensures small { IfSome result (λ at. at < 2 ^ 30) }
+    ensures value { result ≡ bad_class file.now }
 {
     for number in 0..file.len() {
         let o = file.object(number);

@@ -1,6 +1,6 @@
 -- The state that the file of an image describes, or its first fault.
 use Rattle.std.specs.Prelude.{ℕ, zero, suc, ◌*◌, ◌==◌, Bool, if◌then◌else◌, List, [], ◌∷◌, length, map, slice_get, zip, find, Option, Some, None, option_map, Result, Ok, Err}
-use Rattle.std.specs.Option.{option_map_or}
+use Rattle.std.specs.Option.{option_map_or, option_or}
 use Rattle.std.specs.Ordering.{nat_cmp}
 use Rattle.std.specs.FinMap.{FinMap, empty, insert, from_entries}
 use Rattle.cs_model.specs.Ref.{Ref}
@@ -9,7 +9,7 @@ use Rattle.cs_model.specs.Obj.{Obj}
 use Rattle.cs_model.specs.State.{Kept, Rest}
 use Rattle.cs_model.specs.Words.{obj_by}
 use Rattle.cs_model.specs.ImageFile.{special_address, last_hash_in, header_in, words_in, births_in, next_birth_in, FileObject, cut_of, File, file_of, visible, address_in, nil_in}
-use Rattle.cs_model.specs.ImageFault.{ImageFault, is_too_long, is_short, is_bad_format, is_bad_header_size, is_bad_length, bad_object, is_over, is_bad_table, bad_ref, bad_class, bad_context, is_bad_roots, is_bad_births, unless_nil, entry_in, table_size}
+use Rattle.cs_model.specs.ImageFault.{ImageFault, is_too_long, is_short, is_bad_format, is_bad_header_size, is_bad_length, bad_object, is_over, is_bad_table, bad_ref, bad_class, bad_context, is_bad_roots, is_bad_births, has_entry, entry_in, table_size}
 use Rattle.cs_model.specs.ImageFault as fault
 
 -- ---- the state
@@ -21,15 +21,11 @@ birth_in f births word = option_map_or (λ e. e.0) (find (λ e. address_in f e.1
 abbrev pub object_in : File → List ℕ → FileObject → Obj
 object_in f births o = obj_by (λ word. ref.Obj (birth_in f births word)) o.class o.format o.hash o.words
 
-abbrev pub given_class : FinMap nat_cmp ℕ → ℕ → Option ℕ → FinMap nat_cmp ℕ
-given_class classes index None = classes
-given_class classes index (Some birth) = insert classes index birth
-
 -- the classes of the indices below n, by birth
 abbrev pub classes_in : File → List ℕ → ℕ → FinMap nat_cmp ℕ
 classes_in f births zero = empty
-classes_in f births (suc n) = given_class (classes_in f births n) n
-    (option_map (λ o. birth_in f births (address_in f o)) (unless_nil f (entry_in f n)))
+classes_in f births (suc n) =
+    if has_entry f n then insert (classes_in f births n) n (birth_in f births (entry_in f n)) else classes_in f births n
 
 abbrev pub rest_in : List ℕ → File → List ℕ → Rest
 rest_in bytes f births = record {
@@ -63,8 +59,7 @@ at_word fault place = option_map (λ word. fault (4 * word)) place
 -- the first that is there
 abbrev pub first_of : List (Option ImageFault) → Option ImageFault
 first_of [] = None
-first_of (None ∷ faults) = first_of faults
-first_of (Some fault ∷ faults) = Some fault
+first_of (fault ∷ faults) = option_or fault (first_of faults)
 
 -- the first fault of a file, for a heap of so many words; within one kind it is that of the lowest place
 unfoldable pub fault_of : List ℕ → ℕ → Option ImageFault

@@ -15,14 +15,14 @@ loop-number-preserved c =
     c.loop-number.number (seen c.object-o.result) c.object-o.ensures.value (sym c.is_bad.ensures ∙ c.if-is_bad.false)))
     ∙ c.loop-number.invariant
 
-pub returns-then-is_bad : goal.returns-then-is_bad
-returns-then-is_bad c =
+pub returns-then-is_bad-clause-value : goal.returns-then-is_bad-clause-value
+returns-then-is_bad-clause-value c =
     sym (ap (option_map (λ (o : FileObject). o.place)) (first_here (λ o. is_context o && not (is_sound_context c.args.file.now o)) c.args.file.now.objects
     c.loop-number.number (seen c.object-o.result) c.object-o.ensures.value (sym c.is_bad.ensures ∙ c.if-is_bad.true)))
     ∙ c.loop-number.invariant
 
-pub returns : goal.returns
-returns c =
+pub returns-clause-value : goal.returns-clause-value
+returns-clause-value c =
     sym (ap (option_map (λ (o : FileObject). o.place)) (first_none (λ o. is_context o && not (is_sound_context c.args.file.now o)) c.args.file.now.objects
     c.loop-number.number (omega arith)))
     ∙ c.loop-number.invariant

@@ -4,7 +4,7 @@ use Rattle.cs_model.specs.ImageFile.{is_visible}
 use Rattle.cs_heap.specs.Object.{Memory, Object, size, used}
 use Rattle.cs_image.specs.Heap.{seen}
 use Rattle.cs_image.specs.Loading.{loaded}
-use Rattle.cs_image.proofs.Loadings.{IsLoadedTo, none_loaded, loaded_hidden, loaded_visible, room_left, all_loaded}
+use Rattle.cs_image.proofs.Loadings.{IsLoadedTo, none_loaded, loaded_hidden, loaded_visible, room_left, all_loaded, next_loaded}
 use Rattle.cs_image.proofs.memory.load_objects.Goals as goal
 use Rattle.cs_image.proofs.memory.load_objects.Goals.{then-o-ne16, else-o-ne16}
 
@@ -44,3 +44,7 @@ loop-number-preserved c = elim c.if-o-ne16.branch [
 pub returns-clause-objects : goal.returns-clause-objects
 returns-clause-objects c =
     all_loaded c.args.file.now c.loop-number.heap.objects c.loop-number.birth c.loop-number.number c.loop-number.invariant.objects (omega arith)
+
+pub returns-clause-next : goal.returns-clause-next
+returns-clause-next c =
+    next_loaded c.args.file.now c.loop-number.heap.objects c.loop-number.birth c.loop-number.number c.loop-number.invariant.objects (omega arith)

@@ -15,14 +15,14 @@ loop-number-preserved c =
     c.loop-number.number (seen c.object-o.result) c.object-o.ensures.value (sym c.has_bad_class.ensures ∙ c.if-has_bad_class.false)))
     ∙ c.loop-number.invariant
 
-pub returns-then-has_bad_class : goal.returns-then-has_bad_class
-returns-then-has_bad_class c =
+pub returns-then-has_bad_class-clause-value : goal.returns-then-has_bad_class-clause-value
+returns-then-has_bad_class-clause-value c =
     sym (ap (option_map (λ (o : FileObject). o.place)) (first_here (λ o. nat_lt o.class 4 || not (has_entry c.args.file.now o.class)) c.args.file.now.objects
     c.loop-number.number (seen c.object-o.result) c.object-o.ensures.value (sym c.has_bad_class.ensures ∙ c.if-has_bad_class.true)))
     ∙ c.loop-number.invariant
 
-pub returns : goal.returns
-returns c =
+pub returns-clause-value : goal.returns-clause-value
+returns-clause-value c =
     sym (ap (option_map (λ (o : FileObject). o.place)) (first_none (λ o. nat_lt o.class 4 || not (has_entry c.args.file.now o.class)) c.args.file.now.objects
     c.loop-number.number (omega arith)))
     ∙ c.loop-number.invariant

@@ -10,10 +10,10 @@ unfolding bad_ref visible
 loop-number-init c = refl
 
 pub loop-number-preserved : goal.loop-number-preserved
-loop-number-preserved c = sym (lost_later c.args.file.now c.args.file.now.objects c.loop-number.number (seen c.object-o.result) c.object-o.ensures.value (sym c.lost_in_visible.ensures ∙ c.in_default.is)) ∙ c.loop-number.invariant
+loop-number-preserved c = sym (lost_later c.args.file.now c.args.file.now.objects c.loop-number.number (seen c.object-o.result) c.object-o.ensures.value (sym c.lost_in_visible.ensures.value ∙ c.in_default.is)) ∙ c.loop-number.invariant
 
-pub returns-in-Some : goal.returns-in-Some
-returns-in-Some c = sym (lost_here c.args.file.now c.args.file.now.objects c.loop-number.number (seen c.object-o.result) c.in-Some.place c.object-o.ensures.value (sym c.lost_in_visible.ensures ∙ c.in-Some.is)) ∙ c.loop-number.invariant
+pub returns-in-Some-clause-value : goal.returns-in-Some-clause-value
+returns-in-Some-clause-value c = sym (lost_here c.args.file.now c.args.file.now.objects c.loop-number.number (seen c.object-o.result) c.in-Some.place c.object-o.ensures.value (sym c.lost_in_visible.ensures.value ∙ c.in-Some.is)) ∙ c.loop-number.invariant
 
-pub returns : goal.returns
-returns c = sym (lost_none c.args.file.now c.args.file.now.objects c.loop-number.number (omega arith)) ∙ c.loop-number.invariant
+pub returns-clause-value : goal.returns-clause-value
+returns-clause-value c = sym (lost_none c.args.file.now c.args.file.now.objects c.loop-number.number (omega arith)) ∙ c.loop-number.invariant

@@ -7,12 +7,12 @@ loop-i-preserved c =
     sym (word_later c.args.file.now c.args.place c.args.words.now c.loop-i.i c.loop-i-test.true (sym c.is_lost_word.ensures ∙ c.if-is_lost_word.false))
     ∙ c.loop-i.invariant
 
-pub returns-then-is_lost_word : goal.returns-then-is_lost_word
-returns-then-is_lost_word c =
+pub returns-then-is_lost_word-clause-value : goal.returns-then-is_lost_word-clause-value
+returns-then-is_lost_word-clause-value c =
     sym (word_here c.args.file.now c.args.place c.args.words.now c.loop-i.i c.loop-i-test.true (sym c.is_lost_word.ensures ∙ c.if-is_lost_word.true))
     ∙ c.loop-i.invariant ∙ words_all c.args.file.now c.args.place c.args.words.now
 
-pub returns : goal.returns
-returns c =
+pub returns-clause-value : goal.returns-clause-value
+returns-clause-value c =
     sym (words_end c.args.file.now c.args.place c.args.words.now c.loop-i.i c.loop-i-test.false)
     ∙ c.loop-i.invariant ∙ words_all c.args.file.now c.args.place c.args.words.now
