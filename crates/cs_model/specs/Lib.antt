@@ -3,6 +3,10 @@ pub mod Obj
 pub mod State
 pub mod Keeps
 pub mod Read
+pub mod Words
+pub mod ImageFile
+pub mod ImageFault
+pub mod Image
 pub mod End
 pub mod Operation
 pub mod Context
