@@ -6,3 +6,5 @@ pub mod Operating
 pub mod Fields
 pub mod Making
 pub mod Combining
+pub mod Entering
+pub mod Executing

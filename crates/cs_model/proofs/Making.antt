@@ -12,7 +12,7 @@ use Rattle.cs_model.proofs.Objects.{rest-put}
 use Rattle.cs_model.specs.Operation.{edit_found, add_of, next_ref, nil_of, edit_object, with_hash}
 use Rattle.cs_model.specs.Instance.{Index, IndexAt, NoIndex, NoneFree, index_of_object, index_by_hash, class_index_for, with_class, enter_class, take_index, Made, New, NotInstantiable, TableFull, is_instance_index, is_instance_shape, new_context, new_instance, new_raw, pointer_format, unit_bytes, make_with, make_shaped, shape_of, instantiate, Hashed, Hash, NotAClass, NoneLeft, hashed, behavior_hash, next_hash, with_last_hash, hash_or_zero, hash_of, hash_given}
 use Rattle.cs_model.specs.Keeps.{Keeps, Grows}
-use Rattle.cs_model.proofs.Same.{Same, same, SameOption, none, some, Any, is, of, value, of_option, two, and_then_same, if_same, if_option, all-replicate}
+use Rattle.cs_model.proofs.Same.{any_option, Same, same, SameOption, none, some, Any, is, of, value, of_option, two, and_then_same, if_same, if_option, all-replicate}
 use Rattle.cs_model.proofs.Keeping.{Moved, moved, unmoved, NamesHeld-grows}
 use Rattle.cs_model.proofs.Reading.{AllHeld, Has, up, rest_same, nil_same, object_at_same, object_of_same, slots_of_same, slice_same}
 use Rattle.cs_model.proofs.Operating.{edit_object_moved, with_hash_edit, change_moved, roots_with, add_moved, next_held, next_ref_same}
@@ -57,7 +57,7 @@ take_index_moved {v} k s index =
 
 -- both make the same, or neither makes anything, for the same reason
 pub data SameMade (v : Kept) : Made → Made → Type 0 where
-  made : {t u : Kept} (x y : Ref) (words : ℕ) → Moved v t u → Same (IsHeld t) x y → SameMade v (New t x words) (New u y words)
+  makes : {t u : Kept} (x y : Ref) (words : ℕ) → Moved v t u → Same (IsHeld t) x y → SameMade v (New t x words) (New u y words)
   refused : SameMade v NotInstantiable NotInstantiable
   full : SameMade v TableFull TableFull
 
@@ -96,7 +96,7 @@ take_index_next k x index = enter_class_next (edit_object k x (with_hash index))
 
 pub new_made : {v m t u : Kept} {o p : Obj} → Keeps v m → Moved v t u → t.rest.next ≡ v.rest.next → Same (NamesHeld v) o p → SameMade v (New (add_of t o) (next_ref v) (words_of o)) (New (add_of u p) (next_ref m) (words_of p))
 new_made {t = t} k a e (same o h) =
-    made _ _ (words_of o) (add_behind a (same o h)) (next_ref_same (add_of t o) k (subst (λ n. Has (add_of t o) n) e (next_held t o)))
+    makes _ _ (words_of o) (add_behind a (same o h)) (next_ref_same (add_of t o) k (subst (λ n. Has (add_of t o) n) e (next_held t o)))
 
 choose_made : {v : Kept} {a b c d : Made} → (x : Bool) → SameMade v a b → SameMade v c d → SameMade v (if x then a else c) (if x then b else d)
 choose_made true s t = s
@@ -113,10 +113,6 @@ make_with_same {v} {m} {x} k s shape size (same (IndexAt index) a) =
 make_shaped_same : {v m : Kept} {x y : Ref} {o p : Option ℕ} → Keeps v m → Same (IsHeld v) x y → (size : ℕ) → SameOption Any o p → SameMade v (make_shaped v x size o) (make_shaped m y size p)
 make_shaped_same k s size none = refused
 make_shaped_same k s size (some shape a) = choose_made (is_instance_shape (shape / 65536) (shape % 65536) size) (make_with_same k s shape size (class_index_for_same k s)) refused
-
-pub any_option : {A : Type 0} (o : Option A) → SameOption Any o o
-any_option None = none
-any_option (Some x) = some x tt
 
 pub shape_of_same : {v m : Kept} {x y : Ref} → Keeps v m → Same (IsHeld v) x y → SameOption Any (shape_of v x) (shape_of m y)
 shape_of_same k s = and_then_same (slots_of_same k 3 s) (λ slots h. and_then_same (slice_same 2 (same slots h)) (λ z g. any_option (index_of z)))

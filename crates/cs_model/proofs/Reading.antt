@@ -17,6 +17,9 @@ use Rattle.cs_model.proofs.Keeping.{IsHeld-grows, all-grows, Keeps-itself}
 pub record AllHeld (v : Kept) (xs : List Ref) : Type 0 where
   pub all : AllByRecursion (IsHeld v) xs
 
+pub listed : (v : Kept) (xs : List Ref) → AllByRecursion (IsHeld v) xs → Same (AllHeld v) xs xs
+listed v xs h = same xs (record { all = h })
+
 -- an object is at the birth
 abbrev pub Has : Kept → ℕ → Type 0
 Has v i = IsSome (object_at v i)

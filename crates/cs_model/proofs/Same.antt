@@ -103,3 +103,20 @@ if_same (same false a) s t = t
 pub if_option : {A : Type 0} {P : A → Type 0} {b c : Bool} {o p q r : Option A} → Same Any b c → SameOption P o p → SameOption P q r → SameOption P (if b then o else q) (if c then p else r)
 if_option (same true a) s t = s
 if_option (same false a) s t = t
+
+-- without what is known of them
+
+pub plain : {A : Type 0} {P : Option A → Type 0} {o p : Option A} → Same P o p → SameOption Any o p
+plain (same None h) = none
+plain (same (Some x) h) = some x tt
+
+pub any_option : {A : Type 0} (o : Option A) → SameOption Any o o
+any_option None = none
+any_option (Some x) = some x tt
+
+pub option_is : {A : Type 0} {P : A → Type 0} {o p : Option A} → SameOption P o p → Same Any o p
+option_is none = same None tt
+option_is (some x h) = same (Some x) tt
+
+pub some_same : {A : Type 0} {P : A → Type 0} {x y : A} → Same P x y → SameOption P (Some x) (Some y)
+some_same (same x h) = some x h
