@@ -8,3 +8,6 @@ pub mod Making
 pub mod Combining
 pub mod Entering
 pub mod Executing
+pub mod Searching
+pub mod Sending
+pub mod Returning

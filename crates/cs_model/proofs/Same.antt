@@ -120,3 +120,4 @@ option_is (some x h) = same (Some x) tt
 
 pub some_same : {A : Type 0} {P : A → Type 0} {x y : A} → Same P x y → SameOption P (Some x) (Some y)
 some_same (same x h) = some x h
+
