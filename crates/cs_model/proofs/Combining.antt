@@ -65,3 +65,6 @@ if_alike (same false h) s t = t
 pub and_then_alike : {v : Kept} {a b : Out} (f g : Kept → Out) → Alike v a b → ((t u : Kept) → Moved v t u → Alike t (f t) (g u)) → Alike v (and_then a f) (and_then b g)
 unfolding and_then
 and_then_alike {v} {a} {b} f g h next = if_alike (value is_done (end_same h)) (counting_alike (count_same h) (behind (left h) (next a.state b.state (left h)))) h
+
+pub fail_alike : {v m : Kept} → Keeps v m → Alike v (out ends.Fail v) (out ends.Fail m)
+fail_alike k = out_alike k (same ends.Fail tt)

@@ -11,3 +11,14 @@ pub mod Executing
 pub mod Searching
 pub mod Sending
 pub mod Returning
+pub mod Scheduling
+pub mod Answering
+pub mod Elements
+pub mod Objecting
+pub mod Instancing
+pub mod Unwinding
+pub mod Processing
+pub mod Running
+pub mod Tables
+pub mod Happening
+pub mod Stepping

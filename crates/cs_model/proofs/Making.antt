@@ -13,7 +13,7 @@ use Rattle.cs_model.specs.Operation.{edit_found, add_of, next_ref, nil_of, edit_
 use Rattle.cs_model.specs.Instance.{Index, IndexAt, NoIndex, NoneFree, index_of_object, index_by_hash, class_index_for, with_class, enter_class, take_index, Made, New, NotInstantiable, TableFull, is_instance_index, is_instance_shape, new_context, new_instance, new_raw, pointer_format, unit_bytes, make_with, make_shaped, shape_of, instantiate, Hashed, Hash, NotAClass, NoneLeft, hashed, behavior_hash, next_hash, with_last_hash, hash_or_zero, hash_of, hash_given}
 use Rattle.cs_model.specs.Keeps.{Keeps, Grows}
 use Rattle.cs_model.proofs.Same.{any_option, Same, same, SameOption, none, some, Any, is, of, value, of_option, two, and_then_same, if_same, if_option, all-replicate}
-use Rattle.cs_model.proofs.Keeping.{Moved, moved, unmoved, NamesHeld-grows}
+use Rattle.cs_model.proofs.Keeping.{choose_moved, Moved, moved, unmoved, NamesHeld-grows}
 use Rattle.cs_model.proofs.Reading.{AllHeld, Has, up, rest_same, nil_same, object_at_same, object_of_same, slots_of_same, slice_same}
 use Rattle.cs_model.proofs.Operating.{edit_object_moved, with_hash_edit, change_moved, roots_with, add_moved, next_held, next_ref_same}
 
@@ -124,14 +124,14 @@ instantiate_same k s size = make_shaped_same k s size (shape_of_same k s)
 -- ---- the index alone
 
 pub data SameHashed (v : Kept) : Hashed → Hashed → Type 0 where
-  hash : {t u : Kept} (index : ℕ) → Moved v t u → SameHashed v (Hash t index) (Hash u index)
+  hashes : {t u : Kept} (index : ℕ) → Moved v t u → SameHashed v (Hash t index) (Hash u index)
   no_class : SameHashed v NotAClass NotAClass
   none_left : SameHashed v NoneLeft NoneLeft
 
 hashed_same : {v m : Kept} {x y : Ref} {i j : Index} → Keeps v m → Same (IsHeld v) x y → Same Any i j → SameHashed v (hashed v x i) (hashed m y j)
 hashed_same k s (same NoIndex a) = no_class
 hashed_same k s (same NoneFree a) = none_left
-hashed_same k s (same (IndexAt index) a) = hash index (take_index_moved k s index)
+hashed_same k s (same (IndexAt index) a) = hashes index (take_index_moved k s index)
 
 choose_hashed : {v : Kept} {a b c d : Hashed} {x y : Bool} → Same Any x y → SameHashed v a b → SameHashed v c d → SameHashed v (if x then a else c) (if y then b else d)
 choose_hashed (same true a) s t = s
@@ -146,10 +146,6 @@ behavior_hash_same k s = choose_hashed (of_option is_some (slots_of_same k 3 s))
 pub hash_of_same : {v m : Kept} {x y : Ref} → Keeps v m → Same (IsHeld v) x y → Same Any (hash_of v x) (hash_of m y)
 unfolding hash_of
 hash_of_same k s = two (λ r n. if n == 0 then next_hash r.last_hash else n) (rest_same k) (of_option hash_or_zero (object_of_same k s))
-
-choose_moved : {v a b c d : Kept} {x y : Bool} → Same Any x y → Moved v a b → Moved v c d → Moved v (if x then a else c) (if y then b else d)
-choose_moved (same true a) s t = s
-choose_moved (same false a) s t = t
 
 pub hash_given_moved : {v m : Kept} {x y : Ref} → Keeps v m → Same (IsHeld v) x y → Moved v (hash_given v x) (hash_given m y)
 unfolding hash_given

@@ -21,7 +21,7 @@ use Rattle.cs_model.proofs.Keeping.{Moved, moved}
 use Rattle.cs_model.proofs.Reading.{AllHeld, listed, up, up_all, nil_same, object_of_same, slots_of_same, special_at_same, class_of_same, active_context_same, stack_same, depth_same, from_top_same, slice_same}
 use Rattle.cs_model.proofs.Operating.{drop_moved, enter_moved, put_active_moved, stack_held, receiver_below_same, last_values_same, cons_same, empty_same}
 use Rattle.cs_model.proofs.Making.{SameMade, makes, refused, full, instantiate_same}
-use Rattle.cs_model.proofs.Combining.{moved_alike, out_alike, stop_alike, behind, made_alike, made_context_alike, given_alike, if_alike, and_then_alike}
+use Rattle.cs_model.proofs.Combining.{fail_alike, moved_alike, out_alike, stop_alike, behind, made_alike, made_context_alike, given_alike, if_alike, and_then_alike}
 use Rattle.cs_model.proofs.Executing.{push_alike, with_array_alike, fill_moved}
 use Rattle.cs_model.proofs.Searching.{SoughtHeld, lookup_same}
 
@@ -150,9 +150,6 @@ perform_found_alike k s selector args (same (sought.Method x) h) =
     if_alike (of_option (λ o. argument_count (header_in o) == args) (object_of_same k (same x h))) (behind s (invoke_alike s.keeps (up s.grows (same x h)) args)) (out_alike k (same ends.Fail tt))
 perform_found_alike k s selector args (same Missing h) = behind s (not_understood_alike s.keeps (up s.grows selector) args)
 perform_found_alike k s selector args (same Loop h) = stop_alike k _
-
-pub fail_alike : {v m : Kept} → Keeps v m → Alike v (out ends.Fail v) (out ends.Fail m)
-fail_alike k = out_alike k (same ends.Fail tt)
 
 pub perform_alike : {v m : Kept} → Keeps v m → (args : ℕ) → Alike v (perform v args) (perform m args)
 unfolding perform
