@@ -1,17 +1,16 @@
 -- What all primitives share is alike, and so are those on numbers.
-use Rattle.std.proofs.Common.{◌≡◌, ℕ, ◌+◌, ◌-◌, ◌==◌, Bool, true, false, refl, Option, Some, None, List, length, unwrap_or, option_map, option_and_then, if◌then◌else◌}
+use Rattle.std.proofs.Common.{ℕ, ◌+◌, ◌-◌, ◌==◌, Bool, true, false, Option, Some, None, option_map, option_and_then, if◌then◌else◌}
 use Rattle.cs_model.specs.Ref.{Ref}
 use Rattle.cs_model.specs.State.{Kept, IsHeld}
-use Rattle.cs_model.specs.Number.{number_result}
-use Rattle.cs_model.specs.PrimAnswer.{fail, answer, receiver, argument, answer_if, with_count}
+use Rattle.cs_model.specs.PrimAnswer.{answer, receiver, argument, answer_if, with_count}
 use Rattle.cs_model.specs.PrimNumber.{number_prim}
 use Rattle.cs_model.specs.PrimObject.{answer_in}
 use Rattle.cs_model.specs.End.{Out}
 use Rattle.cs_model.specs.End as ends
-use Rattle.cs_model.specs.Keeps.{Keeps, Grows}
+use Rattle.cs_model.specs.Keeps.{Keeps}
 use Rattle.cs_model.specs.Alike.{Alike}
-use Rattle.cs_model.proofs.Same.{Same, same, SameOption, none, some, Any, is, and_then_same, or_same}
-use Rattle.cs_model.proofs.Keeping.{Moved, unmoved}
+use Rattle.cs_model.proofs.Same.{Same, same, SameOption, none, some, is, and_then_same, or_same}
+use Rattle.cs_model.proofs.Keeping.{Moved}
 use Rattle.cs_model.proofs.Reading.{up, nil_same, stack_same, from_top_same}
 use Rattle.cs_model.proofs.Operating.{receiver_below_same}
 use Rattle.cs_model.proofs.Combining.{fail_alike, moved_alike, behind, given_alike, if_alike}

@@ -1,10 +1,9 @@
 -- One lemma for each way in which definitions are composed: what is composed of what is alike is alike.
-use Rattle.std.proofs.Common.{◌≡◌, ℕ, Bool, true, false, refl, sym, ap, subst, ◌∙◌, Option, Some, None, if◌then◌else◌}
+use Rattle.std.proofs.Common.{ℕ, Bool, true, false, refl, sym, ap, Option, if◌then◌else◌}
 use Rattle.cs_model.specs.declared.stop.Stop.{Stop}
-use Rattle.cs_model.specs.Ref.{Ref}
-use Rattle.cs_model.specs.State.{Kept, IsHeld}
-use Rattle.cs_model.specs.Keeps.{Keeps, Grows}
-use Rattle.cs_model.specs.Alike.{Alike, EndHeld, IsHeldIf}
+use Rattle.cs_model.specs.State.{Kept}
+use Rattle.cs_model.specs.Keeps.{Keeps}
+use Rattle.cs_model.specs.Alike.{Alike, EndHeld}
 use Rattle.cs_model.specs.End.{End, Out, Count, out, done, stop, plus, counting, made, made_context, looked, given, is_done, and_then}
 use Rattle.cs_model.specs.End as ends
 use Rattle.cs_model.proofs.Same.{Same, same, SameOption, none, some, Any, is, value, same_by}

@@ -1,18 +1,16 @@
 -- Elements are read, written and copied alike.
-use Rattle.std.proofs.Common.{◌≡◌, ℕ, zero, suc, ◌+◌, ◌-◌, ◌*◌, ◌/◌, ◌^◌, ℤ, pos, Bool, true, false, refl, Option, Some, None, List, [], ◌∷◌, length, unwrap_or, option_map, option_and_then, nat_lt, if◌then◌else◌}
+use Rattle.std.proofs.Common.{ℕ, zero, suc, ◌+◌, ◌-◌, ◌*◌, ◌/◌, ◌^◌, ℤ, pos, Option, Some, None, List, [], ◌∷◌, length, unwrap_or, nat_lt}
 use Rattle.std.specs.Prelude.{slice_get}
 use Rattle.cs_model.specs.Ref.{Ref, Small, small_of, index_of}
-use Rattle.cs_model.specs.Obj.{Obj, Context, Ptr, Raw, Method, Ctx, first_pc}
-use Rattle.cs_model.specs.State.{Kept, object_of, slots_of, IsHeld, NamesHeld}
-use Rattle.cs_model.specs.Read.{class_of}
+use Rattle.cs_model.specs.Obj.{Obj, Ptr, Raw, Method, Ctx, first_pc}
+use Rattle.cs_model.specs.State.{Kept, IsHeld, NamesHeld}
 use Rattle.cs_model.specs.Arithmetic.{if_small}
 use Rattle.cs_model.specs.Instance.{unit_bytes}
-use Rattle.cs_model.specs.Operation.{store_of, store_byte_of}
-use Rattle.cs_model.specs.Element.{number_of, bytes_of, fields_within, class_shape, fields_of, Range, range, range_in, range_of, place_in, place_of, unit_at, small_ref, read_in, element_at, store_bytes, store_unit, write_in, with_element, field_count, copy_unit, copy_slot, copy_one, copy_elements}
-use Rattle.cs_model.specs.Keeps.{Keeps, Grows}
-use Rattle.cs_model.proofs.Same.{Same, same, SameOption, none, some, Any, is, of, value, of_option, and_then_same, map_same, plain, any_option, option_is}
+use Rattle.cs_model.specs.Element.{number_of, bytes_of, fields_within, class_shape, fields_of, range, range_in, range_of, place_in, place_of, unit_at, small_ref, read_in, element_at, store_bytes, store_unit, write_in, with_element, copy_unit, copy_slot, copy_one, copy_elements}
+use Rattle.cs_model.specs.Keeps.{Keeps}
+use Rattle.cs_model.proofs.Same.{Same, same, SameOption, none, some, Any, is, value, of_option, and_then_same, map_same, plain, any_option}
 use Rattle.cs_model.proofs.Keeping.{Moved, moved, unmoved, IsHeld-grows}
-use Rattle.cs_model.proofs.Reading.{AllHeld, listed, up, object_of_same, slots_of_same, slice_same, class_of_same}
+use Rattle.cs_model.proofs.Reading.{listed, object_of_same, slots_of_same, slice_same, class_of_same}
 use Rattle.cs_model.proofs.Operating.{store_moved, store_byte_moved}
 use Rattle.cs_model.proofs.Answering.{MovedOption, nothing, gives, map_moved, if_moved}
 

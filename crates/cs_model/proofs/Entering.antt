@@ -1,16 +1,14 @@
 -- Entering a block is alike.
-use Rattle.std.proofs.Common.{◌≡◌, ℕ, ◌+◌, ◌==◌, ◌&&◌, Bool, true, false, refl, Option, Some, None, is_some, List, [], ◌∷◌, ◌++◌, length, drop, unwrap_or, nat_le, if◌then◌else◌}
-use Rattle.cs_model.specs.Ref.{Ref, Small, index_of}
-use Rattle.cs_model.specs.Ref as ref
-use Rattle.cs_model.specs.Obj.{Obj, Context, Ptr, Raw, Method, Ctx, context_in, is_method, lies_in, header_in, context_size}
+use Rattle.std.proofs.Common.{ℕ, ◌+◌, ◌==◌, ◌&&◌, Bool, true, false, Option, is_some, List, [], length, nat_le, if◌then◌else◌}
+use Rattle.cs_model.specs.Ref.{Ref, index_of}
+use Rattle.cs_model.specs.Obj.{Obj, Context, Ptr, Raw, Method, Ctx, is_method, header_in, context_size}
 use Rattle.cs_model.specs.State.{Kept, object_of, IsHeld, ContextHeld, NamesHeld}
-use Rattle.cs_model.specs.Read.{active_context}
 use Rattle.cs_model.specs.Operation.{nil_of}
 use Rattle.cs_model.specs.Context.{closure_class, lies_if_index}
 use Rattle.cs_model.specs.Enter.{closure_slots, closure_slot, copied_values, method_in_context, receiver_in_context, outer_context, closure_method, is_count, can_evaluate, block_size, block_context, enter_block_of, context_words, enter_block_out}
-use Rattle.cs_model.specs.Keeps.{Keeps, Grows}
+use Rattle.cs_model.specs.Keeps.{Keeps}
 use Rattle.cs_model.specs.Alike.{Alike}
-use Rattle.cs_model.proofs.Same.{Same, same, SameOption, none, some, Any, is, of, value, of_option, two, or_same, option_is}
+use Rattle.cs_model.proofs.Same.{Same, same, SameOption, none, some, Any, is, value, of_option, two, or_same, option_is}
 use Rattle.cs_model.proofs.Keeping.{Moved}
 use Rattle.cs_model.proofs.Reading.{AllHeld, nil_same, object_of_same, context_in_same, slice_same, active_ref_same, active_context_same, context_stack}
 use Rattle.cs_model.proofs.Operating.{append_same, last_values_same, drop_same, context_same, enter_with_moved}
@@ -56,11 +54,11 @@ pub can_evaluate_same : {v m : Kept} {x y : Ref} → Keeps v m → Same (IsHeld 
 unfolding can_evaluate
 can_evaluate_same k s args =
     and_same (and_same (and_same (and_same
-      (value (λ xs. nat_le 3 (length xs)) (slots_same k s))
-      (of_option is_some (outer_context_same k s)))
-      (of_option is_method (object_of_same k (closure_method_same k s))))
-      (two (λ o x. lies_if_index o (index_of x)) (option_is (object_of_same k (closure_method_same k s))) (closure_slot_same k s 1)))
-      (value (λ x. is_count args (index_of x)) (closure_slot_same k s 2))
+    (value (λ xs. nat_le 3 (length xs)) (slots_same k s))
+    (of_option is_some (outer_context_same k s)))
+    (of_option is_method (object_of_same k (closure_method_same k s))))
+    (two (λ o x. lies_if_index o (index_of x)) (option_is (object_of_same k (closure_method_same k s))) (closure_slot_same k s 1)))
+    (value (λ x. is_count args (index_of x)) (closure_slot_same k s 2))
 
 pub block_size_same : {v m : Kept} {x y : Ref} → Keeps v m → Same (IsHeld v) x y → Same Any (block_size v x) (block_size m y)
 block_size_same k s = of_option (λ o. context_size (header_in o)) (object_of_same k (closure_method_same k s))
@@ -68,7 +66,7 @@ block_size_same k s = of_option (λ o. context_size (header_in o)) (object_of_sa
 block_context_same : {v m : Kept} {x y : Ref} {c d : Context} → Keeps v m → Same (IsHeld v) x y → (args : ℕ) → Same (ContextHeld v) c d → Same (ContextHeld v) (block_context v x args c) (block_context m y args d)
 block_context_same k s args t =
     context_same k (is 0) (active_ref_same k) (value index_of (closure_slot_same k s 1)) (closure_method_same k s) s (receiver_in_same k (outer_context_same k s))
-      (append_same (last_values_same args (context_stack t)) (copied_values_same k s)) (block_size_same k s)
+    (append_same (last_values_same args (context_stack t)) (copied_values_same k s)) (block_size_same k s)
 
 pub enter_block_moved : {v m : Kept} {x y : Ref} → Keeps v m → Same (IsHeld v) x y → (args : ℕ) → Moved v (enter_block_of v x args) (enter_block_of m y args)
 unfolding enter_block_of
@@ -78,5 +76,5 @@ pub enter_block_alike : {v m : Kept} {x y : Ref} → Keeps v m → Same (IsHeld 
 unfolding enter_block_out
 enter_block_alike k s args =
     if_alike (two (λ xs n. nat_le (args + length xs) n) (copied_values_same k s) (block_size_same k s))
-      (made_context_alike (value context_words (block_size_same k s)) (moved_alike (enter_block_moved k s args) (same _ tt)))
-      (stop_alike k _)
+    (made_context_alike (value context_words (block_size_same k s)) (moved_alike (enter_block_moved k s args) (same _ tt)))
+    (stop_alike k _)

@@ -1,30 +1,29 @@
 -- Each instruction is alike.
-use Rattle.std.proofs.Common.{◌≡◌, ℕ, ◌+◌, ◌-◌, ◌*◌, ◌==◌, ◌&&◌, ◌||◌, ℤ, pos, ◌+ℤ◌, Bool, true, false, refl, Option, Some, None, is_some, List, [], ◌∷◌, ◌++◌, length, unwrap_or, option_map, option_and_then, nat_lt, nat_le, if◌then◌else◌}
+use Rattle.std.proofs.Common.{◌≡◌, ℕ, ◌+◌, ◌-◌, ◌*◌, ◌==◌, ◌&&◌, ℤ, pos, ◌+ℤ◌, Bool, true, false, Option, Some, None, List, ◌∷◌, length, option_and_then, nat_lt, nat_le}
 use Rattle.std.specs.Prelude.{slice_get}
 use Rattle.cs_model.specs.declared.stop.Stop.TheVariants as why
 use Rattle.cs_model.specs.declared.instruction.Op.{Op}
 use Rattle.cs_model.specs.declared.instruction.Op.TheVariants as op
-use Rattle.cs_model.specs.Ref.{Ref, Small, Char, index_of, same_ref, small_of}
-use Rattle.cs_model.specs.Ref as ref
-use Rattle.cs_model.specs.Obj.{Obj, Context, Ptr, Raw, Method, Ctx, is_context, words_of_slots}
-use Rattle.cs_model.specs.State.{Kept, object_of, slots_of, special_at, is_nil, IsHeld, ContextHeld, NamesHeld}
-use Rattle.cs_model.specs.Read.{active_birth, active_context, stack_of, depth_of, size_of, pc_of, receiver_of, method_of, literals_of, from_top, class_of}
-use Rattle.cs_model.specs.Operation.{set_pc_of, push_of, drop_of, pop_of, store_of, add_of, next_ref, nil_of, last_values, edit_object}
+use Rattle.cs_model.specs.Ref.{Ref, Small, same_ref, small_of}
+use Rattle.cs_model.specs.Obj.{Obj, Context, Ptr, Raw, Method, Ctx, is_context}
+use Rattle.cs_model.specs.State.{Kept, IsHeld, ContextHeld, NamesHeld}
+use Rattle.cs_model.specs.Read.{literals_of, from_top}
+use Rattle.cs_model.specs.Operation.{push_of, drop_of, add_of}
 use Rattle.cs_model.specs.Context.{closure_class}
-use Rattle.cs_model.specs.Number.{boolean, comparison, computation, number_result, selector_primitive}
-use Rattle.cs_model.specs.Instance.{Made, New, NotInstantiable, TableFull, instantiate}
+use Rattle.cs_model.specs.Number.{comparison, computation, number_result, selector_primitive}
+use Rattle.cs_model.specs.Instance.{Made}
 use Rattle.cs_model.specs.Exec.{push_out, top_of, with_top, pop_out, dup_out, push_field, push_receiver_out, birth_or_zero, is_active, store_in_context, store_field, store_receiver_out, push_temp_out, store_temp_out, literal_at, push_literal_out, variable_at, variable_value, push_variable_out, store_variable_out, vector_at, vector_slot, push_vector_out, store_vector_out, pop_into, store_into, pc_of_sum, if_lies, pc_after, jump_out, must_be_boolean, special_send_out, jump_if_out, is_local, return_out, send_literal_out, send_super_out, special_selectors, argument_count_in, selector_pair, send_selector_out, two_smalls, small_operands, at_once, special_out, same_out, class_out, common_out, array_class, slots_equal, array_made, with_array, with_slots, fill_of, new_array_out, pop_array_out, new_closure, closure_out, this_context_out, exec}
 use Rattle.cs_model.specs.End.{Out, out, stop, done, given, made, looked, and_then}
 use Rattle.cs_model.specs.End as ends
-use Rattle.cs_model.specs.Keeps.{Keeps, Grows}
-use Rattle.cs_model.specs.Alike.{Alike, EndHeld}
-use Rattle.cs_model.proofs.Same.{Same, same, SameOption, none, some, Any, is, of, value, of_option, two, and_then_same, map_same, or_same, if_same, if_option, plain, any_option, option_is, some_same}
-use Rattle.cs_model.proofs.Keeping.{Moved, moved, IsEdit}
-use Rattle.cs_model.proofs.Reading.{listed, AllHeld, Has, up, up_all, nil_same, true_same, false_same, boolean_same, is_nil_same, same_ref_same, object_of_same, slots_in_same, slots_of_same, special_at_same, class_of_same, active_birth_same, active_ref_same, active_context_same, context_closure, stack_same, depth_same, size_same, pc_same, receiver_same, method_same, literals_same, slice_same, from_top_same}
-use Rattle.cs_model.proofs.Operating.{set_pc_moved, push_moved, drop_moved, set_stack_moved, edit_object_moved, store_moved, add_moved, next_held, next_ref_same, last_values_same, cons_same}
+use Rattle.cs_model.specs.Keeps.{Keeps}
+use Rattle.cs_model.specs.Alike.{Alike}
+use Rattle.cs_model.proofs.Same.{Same, same, SameOption, none, some, Any, is, value, of_option, two, and_then_same, map_same, or_same, if_option, plain, any_option, option_is, some_same}
+use Rattle.cs_model.proofs.Keeping.{Moved, moved}
+use Rattle.cs_model.proofs.Reading.{listed, AllHeld, up, up_all, nil_same, true_same, false_same, boolean_same, is_nil_same, same_ref_same, object_of_same, slots_in_same, slots_of_same, special_at_same, class_of_same, active_ref_same, active_context_same, context_closure, stack_same, depth_same, pc_same, receiver_same, method_same, literals_same, slice_same, from_top_same}
+use Rattle.cs_model.proofs.Operating.{set_pc_moved, push_moved, drop_moved, set_stack_moved, edit_object_moved, store_moved, add_moved, next_held, next_ref_same, last_values_same}
 use Rattle.cs_model.proofs.Fields.{context_get_same, accepts_same, context_put_moved}
 use Rattle.cs_model.proofs.Making.{SameMade, makes, refused, full, instantiate_same}
-use Rattle.cs_model.proofs.Combining.{moved_alike, out_alike, done_alike, stop_alike, behind, made_alike, looked_alike, given_alike, if_alike, and_then_alike}
+use Rattle.cs_model.proofs.Combining.{out_alike, done_alike, stop_alike, behind, made_alike, looked_alike, given_alike, if_alike, and_then_alike}
 
 -- ---- the stack
 
@@ -66,8 +65,8 @@ is_active_same k s = same_ref_same s (active_ref_same k)
 store_in_context_alike : {v m : Kept} {x y : Ref} {c d : Context} → Keeps v m → (i : ℕ) → Same (IsHeld v) x y → Same (ContextHeld v) c d → Alike v (store_in_context v i x c) (store_in_context m i y d)
 store_in_context_alike k i t s =
     if_alike (value (λ c. nat_lt i (6 + length c.stack)) s)
-      (if_alike (accepts_same k (is_active_same k (receiver_same k)) s i t) (done_alike (context_put_moved k (value birth_or_zero (receiver_same k)) i t)) (stop_alike k _))
-      (stop_alike k _)
+    (if_alike (accepts_same k (is_active_same k (receiver_same k)) s i t) (done_alike (context_put_moved k (value birth_or_zero (receiver_same k)) i t)) (stop_alike k _))
+    (stop_alike k _)
 
 store_field_alike : {v m : Kept} {x y : Ref} {o p : Option Obj} → Keeps v m → (i : ℕ) → Same (IsHeld v) x y → SameOption (NamesHeld v) o p → Alike v (store_field v i x o) (store_field m i y p)
 store_field_alike k i t none = stop_alike k _
@@ -266,11 +265,11 @@ pub pop_array_alike : {v m : Kept} → Keeps v m → (n : ℕ) → Alike v (pop_
 unfolding pop_array_out
 pop_array_alike k n =
     if_alike (value (nat_le n) (depth_same k))
-      (with_array_alike _ _ k n (λ t u x y s h.
-        let f = fill_moved s.keeps h (up_all s.grows (last_values_same n (stack_same k))) in
-        let d = moved f (drop_moved f.keeps n) in
-        behind d (push_alike d.keeps (up d.grows h))))
-      (stop_alike k _)
+    (with_array_alike _ _ k n (λ t u x y s h.
+    let f = fill_moved s.keeps h (up_all s.grows (last_values_same n (stack_same k))) in
+    let d = moved f (drop_moved f.keeps n) in
+    behind d (push_alike d.keeps (up d.grows h))))
+    (stop_alike k _)
 
 -- ---- closures
 
@@ -285,11 +284,11 @@ unfolding closure_out
 closure_alike {v} k copied args size =
     given_alike _ _ (pc_after_same k (pos size)) (stop_alike k why.BadCode) (λ pc h.
     if_alike (value (nat_le copied) (depth_same k))
-      (let a = add_moved k (new_closure_same k copied args) in
-      let d = drop_moved a.keeps copied in
-      let n = next_ref_same (add_of v (new_closure v copied args)) k (next_held v (new_closure v copied args)) in
-      looked_alike (made_alike (is _) (and_then_alike _ _ (behind (moved a d) (push_alike d.keeps (up d.grows n))) (λ t u s. done_alike (set_pc_moved s.keeps (is pc))))))
-      (stop_alike k _))
+    (let a = add_moved k (new_closure_same k copied args) in
+    let d = drop_moved a.keeps copied in
+    let n = next_ref_same (add_of v (new_closure v copied args)) k (next_held v (new_closure v copied args)) in
+    looked_alike (made_alike (is _) (and_then_alike _ _ (behind (moved a d) (push_alike d.keeps (up d.grows n))) (λ t u s. done_alike (set_pc_moved s.keeps (is pc))))))
+    (stop_alike k _))
 
 -- ---- the table
 

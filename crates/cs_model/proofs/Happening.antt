@@ -1,18 +1,17 @@
 -- Events are alike.
-use Rattle.std.proofs.Common.{◌≡◌, ℕ, ◌+◌, ◌-◌, ◌||◌, ℤ, int_lt, Bool, true, false, refl, sym, ap, subst, ◌∙◌, Option, Some, None, List, [], ◌∷◌, ◌++◌, option_and_then, nat_lt, nat_le, if◌then◌else◌}
-use Rattle.std.specs.Prelude.{slice_get}
+use Rattle.std.proofs.Common.{◌≡◌, ℕ, ◌+◌, ◌-◌, ◌||◌, int_lt, Bool, true, false, refl, sym, ap, ◌∙◌, Option, Some, None, List, [], ◌∷◌, option_and_then, nat_lt, nat_le, if◌then◌else◌}
 use Rattle.cs_model.specs.declared.event.Event.{Event}
 use Rattle.cs_model.specs.declared.event.EventKind.{EventKind}
 use Rattle.cs_model.specs.declared.event.EventKind.TheVariants as kind
 use Rattle.cs_model.specs.Ref.{Ref}
-use Rattle.cs_model.specs.State.{Kept, Run, State, Timer, is_nil, active_process, special_at, IsHeld}
+use Rattle.cs_model.specs.State.{Kept, Run, State, Timer, IsHeld}
 use Rattle.cs_model.specs.PrimRun.{with_timer}
-use Rattle.cs_model.specs.Due.{external_semaphores, external_at, signal_external, due_timer, Happened, happened, with_out, fire, with_clock, add_input, happen, with_events, is_idle_at, is_idle, is_due, counting, go_on, due_of, due}
-use Rattle.cs_model.specs.End.{Out, Count, is_done, plus, done}
-use Rattle.cs_model.specs.Keeps.{Keeps, Grows, TimerHeld, KeepsState}
+use Rattle.cs_model.specs.Due.{external_semaphores, external_at, signal_external, due_timer, Happened, happened, with_out, fire, with_clock, add_input, happen, with_events, is_idle_at, is_idle, go_on, due_of, due}
+use Rattle.cs_model.specs.End.{Out, is_done, plus}
+use Rattle.cs_model.specs.Keeps.{Keeps, TimerHeld, KeepsState}
 use Rattle.cs_model.specs.Alike.{Alike, AlikeHappened}
 use Rattle.cs_model.proofs.Same.{Same, same, SameOption, none, some, Any, is, value, and_then_same, if_option, same_by}
-use Rattle.cs_model.proofs.Keeping.{Moved, unmoved, grows-trans}
+use Rattle.cs_model.proofs.Keeping.{unmoved, grows-trans}
 use Rattle.cs_model.proofs.Reading.{is_nil_same, special_at_same, object_of_same, slots_in_same, slice_same, active_process_same}
 use Rattle.cs_model.proofs.Combining.{done_alike, given_alike, if_alike}
 use Rattle.cs_model.proofs.Scheduling.{signal_alike}
@@ -44,6 +43,7 @@ due_held {v} r timer = armed r.timer timer.semaphore where
   late : (t : Timer) (b : Bool) → IsHeld v t.semaphore → DueHeld v (if b then None else Some t)
   late t true h = tt
   late t false h = h
+
   armed : (o : Option Timer) → ((t : Timer) → o ≡ Some t → IsHeld v t.semaphore) → DueHeld v (option_and_then (λ t. if int_lt r.clock t.moment then None else Some t) o)
   armed None h = tt
   armed (Some t) h = late t (int_lt r.clock t.moment) (h t refl)
@@ -79,16 +79,16 @@ go_on_alike : {v : Kept} {a b : Happened} (f g : State → Happened) → AlikeHa
 go_on_alike {v} {a} {b} f g h next =
     let n = next _ _ _ _ h.state.kept (run_same h.state) in
     if_happened (same_by Any (is_done a.end) (is_done b.end) (ap is_done (sym h.end)) tt)
-      (record { end = n.end; count = ap (plus a.count) n.count ∙ ap (λ c. plus c (g b.state).count) h.count; state = n.state; grows = grows-trans h.grows n.grows })
-      h
+    (record { end = n.end; count = ap (plus a.count) n.count ∙ ap (λ c. plus c (g b.state).count) h.count; state = n.state; grows = grows-trans h.grows n.grows })
+    h
 
 pub due_of_alike : (es : List Event) {v m : Kept} {r q : Run} → Keeps v m → Same (TimerHeld v) r q → AlikeHappened v (due_of es (record { kept = v; run = r })) (due_of es (record { kept = m; run = q }))
 unfolding due_of
 due_of_alike [] k (same r timer) = happened_alike k (with_events [] r) (timer_as timer refl)
 due_of_alike (e ∷ es) k (same r timer) =
     if_happened (value (λ b. nat_le e.before (r.steps + 1) || b) (is_idle_same k))
-      (go_on_alike (λ t. due_of es t) (λ t. due_of es t) (happen_alike e.kind k (with_events es r) (timer_as timer refl)) (λ t u p q l s. due_of_alike es l s))
-      (happened_alike k (with_events (e ∷ es) r) (timer_as timer refl))
+    (go_on_alike (λ t. due_of es t) (λ t. due_of es t) (happen_alike e.kind k (with_events es r) (timer_as timer refl)) (λ t u p q l s. due_of_alike es l s))
+    (happened_alike k (with_events (e ∷ es) r) (timer_as timer refl))
 
 pub due_alike : {v m : Kept} {r q : Run} → Keeps v m → Same (TimerHeld v) r q → AlikeHappened v (due (record { kept = v; run = r })) (due (record { kept = m; run = q }))
 unfolding due

@@ -1,36 +1,25 @@
 -- The primitives on instances, copies and classes, quick answers, and those on the stacks of contexts are alike.
-use Rattle.std.proofs.Common.{◌≡◌, ℕ, zero, suc, ◌+◌, ◌-◌, ◌%◌, ◌/◌, ◌==◌, ◌&&◌, ◌||◌, not, ℤ, pos, negsuc, Bool, true, false, refl, sym, ap, subst, ◌∙◌, Option, Some, None, is_some, List, [], ◌∷◌, length, replicate, unwrap_or, option_map, option_and_then, nat_lt, nat_le, if◌then◌else◌}
-use Rattle.std.specs.Prelude.{slice_get}
-use Rattle.std.specs.List.{AllByRecursion}
-use Rattle.std.specs.FinMap.{get}
-use Rattle.cs_model.specs.declared.stop.Stop.TheVariants as why
+use Rattle.std.proofs.Common.{◌≡◌, ℕ, zero, suc, ◌+◌, ◌-◌, ◌%◌, ◌==◌, ◌&&◌, not, pos, negsuc, Bool, true, false, refl, sym, ap, subst, ◌∙◌, Option, Some, None, is_some, length, replicate, nat_lt, if◌then◌else◌}
 use Rattle.cs_model.specs.Ref.{Ref, Small, Char, birth_of, index_of, same_ref}
 use Rattle.cs_model.specs.Ref as ref
-use Rattle.cs_model.specs.Obj.{Obj, Context, Ptr, Raw, Method, Ctx, class_index_in, context_class, hash_in, is_context, is_header, literal_count, words_of, edit_context, stored}
-use Rattle.cs_model.specs.State.{Kept, object_at, object_of, slots_of, special_at, IsHeld, ContextHeld, NamesHeld}
-use Rattle.cs_model.specs.Read.{active_context, class_of}
-use Rattle.cs_model.specs.Operation.{store_of, store_byte_of, add_of, next_ref, nil_of, edit_found}
-use Rattle.cs_model.specs.Context.{accepts, context_put}
-use Rattle.cs_model.specs.Number.{boolean}
-use Rattle.cs_model.specs.Instance.{Made, instantiate, shape_of, Index, IndexAt, NoIndex, NoneFree, class_index_for, take_index, behavior_hash, Hashed, hash_of, hash_given}
-use Rattle.cs_model.specs.Element.{Range, range_of, place_of, element_at, with_element, copy_elements}
-use Rattle.cs_model.specs.Exec.{fill_of, is_active, small_operands}
-use Rattle.cs_model.specs.PrimAnswer.{fail, answer, receiver, argument}
-use Rattle.cs_model.specs.PrimObject.{at_prim, at_put_prim, has_size, small_count, size_prim, byte_string, is_bytes, byte_at, char_at_prim, byte_code, char_at_put_prim, method_slot, slot_index, object_at_prim, put_literal, object_at_put_prim, answer_made, new_prim, new_size_prim, point_class, point_slots, point_made, point_prim, answer_field, slot_at, slot_at_prim, context_at_put, slot_put, slot_at_put_prim, hash_prim, has_index, first_instance, instance_from, entry_index, table_index, some_instance_prim, index_but_context, next_instance_prim, method_of, is_method_index, make_method, is_method_shape, new_method_prim, copy_kinds, copy_fits, count_of, copy_to, replace_prim, identical_prim, class_prim, copied, look_if, copy_object, copy_prim, answer_hashed, behavior_hash_prim, quick_prim}
+use Rattle.cs_model.specs.Obj.{Obj, Context, Ptr, Raw, Method, Ctx, class_index_in, context_class, hash_in, is_context, is_header, literal_count, words_of, stored}
+use Rattle.cs_model.specs.State.{Kept, object_at, IsHeld, NamesHeld}
+use Rattle.cs_model.specs.Operation.{add_of}
+use Rattle.cs_model.specs.Instance.{Index, IndexAt, NoIndex, NoneFree, Hashed}
+use Rattle.cs_model.specs.PrimObject.{small_count, hash_prim, has_index, first_instance, instance_from, entry_index, table_index, some_instance_prim, index_but_context, next_instance_prim, method_of, is_method_index, make_method, is_method_shape, new_method_prim, copy_kinds, copy_fits, count_of, copy_to, replace_prim, identical_prim, class_prim, copied, look_if, copy_object, copy_prim, answer_hashed, behavior_hash_prim, quick_prim}
 use Rattle.cs_model.specs.PrimContext.{stack_at_prim, stack_put, stack_at_put_prim, stackp_prim}
 use Rattle.cs_model.specs.End.{Out}
-use Rattle.cs_model.specs.Keeps.{Keeps, Grows}
+use Rattle.cs_model.specs.Keeps.{Keeps}
 use Rattle.cs_model.specs.Alike.{Alike}
-use Rattle.cs_model.proofs.Same.{Same, same, SameOption, none, some, Any, is, of, value, of_option, two, same_by, and_then_same, map_same, or_same, if_same, if_option, plain, any_option, option_is, some_same, all-replicate, all-slice_set}
-use Rattle.cs_model.proofs.Keeping.{Moved, moved, unmoved, kept_context, edit_found_moved}
-use Rattle.cs_model.proofs.Reading.{AllHeld, listed, Has, up, up_all, rest_same, nil_same, boolean_same, same_ref_same, next_same, object_at_same, object_of_same, slots_in_same, slots_of_same, context_in_same, special_at_same, class_at_same, class_of_same, active_context_same, slice_same}
-use Rattle.cs_model.proofs.Operating.{store_moved, store_byte_moved, add_moved, next_held, next_ref_same, stack_held}
-use Rattle.cs_model.proofs.Fields.{context_get_same, accepts_same, context_put_moved, edit_context_edit}
-use Rattle.cs_model.proofs.Making.{SameMade, makes, refused, full, new_made, instantiate_same, shape_of_same, class_index_for_same, take_index_moved, take_index_next, SameHashed, hashes, no_class, none_left, behavior_hash_same, hash_of_same, hash_given_moved}
+use Rattle.cs_model.proofs.Same.{Same, same, SameOption, none, some, Any, is, of, value, of_option, two, same_by, and_then_same, map_same, or_same, if_option, plain, any_option, option_is, all-replicate, all-slice_set}
+use Rattle.cs_model.proofs.Keeping.{kept_context, edit_found_moved}
+use Rattle.cs_model.proofs.Reading.{listed, Has, up, nil_same, boolean_same, same_ref_same, next_same, object_at_same, object_of_same, context_in_same, class_at_same, class_of_same, slice_same}
+use Rattle.cs_model.proofs.Operating.{add_moved, next_held, next_ref_same, stack_held}
+use Rattle.cs_model.proofs.Fields.{edit_context_edit}
+use Rattle.cs_model.proofs.Making.{new_made, shape_of_same, class_index_for_same, take_index_moved, take_index_next, SameHashed, hashes, no_class, none_left, behavior_hash_same, hash_of_same, hash_given_moved}
 use Rattle.cs_model.proofs.Combining.{fail_alike, behind, made_alike, looked_alike, given_alike, if_alike}
-use Rattle.cs_model.proofs.Executing.{is_active_same, small_operands_same, fill_moved}
 use Rattle.cs_model.proofs.Searching.{birth_of_same}
-use Rattle.cs_model.proofs.Answering.{answer_alike, prim_receiver_same, argument_same, answer_if_alike, with_count_alike, MovedOption, nothing, gives, and_then_moved, map_moved, if_moved, answer_in_alike}
+use Rattle.cs_model.proofs.Answering.{answer_alike, prim_receiver_same, argument_same, answer_if_alike, with_count_alike, MovedOption, nothing, gives, and_then_moved, if_moved, answer_in_alike}
 use Rattle.cs_model.proofs.Elements.{range_of_same, copy_elements_moved}
 use Rattle.cs_model.proofs.Objecting.{slot_index_same, slot_at_case, answer_made_alike}
 
@@ -40,9 +29,9 @@ pub hash_alike : {v m : Kept} → Keeps v m → (args : ℕ) → Alike v (hash_p
 unfolding hash_prim
 hash_alike {v} k args =
     with_count_alike k 0 args (if_alike (of_option is_some (object_of_same k (prim_receiver_same k 0)))
-      (let s = hash_given_moved k (prim_receiver_same k 0) in
-      behind s (answer_alike s.keeps 0 (up s.grows (of (IsHeld v) small_count (hash_of_same k (prim_receiver_same k 0)) (λ n a. tt)))))
-      (fail_alike k))
+    (let s = hash_given_moved k (prim_receiver_same k 0) in
+    behind s (answer_alike s.keeps 0 (up s.grows (of (IsHeld v) small_count (hash_of_same k (prim_receiver_same k 0)) (λ n a. tt)))))
+    (fail_alike k))
 
 -- ---- the instances of a class
 
@@ -118,8 +107,8 @@ new_method_alike k args =
     with_count_alike k 2 args (given_alike _ _ (plain (value index_of (argument_same k 2 0))) (fail_alike k) (λ count a.
     given_alike _ _ (plain (value index_of (argument_same k 2 1))) (fail_alike k) (λ header b.
     if_alike (of_option (λ o. is_method_shape o && is_header header) (shape_of_same k (prim_receiver_same k 2)))
-      (make_method_alike k (prim_receiver_same k 2) count header (class_index_for_same k (prim_receiver_same k 2)))
-      (fail_alike k))))
+    (make_method_alike k (prim_receiver_same k 2) count header (class_index_for_same k (prim_receiver_same k 2)))
+    (fail_alike k))))
 
 -- ---- copying
 
@@ -128,8 +117,8 @@ copy_to_alike k s t start stop from =
     given_alike _ _ (plain (of_option count_of (range_of_same k s))) (fail_alike k) (λ mine a.
     given_alike _ _ (plain (of_option count_of (range_of_same k t))) (fail_alike k) (λ its b.
     if_alike (is (copy_fits start stop from mine its))
-      (let c = copy_elements_moved k (stop + 1 - start) s (start - 1) t (from - 1) in behind c (answer_alike c.keeps 4 (up c.grows s)))
-      (fail_alike k)))
+    (let c = copy_elements_moved k (stop + 1 - start) s (start - 1) t (from - 1) in behind c (answer_alike c.keeps 4 (up c.grows s)))
+    (fail_alike k)))
 
 pub replace_alike : {v m : Kept} → Keeps v m → (args : ℕ) → Alike v (replace_prim v args) (replace_prim m args)
 unfolding replace_prim
@@ -138,7 +127,7 @@ replace_alike k args =
     given_alike _ _ (plain (value index_of (argument_same k 4 1))) (fail_alike k) (λ stop b.
     given_alike _ _ (plain (value index_of (argument_same k 4 3))) (fail_alike k) (λ from c.
     if_alike (two copy_kinds (option_is (object_of_same k (prim_receiver_same k 4))) (option_is (object_of_same k (argument_same k 4 2))))
-      (copy_to_alike k (prim_receiver_same k 4) (argument_same k 4 2) start stop from) (fail_alike k)))))
+    (copy_to_alike k (prim_receiver_same k 4) (argument_same k 4 2) start stop from) (fail_alike k)))))
 
 -- ---- identity, class, copy and hash
 
@@ -201,7 +190,7 @@ stack_at_alike {v} k args =
 stack_put_moved : {v m : Kept} {x y : Ref} → Keeps v m → (birth i : ℕ) → Same (IsHeld v) x y → (c : Context) → MovedOption v (stack_put v birth i x c) (stack_put m birth i y c)
 stack_put_moved {v} k birth i (same x g) c =
     if_moved (is (nat_lt i (length c.stack)))
-      (gives (edit_found_moved k (edit_context_edit v (same (stored i x) (λ c h. stack_held c _ h (all-slice_set (IsHeld v) c.stack i x h.stack g)))) (is birth))) nothing
+    (gives (edit_found_moved k (edit_context_edit v (same (stored i x) (λ c h. stack_held c _ h (all-slice_set (IsHeld v) c.stack i x h.stack g)))) (is birth))) nothing
 
 pub stack_at_put_alike : {v m : Kept} → Keeps v m → (args : ℕ) → Alike v (stack_at_put_prim v args) (stack_at_put_prim m args)
 unfolding stack_at_put_prim

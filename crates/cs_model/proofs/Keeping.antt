@@ -1,5 +1,5 @@
 -- What a state keeps, it keeps after the same write to both.
-use Rattle.std.proofs.Common.{◌≡◌, ◌≢◌, ℕ, Bool, true, false, refl, sym, ap, subst, ◌∙◌, Option, Some, None, IsSome, is_some, List, [], ◌∷◌, ◌⊎◌, inl, inr, if◌then◌else◌}
+use Rattle.std.proofs.Common.{◌≡◌, ℕ, Bool, true, false, refl, sym, ap, subst, ◌∙◌, Option, Some, None, IsSome, List, [], ◌∷◌, inl, inr, if◌then◌else◌}
 use Rattle.std.specs.List.{AllByRecursion}
 use Rattle.std.specs.FinMap.{get}
 use Rattle.cs_model.specs.Ref.{Ref, Small, Char}
@@ -9,7 +9,7 @@ use Rattle.cs_model.specs.State.{Kept, Rest, object_at, put, with_rest, IsHeld, 
 use Rattle.cs_model.specs.Keeps.{Keeps, Grows}
 use Rattle.cs_model.specs.Operation.{edit_found}
 use Rattle.cs_model.proofs.Objects.{object_at-put_same, object_at-put_other, rest-put, at_put, held-put}
-use Rattle.cs_model.proofs.Same.{Same, same, SameOption, none, some, Any, some_by}
+use Rattle.cs_model.proofs.Same.{Same, same, Any}
 
 -- ---- what is held stays held
 
@@ -107,6 +107,7 @@ Keeps-put_right {v} {m} k i o lacks context = record {
 } where
   none_some : (p : Obj) → None ≡ Some p → ⊥
   none_some p e = cc
+
   false_true : false ≡ true → ⊥
   false_true e = cc
 

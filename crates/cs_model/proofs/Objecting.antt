@@ -1,37 +1,24 @@
 -- The primitives on objects are alike.
-use Rattle.std.proofs.Common.{◌≡◌, ℕ, zero, suc, ◌+◌, ◌-◌, ◌%◌, ◌/◌, ◌==◌, ◌&&◌, ◌||◌, not, ℤ, pos, negsuc, Bool, true, false, refl, sym, ap, subst, ◌∙◌, Option, Some, None, is_some, List, [], ◌∷◌, length, replicate, unwrap_or, option_map, option_and_then, nat_lt, nat_le, if◌then◌else◌}
+use Rattle.std.proofs.Common.{ℕ, ◌==◌, ◌&&◌, pos, Option, is_some, List, [], ◌∷◌, length, option_and_then, nat_lt}
 use Rattle.std.specs.Prelude.{slice_get}
-use Rattle.std.specs.List.{AllByRecursion}
-use Rattle.std.specs.FinMap.{get}
-use Rattle.cs_model.specs.declared.stop.Stop.TheVariants as why
-use Rattle.cs_model.specs.Ref.{Ref, Small, Char, birth_of, index_of, same_ref}
-use Rattle.cs_model.specs.Ref as ref
-use Rattle.cs_model.specs.Obj.{Obj, Context, Ptr, Raw, Method, Ctx, class_index_in, context_class, hash_in, is_context, is_header, literal_count, words_of, edit_context, stored}
-use Rattle.cs_model.specs.State.{Kept, object_at, object_of, slots_of, special_at, IsHeld, ContextHeld, NamesHeld}
-use Rattle.cs_model.specs.Read.{active_context, class_of}
-use Rattle.cs_model.specs.Operation.{store_of, store_byte_of, add_of, next_ref, nil_of, edit_found}
-use Rattle.cs_model.specs.Context.{accepts, context_put}
-use Rattle.cs_model.specs.Number.{boolean}
-use Rattle.cs_model.specs.Instance.{Made, instantiate, shape_of, Index, IndexAt, NoIndex, NoneFree, class_index_for, take_index, behavior_hash, Hashed, hash_of, hash_given}
-use Rattle.cs_model.specs.Element.{Range, range_of, place_of, element_at, with_element, copy_elements}
-use Rattle.cs_model.specs.Exec.{fill_of, is_active, small_operands}
-use Rattle.cs_model.specs.PrimAnswer.{fail, answer, receiver, argument}
-use Rattle.cs_model.specs.PrimObject.{at_prim, at_put_prim, has_size, small_count, size_prim, byte_string, is_bytes, byte_at, char_at_prim, byte_code, char_at_put_prim, method_slot, slot_index, object_at_prim, put_literal, object_at_put_prim, answer_made, new_prim, new_size_prim, point_class, point_slots, point_made, point_prim, answer_field, slot_at, slot_at_prim, context_at_put, slot_put, slot_at_put_prim, hash_prim, has_index, first_instance, instance_from, entry_index, table_index, some_instance_prim, index_but_context, next_instance_prim, method_of, is_method_index, make_method, is_method_shape, new_method_prim, copy_kinds, copy_fits, count_of, copy_to, replace_prim, identical_prim, class_prim, copied, look_if, copy_object, copy_prim, answer_hashed, behavior_hash_prim, quick_prim}
-use Rattle.cs_model.specs.PrimContext.{stack_at_prim, stack_put, stack_at_put_prim, stackp_prim}
-use Rattle.cs_model.specs.End.{Out}
-use Rattle.cs_model.specs.Keeps.{Keeps, Grows}
+use Rattle.cs_model.specs.Ref.{Ref, Small, Char, index_of}
+use Rattle.cs_model.specs.Obj.{Obj, Context, Ptr, Raw, Method, Ctx}
+use Rattle.cs_model.specs.State.{Kept, IsHeld, ContextHeld, NamesHeld}
+use Rattle.cs_model.specs.Instance.{Made}
+use Rattle.cs_model.specs.PrimObject.{at_prim, at_put_prim, has_size, small_count, size_prim, byte_string, byte_at, char_at_prim, byte_code, char_at_put_prim, method_slot, slot_index, object_at_prim, put_literal, object_at_put_prim, answer_made, new_prim, new_size_prim, point_class, point_slots, point_made, point_prim, answer_field, slot_at, slot_at_prim, context_at_put, slot_put, slot_at_put_prim}
+use Rattle.cs_model.specs.Keeps.{Keeps}
 use Rattle.cs_model.specs.Alike.{Alike}
-use Rattle.cs_model.proofs.Same.{Same, same, SameOption, none, some, Any, is, of, value, of_option, two, same_by, and_then_same, map_same, or_same, if_same, if_option, plain, any_option, option_is, some_same, all-replicate, all-slice_set}
-use Rattle.cs_model.proofs.Keeping.{Moved, moved, unmoved, kept_context, edit_found_moved}
-use Rattle.cs_model.proofs.Reading.{AllHeld, listed, Has, up, up_all, rest_same, nil_same, boolean_same, same_ref_same, next_same, object_at_same, object_of_same, slots_in_same, slots_of_same, context_in_same, special_at_same, class_at_same, class_of_same, active_context_same, slice_same}
-use Rattle.cs_model.proofs.Operating.{store_moved, store_byte_moved, add_moved, next_held, next_ref_same, stack_held}
-use Rattle.cs_model.proofs.Fields.{context_get_same, accepts_same, context_put_moved, edit_context_edit}
-use Rattle.cs_model.proofs.Making.{SameMade, makes, refused, full, new_made, instantiate_same, shape_of_same, class_index_for_same, take_index_moved, take_index_next, SameHashed, hashes, no_class, none_left, behavior_hash_same, hash_of_same, hash_given_moved}
+use Rattle.cs_model.proofs.Same.{Same, same, SameOption, none, some, Any, is, value, of_option, and_then_same, map_same, plain}
+use Rattle.cs_model.proofs.Keeping.{moved}
+use Rattle.cs_model.proofs.Reading.{AllHeld, listed, Has, up, object_of_same, slots_of_same, special_at_same, slice_same}
+use Rattle.cs_model.proofs.Operating.{store_moved, store_byte_moved}
+use Rattle.cs_model.proofs.Fields.{context_get_same, accepts_same, context_put_moved}
+use Rattle.cs_model.proofs.Making.{SameMade, makes, refused, full, instantiate_same}
 use Rattle.cs_model.proofs.Combining.{fail_alike, behind, made_alike, looked_alike, given_alike, if_alike}
 use Rattle.cs_model.proofs.Executing.{is_active_same, small_operands_same, fill_moved}
 use Rattle.cs_model.proofs.Searching.{birth_of_same}
 use Rattle.cs_model.proofs.Answering.{answer_alike, prim_receiver_same, argument_same, answer_if_alike, with_count_alike, MovedOption, nothing, gives, and_then_moved, map_moved, if_moved, answer_in_alike}
-use Rattle.cs_model.proofs.Elements.{range_of_same, place_of_same, element_at_same, with_element_moved, copy_elements_moved}
+use Rattle.cs_model.proofs.Elements.{range_of_same, place_of_same, element_at_same, with_element_moved}
 
 -- ---- elements
 
@@ -44,13 +31,13 @@ pub at_put_alike : {v m : Kept} → Keeps v m → (args : ℕ) → Alike v (at_p
 unfolding at_put_prim
 at_put_alike k args =
     with_count_alike k 2 args (answer_in_alike (and_then_moved _ _ (place_of_same k (prim_receiver_same k 2) (argument_same k 2 0))
-      (λ place a. with_element_moved k (prim_receiver_same k 2) place (argument_same k 2 1))) k 2 (argument_same k 2 1))
+    (λ place a. with_element_moved k (prim_receiver_same k 2) place (argument_same k 2 1))) k 2 (argument_same k 2 1))
 
 pub size_alike : {v m : Kept} → Keeps v m → (args : ℕ) → Alike v (size_prim v args) (size_prim m args)
 unfolding size_prim
 size_alike {v} k args =
     with_count_alike k 0 args (if_alike (of_option has_size (object_of_same k (prim_receiver_same k 0)))
-      (answer_if_alike k 0 (map_same (IsHeld v) (λ r. small_count r.count) (range_of_same k (prim_receiver_same k 0)) (λ r a. tt))) (fail_alike k))
+    (answer_if_alike k 0 (map_same (IsHeld v) (λ r. small_count r.count) (range_of_same k (prim_receiver_same k 0)) (λ r a. tt))) (fail_alike k))
 
 byte_at_same : {v m : Kept} {x y i j : Ref} → Keeps v m → Same (IsHeld v) x y → Same (IsHeld v) i j → SameOption Any (byte_at v x i) (byte_at m y j)
 byte_at_same k s i =
@@ -64,9 +51,9 @@ pub char_at_put_alike : {v m : Kept} → Keeps v m → (args : ℕ) → Alike v 
 unfolding char_at_put_prim
 char_at_put_alike k args =
     with_count_alike k 2 args (if_alike (of_option (λ o. is_some (byte_string o)) (object_of_same k (prim_receiver_same k 2)))
-      (answer_in_alike (and_then_moved _ _ (place_of_same k (prim_receiver_same k 2) (argument_same k 2 0)) (λ place a.
-        map_moved _ _ (plain (value byte_code (argument_same k 2 1))) (λ b c. store_byte_moved k (prim_receiver_same k 2) place b))) k 2 (argument_same k 2 1))
-      (fail_alike k))
+    (answer_in_alike (and_then_moved _ _ (place_of_same k (prim_receiver_same k 2) (argument_same k 2 0)) (λ place a.
+    map_moved _ _ (plain (value byte_code (argument_same k 2 1))) (λ b c. store_byte_moved k (prim_receiver_same k 2) place b))) k 2 (argument_same k 2 1))
+    (fail_alike k))
 
 -- ---- literals
 
@@ -126,7 +113,7 @@ pub point_alike : {v m : Kept} → Keeps v m → (args : ℕ) → Alike v (point
 unfolding point_prim
 point_alike k args =
     with_count_alike k 1 args (if_alike (of_option is_some (small_operands_same k))
-      (given_alike _ _ (special_at_same k point_class) (fail_alike k) (λ class h. point_made_alike k (instantiate_same k (same class h) 0))) (fail_alike k))
+    (given_alike _ _ (special_at_same k point_class) (fail_alike k) (λ class h. point_made_alike k (instantiate_same k (same class h) 0))) (fail_alike k))
 
 -- ---- slots
 
@@ -160,4 +147,4 @@ pub slot_at_put_alike : {v m : Kept} → Keeps v m → (args : ℕ) → Alike v 
 unfolding slot_at_put_prim
 slot_at_put_alike k args =
     with_count_alike k 2 args (answer_in_alike (and_then_moved _ _ (slot_index_same (argument_same k 2 0))
-      (λ i a. slot_put_moved k (prim_receiver_same k 2) i (argument_same k 2 1) (object_of_same k (prim_receiver_same k 2)))) k 2 (argument_same k 2 1))
+    (λ i a. slot_put_moved k (prim_receiver_same k 2) i (argument_same k 2 1) (object_of_same k (prim_receiver_same k 2)))) k 2 (argument_same k 2 1))

@@ -1,20 +1,14 @@
 -- The primitives on processes and semaphores are alike.
-use Rattle.std.proofs.Common.{◌≡◌, ℕ, ◌&&◌, Bool, true, false, refl, sym, ap, subst, Option, Some, None, is_some, if◌then◌else◌}
+use Rattle.std.proofs.Common.{ℕ, ◌&&◌, false, refl, Option}
 use Rattle.cs_model.specs.declared.stop.Stop.TheVariants as why
 use Rattle.cs_model.specs.Ref.{Ref, same_ref}
-use Rattle.cs_model.specs.State.{Kept, special_at, is_nil, active_process, IsHeld}
-use Rattle.cs_model.specs.Read.{class_of}
-use Rattle.cs_model.specs.Operation.{nil_of}
-use Rattle.cs_model.specs.Process.{process_slots, suspended_context, my_list, slot_or_none, signal, wait, resume, suspend_active, suspend_other, give_way}
-use Rattle.cs_model.specs.Return.{context_birth, is_live}
-use Rattle.cs_model.specs.PrimAnswer.{answer, receiver}
+use Rattle.cs_model.specs.State.{Kept, IsHeld}
+use Rattle.cs_model.specs.Process.{process_slots, suspended_context, my_list}
 use Rattle.cs_model.specs.PrimProcess.{semaphore_class, both_same, is_semaphore, answered, signal_prim, wait_prim, is_live_at, is_suspended, resume_prim, leave_and_answer, suspend_prim, yield_prim}
 use Rattle.cs_model.specs.End.{Out, is_done}
-use Rattle.cs_model.specs.End as ends
-use Rattle.cs_model.specs.Keeps.{Keeps, Grows}
-use Rattle.cs_model.specs.Alike.{Alike, EndHeld}
+use Rattle.cs_model.specs.Keeps.{Keeps}
+use Rattle.cs_model.specs.Alike.{Alike}
 use Rattle.cs_model.proofs.Same.{Same, same, SameOption, none, some, Any, is, value, two, option_is}
-use Rattle.cs_model.proofs.Keeping.{Moved}
 use Rattle.cs_model.proofs.Reading.{Has, up, nil_same, is_nil_same, special_at_same, class_of_same, active_process_same}
 use Rattle.cs_model.proofs.Combining.{fail_alike, stop_alike, behind, left, end_same, count_same, counting_alike, given_alike, if_alike}
 use Rattle.cs_model.proofs.Searching.{context_birth_same, is_live_same}
@@ -33,15 +27,15 @@ pub signal_prim_alike : {v m : Kept} → Keeps v m → (args : ℕ) → Alike v 
 unfolding signal_prim
 signal_prim_alike k args =
     with_count_alike k 0 args (if_alike (is_semaphore_same k (prim_receiver_same k 0))
-      (let s = answered_moved k 0 (prim_receiver_same k 0) in answered_alike (behind s (signal_alike s.keeps (up s.grows (prim_receiver_same k 0)))))
-      (fail_alike k))
+    (let s = answered_moved k 0 (prim_receiver_same k 0) in answered_alike (behind s (signal_alike s.keeps (up s.grows (prim_receiver_same k 0)))))
+    (fail_alike k))
 
 pub wait_prim_alike : {v m : Kept} → Keeps v m → (args : ℕ) → Alike v (wait_prim v args) (wait_prim m args)
 unfolding wait_prim
 wait_prim_alike k args =
     with_count_alike k 0 args (if_alike (is_semaphore_same k (prim_receiver_same k 0))
-      (let s = answered_moved k 0 (prim_receiver_same k 0) in answered_alike (behind s (wait_alike s.keeps (up s.grows (prim_receiver_same k 0)))))
-      (fail_alike k))
+    (let s = answered_moved k 0 (prim_receiver_same k 0) in answered_alike (behind s (wait_alike s.keeps (up s.grows (prim_receiver_same k 0)))))
+    (fail_alike k))
 
 is_live_at_same : {v m : Kept} {o p : Option ℕ} → Keeps v m → SameOption (Has v) o p → Same Any (is_live_at v o) (is_live_at m p)
 is_live_at_same k none = same false tt
@@ -56,10 +50,10 @@ pub resume_prim_alike : {v m : Kept} → Keeps v m → (args : ℕ) → Alike v 
 unfolding resume_prim
 resume_prim_alike k args =
     with_count_alike k 0 args (if_alike (is_suspended_same k (slot_same k process_slots suspended_context (prim_receiver_same k 0)) (slot_same k process_slots my_list (prim_receiver_same k 0)))
-      (given_alike _ _ (active_process_same k) (stop_alike k why.BadSpecial) (λ running h.
-      if_alike (two same_ref (is running) (prim_receiver_same k 0)) (fail_alike k)
-        (let s = answered_moved k 0 (prim_receiver_same k 0) in answered_alike (behind s (resume_alike s.keeps (up s.grows (prim_receiver_same k 0)))))))
-      (fail_alike k))
+    (given_alike _ _ (active_process_same k) (stop_alike k why.BadSpecial) (λ running h.
+    if_alike (two same_ref (is running) (prim_receiver_same k 0)) (fail_alike k)
+    (let s = answered_moved k 0 (prim_receiver_same k 0) in answered_alike (behind s (resume_alike s.keeps (up s.grows (prim_receiver_same k 0)))))))
+    (fail_alike k))
 
 leave_and_answer_alike : {v m : Kept} {x : Ref} {a b : Out} → Keeps v m → Same (IsHeld v) x x → Alike v a b → Alike v (leave_and_answer v x a) (leave_and_answer m x b)
 leave_and_answer_alike k s h = if_alike (value is_done (end_same h)) (counting_alike (count_same h) (let l = left h in behind l (answer_alike l.keeps 0 (up l.grows s)))) h
@@ -69,8 +63,8 @@ unfolding suspend_prim
 suspend_prim_alike k args =
     with_count_alike k 0 args (given_alike _ _ (active_process_same k) (stop_alike k why.BadSpecial) (λ running h.
     if_alike (two same_ref (is running) (prim_receiver_same k 0))
-      (let s = answered_moved k 0 (nil_same k) in answered_alike (behind s (suspend_active_alike s.keeps (up s.grows (same running h)))))
-      (given_alike _ _ (slot_same k process_slots my_list (prim_receiver_same k 0)) (fail_alike k) (λ list g. leave_and_answer_alike k (same list g) (suspend_other_alike k (prim_receiver_same k 0))))))
+    (let s = answered_moved k 0 (nil_same k) in answered_alike (behind s (suspend_active_alike s.keeps (up s.grows (same running h)))))
+    (given_alike _ _ (slot_same k process_slots my_list (prim_receiver_same k 0)) (fail_alike k) (λ list g. leave_and_answer_alike k (same list g) (suspend_other_alike k (prim_receiver_same k 0))))))
 
 pub yield_alike : {v m : Kept} → Keeps v m → (args : ℕ) → Alike v (yield_prim v args) (yield_prim m args)
 unfolding yield_prim

@@ -1,19 +1,16 @@
 -- Returns are alike.
-use Rattle.std.proofs.Common.{◌≡◌, ℕ, ◌&&◌, not, Bool, true, false, refl, Option, Some, None, List, [], ◌∷◌, ◌++◌, if◌then◌else◌}
+use Rattle.std.proofs.Common.{ℕ, ◌&&◌, not, Bool, Option, List, [], ◌∷◌, ◌++◌}
 use Rattle.std.specs.List.{AllByRecursion}
-use Rattle.cs_model.specs.declared.stop.Stop.TheVariants as why
 use Rattle.cs_model.specs.Ref.{Ref}
 use Rattle.cs_model.specs.Ref as ref
-use Rattle.cs_model.specs.Obj.{context_in}
-use Rattle.cs_model.specs.State.{Kept, object_at, IsHeld}
-use Rattle.cs_model.specs.Read.{active_birth}
-use Rattle.cs_model.specs.Return.{Search, Met, Ended, TooLong, sender_birth, senders_to, Home, HomeAt, NoHome, HomeTooFar, home, first_marked, unwind_mark, cannot_return, about_to_return, push_all, call_with, cannot_return_out, unwind_out, is_among, has_room, is_live, arrive, local_out, past_marks, from_home, to_home, nonlocal_out, back}
+use Rattle.cs_model.specs.State.{Kept, IsHeld}
+use Rattle.cs_model.specs.Return.{Search, Met, Ended, TooLong, Home, HomeAt, NoHome, HomeTooFar, home, unwind_mark, cannot_return, about_to_return, push_all, call_with, cannot_return_out, unwind_out, is_among, has_room, arrive, local_out, past_marks, from_home, to_home, nonlocal_out, back}
 use Rattle.cs_model.specs.End.{Out}
 use Rattle.cs_model.specs.End as ends
-use Rattle.cs_model.specs.Keeps.{Keeps, Grows}
+use Rattle.cs_model.specs.Keeps.{Keeps}
 use Rattle.cs_model.specs.Alike.{Alike}
-use Rattle.cs_model.proofs.Same.{Same, same, SameOption, none, some, Any, is, of, value, of_option, two}
-use Rattle.cs_model.proofs.Keeping.{Moved, all-grows}
+use Rattle.cs_model.proofs.Same.{Same, same, SameOption, none, some, Any, is, value, of_option}
+use Rattle.cs_model.proofs.Keeping.{all-grows}
 use Rattle.cs_model.proofs.Reading.{AllHeld, Has, listed, object_at_same, context_in_same, active_birth_same, active_ref_same}
 use Rattle.cs_model.proofs.Operating.{cons_same, empty_same, cut_to_moved}
 use Rattle.cs_model.proofs.Combining.{out_alike, done_alike, stop_alike, looked_alike, given_alike, if_alike, and_then_alike}
@@ -41,8 +38,8 @@ arrive_alike : {v m : Kept} {x y : Ref} {dying dying' : List ℕ} {o p : Option 
 arrive_alike k s (same dying a) none = cannot_return_alike k s
 arrive_alike k s (same dying a) (some target h) =
     if_alike (value (λ b. b && not (is_among target dying)) (is_live_same k (same target h)))
-      (if_alike (of_option has_room (context_in_same (object_at_same k (same target h)))) (done_alike (cut_to_moved k dying (same target h) s)) (stop_alike k _))
-      (cannot_return_alike k s)
+    (if_alike (of_option has_room (context_in_same (object_at_same k (same target h)))) (done_alike (cut_to_moved k dying (same target h) s)) (stop_alike k _))
+    (cannot_return_alike k s)
 
 pub local_alike : {v m : Kept} {x y : Ref} → Keeps v m → Same (IsHeld v) x y → Alike v (local_out v x) (local_out m y)
 unfolding local_out
@@ -51,8 +48,8 @@ local_alike k s = arrive_alike k s (value (λ i. i ∷ []) (active_birth_same k)
 past_marks_alike : {v m : Kept} {x y : Ref} → Keeps v m → Same (IsHeld v) x y → (home : ℕ) → Has v home → (passed : List ℕ) → AllByRecursion (Has v) passed → Alike v (past_marks v x home passed) (past_marks m y home passed)
 past_marks_alike k s home h passed all =
     given_alike _ _ (first_marked_same k unwind_mark passed all)
-      (arrive_alike k s (value (λ i. i ∷ passed ++ home ∷ []) (active_birth_same k)) (sender_birth_same k (same home h)))
-      (λ mark g. unwind_alike k s mark g)
+    (arrive_alike k s (value (λ i. i ∷ passed ++ home ∷ []) (active_birth_same k)) (sender_birth_same k (same home h)))
+    (λ mark g. unwind_alike k s mark g)
 
 from_home_alike : {v m : Kept} {x y : Ref} {a b : Search} → Keeps v m → Same (IsHeld v) x y → (home : ℕ) → Has v home → Same (SearchHeld v) a b → Alike v (from_home v x home a) (from_home m y home b)
 from_home_alike k s home h (same (Met passed) all) = past_marks_alike k s home h passed all

@@ -1,26 +1,19 @@
 -- Settling is alike, and so are the primitives that see the whole state.
-use Rattle.std.proofs.Common.{◌≡◌, ℕ, ◌==◌, ◌||◌, ℤ, int_lt, Bool, true, false, refl, ap, sym, subst, ◌∙◌, Option, Some, None, List, [], ◌∷◌, ◌++◌, unwrap_or, option_and_then, if◌then◌else◌}
-use Rattle.std.specs.Prelude.{slice_get}
-use Rattle.cs_model.specs.Ref.{Ref, Small, small_of, index_of, birth_of}
-use Rattle.cs_model.specs.Ref as ref
-use Rattle.cs_model.specs.State.{Kept, Run, State, Timer, object_of, slots_of, is_nil, active_process, IsHeld}
-use Rattle.cs_model.specs.Operation.{store_of, nil_of}
-use Rattle.cs_model.specs.Number.{boolean}
-use Rattle.cs_model.specs.Process.{signal}
-use Rattle.cs_model.specs.PrimAnswer.{answer, receiver, argument}
+use Rattle.std.proofs.Common.{◌≡◌, ℕ, ◌==◌, ◌||◌, ℤ, int_lt, Bool, true, false, refl, sym, subst, ◌∙◌, Option, Some, None, List, [], ◌∷◌, if◌then◌else◌}
+use Rattle.cs_model.specs.Ref.{Ref, Small, small_of, index_of}
+use Rattle.cs_model.specs.State.{Kept, Run, Timer, IsHeld}
 use Rattle.cs_model.specs.PrimObject.{byte_string, small_count}
-use Rattle.cs_model.specs.PrimProcess.{is_semaphore, answered}
-use Rattle.cs_model.specs.Settle.{context_kept, open_at, open_process, open_if, open_kept, settle_if, settle_kept}
+use Rattle.cs_model.specs.Settle.{open_at, open_if, open_kept, settle_if, settle_kept}
 use Rattle.cs_model.specs.PrimRun.{Result, result, fails, counted, forget, forgotten, with_end, snapshot_prim, quit_prim, clock_prim, with_timer, arm, timer_prim, small_byte, or_bytes, bytes_to_write, written, write_prim, with_input, read_from, read_prim}
 use Rattle.cs_model.specs.End.{End, Out, out, given}
 use Rattle.cs_model.specs.End as ends
-use Rattle.cs_model.specs.Keeps.{Keeps, Grows, TimerHeld, KeepsState}
-use Rattle.cs_model.specs.Alike.{Alike, EndHeld, AlikeResult, KeepsIf}
-use Rattle.cs_model.proofs.Same.{Same, same, SameOption, none, some, Any, is, of, value, of_option, two, and_then_same, plain, any_option, option_is}
+use Rattle.cs_model.specs.Keeps.{Keeps, Grows, TimerHeld}
+use Rattle.cs_model.specs.Alike.{Alike, EndHeld, AlikeResult}
+use Rattle.cs_model.proofs.Same.{Same, same, SameOption, none, some, Any, is, value, two, and_then_same, plain, option_is}
 use Rattle.cs_model.proofs.Keeping.{Moved, moved, unmoved, choose_moved, IsHeld-grows}
-use Rattle.cs_model.proofs.Reading.{Has, up, nil_same, true_same, false_same, boolean_same, is_nil_same, object_of_same, slots_of_same, slice_same, active_process_same, active_ref_same}
+use Rattle.cs_model.proofs.Reading.{Has, up, nil_same, true_same, false_same, is_nil_same, object_of_same, slots_of_same, slice_same, active_process_same, active_ref_same}
 use Rattle.cs_model.proofs.Operating.{store_moved, resume_moved, suspend_moved}
-use Rattle.cs_model.proofs.Combining.{fail_alike, out_alike, moved_alike, behind, if_alike}
+use Rattle.cs_model.proofs.Combining.{fail_alike, moved_alike, behind}
 use Rattle.cs_model.proofs.Searching.{birth_of_same}
 use Rattle.cs_model.proofs.Scheduling.{signal_alike}
 use Rattle.cs_model.proofs.Answering.{answer_alike, answered_moved, prim_receiver_same, argument_same}
@@ -44,7 +37,7 @@ open_if_moved : {v m : Kept} {o p : Option Ref} → Keeps v m → SameOption (Is
 open_if_moved k none = unmoved k
 open_if_moved k (some x h) =
     choose_moved (is_nil_same k (is x)) (unmoved k)
-      (open_at_moved k x (and_then_same (and_then_same (slots_of_same k 4 (same x h)) (λ slots g. slice_same 1 (same slots g))) (λ z g. birth_of_same k (same z g))))
+    (open_at_moved k x (and_then_same (and_then_same (slots_of_same k 4 (same x h)) (λ slots g. slice_same 1 (same slots g))) (λ z g. birth_of_same k (same z g))))
 
 pub open_moved : {v m : Kept} → Keeps v m → Moved v (open_kept v) (open_kept m)
 unfolding open_kept
@@ -99,8 +92,8 @@ snapshot_alike k r timer args =
     let o = behind f (answer_alike f.keeps 0 (up f.grows (false_same k))) in
     let s = answered_moved k 0 (true_same k) in
     counted_alike k r timer 0 args (if_result (is r.snapping)
-      (record { out = with_end_alike ends.Snapshot o tt; run = refl; timer = timer_up o.grows timer; snapshot = (settle_moved s.keeps).keeps })
-      (fails_alike k r timer))
+    (record { out = with_end_alike ends.Snapshot o tt; run = refl; timer = timer_up o.grows timer; snapshot = (settle_moved s.keeps).keeps })
+    (fails_alike k r timer))
 
 pub quit_alike : {v m : Kept} → Keeps v m → (r : Run) → TimerHeld v r → (args : ℕ) → AlikeResult v (quit_prim (record { kept = v; run = r }) args) (quit_prim (record { kept = m; run = r }) args)
 unfolding quit_prim
@@ -116,20 +109,20 @@ arm_alike : {v m t u : Kept} {x y : Ref} → Keeps v m → (r : Run) → Moved v
 arm_alike {v} {m} {t} {u} k r s (same x h) moment =
     if_result (is_nil_same k (is x)) (result_alike (moved_alike s (same ends.Answer tt)) (with_timer None r) (timer_off refl))
     (if_result (is (int_lt r.clock moment))
-      (result_alike (moved_alike s (same ends.Answer tt)) (with_timer (Some (record { semaphore = x; moment = moment })) r)
-        (record { semaphore = λ armed e. subst (λ o. semaphore_held o) e h }))
-      (result_alike (answered_alike (behind s (signal_alike s.keeps (up s.grows (same x h))))) (with_timer None r) (timer_off refl))) where
-  semaphore_held : Option Timer → Type 0
-  semaphore_held None = Unit {0}
-  semaphore_held (Some armed) = IsHeld v armed.semaphore
+    (result_alike (moved_alike s (same ends.Answer tt)) (with_timer (Some (record { semaphore = x; moment = moment })) r)
+    (record { semaphore = λ armed e. subst (λ o. semaphore_held o) e h }))
+    (result_alike (answered_alike (behind s (signal_alike s.keeps (up s.grows (same x h))))) (with_timer None r) (timer_off refl))) where
+      semaphore_held : Option Timer → Type 0
+      semaphore_held None = Unit {0}
+      semaphore_held (Some armed) = IsHeld v armed.semaphore
 
 pub timer_alike : {v m : Kept} → Keeps v m → (r : Run) → TimerHeld v r → (args : ℕ) → AlikeResult v (timer_prim (record { kept = v; run = r }) args) (timer_prim (record { kept = m; run = r }) args)
 unfolding timer_prim
 timer_alike k r timer args =
     counted_alike k r timer 2 args (given_result _ _ (plain (value small_of (argument_same k 2 1))) (fails_alike k r timer) (λ moment a.
     if_result (two (λ a b. a || b) (is_nil_same k (argument_same k 2 0)) (is_semaphore_same k (argument_same k 2 0)))
-      (arm_alike k r (answered_moved k 2 (prim_receiver_same k 2)) (argument_same k 2 0) moment)
-      (fails_alike k r timer)))
+    (arm_alike k r (answered_moved k 2 (prim_receiver_same k 2)) (argument_same k 2 0) moment)
+    (fails_alike k r timer)))
 
 bytes_to_write_same : {v m : Kept} {x y : Ref} → Keeps v m → Same (IsHeld v) x y → SameOption Any (bytes_to_write v x) (bytes_to_write m y)
 unfolding bytes_to_write

@@ -1,5 +1,5 @@
 -- Pairs of equal values of which something holds: what is read of a state and of one that it keeps.
-use Rattle.std.proofs.Common.{◌≡◌, ℕ, zero, suc, ◌-◌, refl, sym, ap, subst, ◌∙◌, Bool, true, false, Option, Some, None, IsSome, is_some, List, [], ◌∷◌, ◌++◌, length, take, drop, replicate, unwrap_or, option_map, option_and_then, if◌then◌else◌}
+use Rattle.std.proofs.Common.{◌≡◌, ℕ, zero, suc, refl, sym, subst, Bool, true, false, Option, Some, None, List, [], ◌∷◌, ◌++◌, take, drop, replicate, unwrap_or, option_map, option_and_then, if◌then◌else◌}
 use Rattle.std.specs.Prelude.{slice_get, slice_set}
 use Rattle.std.specs.List.{AllByRecursion}
 
@@ -93,7 +93,6 @@ at_index P [] i h = none
 at_index P (x ∷ xs) zero h = some x h.0
 at_index P (x ∷ xs) (suc i) h = at_index P xs i h.1
 
-
 -- choices
 
 pub if_same : {A : Type 0} {P : A → Type 0} {b c : Bool} {x y z w : A} → Same Any b c → Same P x y → Same P z w → Same P (if b then x else z) (if c then y else w)
@@ -120,4 +119,3 @@ option_is (some x h) = same (Some x) tt
 
 pub some_same : {A : Type 0} {P : A → Type 0} {x y : A} → Same P x y → SameOption P (Some x) (Some y)
 some_same (same x h) = some x h
-

@@ -1,23 +1,18 @@
 -- The operations on processes, semaphores and their lists are alike.
-use Rattle.std.proofs.Common.{◌≡◌, ℕ, zero, suc, ◌-◌, ◌==◌, ◌&&◌, ℤ, pos, ◌+ℤ◌, ◌-ℤ◌, int_lt, Bool, true, false, refl, Option, Some, None, is_some, List, [], ◌∷◌, unwrap_or, option_and_then, if◌then◌else◌}
-use Rattle.std.specs.Prelude.{slice_get}
+use Rattle.std.proofs.Common.{ℕ, zero, suc, ℤ, pos, ◌+ℤ◌, ◌-ℤ◌, int_lt, Option, Some, None, is_some, List, [], ◌∷◌, option_and_then}
 use Rattle.std.specs.List.{AllByRecursion}
 use Rattle.cs_model.specs.declared.stop.Stop.TheVariants as why
 use Rattle.cs_model.specs.Ref.{Ref, Small, same_ref, small_of, index_of}
-use Rattle.cs_model.specs.Ref as ref
-use Rattle.cs_model.specs.Obj.{Obj, slots_in}
-use Rattle.cs_model.specs.State.{Kept, object_of, slots_of, is_nil, scheduler_of, active_process, IsHeld}
-use Rattle.cs_model.specs.Read.{active_birth}
-use Rattle.cs_model.specs.Operation.{store_of, nil_of}
-use Rattle.cs_model.specs.Process.{next_link, suspended_context, priority, my_list, first_link, last_link, excess_signals, process_slots, semaphore_slots, list_slots, slot_or_none, with_slot_of, with_scheduler, with_active_process, lists_of, list_at, if_list, list_of_process, with_list_of, link_last, add_last, link_past, is_same, end_at, unlinked, take_out, with_first, give_context, start_at, start, stop_running, Highest, Waiting, AllEmpty, NoList, if_waiting, or_lower, highest_of, none_active, start_highest, start_next, priority_of, with_priority, preempt, resume, one_more, signal, wait_behind, wait, suspend_active, list_links, Place, At, NotThere, NoProcess, TooFar, find_link, leave_list, suspend_other, suspend, give_way_to, give_way}
-use Rattle.cs_model.specs.End.{Out, done}
-use Rattle.cs_model.specs.Keeps.{Keeps, Grows}
+use Rattle.cs_model.specs.State.{Kept, slots_of, IsHeld}
+use Rattle.cs_model.specs.Process.{next_link, suspended_context, priority, my_list, first_link, last_link, excess_signals, process_slots, semaphore_slots, list_slots, slot_or_none, with_slot_of, with_scheduler, with_active_process, lists_of, list_at, if_list, list_of_process, with_list_of, link_last, add_last, link_past, is_same, end_at, unlinked, take_out, with_first, give_context, start_at, start, stop_running, Highest, Waiting, AllEmpty, NoList, if_waiting, or_lower, highest_of, none_active, start_highest, start_next, with_priority, preempt, resume, one_more, signal, wait_behind, wait, suspend_active, list_links, Place, At, NotThere, NoProcess, TooFar, find_link, leave_list, suspend_other, suspend, give_way_to, give_way}
+use Rattle.cs_model.specs.End.{Out}
+use Rattle.cs_model.specs.Keeps.{Keeps}
 use Rattle.cs_model.specs.Alike.{Alike, IsHeldIf}
-use Rattle.cs_model.proofs.Same.{Same, same, SameOption, none, some, Any, is, of, value, of_option, two, and_then_same, or_same, if_same, if_option, option_is, any_option, some_same}
+use Rattle.cs_model.proofs.Same.{Same, same, SameOption, none, some, Any, is, of_option, two, and_then_same, or_same, if_same, if_option, option_is, any_option, some_same}
 use Rattle.cs_model.proofs.Keeping.{Moved, moved, unmoved, choose_moved}
-use Rattle.cs_model.proofs.Reading.{AllHeld, Has, up, listed, nil_same, is_nil_same, object_of_same, slots_in_same, slots_of_same, slice_same, scheduler_same, active_process_same, active_ref_same}
+use Rattle.cs_model.proofs.Reading.{AllHeld, Has, up, nil_same, is_nil_same, object_of_same, slots_in_same, slots_of_same, slice_same, scheduler_same, active_process_same, active_ref_same}
 use Rattle.cs_model.proofs.Operating.{store_moved, resume_moved, suspend_moved}
-use Rattle.cs_model.proofs.Combining.{fail_alike, out_alike, done_alike, stop_alike, behind, looked_alike, given_alike, if_alike, and_then_alike}
+use Rattle.cs_model.proofs.Combining.{fail_alike, done_alike, stop_alike, behind, looked_alike, given_alike, if_alike, and_then_alike}
 use Rattle.cs_model.proofs.Searching.{context_birth_same, is_live_same}
 
 -- ---- slots
@@ -96,8 +91,8 @@ with_first_alike : {v m : Kept} {x y : Ref} (f g : Kept → Ref → Out) → Kee
 with_first_alike f g k list next =
     with_slot_alike _ _ k list_slots first_link list (λ p h.
     if_alike (is_process_same k (same p h))
-      (let s = take_out_moved k list (same p h) none in behind s (next _ _ p s (up s.grows (same p h))))
-      (stop_alike k _))
+    (let s = take_out_moved k list (same p h) none in behind s (next _ _ p s (up s.grows (same p h))))
+    (stop_alike k _))
 
 -- ---- starting and stopping
 
@@ -108,8 +103,8 @@ start_at_alike : {v m : Kept} {p q x y : Ref} → Keeps v m → Same (IsHeld v) 
 start_at_alike k p context =
     given_alike _ _ (context_birth_same k context) (stop_alike k why.BadProcess) (λ i h.
     if_alike (is_live_same k (same i h))
-      (let s = store_moved k p suspended_context (nil_same k) in behind s (give_context_alike s.keeps (up s.grows p) i (s.grows.held i h)))
-      (stop_alike k _))
+    (let s = store_moved k p suspended_context (nil_same k) in behind s (give_context_alike s.keeps (up s.grows p) i (s.grows.held i h)))
+    (stop_alike k _))
 
 pub start_alike : {v m : Kept} {p q : Ref} → Keeps v m → Same (IsHeld v) p q → Alike v (start v p) (start m q)
 unfolding start
@@ -168,12 +163,12 @@ pub resume_alike : {v m : Kept} {p q : Ref} → Keeps v m → Same (IsHeld v) p 
 unfolding resume
 resume_alike k p =
     if_alike (is_process_same k p)
-      (with_active_alike _ _ k (λ running h.
-      if_alike (is_nil_same k (is running)) (start_alike k p)
-      (with_priority_alike _ _ k p (λ mine a.
-      with_priority_alike _ _ k (same running h) (λ its b.
-      if_alike (is (int_lt its mine)) (preempt_alike k (same running h) p) (with_list_alike _ _ k p (λ list g. add_last_alike k (same list g) p)))))))
-      (stop_alike k _)
+    (with_active_alike _ _ k (λ running h.
+    if_alike (is_nil_same k (is running)) (start_alike k p)
+    (with_priority_alike _ _ k p (λ mine a.
+    with_priority_alike _ _ k (same running h) (λ its b.
+    if_alike (is (int_lt its mine)) (preempt_alike k (same running h) p) (with_list_alike _ _ k p (λ list g. add_last_alike k (same list g) p)))))))
+    (stop_alike k _)
 
 one_more_alike : {v m : Kept} {x y : Ref} {o p : Option ℤ} → Keeps v m → Same (IsHeld v) x y → Same Any o p → Alike v (one_more v x o) (one_more m y p)
 one_more_alike k s (same None a) = stop_alike k _
@@ -190,9 +185,9 @@ wait_behind_alike : {v m : Kept} {x y : Ref} → Keeps v m → Same (IsHeld v) x
 wait_behind_alike k s =
     with_active_alike _ _ k (λ running h.
     if_alike (is_process_same k (same running h))
-      (let a = stop_running_moved k (is running) in
-      looked_alike (and_then_alike _ _ (behind a (add_last_alike a.keeps (up a.grows s) (up a.grows (same running h)))) (λ t u r. start_next_alike r.keeps)))
-      (stop_alike k _))
+    (let a = stop_running_moved k (is running) in
+    looked_alike (and_then_alike _ _ (behind a (add_last_alike a.keeps (up a.grows s) (up a.grows (same running h)))) (λ t u r. start_next_alike r.keeps)))
+    (stop_alike k _))
 
 pub wait_alike : {v m : Kept} {x y : Ref} → Keeps v m → Same (IsHeld v) x y → Alike v (wait v x) (wait m y)
 unfolding wait
@@ -227,8 +222,8 @@ find_link_same k p (suc n) before none = same NoProcess tt
 find_link_same k p (suc n) before (some link h) =
     if_same (is_nil_same k (is link)) (same NotThere tt)
     (if_same (is_process_same k (same link h))
-      (if_same (is (same_ref link p)) (at_same k before) (find_link_same k p n (some link h) (slot_same k process_slots next_link (same link h))))
-      (same NoProcess tt))
+    (if_same (is (same_ref link p)) (at_same k before) (find_link_same k p n (some link h) (slot_same k process_slots next_link (same link h))))
+    (same NoProcess tt))
 
 leave_list_alike : {v m : Kept} {x y p q : Ref} {a b : Place} → Keeps v m → Same (IsHeld v) p q → Same (IsHeld v) x y → Same (PlaceHeld v) a b → Alike v (leave_list v p x a) (leave_list m q y b)
 leave_list_alike k p list (same (At before) h) = done_alike (take_out_moved k list p (held_if k before h))

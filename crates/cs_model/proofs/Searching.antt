@@ -1,19 +1,17 @@
 -- Searches go alike: of methods along superclasses, and of contexts along senders and homes.
-use Rattle.std.proofs.Common.{◌≡◌, ℕ, zero, suc, ◌==◌, ◌&&◌, Bool, true, false, refl, ap, subst, Option, Some, None, is_some, List, [], ◌∷◌, ◌++◌, drop, unwrap_or, option_and_then, if◌then◌else◌, pos}
-use Rattle.std.specs.Prelude.{slice_get}
+use Rattle.std.proofs.Common.{ℕ, zero, suc, ◌==◌, ◌&&◌, false, Option, is_some, List, [], ◌∷◌, drop, option_and_then, pos}
 use Rattle.std.specs.List.{AllByRecursion}
 use Rattle.cs_model.specs.Ref.{Ref, Small, Char, birth_of, same_ref}
 use Rattle.cs_model.specs.Ref as ref
-use Rattle.cs_model.specs.Obj.{Obj, Context, Ptr, Raw, Method, Ctx, is_method, slots_in, context_in}
-use Rattle.cs_model.specs.State.{Kept, object_at, object_of, slots_of, is_nil, IsHeld, ContextHeld, NamesHeld}
+use Rattle.cs_model.specs.Obj.{Context, is_method}
+use Rattle.cs_model.specs.State.{Kept, IsHeld, ContextHeld}
 use Rattle.cs_model.specs.Lookup.{Sought, Missing, Loop, class_limit, if_method, or_else, find_among, list_or_empty, find_in, find_in_dictionary, slot_in, or_above, in_class, lookup_within, lookup}
 use Rattle.cs_model.specs.Lookup as sought
 use Rattle.cs_model.specs.Return.{links, Search, Met, Ended, TooLong, passing, context_at, context_birth, sender_birth, search_senders, senders_to, Home, HomeAt, NoHome, HomeTooFar, outer_birth, closure_in, closure_at, search_home, home, is_number, method_primitive, is_marked_context, is_marked, first_marked, is_live}
 use Rattle.cs_model.specs.End.{given}
-use Rattle.cs_model.specs.Keeps.{Keeps, Grows}
-use Rattle.cs_model.proofs.Same.{Same, same, SameOption, none, some, Any, is, of, value, of_option, two, and_then_same, or_same, if_same, if_option, all-append}
+use Rattle.cs_model.specs.Keeps.{Keeps}
+use Rattle.cs_model.proofs.Same.{Same, same, SameOption, none, some, Any, is, of_option, two, and_then_same, or_same, if_same, if_option}
 use Rattle.cs_model.proofs.Reading.{AllHeld, listed, Has, nil_same, is_nil_same, object_at_same, object_of_same, slots_in_same, slots_of_same, context_in_same, slice_same}
-use Rattle.cs_model.proofs.Operating.{drop_same}
 
 pub given_same : {A B : Type 0} {P : A → Type 0} {Q : B → Type 0} {o p : Option A} {x y : B} (f g : A → B) → SameOption P o p → Same Q x y → ((a : A) → P a → Same Q (f a) (g a)) → Same Q (given o x f) (given p y g)
 given_same f g none n s = n

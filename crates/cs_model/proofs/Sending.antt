@@ -1,25 +1,23 @@
 -- Sends are alike: what is found is invoked, what isn't understood is told, and performs.
-use Rattle.std.proofs.Common.{◌≡◌, ℕ, ◌+◌, ◌-◌, ◌==◌, ◌&&◌, ◌||◌, Bool, true, false, refl, Option, Some, None, is_some, List, [], ◌∷◌, ◌++◌, length, take, drop, unwrap_or, option_and_then, nat_lt, nat_le, if◌then◌else◌}
-use Rattle.std.specs.Prelude.{slice_get}
+use Rattle.std.proofs.Common.{ℕ, ◌+◌, ◌-◌, ◌==◌, ◌&&◌, Bool, true, false, Option, Some, None, List, [], ◌∷◌, ◌++◌, length, take, nat_lt, nat_le, if◌then◌else◌}
 use Rattle.std.specs.List.{AllByRecursion}
 use Rattle.cs_model.specs.declared.stop.Stop.TheVariants as why
 use Rattle.cs_model.specs.Ref.{Ref}
-use Rattle.cs_model.specs.Obj.{Obj, Context, Ptr, Raw, Method, Ctx, is_method, slots_in, header_in, bytecodes_in, primitive_number, argument_count, context_size, with_stack}
-use Rattle.cs_model.specs.State.{Kept, object_of, slots_of, special_at, IsHeld, ContextHeld, NamesHeld}
-use Rattle.cs_model.specs.Read.{active_context, stack_of, depth_of, size_of, from_top, class_of}
-use Rattle.cs_model.specs.Operation.{nil_of, last_values}
+use Rattle.cs_model.specs.Obj.{Obj, Ptr, Raw, Method, Ctx, is_method, header_in, bytecodes_in, primitive_number, argument_count, with_stack}
+use Rattle.cs_model.specs.State.{Kept, IsHeld, ContextHeld, NamesHeld}
+use Rattle.cs_model.specs.Operation.{last_values}
 use Rattle.cs_model.specs.Lookup.{Sought, Missing, Loop, lookup}
 use Rattle.cs_model.specs.Lookup as sought
 use Rattle.cs_model.specs.Instance.{Made}
 use Rattle.cs_model.specs.Send.{receiver_at, activation_words, enter_out, offer, invoke, message_class, does_not_understand, message_slots, message_made, with_message, class_or_nil, not_understood_by, send_message, not_understood, send_found, superclass_of, begins_at, look_from, send, array_elements, spread_of, elements_fitting, without_selector, perform_found, perform, perform_with_arguments, execute_method}
 use Rattle.cs_model.specs.End.{Out, out, stop}
 use Rattle.cs_model.specs.End as ends
-use Rattle.cs_model.specs.Keeps.{Keeps, Grows}
+use Rattle.cs_model.specs.Keeps.{Keeps}
 use Rattle.cs_model.specs.Alike.{Alike}
-use Rattle.cs_model.proofs.Same.{Same, same, SameOption, none, some, Any, is, of, value, of_option, two, and_then_same, or_same, if_option, option_is, all-append, all-take, all-drop}
+use Rattle.cs_model.proofs.Same.{Same, same, SameOption, none, some, Any, is, of, value, of_option, and_then_same, or_same, if_option, all-append, all-take, all-drop}
 use Rattle.cs_model.proofs.Keeping.{Moved, moved}
-use Rattle.cs_model.proofs.Reading.{AllHeld, listed, up, up_all, nil_same, object_of_same, slots_of_same, special_at_same, class_of_same, active_context_same, stack_same, depth_same, from_top_same, slice_same}
-use Rattle.cs_model.proofs.Operating.{drop_moved, enter_moved, put_active_moved, stack_held, receiver_below_same, last_values_same, cons_same, empty_same}
+use Rattle.cs_model.proofs.Reading.{AllHeld, listed, up, nil_same, object_of_same, slots_of_same, special_at_same, class_of_same, active_context_same, stack_same, depth_same, from_top_same, slice_same}
+use Rattle.cs_model.proofs.Operating.{drop_moved, enter_moved, put_active_moved, stack_held, receiver_below_same, last_values_same}
 use Rattle.cs_model.proofs.Making.{SameMade, makes, refused, full, instantiate_same}
 use Rattle.cs_model.proofs.Combining.{fail_alike, moved_alike, out_alike, stop_alike, behind, made_alike, made_context_alike, given_alike, if_alike, and_then_alike}
 use Rattle.cs_model.proofs.Executing.{push_alike, with_array_alike, fill_moved}
@@ -42,8 +40,8 @@ pub invoke_alike : {v m : Kept} {x y : Ref} → Keeps v m → Same (IsHeld v) x 
 unfolding invoke
 invoke_alike k s args =
     if_alike (of_option (λ o. argument_count (header_in o) == args) (object_of_same k s))
-      (offer_alike k s args (of_option (λ o. primitive_number (header_in o) (bytecodes_in o)) (object_of_same k s)))
-      (stop_alike k _)
+    (offer_alike k s args (of_option (λ o. primitive_number (header_in o) (bytecodes_in o)) (object_of_same k s)))
+    (stop_alike k _)
 
 -- ---- what isn't understood
 
@@ -132,7 +130,7 @@ array_elements_same (some (Ctx c) h) = none
 pub spread_moved : {v m : Kept} {xs ys : List Ref} → Keeps v m → (args : ℕ) → Same (AllHeld v) xs ys → Moved v (spread_of v args xs) (spread_of m args ys)
 spread_moved {v} k args (same xs g) =
     put_active_moved k (of (ContextHeld v) (λ c. with_stack (take (length c.stack - args) c.stack ++ xs) c) (active_context_same k)
-      (λ c h. stack_held c _ h (all-append (IsHeld v) (take (length c.stack - args) c.stack) xs (all-take (IsHeld v) (length c.stack - args) c.stack h.stack) g.all)))
+    (λ c h. stack_held c _ h (all-append (IsHeld v) (take (length c.stack - args) c.stack) xs (all-take (IsHeld v) (length c.stack - args) c.stack h.stack) g.all)))
 
 pub elements_fitting_same : {v m : Kept} {x y : Ref} → Keeps v m → (args : ℕ) → Same (IsHeld v) x y → SameOption (AllHeld v) (elements_fitting v args x) (elements_fitting m args y)
 unfolding elements_fitting
@@ -142,8 +140,8 @@ elements_fitting_same k args s =
 without_selector_moved : {v m : Kept} → Keeps v m → (args : ℕ) → Moved v (without_selector v args) (without_selector m args)
 without_selector_moved {v} k args =
     put_active_moved k (of (ContextHeld v) (λ c. with_stack (take (length c.stack - args) c.stack ++ last_values (args - 1) c.stack) c) (active_context_same k)
-      (λ c h. stack_held c _ h (all-append (IsHeld v) (take (length c.stack - args) c.stack) (last_values (args - 1) c.stack)
-        (all-take (IsHeld v) (length c.stack - args) c.stack h.stack) (all-drop (IsHeld v) (length c.stack - (args - 1)) c.stack h.stack))))
+    (λ c h. stack_held c _ h (all-append (IsHeld v) (take (length c.stack - args) c.stack) (last_values (args - 1) c.stack)
+    (all-take (IsHeld v) (length c.stack - args) c.stack h.stack) (all-drop (IsHeld v) (length c.stack - (args - 1)) c.stack h.stack))))
 
 perform_found_alike : {v m t u : Kept} {x y : Ref} {a b : Sought} → Keeps v m → Moved v t u → Same (IsHeld v) x y → (args : ℕ) → Same (SoughtHeld v) a b → Alike v (perform_found v t x args a) (perform_found m u y args b)
 perform_found_alike k s selector args (same (sought.Method x) h) =
@@ -174,4 +172,4 @@ execute_method_alike k =
     given_alike _ _ (elements_fitting_same k 2 (same array h)) (fail_alike k) (λ values f.
     let s = spread_moved k 2 (same values f) in
     if_alike (of_option (λ o. is_method o && argument_count (header_in o) == length values) (object_of_same k (same method g)))
-      (behind s (invoke_alike s.keeps (up s.grows (same method g)) (length values))) (fail_alike k))))
+    (behind s (invoke_alike s.keeps (up s.grows (same method g)) (length values))) (fail_alike k))))

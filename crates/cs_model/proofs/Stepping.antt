@@ -1,30 +1,26 @@
 -- A bytecode with all that it leads to is alike, and so are a step and a run.
-use Rattle.std.proofs.Common.{◌≡◌, ℕ, zero, suc, ◌+◌, ◌-◌, ◌&&◌, not, Bool, true, false, refl, sym, ap, subst, ◌∙◌, Option, Some, None, is_some, List, [], ◌∷◌, ◌++◌, nat_lt, if◌then◌else◌}
+use Rattle.std.proofs.Common.{◌≡◌, ℕ, zero, suc, ◌+◌, ◌-◌, ◌&&◌, not, Bool, true, false, refl, sym, ap, ◌∙◌, Option, Some, None, is_some, List, [], ◌∷◌, ◌++◌, nat_lt, if◌then◌else◌}
 use Rattle.cs_model.specs.declared.stop.Stop.{Stop}
 use Rattle.cs_model.specs.declared.stop.Stop.TheVariants as why
 use Rattle.cs_model.specs.declared.instruction.Instr.{Instr}
-use Rattle.cs_model.specs.Ref.{Ref, same_ref}
+use Rattle.cs_model.specs.Ref.{Ref}
 use Rattle.cs_model.specs.Obj.{first_pc, header_in, argument_count}
-use Rattle.cs_model.specs.State.{Kept, Run, State, slots_of, special_at, scheduler_of, is_nil, active_process, IsHeld}
-use Rattle.cs_model.specs.Read.{pc_of, literals_of, bytecodes_of}
-use Rattle.cs_model.specs.Operation.{set_pc_of, suspend_of}
+use Rattle.cs_model.specs.State.{Kept, Run, State, IsHeld}
 use Rattle.cs_model.specs.Decode.{decode_at}
-use Rattle.cs_model.specs.Exec.{exec}
-use Rattle.cs_model.specs.Send.{enter_out, send}
-use Rattle.cs_model.specs.Return.{back}
-use Rattle.cs_model.specs.PrimRun.{Result, result}
+use Rattle.cs_model.specs.Send.{enter_out}
+use Rattle.cs_model.specs.PrimRun.{Result}
 use Rattle.cs_model.specs.PrimTable.{prim, is_perform}
-use Rattle.cs_model.specs.Due.{Happened, is_idle, due}
-use Rattle.cs_model.specs.Step.{Message, message_in, return_in, primitive_in, call_in, is_fail, with_kept, counting, arguments_of, or_enter, try_performed, tried, try_primitive, sent, do_send, do_call, returned, do_return, followed, instruction_at, obey, bytecode, is_ref, is_process, process_fault, shape_fault, Ending, Steps, Quit, Idle, Stopped, Step, stops, next_step, is_left, without_context, left_count, ends_with, completed, finish, birth_limit, idle, add_count, finish_of, ready, stop_in, after_due, step, Ran, started, saved, one_more, go_on, run_by, run}
+use Rattle.cs_model.specs.Due.{Happened}
+use Rattle.cs_model.specs.Step.{Message, message_in, return_in, primitive_in, call_in, is_fail, counting, arguments_of, or_enter, try_performed, tried, try_primitive, sent, do_send, do_call, returned, do_return, followed, instruction_at, obey, bytecode, is_ref, is_process, process_fault, shape_fault, Ending, Steps, Quit, Idle, Stopped, Step, stops, next_step, is_left, ends_with, completed, finish, birth_limit, add_count, ready, stop_in, after_due, step, Ran, saved, go_on, run_by, run}
 use Rattle.cs_model.specs.End.{End, Out, Count, out, stop, no_count, plus, given}
 use Rattle.cs_model.specs.End as ends
 use Rattle.cs_model.specs.Keeps.{Keeps, Grows, TimerHeld, KeepsState}
 use Rattle.cs_model.specs.Alike.{Alike, EndHeld, IsHeldIf, AlikeResult, AlikeHappened, AlikeStep, AlikeRan, KeepsIf, AllKeep}
-use Rattle.cs_model.proofs.Same.{Same, same, SameOption, none, some, Any, is, of, value, of_option, two, same_by, plain, option_is}
-use Rattle.cs_model.proofs.Keeping.{Moved, moved, unmoved, choose_moved, grows-trans}
-use Rattle.cs_model.proofs.Reading.{up, rest_same, is_nil_same, slots_of_same, special_at_same, scheduler_same, active_process_same, object_of_same, bytecodes_same, literals_same, pc_same}
+use Rattle.cs_model.proofs.Same.{Same, same, SameOption, none, some, Any, is, value, of_option, two, same_by, plain}
+use Rattle.cs_model.proofs.Keeping.{Moved, unmoved, choose_moved, grows-trans}
+use Rattle.cs_model.proofs.Reading.{rest_same, is_nil_same, slots_of_same, special_at_same, scheduler_same, active_process_same, object_of_same, bytecodes_same, literals_same, pc_same}
 use Rattle.cs_model.proofs.Operating.{set_pc_moved, suspend_moved}
-use Rattle.cs_model.proofs.Combining.{behind, left, end_same, count_same, counting_alike, out_alike, stop_alike}
+use Rattle.cs_model.proofs.Combining.{behind, left, end_same, count_same, counting_alike, stop_alike}
 use Rattle.cs_model.proofs.Executing.{exec_alike}
 use Rattle.cs_model.proofs.Sending.{enter_alike, send_alike}
 use Rattle.cs_model.proofs.Returning.{back_alike}
@@ -146,8 +142,8 @@ followed_alike : {v : Kept} {a b : Out} → (r : Run) → TimerHeld v r → Alik
 followed_alike {a = a} r timer h =
     let later = timer_up h.grows timer in
     given_result _ _ (message_in_same a.state (end_same h))
-      (given_result _ _ (return_in_same a.state (end_same h)) (result_alike h r timer) (λ p g. counting_result h (do_return_alike h.keeps r later (same p.0 g) p.1)))
-      (λ p g. counting_result h (do_send_alike h.keeps r later (same p.selector g.0) p.args (above_held h.keeps p.above g.1)))
+    (given_result _ _ (return_in_same a.state (end_same h)) (result_alike h r timer) (λ p g. counting_result h (do_return_alike h.keeps r later (same p.0 g) p.1)))
+    (λ p g. counting_result h (do_send_alike h.keeps r later (same p.selector g.0) p.args (above_held h.keeps p.above g.1)))
 
 instruction_at_same : {v m : Kept} → Keeps v m → SameOption Any (instruction_at v) (instruction_at m)
 unfolding instruction_at
@@ -197,8 +193,8 @@ ends_with_alike {v} {a} {b} e h =
       grows = grows-trans h.out.grows w.grows;
       snapshot = h.snapshot;
     } where
-  counted : {x y : Bool} {n l : Count} → Same Any x y → Same Any n l → plus n (if x then record { objects = 0; contexts = 0; looks = 1 } else no_count) ≡ plus l (if y then record { objects = 0; contexts = 0; looks = 1 } else no_count)
-  counted (same x c) (same n d) = refl
+      counted : {x y : Bool} {n l : Count} → Same Any x y → Same Any n l → plus n (if x then record { objects = 0; contexts = 0; looks = 1 } else no_count) ≡ plus l (if y then record { objects = 0; contexts = 0; looks = 1 } else no_count)
+      counted (same x c) (same n d) = refl
 
 given_step : {v : Kept} {A : Type 0} {P : A → Type 0} {o p : Option A} {a b : Step} (f g : A → Step) → SameOption P o p → AlikeStep v a b → ((x : A) → P x → AlikeStep v (f x) (g x)) → AlikeStep v (given o a f) (given p b g)
 given_step f g none n s = n
@@ -247,8 +243,8 @@ ready_alike {s} {t} {a} {b} k h =
     let r = bytecode_of_state h.state in
     let w : AlikeResult s.kept (bytecode a.state) (bytecode b.state) = result_behind (record { keeps = h.state.kept; grows = h.grows }) r in
     if_step (is_idle_same h.state.kept)
-      (record { ending = refl; count = h.count; state = h.state; grows = h.grows; snapshot = tt })
-      (add_count_alike (same_by Any a.count b.count (sym h.count) tt) (finish_case k w (end_same w.out)))
+    (record { ending = refl; count = h.count; state = h.state; grows = h.grows; snapshot = tt })
+    (add_count_alike (same_by Any a.count b.count (sym h.count) tt) (finish_case k w (end_same w.out)))
 
 after_due_alike : {s t : State} {a b : Happened} → KeepsState s t → AlikeHappened s.kept a b → AlikeStep s.kept (after_due s a) (after_due t b)
 after_due_alike {s} {t} {a} {b} k h =

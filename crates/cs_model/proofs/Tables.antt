@@ -1,11 +1,10 @@
 -- Every primitive is alike.
-use Rattle.std.proofs.Common.{◌≡◌, ℕ, ◌==◌, ◌&&◌, ◌||◌, Bool, refl, Option, nat_lt, nat_le, if◌then◌else◌}
-use Rattle.cs_model.specs.State.{Kept, Run, State}
+use Rattle.std.proofs.Common.{ℕ, ◌==◌, ◌&&◌, nat_lt, nat_le}
+use Rattle.cs_model.specs.State.{Kept, Run}
 use Rattle.cs_model.specs.PrimTable.{object_prim, context_prim, process_prim, perform_prim, is_perform, is_process_number, is_context_number, kept_prim, prim}
-use Rattle.cs_model.specs.End.{Out}
 use Rattle.cs_model.specs.Keeps.{Keeps, TimerHeld}
 use Rattle.cs_model.specs.Alike.{Alike, AlikeResult}
-use Rattle.cs_model.proofs.Same.{Same, is}
+use Rattle.cs_model.proofs.Same.{is}
 use Rattle.cs_model.proofs.Combining.{fail_alike, if_alike}
 use Rattle.cs_model.proofs.Sending.{perform_alike, perform_with_arguments_alike, execute_method_alike}
 use Rattle.cs_model.proofs.Answering.{with_count_alike, number_prim_alike}

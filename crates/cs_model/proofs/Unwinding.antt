@@ -1,24 +1,18 @@
 -- The primitives that evaluate closures, and those that look along senders, are alike.
-use Rattle.std.proofs.Common.{◌≡◌, ℕ, zero, suc, ◌==◌, ◌||◌, Bool, true, false, refl, Option, Some, None, is_some, List, [], length, if◌then◌else◌}
-use Rattle.cs_model.specs.declared.stop.Stop.TheVariants as why
+use Rattle.std.proofs.Common.{ℕ, zero, suc, Option, None, is_some, List, [], length}
 use Rattle.cs_model.specs.Ref.{Ref, birth_of}
 use Rattle.cs_model.specs.Ref as ref
-use Rattle.cs_model.specs.Obj.{Context, edit_context, context_in}
-use Rattle.cs_model.specs.State.{Kept, object_at, object_of, is_nil, IsHeld, ContextHeld}
-use Rattle.cs_model.specs.Read.{active_birth}
-use Rattle.cs_model.specs.Operation.{nil_of, edit_found, kill_all}
-use Rattle.cs_model.specs.Enter.{can_evaluate}
-use Rattle.cs_model.specs.Send.{elements_fitting, spread_of}
-use Rattle.cs_model.specs.Return.{Search, Met, Ended, TooLong, senders_to, sender_birth, links, is_among, is_marked, unwind_mark, handler_mark}
-use Rattle.cs_model.specs.PrimAnswer.{receiver, argument}
-use Rattle.cs_model.specs.PrimUnwind.{evaluate_prim, evaluate_array_prim, context_or_nil, answer_context, Marked, MarkAt, NoMark, MarkTooFar, is_goal, search_mark, answer_mark, is_end, unwind_mark_prim, handler_mark_prim, with_sender, end_between_of, end_if, end_searched, end_at, end_between_prim}
-use Rattle.cs_model.specs.Keeps.{Keeps, Grows}
+use Rattle.cs_model.specs.State.{Kept, IsHeld}
+use Rattle.cs_model.specs.Operation.{kill_all}
+use Rattle.cs_model.specs.Return.{Search, Met, Ended, TooLong, sender_birth, links, is_among, unwind_mark, handler_mark}
+use Rattle.cs_model.specs.PrimUnwind.{evaluate_prim, evaluate_array_prim, answer_context, Marked, MarkAt, NoMark, MarkTooFar, is_goal, search_mark, answer_mark, is_end, unwind_mark_prim, handler_mark_prim, with_sender, end_between_of, end_if, end_searched, end_at, end_between_prim}
+use Rattle.cs_model.specs.Keeps.{Keeps}
 use Rattle.cs_model.specs.Alike.{Alike}
-use Rattle.cs_model.proofs.Same.{holds, Same, same, SameOption, none, some, Any, is, of_option, value, two, if_same, option_is}
+use Rattle.cs_model.proofs.Same.{holds, Same, same, SameOption, none, some, Any, is, of_option, value, if_same}
 use Rattle.cs_model.proofs.Keeping.{Moved, moved, edit_found_moved}
-use Rattle.cs_model.proofs.Reading.{AllHeld, Has, up, nil_same, is_nil_same, object_of_same, context_in_same, active_birth_same}
+use Rattle.cs_model.proofs.Reading.{Has, up, nil_same, is_nil_same, object_of_same, context_in_same, active_birth_same}
 use Rattle.cs_model.proofs.Operating.{kill_all_moved}
-use Rattle.cs_model.proofs.Fields.{edit_context_edit, or_else_same, is_context_ref_same}
+use Rattle.cs_model.proofs.Fields.{edit_context_edit, or_else_same}
 use Rattle.cs_model.proofs.Entering.{can_evaluate_same, enter_block_alike}
 use Rattle.cs_model.proofs.Combining.{fail_alike, stop_alike, behind, looked_alike, given_alike, if_alike}
 use Rattle.cs_model.proofs.Searching.{SearchHeld, senders_to_same, sender_birth_same, context_birth_same, birth_of_same, is_marked_same}
@@ -35,8 +29,8 @@ unfolding evaluate_array_prim
 evaluate_array_alike k args =
     with_count_alike k 1 args (given_alike _ _ (elements_fitting_same k 1 (argument_same k 1 0)) (fail_alike k) (λ values h.
     if_alike (can_evaluate_same k (prim_receiver_same k 1) (length values))
-      (let s = spread_moved k 1 (same values h) in behind s (enter_block_alike s.keeps (up s.grows (prim_receiver_same k 1)) (length values)))
-      (fail_alike k)))
+    (let s = spread_moved k 1 (same values h) in behind s (enter_block_alike s.keeps (up s.grows (prim_receiver_same k 1)) (length values)))
+    (fail_alike k)))
 
 -- ---- marks
 
@@ -93,7 +87,7 @@ end_between_moved {v} k dying i (same x g) =
 end_if_alike : {v m : Kept} {x y : Ref} → Keeps v m → (i : ℕ) → Has v i → Same (IsHeld v) x y → (dying : List ℕ) → Alike v (end_if v i x dying) (end_if m i y dying)
 end_if_alike k i h s dying =
     if_alike (value (λ b. is_among b dying) (active_birth_same k)) (fail_alike k)
-      (let e = end_between_moved k dying i s in behind e (answer_alike e.keeps 1 (up e.grows (same (ref.Obj i) h))))
+    (let e = end_between_moved k dying i s in behind e (answer_alike e.keeps 1 (up e.grows (same (ref.Obj i) h))))
 
 end_searched_alike : {v m : Kept} {x y : Ref} {a b : Search} → Keeps v m → (i : ℕ) → Has v i → Same (IsHeld v) x y → Same (SearchHeld v) a b → Alike v (end_searched v i x a) (end_searched m i y b)
 end_searched_alike k i h s (same (Met passed) all) = end_if_alike k i h s passed
