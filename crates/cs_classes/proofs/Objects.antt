@@ -11,7 +11,7 @@ use Rattle.cs_model.specs.Ref.{Ref}
 use Rattle.cs_model.specs.Obj.{Obj}
 use Rattle.cs_classes.specs.Meaning.{meaning_at, obj_of, objects_of, ref_of}
 use Rattle.cs_classes.specs.Sound.{IsSound, IsSoundObject}
-use Rattle.cs_classes.proofs.Heaps.{IsEdit, Stands, birth_of-object_at, is_object-object_at, object_at-stands, object_there, slice_get-push, stands, with_object-stands}
+use Rattle.cs_classes.proofs.Heaps.{IsEdit, Stands, birth_of-object_at, is_object-object_at, object_there, slice_get-push, stands, with_object-stands}
 use Rattle.cs_classes.proofs.Refs.{ref_of-push, ref_of-with_object}
 use Rattle.cs_classes.proofs.Tables.{ties_other, ties_same}
 

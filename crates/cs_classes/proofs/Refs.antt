@@ -9,14 +9,13 @@ use Rattle.cs_word.specs.declared.Kind.{Kind}
 use Rattle.cs_word.specs.declared.Kind.TheVariants as kind
 use Rattle.cs_word.specs.Word.{IsSmall, character_word, kind_of, small_word}
 use Rattle.cs_word.proofs.Words.{kind_of-character_word, kind_of-injective, kind_of-object, kind_of-small_word}
-use Rattle.cs_heap.specs.Object.{Object, address_among, address_of, base, birth_of, index_among, is_object, object_at, slot_counts, used, with_object}
-use Rattle.cs_heap.proofs.Places.{used-cons}
-use Rattle.cs_heap.proofs.Places as places
+use Rattle.cs_heap.specs.Object.{Object, address_among, base, birth_of, is_object, with_object}
+use Rattle.cs_heap.proofs.Laws.{index_of-injective, is_object-old, is_object-with_object, object_placed, slot_counts-with_object}
 use Rattle.cs_model.specs.Ref.{Ref, same_ref}
 use Rattle.cs_model.specs.Ref as ref
 use Rattle.cs_classes.specs.Meaning.{count_of, count_of_kind, ref_of, ref_of_kind}
 use Rattle.cs_classes.specs.Sound.{IsSound, is_reference, is_reference_kind, nil_of}
-use Rattle.cs_classes.proofs.Heaps.{IsEdit, birth_of-object_at, birth_of-push, birth_of-with_object, is_object-push, is_object-with_object, object_there, same_address, slot_counts-with_object, stands}
+use Rattle.cs_classes.proofs.Heaps.{IsEdit, birth_of-object_at, birth_of-push, birth_of-with_object, object_there, stands}
 
 -- ---- what a word of each kind refers to
 
@@ -28,23 +27,13 @@ pub ref_of-character : (os : List Object) (code : ℕ) → ref_of os (character_
 unfolding ref_of
 ref_of-character os code = ap (ref_of_kind os) (kind_of-character_word code)
 
-even_words : (os : List Object) → used os % 2 ≡ 0
-even_words [] = refl
-even_words (x ∷ os) = omega (arith, used-cons x os, even_words os)
-
--- objects lie at multiples of 8
-pub address_is_whole : (os : List Object) (a : ℕ) → is_object os a ≡ true → a % 8 ≡ 0
-address_is_whole os a h =
-    let found = places.has_index os a h in
-    omega (arith, found.1.split.place, even_words found.1.split.before)
-
 pub ref_of-object : (os : List Object) (a : ℕ) → is_object os a ≡ true → ref_of os a ≡ ref.Obj (birth_of os a)
 unfolding ref_of
-ref_of-object os a h = ap (ref_of_kind os) (kind_of-object a (address_is_whole os a h))
+ref_of-object os a h = ap (ref_of_kind os) (kind_of-object a (object_placed os a h).aligned)
 
 pub is_reference-object : (os : List Object) (a : ℕ) → is_object os a ≡ true → is_reference os a ≡ true
 unfolding is_reference
-is_reference-object os a h = ap (is_reference_kind os) (kind_of-object a (address_is_whole os a h)) ∙ h
+is_reference-object os a h = ap (is_reference_kind os) (kind_of-object a (object_placed os a h).aligned) ∙ h
 
 pub is_reference-small : (os : List Object) (z : ℤ) → IsSmall z → is_reference os (small_word z) ≡ true
 unfolding is_reference
@@ -80,11 +69,11 @@ is_reference-with_object os a f h = λ i w. at (kind_of w) i
     at : (k : Kind) → is_reference_kind (with_object os a f) k ≡ is_reference_kind os k
     at (kind.Small z) = refl
     at (kind.Character c) = refl
-    at (kind.Object b) = is_object-with_object os a b f h
+    at (kind.Object b) = is_object-with_object os a b f h.slots
     at (kind.Link w) = refl
 
 pub nil_of-with_object : (os : List Object) (a : ℕ) (f : Object → Object) → IsEdit f → nil_of (with_object os a f) ≡ nil_of os
-nil_of-with_object os a f h = ap (λ (ns : List ℕ). unwrap_or (address_among ns base 0) 0) (slot_counts-with_object os a f h)
+nil_of-with_object os a f h = ap (λ (ns : List ℕ). unwrap_or (address_among ns base 0) 0) (slot_counts-with_object os a f h.slots)
 
 -- ---- when one comes
 
@@ -105,7 +94,7 @@ is_reference-push os y w h = at (kind_of w) h
     at : (k : Kind) → is_reference_kind os k ≡ true → is_reference_kind (os ++ y ∷ []) k ≡ true
     at (kind.Small z) h = refl
     at (kind.Character c) h = refl
-    at (kind.Object b) h = is_object-push os y b h
+    at (kind.Object b) h = is_object-old os y b h
     at (kind.Link w) h = h
 
 pub nil_of-push : (os : List Object) (y : Object) → 0 < length os → nil_of (os ++ y ∷ []) ≡ nil_of os
@@ -123,7 +112,7 @@ same_births os a b sound p q e =
     let t = stands os b y.0 y.1 in
     let births : x.0.birth ≡ y.0.birth = sym (birth_of-object_at os a x.0 x.1) ∙ e ∙ birth_of-object_at os b y.0 y.1 in
     let one : s.0 ≡ t.0 = sound.apart s.0 t.0 x.0 y.0 s.1.element t.1.element births in
-    same_address os a b t.0 (s.1.index ∙ ap Some one) t.1.index
+    index_of-injective os a b t.0 (s.1.index ∙ ap Some one) t.1.index
 
 same_ref-refl : (r : Ref) → same_ref r r ≡ true
 same_ref-refl (ref.Small z) = (Decides-int_eq z z).1 refl

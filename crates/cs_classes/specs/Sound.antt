@@ -6,8 +6,8 @@ use Rattle.std.specs.FinMap.{FinMap, get}
 use Rattle.cs_word.specs.declared.Kind.{Kind}
 use Rattle.cs_word.specs.declared.Kind.TheVariants as kind
 use Rattle.cs_word.specs.Word.{kind_of}
-use Rattle.cs_heap.specs.Format.{is_method, is_pointers, is_shape}
-use Rattle.cs_heap.specs.Object.{Object, address_of, is_object}
+use Rattle.cs_heap.specs.Format.{is_method, is_pointers, format_allows}
+use Rattle.cs_heap.specs.Object.{Object, address_of, base, is_object}
 use Rattle.cs_model.specs.Obj.{context_fields, is_header, literal_count}
 use Rattle.cs_classes.specs.declared.Roots.{Roots}
 use Rattle.cs_classes.specs.Meaning.{count_of, depth_in, header_in, is_context, literals_in, unused_bytes}
@@ -49,7 +49,7 @@ pub record IsSoundMethod (x : Object) : Type 0 where
   pub literals : literal_count (header_in x.words) + (if nat_lt 0 (unused_bytes x.format) then 1 else 0) < length x.words
 
 pub record IsSoundObject (objects : List Object) (x : Object) : Type 0 where
-  pub shape : IsTrue (is_shape x.format (length x.words))
+  pub shape : IsTrue (format_allows x.format (length x.words))
   pub references : AllPass (is_reference objects) (references_in x)
   pub context : IsTrue (is_context x) → IsSoundContext objects x
   pub method : IsTrue (is_method x.format) → IsSoundMethod x
@@ -61,11 +61,13 @@ pub record IsSound (objects : List Object) : Type 0 where
 
 -- ---- the whole
 
--- A heap with its class table and roots: nil, false and true are there; births are below the next one; each object's
--- class index has an entry; and each entry and the special-object array are objects.
+-- A heap with its class table and roots: nil, false and true are there, nil at the first address, which new slots hold;
+-- births are below the next one; each object's class index has an entry; and each entry and the special-object array are
+-- objects.
 pub record IsWhole (objects : List Object) (table : FinMap nat_cmp ℕ) (roots : Roots) : Type 0 where
   pub heap : IsSound objects
   pub first : 3 ≤ length objects
+  pub nil : nil_of objects ≡ base
   pub births : (k : ℕ) (x : Object) → slice_get objects k ≡ Some x → x.birth < roots.next_birth
   pub indices : (k : ℕ) (x : Object) → slice_get objects k ≡ Some x → is_some (get table x.class) ≡ true
   pub classes : (index a : ℕ) → get table index ≡ Some a → is_object objects a ≡ true

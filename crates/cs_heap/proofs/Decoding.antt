@@ -1,16 +1,15 @@
 -- What was laid out is read again.
-use Rattle.std.proofs.Common.{◌≡◌, ℕ, zero, suc, ◌+◌, ◌*◌, ◌/◌, ◌%◌, ◌^◌, ◌-◌, ◌<◌, ◌≤◌, Bool, true, false, cond, List, [], ◌∷◌, ◌++◌, length, take, drop, get_or, replicate, refl, ap, ap₂, sym, ◌∙◌, arith, eqb, leb, min, max, append_assoc, length-append}
+use Rattle.std.proofs.Common.{◌≡◌, ℕ, zero, suc, ◌+◌, ◌*◌, ◌/◌, ◌%◌, ◌^◌, ◌<◌, ◌≤◌, Bool, true, false, List, [], ◌∷◌, ◌++◌, length, take, drop, get_or, refl, ap, ap₂, sym, ◌∙◌, arith, eqb, leb, append_assoc, length-append}
 use Rattle.std.proofs.Math.Seq.{take-append_seam, drop-append_seam}
 use Rattle.std.proofs.lemmas.List.{get_or_append_left}
 use Rattle.std.proofs.lemmas.Bool.Decides.{nat_tests}
 use Rattle.std.specs.Prelude.{flat_map}
 use Rattle.std.specs.List.{AllByRecursion}
-use Rattle.cs_heap.specs.Format.{is_shape}
-use Rattle.cs_heap.specs.Object.{Object, body_units, size, units, units_before}
-use Rattle.cs_heap.specs.Layout.{IsStorable, births_of, first_count, first_object, header, header_in, marked, object_in, objects_in, overflow, padding, row, words_of}
-use Rattle.cs_heap.proofs.OneObject.{births_of_is, count_in_row, fits_body, high_in_row, length-copies, length-marked, length-overflow, length-row, length-words_of, low_in_row, mark_in_row, value_marked, words_of_is}
+use Rattle.cs_heap.specs.Format.{format_allows}
+use Rattle.cs_heap.specs.Object.{Object, size, units, units_before}
+use Rattle.cs_heap.specs.Layout.{IsStorable, births_of, first_count, first_object, header, header_in, object_in, objects_in, overflow, padding, row, words_of}
+use Rattle.cs_heap.proofs.OneObject.{births_of_is, count_in_row, high_in_row, length-marked, length-overflow, length-words_of, low_in_row, mark_in_row, value_marked, words_of_is}
 use Rattle.cs_word.specs.Header.{bit, flag_bits, header_bits, header_flags, header_of}
-use Rattle.cs_word.specs.declared.header.Flags.{Flags}
 use Rattle.cs_word.specs.declared.header.Header.{Header}
 
 -- ---- the header
@@ -30,6 +29,7 @@ header_of-header_bits h class format hash slots flags =
     made : (a b c d e f g i j k : ℕ) → a ≡ b → c ≡ d → e ≡ f → g ≡ i → j ≡ k
         → ◌≡◌ {A = Header} (record { class = a; flags = record { 0 = c }; format = e; hash = g; slots = j }) (record { class = b; flags = record { 0 = d }; format = f; hash = i; slots = k })
     made a b c d e f g i j k p q r s t = cc
+
     parts : (n class format hash slots i r p g m : ℕ) → class < 2 ^ 22 → format < 2 ^ 5 → hash < 2 ^ 22 → slots < 2 ^ 8
         → i < 2 → r < 2 → p < 2 → g < 2 → m < 2 → i + 2 * r + 4 * p + 8 * g + 16 * m ≡ n
         → header_of (class + 2 ^ 24 * format + 2 ^ 32 * hash + 2 ^ 56 * slots + 2 ^ 23 * i + 2 ^ 29 * r + 2 ^ 30 * p + 2 ^ 31 * g + 2 ^ 55 * m)
@@ -54,7 +54,7 @@ stored_header x = header_bits (header x)
 pub bits_back : (n : ℕ) → n % 2 ^ 32 + n / 2 ^ 32 * 2 ^ 32 ≡ n
 bits_back n = omega arith
 
-pub shape_below : (format slots : ℕ) → is_shape format slots ≡ true → format < 2 ^ 5
+pub shape_below : (format slots : ℕ) → format_allows format slots ≡ true → format < 2 ^ 5
 shape_below format slots h = grind (arith, nat_tests)
 
 -- the header of what can be stored is read back
@@ -82,6 +82,7 @@ first_count_is x rest ok = go (leb 255 (length x.words)) refl
   where
     ws : List ℕ
     ws = words_of x ++ rest
+
     long : 255 ≤ length x.words → first_count ws ≡ length x.words
     long h =
         let mark : get_or ws 1 0 ≡ 255 * 2 ^ 24 = in_front x rest 1 (omega arith) ∙ mark_in_row (stored_header x) x.words h in
@@ -89,6 +90,7 @@ first_count_is x rest ok = go (leb 255 (length x.words)) refl
         let small : get_or ws 0 0 < 2 ^ 32 = omega (arith, count, ok.count) in
         let top : (header_in ws 0).slots ≡ 255 = omega (arith, mark, small) in
         rw top count
+
     short : length x.words < 255 → first_count ws ≡ length x.words
     short h =
         let other : leb 255 (length x.words) ≡ false = grind (arith, nat_tests) in
@@ -97,6 +99,7 @@ first_count_is x rest ok = go (leb 255 (length x.words)) refl
         let slots : (header_in ws 0).slots ≡ length x.words = ap (λ (h : Header). h.slots) read ∙ omega (arith, h) in
         let differs : eqb (length x.words) 255 ≡ false = grind (arith, nat_tests) in
         rw (slots, differs) refl
+
     go : (b : Bool) → leb 255 (length x.words) ≡ b → first_count ws ≡ length x.words
     go true e = long (grind (arith, nat_tests))
     go false e = short (grind (arith, nat_tests))
@@ -112,7 +115,7 @@ slots_in_front x rest =
     let split : words_of x ++ rest ≡ front ++ (x.words ++ (padding n ++ rest)) = ap (λ (zs : List ℕ). zs ++ rest) (words_of_is x) ∙ regroup (overflow n) (stored_header x % 2 ^ 32) (stored_header x / 2 ^ 32) x.words (padding n) rest in
     ap (λ (zs : List ℕ). take n (drop (2 * units_before n + 2) zs)) split
     ∙ ap (take n) (drop_front front (x.words ++ (padding n ++ rest)) (2 * units_before n + 2)
-      (omega (arith, length-append (overflow n) (stored_header x % 2 ^ 32 ∷ stored_header x / 2 ^ 32 ∷ []), length-overflow n)))
+    (omega (arith, length-append (overflow n) (stored_header x % 2 ^ 32 ∷ stored_header x / 2 ^ 32 ∷ []), length-overflow n)))
     ∙ take-append_seam x.words (padding n ++ rest)
   where
     regroup : (a : List ℕ) (lo hi : ℕ) (b c d : List ℕ) → ((a ++ lo ∷ hi ∷ b) ++ c) ++ d ≡ (a ++ lo ∷ hi ∷ []) ++ (b ++ (c ++ d))
@@ -151,9 +154,9 @@ objects_back (suc most) (x ∷ xs) h ok =
     next_step most (words_of x ++ rest) (births_of x ++ others) (omega (arith, length-append (words_of x) rest, length-words_of x))
     ∙ ap (λ (k : ℕ). first_object k (words_of x ++ rest) (births_of x ++ others) ∷ objects_in most (drop (2 * units k) (words_of x ++ rest)) (drop (units k) (births_of x ++ others))) (first_count_is x rest ok.0)
     ∙ ap₂ (λ (y : Object) (p : List ℕ × List ℕ). y ∷ objects_in most p.0 p.1) (first_object_is x rest others ok.0)
-      (ap₂ (λ (a : List ℕ) (b : List ℕ). let p : List ℕ × List ℕ = (a, b) in p)
-        (drop_front (words_of x) rest (2 * units n) (length-words_of x))
-        (drop_front (births_of x) others (units n) (ap length (births_of_is x) ∙ length-marked x.birth n)))
+    (ap₂ (λ (a : List ℕ) (b : List ℕ). let p : List ℕ × List ℕ = (a, b) in p)
+    (drop_front (words_of x) rest (2 * units n) (length-words_of x))
+    (drop_front (births_of x) others (units n) (ap length (births_of_is x) ∙ length-marked x.birth n)))
     ∙ ap (λ (ys : List Object). x ∷ ys) (objects_back most xs (omega (arith, h)) ok.1)
 
 -- there are fewer objects than words

@@ -1,7 +1,6 @@
 -- The words of one object: where its header, its count and its slots stand among them.
-use Rattle.std.proofs.Common.{◌≡◌, ℕ, zero, suc, ◌+◌, ◌*◌, ◌/◌, ◌%◌, ◌^◌, ◌-◌, ◌<◌, ◌≤◌, Bool, true, false, cond, List, [], ◌∷◌, ◌++◌, length, take, drop, get_or, replicate, refl, ap, ap₂, sym, ◌∙◌, arith, eqb, leb, min, max, append_assoc, length-append}
+use Rattle.std.proofs.Common.{◌≡◌, ℕ, suc, ◌+◌, ◌*◌, ◌/◌, ◌%◌, ◌^◌, ◌-◌, ◌<◌, ◌≤◌, Bool, true, false, cond, List, [], ◌∷◌, ◌++◌, length, get_or, replicate, refl, ap, sym, ◌∙◌, arith, leb, length-append}
 use Rattle.std.proofs.Math.ListN.{set}
-use Rattle.std.proofs.Math.Seq.{take-append_seam, drop-append_seam}
 use Rattle.std.proofs.lemmas.List.{length-replicate, length-set, get_or_append_left, set-append_left}
 use Rattle.std.proofs.lemmas.Bool.Decides.{nat_tests}
 use Rattle.cs_heap.specs.Object.{Object, body_units, size, units, units_before}
@@ -57,8 +56,10 @@ slot_in_row bits ws i h = go (leb 255 (length ws))
   where
     two : (i : ℕ) → 2 * 0 + 2 + i ≡ suc (suc i)
     two i = omega arith
+
     four : (i : ℕ) → 2 * 1 + 2 + i ≡ suc (suc (suc (suc i)))
     four i = omega arith
+
     go : (b : Bool) → get_or ((cond b (length ws ∷ 255 * 2 ^ 24 ∷ []) [] ++ bits % 2 ^ 32 ∷ bits / 2 ^ 32 ∷ ws) ++ padding (length ws)) (2 * cond b 1 0 + 2 + i) 0 ≡ get_or ws i 0
     go true = rw (four i) (get_or_append_left ws (padding (length ws)) 0 i h)
     go false = rw (two i) (get_or_append_left ws (padding (length ws)) 0 i h)
@@ -81,8 +82,10 @@ row-set_slot bits ws i v h =
   where
     two : (i : ℕ) → 2 * 0 + 2 + i ≡ suc (suc i)
     two i = omega arith
+
     four : (i : ℕ) → 2 * 1 + 2 + i ≡ suc (suc (suc (suc i)))
     four i = omega arith
+
     go : (b : Bool) → set ((cond b (length ws ∷ 255 * 2 ^ 24 ∷ []) [] ++ bits % 2 ^ 32 ∷ bits / 2 ^ 32 ∷ ws) ++ padding (length ws)) (2 * cond b 1 0 + 2 + i) v
         ≡ (cond b (length ws ∷ 255 * 2 ^ 24 ∷ []) [] ++ bits % 2 ^ 32 ∷ bits / 2 ^ 32 ∷ set ws i v) ++ padding (length ws)
     go true = rw (four i) (ap (λ (zs : List ℕ). length ws ∷ 255 * 2 ^ 24 ∷ bits % 2 ^ 32 ∷ bits / 2 ^ 32 ∷ zs) (set-append_left ws (padding (length ws)) i v h))

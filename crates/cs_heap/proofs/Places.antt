@@ -1,10 +1,10 @@
 -- Where an object stands: its address and its index lead to one another.
-use Rattle.std.proofs.Common.{◌≡◌, ℕ, zero, suc, ◌+◌, ◌*◌, ◌/◌, ◌%◌, ◌-◌, ◌<◌, ◌≤◌, Bool, true, false, cond, List, [], ◌∷◌, ◌++◌, length, map, Option, Some, None, option_map, option_and_then, is_some, refl, ap, sym, ◌∙◌, arith, eqb, length-append}
+use Rattle.std.proofs.Common.{◌≡◌, ℕ, zero, suc, ◌+◌, ◌*◌, ◌<◌, ◌≤◌, Bool, true, false, cond, List, [], ◌∷◌, ◌++◌, length, Option, Some, None, option_map, option_and_then, is_some, refl, ap, sym, ◌∙◌, arith, eqb}
 use Rattle.std.proofs.lemmas.List.Sums.{sum_by-cons}
 use Rattle.std.proofs.lemmas.Bool.Decides.{nat_tests}
 use Rattle.std.specs.Prelude.{slice_get}
 use Rattle.std.specs.Option.{option_map_or}
-use Rattle.cs_heap.specs.Object.{Object, address_among, address_of, at_index, base, header_address, index_among, index_of, next_of, object_at, size, slot_counts, units, units_before, used, with_object}
+use Rattle.cs_heap.specs.Object.{Object, address_among, address_of, at_index, base, header_address, index_among, index_of, next_of, object_at, size, slot_counts, units, used, with_object}
 
 -- The objects fall into those before, object x, which is the k-th and has the address, and those behind it. The first
 -- word of the first one is at `at`.
@@ -32,7 +32,7 @@ used-append (x ∷ xs) ys = omega (arith, used-cons x (xs ++ ys), used-cons x xs
 same_number : (a b : ℕ) → eqb a b ≡ true → a ≡ b
 same_number a b h = grind (arith, nat_tests)
 
-split_next : (x : Object) (xs : List Object) (at address k : ℕ) → Split xs (at + 8 * units (length x.words)) address k → Split (x ∷ xs) at address (suc k)
+pub split_next : (x : Object) (xs : List Object) (at address k : ℕ) → Split xs (at + 8 * units (length x.words)) address k → Split (x ∷ xs) at address (suc k)
 split_next x xs at address k s = record {
   before = x ∷ s.before;
   x = s.x;
@@ -42,7 +42,7 @@ split_next x xs at address k s = record {
   count = omega (arith, s.count);
 }
 
-split_here : (x : Object) (xs : List Object) (at address : ℕ) → address ≡ header_address at (length x.words) → Split (x ∷ xs) at address 0
+pub split_here : (x : Object) (xs : List Object) (at address : ℕ) → address ≡ header_address at (length x.words) → Split (x ∷ xs) at address 0
 split_here x xs at address h = record { before = []; x = x; after = xs; list = refl; place = omega (arith, h); count = refl }
 
 from_suc : (xs : List Object) (at address k : ℕ) (o : Option ℕ) → option_map suc o ≡ Some k → ((j : ℕ) → o ≡ Some j → Split xs at address j) → (j : ℕ) × (suc j ≡ k) × Split xs at address j
@@ -60,6 +60,7 @@ split_by_address (x ∷ xs) at address k h =
   where
     next : ℕ
     next = at + 8 * units (length x.words)
+
     go : (b : Bool) → ((j : ℕ) → index_among (slot_counts xs) next address ≡ Some j → Split xs next address j) → eqb address (header_address at (length x.words)) ≡ b
         → cond b (Some 0) (option_map suc (index_among (slot_counts xs) next address)) ≡ Some k → Split (x ∷ xs) at address k
     go true rec e h = let zero_is : 0 ≡ k = cc in
@@ -76,7 +77,7 @@ split_by_index (x ∷ xs) at address (suc k) h = split_next x xs at address k (s
 
 -- ---- and back
 
-index_split : (before after : List Object) (x : Object) (at address : ℕ) → address ≡ header_address (at + 4 * used before) (length x.words)
+pub index_split : (before after : List Object) (x : Object) (at address : ℕ) → address ≡ header_address (at + 4 * used before) (length x.words)
     → index_among (slot_counts (before ++ x ∷ after)) at address ≡ Some (length before)
 unfolding index_among
 index_split [] after x at address h =
@@ -94,12 +95,18 @@ index_split (y ∷ ys) after x at address h =
     above : (a b : ℕ) → b < a → eqb a b ≡ false
     above a b h = grind (arith, nat_tests)
 
-address_split : (before after : List Object) (x : Object) (at : ℕ)
+pub address_split : (before after : List Object) (x : Object) (at : ℕ)
     → address_among (slot_counts (before ++ x ∷ after)) at (length before) ≡ Some (header_address (at + 4 * used before) (length x.words))
 unfolding address_among
 address_split [] after x at = ap Some (omega arith)
 address_split (y ∷ ys) after x at =
     address_split ys after x (at + 8 * units (length y.words)) ∙ ap Some (omega (arith, used-cons y ys))
+
+pub address_past : (xs : List Object) (at k : ℕ) → length xs ≤ k → address_among (slot_counts xs) at k ≡ None
+unfolding address_among
+address_past [] at k h = refl
+address_past (x ∷ xs) at zero h = absurd (omega (arith, h))
+address_past (x ∷ xs) at (suc k) h = address_past xs (at + 8 * units (length x.words)) k (omega (arith, h))
 
 -- the object of this index has this address, and it has this index
 pub record Found (xs : List Object) (address k : ℕ) : Type 0 where
@@ -107,7 +114,7 @@ pub record Found (xs : List Object) (address k : ℕ) : Type 0 where
   pub index_is : index_of xs address ≡ Some k
   pub address_is : address_of xs k ≡ Some address
 
-found_is : (xs : List Object) (address k : ℕ) → Split xs base address k → Found xs address k
+pub found_is : (xs : List Object) (address k : ℕ) → Split xs base address k → Found xs address k
 found_is xs address k s = record {
   split = s;
   index_is = ap (λ (ys : List Object). index_of ys address) s.list ∙ index_split s.before s.after s.x base address s.place ∙ ap Some s.count;
@@ -161,3 +168,7 @@ has_number xs address i g h = go (index_of xs address) refl h
     go : (o : Option ℕ) → index_of xs address ≡ o → i < option_map_or g (option_and_then (slice_get xs) o) 0 → (k : ℕ) × Found xs address k
     go None e h = absurd (omega (arith, h))
     go (Some k) e h = (k, found_by_address xs address k e)
+
+-- an object's address is not below the first
+pub object_above : (xs : List Object) (address : ℕ) → is_some (index_of xs address) ≡ true → base ≤ address
+object_above xs address h = let f = has_index xs address h in omega (arith, f.1.split.place)

@@ -1,15 +1,15 @@
 -- What the heap's functions read at an address, and how a caller sees what they write.
-use Rattle.std.proofs.Common.{◌≡◌, ℕ, ◌+◌, ◌*◌, ◌/◌, ◌%◌, ◌^◌, ◌-◌, ◌<◌, ◌≤◌, true, List, [], ◌∷◌, ◌++◌, length, get_or, is_some, Option, refl, ap, ap₂, sym, ◌∙◌, subst, arith, min}
+use Rattle.std.proofs.Common.{◌≡◌, ℕ, ◌+◌, ◌*◌, ◌/◌, ◌%◌, ◌^◌, ◌<◌, ◌≤◌, true, List, [], ◌∷◌, ◌++◌, length, get_or, is_some, Option, refl, ap, ap₂, sym, ◌∙◌, arith, min}
 use Rattle.std.proofs.Math.ListN.{set}
 use Rattle.std.proofs.lemmas.Grind.{get_or_default_zero, flat_map-append}
-use Rattle.std.proofs.lemmas.List.{append-nil, length-set, length-replicate}
+use Rattle.std.proofs.lemmas.List.{append-nil, length-set}
 use Rattle.std.specs.Prelude.{flat_map, vec_capacity, replicate}
 use Rattle.std.specs.Option.{option_map_or}
-use Rattle.cs_heap.specs.Format.{is_shape}
-use Rattle.cs_heap.specs.Object.{Memory, Object, body_units, field_of, index_of, new_object, object_at, set_word, slot_count_of, units, used, with_hash, with_object, with_slot}
-use Rattle.cs_heap.specs.Layout.{IsHeap, IsLaid, IsStorable, births_of, header, header_in, header_seen, marked, marks_of, memory, objects, row, words_of}
+use Rattle.cs_heap.specs.Format.{format_allows}
+use Rattle.cs_heap.specs.Object.{Memory, Object, field_of, index_of, new_object, new_slot, object_at, size, set_word, slot_count_of, with_hash, with_slot}
+use Rattle.cs_heap.specs.Layout.{IsHeap, IsLaid, IsStorable, births_of, header, header_seen, marks_of, memory, objects, row, words_of}
 use Rattle.cs_heap.specs.declared.Heap.TheInside.{Inside}
-use Rattle.cs_heap.proofs.OneObject.{births_of_is, fits_body, marks_of_is, words_of_is}
+use Rattle.cs_heap.proofs.OneObject.{length-copies, length-row, words_of_is}
 use Rattle.cs_heap.proofs.Decoding.{shape_below, stored_header}
 use Rattle.cs_heap.proofs.Places.{Found, has_index, has_number, object_at-found}
 use Rattle.cs_heap.proofs.Standing.{IsKnown, IsThere, all-push, changed, known, laid_now, laid_seen, limit_seen, objects_are, unit_of, write_header, write_slot}
@@ -111,14 +111,14 @@ slot_stored h new m address place i v ok is less at words births marks roomy =
     let stored : IsStorable (set_word i v x) = record {
       class = k.there.storable.class;
       flags = k.there.storable.flags;
-      shape = ap (is_shape x.format) long ∙ k.there.storable.shape;
+      shape = ap (format_allows x.format) long ∙ k.there.storable.shape;
       hash = k.there.storable.hash;
       count = omega (arith, long, k.there.storable.count);
     } in
     now h new m (with_slot m.objects address i v) ok is
     (changed h new m.objects address s.index (set_word i v) s.found (laid_seen h m ok is)
-      (words ∙ ap (λ (n : ℕ). set h.words.items n v) at ∙ write_slot h s.found.split.before s.found.split.after x k.parts (unit_of address) i v k.place within)
-      births marks refl long stored)
+    (words ∙ ap (λ (n : ℕ). set h.words.items n v) at ∙ write_slot h s.found.split.before s.found.split.after x k.parts (unit_of address) i v k.place within)
+    births marks refl long stored)
     (omega (arith, ap length words, length-set h.words.items place v, ok.within)) roomy
 
 abbrev with_this_hash : ℕ → Object → Object
@@ -144,9 +144,9 @@ hash_stored h new m address u hash bits ok is known_object below at bits_are wor
     let new_bits : bits ≡ stored_header y = bits_are ∙ ap (λ (a : Header). header_bits (record a { hash = hash })) (header_is h m.objects address s) in
     now h new m (with_hash m.objects address hash) ok is
     (changed h new m.objects address s.index (with_this_hash hash) s.found (laid_seen h m ok is)
-      (words ∙ ap₂ (λ (n : ℕ) (b : ℕ). set (set h.words.items (2 * n) (b % 2 ^ 32)) (2 * n + 1) (b / 2 ^ 32)) at new_bits
-      ∙ write_header h s.found.split.before s.found.split.after x k.parts (unit_of address) y k.place refl)
-      births marks refl refl stored)
+    (words ∙ ap₂ (λ (n : ℕ) (b : ℕ). set (set h.words.items (2 * n) (b % 2 ^ 32)) (2 * n + 1) (b / 2 ^ 32)) at new_bits
+    ∙ write_header h s.found.split.before s.found.split.after x k.parts (unit_of address) y k.place refl)
+    births marks refl refl stored)
     (omega (arith, ap length words, length-set (set h.words.items (2 * u) (bits % 2 ^ 32)) (2 * u + 1) (bits / 2 ^ 32), length-set h.words.items (2 * u) (bits % 2 ^ 32), ok.within)) roomy
 
 -- an object was added
@@ -164,3 +164,32 @@ object_added h new m y ok is stored words births marks within roomy =
   where
     pushed : (f : Object → List ℕ) (xs : List Object) (y : Object) → flat_map f xs ++ f y ≡ flat_map f (xs ++ y ∷ [])
     pushed f xs y = ap (λ (zs : List ℕ). flat_map f xs ++ zs) (sym (append-nil (f y))) ∙ sym (flat_map-append f xs (y ∷ []))
+
+-- ---- the new object
+
+-- the row that the code adds
+abbrev pub new_row : ℕ → ℕ → ℕ → Flags → ℕ → ℕ → List ℕ
+new_row class format slots flags count value =
+    row (header_bits (record { class = class; flags = flags; format = format; hash = 0; slots = count })) (replicate slots value)
+
+pub length-new_row : (class format slots : ℕ) (flags : Flags) (count value : ℕ) → length (new_row class format slots flags count value) ≡ size slots
+length-new_row class format slots flags count value =
+    length-row (header_bits (record { class = class; flags = flags; format = format; hash = 0; slots = count })) (replicate slots value)
+    ∙ ap size (length-copies slots value)
+
+pub new_words : (class format slots birth : ℕ) (flags : Flags) (count value : ℕ) → flags.0 ≡ 0 → count ≡ min slots 255 → value ≡ new_slot format
+    → new_row class format slots flags count value ≡ words_of (new_object class format slots birth)
+new_words class format slots birth flags count value none count_is value_is =
+    ap (new_row class format slots flags count) value_is
+    ∙ ap₂ (λ (f : ℕ) (n : ℕ). new_row class format slots (record { 0 = f }) n (new_slot format)) none
+    (count_is ∙ omega (arith, length-copies slots (new_slot format)))
+    ∙ sym (words_of_is (new_object class format slots birth))
+
+pub new_storable : (class format slots birth : ℕ) → class < 2 ^ 22 → format_allows format slots ≡ true → slots < 2 ^ 32 → IsStorable (new_object class format slots birth)
+new_storable class format slots birth below shape few = record {
+  class = below;
+  flags = omega arith;
+  shape = ap (format_allows format) (length-copies slots (new_slot format)) ∙ shape;
+  hash = omega arith;
+  count = omega (arith, few, length-copies slots (new_slot format));
+}

@@ -1,14 +1,13 @@
 -- What stands in the heap's words, births and marks at an object, and what a write to it leaves.
-use Rattle.std.proofs.Common.{◌≡◌, ℕ, zero, suc, ◌+◌, ◌*◌, ◌/◌, ◌%◌, ◌^◌, ◌-◌, ◌<◌, ◌≤◌, Bool, true, false, cond, List, [], ◌∷◌, ◌++◌, length, get_or, refl, ap, ap₂, sym, ◌∙◌, subst, arith, eqb, leb, min, append_assoc, length-append}
+use Rattle.std.proofs.Common.{◌≡◌, ℕ, ◌+◌, ◌*◌, ◌/◌, ◌%◌, ◌^◌, ◌-◌, ◌<◌, ◌≤◌, Bool, true, false, List, [], ◌∷◌, ◌++◌, length, get_or, refl, ap, ap₂, sym, ◌∙◌, subst, arith, eqb, leb, min, length-append}
 use Rattle.std.proofs.Math.ListN.{set}
 use Rattle.std.proofs.lemmas.List.{get_or-append-add, get_or_append_left, length-set, set-append_left, set-append_right}
-use Rattle.std.proofs.lemmas.List.Sums.{sum_by-cons}
 use Rattle.std.proofs.lemmas.Grind.{flat_map-append}
 use Rattle.std.proofs.lemmas.Bool.Decides.{nat_tests}
-use Rattle.std.specs.Prelude.{flat_map, sum_by, vec_capacity}
+use Rattle.std.specs.Prelude.{flat_map}
 use Rattle.std.specs.List.{AllByRecursion}
-use Rattle.cs_heap.specs.Object.{Memory, Object, base, body_units, set_word, size, slot_counts, units, units_before, used, with_object, with_slot}
-use Rattle.cs_heap.specs.Layout.{IsHeap, IsLaid, IsStorable, births_of, count_in, header, header_in, marked, marks_of, memory, objects, objects_in, padding, row, words_of}
+use Rattle.cs_heap.specs.Object.{Memory, Object, base, body_units, set_word, size, units, units_before, used, with_object}
+use Rattle.cs_heap.specs.Layout.{IsHeap, IsLaid, IsStorable, births_of, count_in, header, header_in, marked, marks_of, memory, objects, objects_in, row, words_of}
 use Rattle.cs_heap.specs.declared.Heap.TheInside.{Inside}
 use Rattle.cs_heap.proofs.OneObject.{births_of_is, count_in_row, fits_body, high_in_row, length-marked, length-words_of, low_in_row, marks_of_is, row-set_header, row-set_slot, slot_in_row, value_marked, words_of_is}
 use Rattle.cs_heap.proofs.Decoding.{bits_back, enough_words, header_back, in_front, objects_back, stored_header}
@@ -104,6 +103,7 @@ module _ (h : Inside) (before after : List Object) (x : Object) (laid : IsLaid h
     where
       slots : (header_in h.words.items (2 * u)).slots ≡ min 255 (length x.words)
       slots = ap (λ (a : Header). a.slots) (read_header u e)
+
       go : (b : Bool) → leb 255 (length x.words) ≡ b → count_in h.words.items u ≡ length x.words
       go true is =
           let long : 255 ≤ length x.words = grind (arith, nat_tests) in
@@ -125,12 +125,13 @@ module _ (h : Inside) (before after : List Object) (x : Object) (laid : IsLaid h
       → 2 * u ≡ used before + 2 * units_before (length x.words) → (get_or all u 0 ≡ v) × (u < length all)
   read_marked all front part rest u v is size_is part_is e =
       let here : u ≡ length front + units_before (length x.words) = omega (arith, e, size_is) in
-      let long : length part ≡ units (length x.words) = ap length part_is ∙ length-marked v (length x.words) in
-      (ap (λ (zs : List ℕ). get_or zs u 0) is
-      ∙ get-middle front (part ++ rest) (length front) u (units_before (length x.words)) refl here
-      ∙ get_or_append_left part rest 0 (units_before (length x.words)) (omega (arith, long))
-      ∙ ap (λ (zs : List ℕ). get_or zs (units_before (length x.words)) 0) part_is ∙ value_marked v (length x.words),
-      omega (arith, ap length is, length-append front (part ++ rest), length-append part rest, long, here))
+      let long : length part ≡ units (length x.words) = ap length part_is ∙ length-marked v (length x.words) in (
+        ap (λ (zs : List ℕ). get_or zs u 0) is
+            ∙ get-middle front (part ++ rest) (length front) u (units_before (length x.words)) refl here
+            ∙ get_or_append_left part rest 0 (units_before (length x.words)) (omega (arith, long))
+            ∙ ap (λ (zs : List ℕ). get_or zs (units_before (length x.words)) 0) part_is ∙ value_marked v (length x.words),
+        omega (arith, ap length is, length-append front (part ++ rest), length-append part rest, long, here),
+      )
 
   pub there : (u : ℕ) → 2 * u ≡ used before + 2 * units_before (length x.words) → IsThere h u x
   there u e =
@@ -168,10 +169,10 @@ module _ (h : Inside) (before after : List Object) (x : Object) (laid : IsLaid h
   write_slot u i v e less =
       write_word (2 * u + 2 + i) (2 * units_before (length x.words) + 2 + i) v (omega (arith, e)) (omega (arith, less, fits_body (length x.words)))
       ∙ ap (λ (zs : List ℕ). flat_map words_of before ++ (zs ++ flat_map words_of after))
-        (ap (λ (zs : List ℕ). set zs (2 * units_before (length x.words) + 2 + i) v) (words_of_is x)
-        ∙ row-set_slot (stored_header x) x.words i v less
-        ∙ ap (λ (m : ℕ). row (header_bits (header_with m)) (set x.words i v)) (sym (length-set x.words i v))
-        ∙ sym (words_of_is (set_word i v x)))
+      (ap (λ (zs : List ℕ). set zs (2 * units_before (length x.words) + 2 + i) v) (words_of_is x)
+      ∙ row-set_slot (stored_header x) x.words i v less
+      ∙ ap (λ (m : ℕ). row (header_bits (header_with m)) (set x.words i v)) (sym (length-set x.words i v))
+      ∙ sym (words_of_is (set_word i v x)))
       ∙ sym (flat_map-append words_of before (set_word i v x ∷ after))
     where
       header_with : ℕ → Header
@@ -184,10 +185,10 @@ module _ (h : Inside) (before after : List Object) (x : Object) (laid : IsLaid h
       let new = stored_header y in
       ap (λ (zs : List ℕ). set zs (2 * u + 1) (new / 2 ^ 32)) (write_word (2 * u) j (new % 2 ^ 32) e (omega arith))
       ∙ set-middle (flat_map words_of before) (set (words_of x) j (new % 2 ^ 32)) (flat_map words_of after) (used before) (2 * u + 1) (j + 1) (new / 2 ^ 32)
-        (length-all_words before) (omega (arith, e)) (omega (arith, length-set (words_of x) j (new % 2 ^ 32), length-words_of x))
+      (length-all_words before) (omega (arith, e)) (omega (arith, length-set (words_of x) j (new % 2 ^ 32), length-words_of x))
       ∙ ap (λ (zs : List ℕ). flat_map words_of before ++ (zs ++ flat_map words_of after))
-        (ap (λ (zs : List ℕ). set (set zs j (new % 2 ^ 32)) (j + 1) (new / 2 ^ 32)) (words_of_is x)
-        ∙ row-set_header (stored_header x) new x.words ∙ ap (row new) (sym same) ∙ sym (words_of_is y))
+      (ap (λ (zs : List ℕ). set (set zs j (new % 2 ^ 32)) (j + 1) (new / 2 ^ 32)) (words_of_is x)
+      ∙ row-set_header (stored_header x) new x.words ∙ ap (row new) (sym same) ∙ sym (words_of_is y))
       ∙ sym (flat_map-append words_of before (y ∷ after))
 
 -- ---- the heap as a whole

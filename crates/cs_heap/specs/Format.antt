@@ -19,7 +19,7 @@ unused_units format = if nat_le 24 format then format - 24 else (if nat_le 16 fo
 
 -- an object of this format may have so many slots: none without fields, pairs for units of 64 bits, and at least
 -- one where units are unused
-abbrev pub is_shape : ℕ → ℕ → Bool
-is_shape format slots = (is_pointers format || is_raw format || is_method format)
+abbrev pub format_allows : ℕ → ℕ → Bool
+format_allows format slots = (is_pointers format || is_raw format || is_method format)
     && (if format == 0 then slots == 0 else
     (if format == 9 then slots % 2 == 0 else unused_units format == 0 || nat_lt 0 slots))

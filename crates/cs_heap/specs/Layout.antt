@@ -4,7 +4,7 @@ use Rattle.std.specs.Prelude.{◌≡◌, ℕ, zero, suc, ◌+◌, ◌*◌, ◌/�
 use Rattle.std.specs.Prelude.{if◌then◌else◌, nat_le, min, length, slice_index, take, drop, replicate, flat_map, vec_capacity}
 use Rattle.std.specs.List.{AllByRecursion}
 use Rattle.std.specs.Option.{option_map_or}
-use Rattle.cs_heap.specs.Format.{is_shape}
+use Rattle.cs_heap.specs.Format.{format_allows}
 use Rattle.cs_heap.specs.Object.{Memory, Object, base, body_units, class_of, format_of, hash_of, no_flags, object_at, slot_count_of, units, units_before}
 use Rattle.cs_word.specs.Header.{flag_bits, header_bits, header_of}
 use Rattle.cs_word.specs.declared.header.Header.{Header}
@@ -76,6 +76,11 @@ count_in words unit = let count = (header_in words (2 * unit)).slots in
 abbrev pub unit_in : ℕ → Option ℕ
 unit_in address = if nat_le base address && address % 8 == 0 then Some ((address - base) / 8) else None
 
+-- the address of the object whose first word is in a unit: its header is there or, behind a count, in the next unit
+abbrev pub address_from : List ℕ → ℕ → Option ℕ
+address_from marks unit = if nat_le (length marks) unit then None
+    else (if slice_index marks unit == 0 then Some (base + 8 * (unit + 1)) else Some (base + 8 * unit))
+
 abbrev pub object_in : Header → ℕ → List ℕ → Object
 object_in header birth words = record {
   class = header.class;
@@ -110,7 +115,7 @@ memory h = record { limit = h.limit; objects = objects h }
 pub record IsStorable (x : Object) : Type 0 where
   pub class : x.class < 2 ^ 22
   pub flags : flag_bits x.flags < 2 ^ 5
-  pub shape : IsTrue (is_shape x.format (length x.words))
+  pub shape : IsTrue (format_allows x.format (length x.words))
   pub hash : x.hash < 2 ^ 22
   pub count : length x.words < 2 ^ 32
 

@@ -1,5 +1,5 @@
 -- The object memory as an ordered list of objects, and the addresses at which they lie.
-use Rattle.std.specs.Prelude.{ℕ, zero, suc, ◌+◌, ◌*◌, ◌/◌, ◌%◌, ◌-◌, ◌^◌, ◌==◌, Bool, List, [], ◌∷◌, ◌++◌, Option, Some, None, is_some}
+use Rattle.std.specs.Prelude.{ℕ, zero, suc, ◌+◌, ◌*◌, ◌/◌, ◌%◌, ◌-◌, ◌^◌, ◌==◌, Bool, List, [], ◌∷◌, Option, Some, None, is_some}
 use Rattle.std.specs.Prelude.{if◌then◌else◌, nat_le, max, map, length, slice_index, slice_set, slice_get, option_map, option_and_then, sum_by, replicate}
 use Rattle.std.specs.Option.{option_map_or}
 use Rattle.cs_heap.specs.Format.{is_pointers}

@@ -13,7 +13,7 @@ mod rows;
 
 ghost use Rattle.std.specs.Prelude.{◌≡◌, ℕ, ◌+◌, ◌*◌, ◌<◌, ◌≤◌, ◌^◌, ◌↔◌, [], ◌∷◌, ◌++◌, IfOk, IsErr, IsTrue, OnErr, option_map};
 ghost use Rattle.cs_word.specs.Header.{IsWritable};
-ghost use Rattle.cs_heap.specs.Format.{is_shape};
+ghost use Rattle.cs_heap.specs.Format.{format_allows};
 ghost use Rattle.cs_heap.specs.Object.{address_of, birth_of, byte_of, class_of, format_of, hash_of, is_object, new_object};
 ghost use Rattle.cs_heap.specs.Object.{next_address, next_of, size as size_of, slot_count_of, slot_of, used, with_byte, with_hash, with_slot};
 
@@ -68,8 +68,8 @@ pub fn size(slots: u32) -> u64
 /// These are 0 without slots, 1 to 5 with pointers, 9 with pairs of slots, 10 with units of 32 bits, 12 and 13 with units
 /// of 16, 16 to 19 with bytes, and 24 to 27 for methods. The formats 13, 17 to 19 and 25 to 27 say that units of the last
 /// slot are unused, so they need one.
-pub fn is_shape_allowed(format: u8, slots: u32) -> bool
-    ensures { result ≡ is_shape format slots }
+pub fn format_allows(format: u8, slots: u32) -> bool
+    ensures { result ≡ format_allows format slots }
 {
     match format {
         0 => slots == 0,
@@ -112,7 +112,7 @@ impl Heap {
         birth: u64,
     ) -> Result<Oop, HeapFull>
         requires class { class < 2 ^ 22 }
-        requires shape { IsTrue (is_shape format slots) }
+        requires shape { IsTrue (format_allows format slots) }
         ensures full { IsErr result ↔ (self.old.limit < used self.old.objects + size_of slots) }
         ensures unchanged_if_full { OnErr result (self.new ≡ self.old) }
         ensures added { IfOk result (λ _. self.new ≡ record self.old {
@@ -168,7 +168,7 @@ impl Heap {
     pub fn first(&self) -> Option<Oop>
         ensures { option_map (λ o. o.0) result ≡ address_of self.now.objects 0 }
     {
-        rows::header_from(&self.marks, 0)
+        rows::object_from(&self.marks, 0)
     }
 
     /// The object right behind `o`; None exactly where `o` is the last.
@@ -178,7 +178,7 @@ impl Heap {
     {
         let unit = rows::unit_of(o);
         let slots = rows::slot_count_at(&self.words, unit);
-        rows::header_from(&self.marks, unit + 1 + rows::body_units(slots) as usize)
+        rows::object_from(&self.marks, unit + 1 + rows::body_units(slots) as usize)
     }
 
     /// The index of the object's class in the class table.
@@ -194,7 +194,7 @@ impl Heap {
     pub fn format(&self, o: Oop) -> u8
         requires { IsTrue (is_object self.now.objects o.0) }
         ensures value { result ≡ format_of self.now.objects o.0 }
-        ensures shape { IsTrue (is_shape result (slot_count_of self.now.objects o.0)) }
+        ensures shape { IsTrue (format_allows result (slot_count_of self.now.objects o.0)) }
     {
         self.header(o).format
     }
@@ -275,7 +275,7 @@ impl Heap {
         requires { IsTrue (is_object self.now.objects o.0) }
         ensures value { result ≡ header_seen self.now.objects o.0 }
         ensures writable { IsWritable result }
-        ensures shape { IsTrue (is_shape result.format (slot_count_of self.now.objects o.0)) }
+        ensures shape { IsTrue (format_allows result.format (slot_count_of self.now.objects o.0)) }
     {
         rows::header_at(&self.words, rows::unit_of(o))
     }

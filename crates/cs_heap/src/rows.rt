@@ -1,11 +1,11 @@
 //! The words, births and marks of the heap: how one object is added to them and found in them again.
 #![tactic(auto)]
 
-ghost use Rattle.std.specs.Prelude.{◌≡◌, ℕ, ◌+◌, ◌*◌, ◌-◌, ◌/◌, ◌%◌, ◌<◌, ◌≤◌, ◌^◌, ◌==◌, ◌++◌, Some, None, if◌then◌else◌, nat_le, length, replicate, slice_index, slice_set, vec_len, vec_capacity};
+ghost use Rattle.std.specs.Prelude.{◌≡◌, ℕ, ◌+◌, ◌*◌, ◌-◌, ◌/◌, ◌%◌, ◌<◌, ◌≤◌, ◌^◌, ◌==◌, ◌++◌, Some, None, if◌then◌else◌, nat_le, option_map, length, replicate, slice_index, slice_set, vec_len, vec_capacity};
 ghost use Rattle.cs_word.specs.Header.{header_bits, IsWritable};
 ghost use Rattle.cs_heap.specs.Object.{body_units as body_units_of, byte_in as byte_of_word, new_slot as new_slot_of};
 ghost use Rattle.cs_heap.specs.Object.{size, units, units_before as units_before_of, with_byte_in as word_with_byte};
-ghost use Rattle.cs_heap.specs.Layout.{count_in, header_in, marked, row, unit_in};
+ghost use Rattle.cs_heap.specs.Layout.{address_from, count_in, header_in, marked, overflow, row, unit_in};
 
 use crate::BASE;
 use cs_word::{Header, Oop};
@@ -102,8 +102,11 @@ pub(crate) fn slot_count_at(words: &[u32], unit: usize) -> u32
     }
 }
 
-/// The address of the header of the object that begins at a unit; None behind the last object.
-pub(crate) fn header_from(marks: &[u8], unit: usize) -> Option<Oop> {
+/// The address of the object whose first word is in a unit; None behind the last object.
+pub(crate) fn object_from(marks: &[u8], unit: usize) -> Option<Oop>
+    requires { length marks.now < 2 ^ 28 }
+    ensures { option_map (λ o. o.0) result ≡ address_from marks.now unit }
+{
     if unit >= marks.len() {
         None
     } else if marks[unit] == 0 {
@@ -117,12 +120,26 @@ pub(crate) fn header_from(marks: &[u8], unit: usize) -> Option<Oop> {
 fn fill<T: Copy>(row: &mut Vec<T>, n: usize, value: T)
     requires { vec_len row.old + n ≤ vec_capacity row.old }
     ensures items { row.new.items ≡ row.old.items ++ replicate n value }
+    ensures len { vec_len row.new ≡ vec_len row.old + n }
     ensures capacity { vec_capacity row.old ≤ vec_capacity row.new }
 {
     let len = row.len();
     let Ok(()) = row.resize(len + n, value) else {
         unreachable!()
     };
+}
+
+/// Adds what stands before the header of an object of so many slots.
+fn push_overflow(words: &mut Vec<u32>, slots: u32)
+    requires { vec_len words.old + 2 * units_before_of slots ≤ vec_capacity words.old }
+    ensures items { words.new.items ≡ words.old.items ++ overflow slots }
+    ensures len { vec_len words.new ≡ vec_len words.old + 2 * units_before_of slots }
+    ensures capacity { vec_capacity words.old ≤ vec_capacity words.new }
+{
+    if slots >= 255 {
+        fill(words, 1, slots);
+        fill(words, 1, 255 << 24);
+    }
 }
 
 /// Adds the words of an object whose slots all hold one value.
@@ -132,11 +149,8 @@ pub(crate) fn push_object(words: &mut Vec<u32>, header: Header, slots: u32, valu
     ensures items { words.new.items ≡ words.old.items ++ row (header_bits header) (replicate slots value) }
     ensures capacity { vec_capacity words.old ≤ vec_capacity words.new }
 {
-    if slots >= 255 {
-        fill(words, 1, slots);
-        fill(words, 1, 255 << 24);
-    }
     let bits = header.write();
+    push_overflow(words, slots);
     fill(words, 1, (bits % 4294967296) as u32);
     fill(words, 1, (bits >> 32) as u32);
     fill(words, slots as usize, value);

@@ -1,12 +1,12 @@
 //! The calls on a small heap, with addresses, words and bytes that are counted by hand.
 #![tactic(auto)]
 
-use super::{Heap, HeapFull, is_shape_allowed, size};
+use super::{Heap, HeapFull, format_allows, size};
 use cs_word::Oop;
 
 /// A new object's address, or None where its condition fails.
 fn make(heap: &mut Heap, class: u32, format: u8, slots: u32) -> Option<Result<Oop, HeapFull>> {
-    if class < 4194304 && is_shape_allowed(format, slots) {
+    if class < 4194304 && format_allows(format, slots) {
         Some(heap.allocate(class, format, slots, 70 + u64::from(class)))
     } else {
         None

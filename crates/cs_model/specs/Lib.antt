@@ -29,4 +29,6 @@ pub mod Due
 pub mod Step
 pub mod Report
 pub mod Decode
+pub mod Built
+pub mod Line
 pub mod Alike

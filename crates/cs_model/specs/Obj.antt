@@ -44,6 +44,10 @@ is_context (Raw class format hash bytes) = false
 is_context (Method class format hash header literals bytecodes) = false
 is_context (Ctx c) = true
 
+abbrev pub is_context_at : Option Obj → Bool
+is_context_at None = false
+is_context_at (Some o) = is_context o
+
 -- the fields of a context that come before its stack
 abbrev pub context_fields : ℕ
 context_fields = 6

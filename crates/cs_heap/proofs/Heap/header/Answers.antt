@@ -1,11 +1,10 @@
-use Rattle.std.proofs.Common.{◌≡◌, ℕ, zero, suc, ◌+◌, ◌*◌, ◌/◌, ◌%◌, ◌^◌, ◌-◌, ◌<◌, ◌≤◌, Bool, true, false, cond, List, [], ◌∷◌, ◌++◌, length, get_or, replicate, Option, Some, None, option_map, option_and_then, is_some, refl, ap, ap₂, sym, ◌∙◌, arith, leb, eqb, min, subst}
-use Rattle.cs_heap.specs.Object.{Memory, Object, base, body_units, next_address, set_word, size, slot_counts, units, units_before, used}
-use Rattle.cs_heap.specs.Format.{is_shape}
+use Rattle.std.proofs.Common.{ℕ, ◌*◌, List, length, ap, ap₂, sym, ◌∙◌, arith, subst}
+use Rattle.cs_heap.specs.Object.{Object}
+use Rattle.cs_heap.specs.Format.{format_allows}
 use Rattle.cs_heap.specs.Layout.{header_in}
 use Rattle.cs_word.specs.Header.{IsWritable}
 use Rattle.cs_word.specs.declared.header.Header.{Header}
-use Rattle.cs_heap.proofs.Seen.{field_is, header_is, seen, there_is, writable}
-use Rattle.cs_heap.proofs.Standing.{unit_of}
+use Rattle.cs_heap.proofs.Seen.{field_is, header_is, seen, writable}
 use Rattle.cs_heap.proofs.Heap.header.Goals as goal
 
 pub unit_of-requires : goal.unit_of-requires
@@ -33,5 +32,5 @@ returns-clause-shape c =
     let s = seen c.self.inside c.args.self.now c.self.invariant c.self.view_is c.args.o.0 c.requires in
     let is = c.header_at.ensures ∙ ap₂ (λ (ws : List ℕ) (u : ℕ). header_in ws (2 * u)) c.deref.ensures.value c.unit_of.ensures
     ∙ s.known_there.there.header_is in
-    ap₂ is_shape (ap (λ (h : Header). h.format) is) (field_is c.self.inside c.args.self.now.objects c.args.o.0 s (λ (x : Object). length x.words))
+    ap₂ format_allows (ap (λ (h : Header). h.format) is) (field_is c.self.inside c.args.self.now.objects c.args.o.0 s (λ (x : Object). length x.words))
     ∙ s.known_there.there.storable.shape

@@ -1,8 +1,6 @@
-use Rattle.std.proofs.Common.{◌≡◌, ℕ, zero, suc, ◌+◌, ◌*◌, ◌/◌, ◌%◌, ◌^◌, ◌-◌, ◌<◌, ◌≤◌, Bool, true, false, cond, List, [], ◌∷◌, ◌++◌, length, get_or, replicate, Option, Some, None, option_map, option_and_then, is_some, refl, ap, ap₂, sym, ◌∙◌, arith, leb, eqb, min, subst}
-use Rattle.cs_heap.specs.Layout.{objects_in}
+use Rattle.std.proofs.Common.{[], length, ap, arith}
 use Rattle.cs_heap.specs.declared.Heap.TheInside.{Inside}
 use Rattle.cs_heap.proofs.Standing.{laid_now, objects_are}
-use Rattle.cs_heap.specs.Layout.{IsLaid}
 use Rattle.cs_heap.proofs.Heap.new.Goals as goal
 
 pub invariant_of-result : goal.invariant_of-result

@@ -1,8 +1,8 @@
-use Rattle.std.proofs.Common.{◌≡◌, ℕ, zero, suc, ◌+◌, ◌*◌, ◌/◌, ◌%◌, ◌^◌, ◌-◌, ◌<◌, ◌≤◌, Bool, true, false, cond, List, [], ◌∷◌, ◌++◌, length, get_or, replicate, Option, Some, None, option_map, option_and_then, is_some, refl, ap, ap₂, sym, ◌∙◌, arith, leb, eqb, min, subst}
-use Rattle.cs_heap.specs.Object.{Memory, Object, base, body_units, next_address, set_word, size, slot_counts, units, units_before, used}
+use Rattle.std.proofs.Common.{◌<◌, length, refl, arith}
+use Rattle.cs_heap.specs.Object.{Object}
 use Rattle.std.specs.Vec.{with_item}
 use Rattle.cs_heap.specs.declared.Heap.TheInside.{Inside}
-use Rattle.cs_heap.proofs.Seen.{IsNow, field_is, seen_slot, slot_stored}
+use Rattle.cs_heap.proofs.Seen.{field_is, seen_slot, slot_stored}
 use Rattle.cs_heap.proofs.OneObject.{fits_body}
 use Rattle.cs_heap.proofs.Heap.set_slot.Goals as goal
 

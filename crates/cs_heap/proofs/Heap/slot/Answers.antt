@@ -1,6 +1,6 @@
-use Rattle.std.proofs.Common.{◌≡◌, ℕ, zero, suc, ◌+◌, ◌*◌, ◌/◌, ◌%◌, ◌^◌, ◌-◌, ◌<◌, ◌≤◌, Bool, true, false, cond, List, [], ◌∷◌, ◌++◌, length, get_or, replicate, Option, Some, None, option_map, option_and_then, is_some, refl, ap, ap₂, sym, ◌∙◌, arith, leb, eqb, min, subst}
-use Rattle.cs_heap.specs.Object.{Memory, Object, base, body_units, next_address, set_word, size, slot_counts, units, units_before, used}
-use Rattle.cs_heap.proofs.Seen.{field_is, read_is, seen_slot, there_is}
+use Rattle.std.proofs.Common.{◌+◌, ◌*◌, ◌<◌, length, get_or, sym, ◌∙◌, arith}
+use Rattle.cs_heap.specs.Object.{Object}
+use Rattle.cs_heap.proofs.Seen.{field_is, read_is, seen_slot}
 use Rattle.cs_heap.proofs.Standing.{unit_of}
 use Rattle.cs_heap.proofs.OneObject.{fits_body}
 use Rattle.cs_heap.proofs.Heap.slot.Goals as goal

@@ -1,9 +1,8 @@
-use Rattle.std.proofs.Common.{◌≡◌, ℕ, zero, suc, ◌+◌, ◌*◌, ◌/◌, ◌%◌, ◌^◌, ◌-◌, ◌<◌, ◌≤◌, Bool, true, false, cond, List, [], ◌∷◌, ◌++◌, length, get_or, replicate, Option, Some, None, option_map, option_and_then, is_some, refl, ap, ap₂, sym, ◌∙◌, arith, leb, eqb, min, subst}
-use Rattle.cs_heap.specs.Object.{Memory, Object, base, body_units, next_address, set_word, size, slot_counts, units, units_before, used}
+use Rattle.std.proofs.Common.{ℕ, ◌*◌, List, length, ap, ap₂, sym, ◌∙◌, arith}
+use Rattle.cs_heap.specs.Object.{Object}
 use Rattle.cs_heap.specs.Layout.{count_in, header_in}
 use Rattle.cs_word.specs.declared.header.Header.{Header}
 use Rattle.cs_heap.proofs.Seen.{field_is, seen}
-use Rattle.cs_heap.proofs.Standing.{unit_of}
 use Rattle.cs_heap.proofs.Heap.slot_count.Goals as goal
 
 pub unit_of-requires : goal.unit_of-requires

@@ -1,5 +1,4 @@
-use Rattle.std.proofs.Common.{◌≡◌, ℕ, zero, suc, ◌+◌, ◌*◌, ◌/◌, ◌%◌, ◌^◌, ◌-◌, ◌<◌, ◌≤◌, Bool, true, false, cond, List, [], ◌∷◌, ◌++◌, length, get_or, replicate, Option, Some, None, option_map, option_and_then, is_some, refl, ap, ap₂, sym, ◌∙◌, arith, leb, eqb, min, subst}
-use Rattle.cs_heap.specs.Object.{Memory, Object, base, body_units, next_address, set_word, size, slot_counts, units, units_before, used}
+use Rattle.std.proofs.Common.{length, ap, arith}
 use Rattle.cs_heap.proofs.Standing.{laid_seen, length-all_words}
 use Rattle.cs_heap.proofs.Heap.used_words.Goals as goal
 
