@@ -22,3 +22,4 @@ pub mod Running
 pub mod Tables
 pub mod Happening
 pub mod Stepping
+pub mod Building

@@ -30,10 +30,10 @@ use Rattle.cs_model.proofs.Happening.{is_idle_same, run_same, due_alike}
 
 -- ---- what an end asks for
 
-abbrev MessageHeld : Kept → Message → Type 0
+abbrev pub MessageHeld : Kept → Message → Type 0
 MessageHeld v p = IsHeld v p.selector × IsHeldIf v p.above
 
-message_in_same : {e f : End} → (v : Kept) → Same (EndHeld v) e f → SameOption (MessageHeld v) (message_in e) (message_in f)
+pub message_in_same : {e f : End} → (v : Kept) → Same (EndHeld v) e f → SameOption (MessageHeld v) (message_in e) (message_in f)
 message_in_same v (same ends.Done h) = none
 message_in_same v (same (ends.Send selector args above) h) = some (record { selector = selector; args = args; above = above }) h
 message_in_same v (same (ends.Return value local) h) = none
@@ -134,7 +134,7 @@ do_return_alike k r timer s local = returned_alike r timer (back_alike k s local
 
 -- ---- the bytecode
 
-above_held : {v m : Kept} → Keeps v m → (o : Option Ref) → IsHeldIf v o → SameOption (IsHeld v) o o
+pub above_held : {v m : Kept} → Keeps v m → (o : Option Ref) → IsHeldIf v o → SameOption (IsHeld v) o o
 above_held k None h = none
 above_held k (Some x) h = some x h
 
@@ -145,7 +145,7 @@ followed_alike {a = a} r timer h =
     (given_result _ _ (return_in_same a.state (end_same h)) (result_alike h r timer) (λ p g. counting_result h (do_return_alike h.keeps r later (same p.0 g) p.1)))
     (λ p g. counting_result h (do_send_alike h.keeps r later (same p.selector g.0) p.args (above_held h.keeps p.above g.1)))
 
-instruction_at_same : {v m : Kept} → Keeps v m → SameOption Any (instruction_at v) (instruction_at m)
+pub instruction_at_same : {v m : Kept} → Keeps v m → SameOption Any (instruction_at v) (instruction_at m)
 unfolding instruction_at
 instruction_at_same k = plain (two decode_at (bytecodes_same k) (two (λ pc xs. pc - first_pc xs) (pc_same k) (literals_same k)))
 
@@ -180,7 +180,7 @@ is_left_same : {v m : Kept} → Keeps v m → Same Any (is_left v) (is_left m)
 is_left_same k = two (λ b r. b && is_some r.active) (is_idle_same k) (rest_same k)
 
 -- s is what the step began with
-stops_alike : {s t : State} {n l : Count} → KeepsState s t → Same Any n l → (reason : Stop) → AlikeStep s.kept (stops s n reason) (stops t l reason)
+pub stops_alike : {s t : State} {n l : Count} → KeepsState s t → Same Any n l → (reason : Stop) → AlikeStep s.kept (stops s n reason) (stops t l reason)
 stops_alike h (same n a) reason = record { ending = refl; count = refl; state = h; grows = (unmoved h.kept).grows; snapshot = tt }
 
 ends_with_alike : {v : Kept} {a b : Result} → (e : Ending) → AlikeResult v a b → AlikeStep v (ends_with e a) (ends_with e b)
@@ -200,7 +200,7 @@ given_step : {v : Kept} {A : Type 0} {P : A → Type 0} {o p : Option A} {a b : 
 given_step f g none n s = n
 given_step f g (some x h) n s = s x h
 
-if_step : {v : Kept} {P : Bool → Type 0} {c d : Bool} {a b x y : Step} → Same P c d → AlikeStep v a b → AlikeStep v x y → AlikeStep v (if c then a else x) (if d then b else y)
+pub if_step : {v : Kept} {P : Bool → Type 0} {c d : Bool} {a b x y : Step} → Same P c d → AlikeStep v a b → AlikeStep v x y → AlikeStep v (if c then a else x) (if d then b else y)
 if_step (same true h) s t = s
 if_step (same false h) s t = t
 
@@ -269,23 +269,31 @@ all_saved None (Some m) h = elim h [ ]
 all_saved (Some v) None h = elim h [ ]
 all_saved (Some v) (Some m) h = (h, tt)
 
-go_on_alike : {v : Kept} {a b : Ran} {e f : Ending} → AlikeRan v a b → Same Any e f → AlikeRan v (go_on step a e) (go_on step b f)
-go_on_alike {v} {a} {b} h (same Steps x) =
-    let n = step_alike h.state in
+-- what keeps a state that it steps from
+abbrev pub Survives : (State → Step) → Type 0
+Survives f = (s t : State) → KeepsState s t → AlikeStep s.kept (f s) (f t)
+
+go_on_alike : {v : Kept} {a b : Ran} {e h : Ending} → (f : State → Step) → Survives f → AlikeRan v a b → Same Any e h → AlikeRan v (go_on f a e) (go_on f b h)
+go_on_alike {v} {a} {b} f survives h (same Steps x) =
+    let n = survives a.state b.state h.state in
     record {
       ending = n.ending;
-      count = ap (plus a.count) n.count ∙ ap (λ c. plus c (step b.state).count) h.count;
+      count = ap (plus a.count) n.count ∙ ap (λ c. plus c (f b.state).count) h.count;
       state = n.state;
       grows = grows-trans h.grows n.grows;
-      snapshots = all_keep-append a.snapshots b.snapshots _ _ h.snapshots (all_saved (step a.state).snapshot (step b.state).snapshot n.snapshot);
+      snapshots = all_keep-append a.snapshots b.snapshots _ _ h.snapshots (all_saved (f a.state).snapshot (f b.state).snapshot n.snapshot);
     }
-go_on_alike h (same Quit x) = h
-go_on_alike h (same Idle x) = h
-go_on_alike h (same (Stopped reason) x) = h
+go_on_alike f survives h (same Quit x) = h
+go_on_alike f survives h (same Idle x) = h
+go_on_alike f survives h (same (Stopped reason) x) = h
+
+-- a run by any such step
+pub run_by_alike : {s t : State} (f : State → Step) → Survives f → (n : ℕ) → KeepsState s t → AlikeRan s.kept (run_by f n s) (run_by f n t)
+unfolding run_by
+run_by_alike f survives zero k = record { ending = refl; count = refl; state = k; grows = (unmoved k.kept).grows; snapshots = tt }
+run_by_alike {s} {t} f survives (suc n) k =
+    let h = run_by_alike f survives n k in
+    go_on_alike f survives h (same_by Any (run_by f n s).ending (run_by f n t).ending (sym h.ending) tt)
 
 pub run_alike : {s t : State} (n : ℕ) → KeepsState s t → AlikeRan s.kept (run n s) (run n t)
-unfolding run_by
-run_alike zero k = record { ending = refl; count = refl; state = k; grows = (unmoved k.kept).grows; snapshots = tt }
-run_alike {s} {t} (suc n) k =
-    let h = run_alike n k in
-    go_on_alike h (same_by Any (run n s).ending (run n t).ending (sym h.ending) tt)
+run_alike n k = run_by_alike step (λ s t h. step_alike h) n k
