@@ -13,14 +13,14 @@ use Rattle.cs_model.specs.Step.{Message, is_fail, birth_limit, Step, run_by, ste
 use Rattle.cs_model.specs.End.{End, Out, no_count}
 use Rattle.cs_model.specs.Built.{is_built_code, is_built_number, answers, method_number, is_built_method, is_built_found, is_built_send, is_built_end, is_built_at, is_built_byte, is_built_bytecode, is_built, built_step, built_run}
 use Rattle.cs_model.specs.Keeps.{Keeps, TimerHeld, KeepsState}
-use Rattle.cs_model.specs.Alike.{Alike, AlikeStep, AlikeRan}
+use Rattle.cs_model.specs.Alike.{SoughtHeld, Alike, AlikeStep, AlikeRan}
 use Rattle.cs_model.proofs.Same.{Same, same, SameOption, none, some, Any, is, of_option, value, two, if_same}
 use Rattle.cs_model.proofs.Reading.{object_of_same, depth_same, pc_same, literals_same, bytecodes_same, rest_same}
 use Rattle.cs_model.proofs.Operating.{set_pc_moved}
 use Rattle.cs_model.proofs.Fields.{and_same, or_else_same}
 use Rattle.cs_model.proofs.Combining.{end_same}
 use Rattle.cs_model.proofs.Executing.{exec_alike}
-use Rattle.cs_model.proofs.Searching.{given_same, SoughtHeld}
+use Rattle.cs_model.proofs.Searching.{given_same}
 use Rattle.cs_model.proofs.Sending.{begins_at_same, look_from_same}
 use Rattle.cs_model.proofs.Running.{timer_up}
 use Rattle.cs_model.proofs.Tables.{prim_alike}

@@ -23,3 +23,4 @@ pub mod Tables
 pub mod Happening
 pub mod Stepping
 pub mod Building
+pub mod Agreeing

@@ -26,6 +26,10 @@ pub option_equal : {A : Type 0} {P : A → Type 0} {o p : Option A} → SameOpti
 option_equal none = refl
 option_equal (some x p) = refl
 
+pub option_holds : {A : Type 0} {P : A → Type 0} {o p : Option A} → SameOption P o p → (x : A) → o ≡ Some x → P x
+option_holds none x e = absurd (cc)
+option_holds {P = P} (some y p) x e = subst P (cc) p
+
 -- from an equation
 pub same_by : {A : Type 0} (P : A → Type 0) (x y : A) → y ≡ x → P x → Same P x y
 same_by P x y e p = subst (λ z. Same P x z) (sym e) (same x p)

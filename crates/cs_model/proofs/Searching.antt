@@ -10,6 +10,7 @@ use Rattle.cs_model.specs.Lookup as sought
 use Rattle.cs_model.specs.Return.{links, Search, Met, Ended, TooLong, passing, context_at, context_birth, sender_birth, search_senders, senders_to, Home, HomeAt, NoHome, HomeTooFar, outer_birth, closure_in, closure_at, search_home, home, is_number, method_primitive, is_marked_context, is_marked, first_marked, is_live}
 use Rattle.cs_model.specs.End.{given}
 use Rattle.cs_model.specs.Keeps.{Keeps}
+use Rattle.cs_model.specs.Alike.{SoughtHeld}
 use Rattle.cs_model.proofs.Same.{Same, same, SameOption, none, some, Any, is, of_option, two, and_then_same, or_same, if_same, if_option}
 use Rattle.cs_model.proofs.Reading.{AllHeld, listed, Has, nil_same, is_nil_same, object_at_same, object_of_same, slots_in_same, slots_of_same, context_in_same, slice_same}
 
@@ -47,12 +48,6 @@ find_in_same k selector (some slots h) = found_same k (list_or_empty_same (and_t
 pub find_in_dictionary_same : {v m : Kept} {x y : Ref} → Keeps v m → (selector : Ref) → Same (IsHeld v) x y → SameOption (IsHeld v) (find_in_dictionary v selector x) (find_in_dictionary m selector y)
 unfolding find_in_dictionary
 find_in_dictionary_same k selector s = find_in_same k selector (slots_of_same k 2 s)
-
--- the method that a search finds is there
-abbrev pub SoughtHeld : Kept → Sought → Type 0
-SoughtHeld v (sought.Method x) = IsHeld v x
-SoughtHeld v Missing = Unit {0}
-SoughtHeld v Loop = Unit {0}
 
 slot_in_same : {v : Kept} {xs ys : List Ref} → (i : ℕ) → Same (AllHeld v) xs ys → Same (IsHeld v) (slot_in xs i) (slot_in ys i)
 slot_in_same i s = or_same (slice_same i s) (same (Small (pos 0)) tt)

@@ -13,7 +13,7 @@ use Rattle.cs_model.specs.Send.{receiver_at, activation_words, enter_out, offer,
 use Rattle.cs_model.specs.End.{Out, out, stop}
 use Rattle.cs_model.specs.End as ends
 use Rattle.cs_model.specs.Keeps.{Keeps}
-use Rattle.cs_model.specs.Alike.{Alike}
+use Rattle.cs_model.specs.Alike.{SoughtHeld, Alike}
 use Rattle.cs_model.proofs.Same.{Same, same, SameOption, none, some, Any, is, of, value, of_option, and_then_same, or_same, if_option, all-append, all-take, all-drop}
 use Rattle.cs_model.proofs.Keeping.{Moved, moved}
 use Rattle.cs_model.proofs.Reading.{AllHeld, listed, up, nil_same, object_of_same, slots_of_same, special_at_same, class_of_same, active_context_same, stack_same, depth_same, from_top_same, slice_same}
@@ -21,7 +21,7 @@ use Rattle.cs_model.proofs.Operating.{drop_moved, enter_moved, put_active_moved,
 use Rattle.cs_model.proofs.Making.{SameMade, makes, refused, full, instantiate_same}
 use Rattle.cs_model.proofs.Combining.{fail_alike, moved_alike, out_alike, stop_alike, behind, made_alike, made_context_alike, given_alike, if_alike, and_then_alike}
 use Rattle.cs_model.proofs.Executing.{push_alike, with_array_alike, fill_moved}
-use Rattle.cs_model.proofs.Searching.{SoughtHeld, lookup_same}
+use Rattle.cs_model.proofs.Searching.{lookup_same}
 
 pub receiver_at_same : {v m : Kept} → Keeps v m → (args : ℕ) → Same (IsHeld v) (receiver_at v args) (receiver_at m args)
 receiver_at_same k args = receiver_below_same k args (nil_same k) (stack_same k)

@@ -6,6 +6,9 @@ use Rattle.cs_model.specs.State.{Kept, State, IsHeld}
 use Rattle.cs_model.specs.Keeps.{Keeps, Grows, TimerHeld, KeepsState}
 use Rattle.cs_model.specs.End.{End, Out, Count}
 use Rattle.cs_model.specs.End as ends
+use Rattle.cs_model.specs.Instance.{Made, New, NotInstantiable, TableFull, Hashed, Hash, NotAClass, NoneLeft}
+use Rattle.cs_model.specs.Lookup.{Sought}
+use Rattle.cs_model.specs.Lookup as sought
 use Rattle.cs_model.specs.PrimRun.{Result}
 use Rattle.cs_model.specs.Due.{Happened}
 use Rattle.cs_model.specs.Step.{Step, Ran}
@@ -80,3 +83,23 @@ pub record AlikeRan (v : Kept) (a b : Ran) : Type 0 where
   pub state : KeepsState a.state b.state
   pub grows : Grows v a.state.kept
   pub snapshots : AllKeep a.snapshots b.snapshots
+
+-- both make the same object, or neither makes one, for the same reason
+abbrev pub AlikeMade : Kept → Made → Made → Type 0
+AlikeMade v (New t x words) (New u y words') = (x ≡ y) × (words ≡ words') × Keeps t u × Grows v t × IsHeld t x
+AlikeMade v NotInstantiable NotInstantiable = Unit {0}
+AlikeMade v TableFull TableFull = Unit {0}
+AlikeMade v a b = ⊥
+
+-- both give the same index, or neither gives one, for the same reason
+abbrev pub AlikeHashed : Kept → Hashed → Hashed → Type 0
+AlikeHashed v (Hash t index) (Hash u index') = (index ≡ index') × Keeps t u × Grows v t
+AlikeHashed v NotAClass NotAClass = Unit {0}
+AlikeHashed v NoneLeft NoneLeft = Unit {0}
+AlikeHashed v a b = ⊥
+
+-- the method that a search finds is there
+abbrev pub SoughtHeld : Kept → Sought → Type 0
+SoughtHeld k (sought.Method method) = IsHeld k method
+SoughtHeld k sought.Missing = Unit {0}
+SoughtHeld k sought.Loop = Unit {0}
