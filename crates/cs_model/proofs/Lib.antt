@@ -24,3 +24,4 @@ pub mod Happening
 pub mod Stepping
 pub mod Building
 pub mod Agreeing
+pub mod Surviving
