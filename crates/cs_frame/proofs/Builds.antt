@@ -1,5 +1,5 @@
 -- A new frame above the last one of its page.
-use Rattle.std.proofs.Common.{◌≡◌, ◌≢◌, ℕ, zero, suc, ◌+◌, ◌-◌, ◌*◌, ◌/◌, ◌%◌, ◌^◌, ◌<◌, ◌≤◌, ◌⊎◌, List, [], ◌∷◌, ◌++◌, length, get_or, set, take, drop, replicate, get_or-set_same, refl, sym, ◌∙◌, ap, subst, inl, inr, arith}
+use Rattle.std.proofs.Common.{◌≡◌, ◌≢◌, ℕ, zero, suc, ◌+◌, ◌-◌, ◌*◌, ◌/◌, ◌%◌, ◌^◌, ◌<◌, ◌≤◌, List, [], ◌∷◌, ◌++◌, length, get_or, set, take, drop, replicate, get_or-set_same, refl, sym, ◌∙◌, ap, subst, inl, inr, arith}
 use Rattle.std.specs.List.{CopiedTo, SameBelow, SameFrom}
 use Rattle.std.proofs.lemmas.Bool.{cases_lt}
 use Rattle.std.proofs.lemmas.List.{length-set}
@@ -7,12 +7,12 @@ use Rattle.cs_word.specs.declared.Oop.{Oop}
 use Rattle.cs_frame.specs.declared.Head.{Head}
 use Rattle.cs_frame.specs.declared.Begin.{Begin}
 use Rattle.cs_frame.specs.declared.NewFrame.{NewFrame}
-use Rattle.cs_frame.specs.Frame.{Frame, nil, cut, IsValue}
-use Rattle.cs_frame.specs.Page.{used, top, frames_of, on_page, fresh, called, CanCall, HoldsValues, IsTop, ref_of}
-use Rattle.cs_frame.specs.Layout.{oop, word_at, words_from, frame_at, frames_down, below, joined, NoLink, IsWhole, Stands, IsPage, IsLaid, pages_of}
+use Rattle.cs_frame.specs.Frame.{Frame, nil, cut}
+use Rattle.cs_frame.specs.Page.{used, top, frames_of, on_page, fresh, called, CanCall, HoldsValues}
+use Rattle.cs_frame.specs.Layout.{oop, words_from, frame_at, frames_down, below, joined, NoLink, IsWhole, Stands, IsPage, IsLaid, pages_of}
 use Rattle.cs_frame.specs.Written.{SameOutside, AllAre, HasOverhead, half_word}
 use Rattle.cs_frame.proofs.Words.{Same, words_same, words_append, words_take, words_drop, words_moved, words_const, length-words, frame_parts, overhead_same, whole_to}
-use Rattle.cs_frame.proofs.Stacks.{base_below, used_is, top_changed, length-frames}
+use Rattle.cs_frame.proofs.Stacks.{base_below, used_is, top_changed}
 use Rattle.cs_frame.proofs.Pages.{Opened, opened, closed, SameOff, length-pages}
 use Rattle.cs_frame.proofs.Calls.{used_words, some_frame, top_place}
 
@@ -184,10 +184,10 @@ pub record Room (w : List ℕ) (p : ℕ) (h : Head) (b : Begin) (new : NewFrame)
   pub end_over : h.end ≤ end_with b new
   pub few : h.count ≤ 410
 
-pub room_for : (w : List ℕ) (hs : List Head) (p : ℕ) (h : Head) (fs : List Frame) (b : Begin) (new : NewFrame) → Opened w hs p h fs
+pub room_for : {w : List ℕ} {hs : List Head} {p : ℕ} {h : Head} {fs : List Frame} {b : Begin} {new : NewFrame} → Opened w hs p h fs
     → used fs + 66 ≤ 4096 → new.args + new.fill ≤ 56 → CanCall new.args fs → Begins h.count (p * 4096) h.frame h.end b new → Room w p h b new
-room_for w hs p h fs b new o room size can be =
-    let u = used_words w hs p h fs o in
+room_for {w} {p = p} {h = h} {b = b} {new = new} o room size can be =
+    let u = used_words o in
     let can' : CanCall new.args (frames_down h.count w (p * 4096) h.frame h.end) = subst (λ (gs : List Frame). CanCall new.args gs) o.is can in
     let low = o.low in let high = o.high in
     let c = numbers h.count h.frame h.end o.page.stands can' (omega arith) be.lowest be.later in
@@ -206,14 +206,14 @@ room_for w hs p h fs b new o room size can be =
         let l = length-words w (fp + 10) (sp - (fp + 10)) in
         (omega arith, omega arith, omega arith, omega arith, omega arith, omega arith, (λ q. omega arith))
 
-pub build_done : (v w : List ℕ) (hs : List Head) (ps : List (List Frame)) (p : ℕ) (h : Head) (b : Begin) (new : NewFrame) → IsLaid w hs → pages_of w 0 hs ≡ ps
-    → p < length ps → h ≡ get_or hs p h → used (frames_of ps p) + 66 ≤ 4096 → new.args + new.fill ≤ 56 → CanCall new.args (frames_of ps p) → HoldsValues new
+pub build_done : {v w : List ℕ} {hs : List Head} {ps : List (List Frame)} {h : Head} {b : Begin} {new : NewFrame} → IsLaid w hs → pages_of w 0 hs ≡ ps
+    → (p : ℕ) → p < length ps → h ≡ get_or hs p h → used (frames_of ps p) + 66 ≤ 4096 → new.args + new.fill ≤ 56 → CanCall new.args (frames_of ps p) → HoldsValues new
     → Begins h.count (p * 4096) h.frame h.end b new → Built v w h.end b new
     → let h' : Head = record { frame = b.frame; end = end_with b new; count = h.count + 1 } in
     IsLaid v (set hs p h') × (pages_of v 0 (set hs p h') ≡ on_page ps p (called new))
-build_done v w hs ps p h b new laid e lt eh room size can plain be x =
-    let o = opened w hs ps p h laid e lt eh in
-    let r = room_for w hs p h (frames_of ps p) b new o room size can be in
+build_done {v} {w} {hs} {ps} {h} {b} {new} laid e p lt eh room size can plain be x =
+    let o = opened laid e p lt eh in
+    let r = room_for o room size can be in
     let base = p * 4096 in
     let h' : Head = record { frame = b.frame; end = end_with b new; count = h.count + 1 } in
     let can' : CanCall new.args (frames_down h.count w base h.frame h.end) = subst (λ (gs : List Frame). CanCall new.args gs) o.is can in
@@ -227,7 +227,7 @@ build_done v w hs ps p h b new laid e lt eh room size can plain be x =
       within = hi;
       free = λ k a c q. o.page.free k (omega arith) c (ap (λ (y : ℕ). y % 8) (sym (x.above_it k a)) ∙ q);
     } in
-    let c = closed v w hs ps p h' laid e o.page_in x.len (off lo hi) pg in
+    let c = closed h' laid e o.page_in x.len (off lo hi) pg in
     (c.0, c.1 ∙ ap (λ (fs : List Frame). set ps p fs) (t'.0 ∙ ap (called new) (sym o.is)))
   where
     off : p * 4096 ≤ b.frame → end_with b new ≤ p * 4096 + 4096 → SameOff v w (p * 4096)
@@ -235,12 +235,12 @@ build_done v w hs ps p h b new laid e lt eh room size can plain be x =
     off lo hi k (inr a) = x.above_it k (omega arith)
 
 -- the steps of making a frame, put together
-pub built_by : (w w1 w2 w3 : List ℕ) (sp : ℕ) (b : Begin) (new : NewFrame) → length w1 ≡ length w
+pub built_by : {w w1 w2 w3 : List ℕ} (sp : ℕ) {b : Begin} {new : NewFrame} → length w1 ≡ length w
     → CopiedTo w w1 (sp - new.args) (b.frame + 10) new.args → SameBelow w w1 (b.frame + 10) → SameFrom w w1 (b.frame + 10 + new.args)
     → SameOutside w1 w2 b.frame (b.frame + 10) → HasOverhead w2 b.frame (b.caller * 8 + 4) b.sender new
     → SameOutside w2 w3 (b.frame + 10 + new.args) (b.frame + 10 + new.args + new.fill) → AllAre w3 (b.frame + 10 + new.args) (b.frame + 10 + new.args + new.fill) 65536
     → Built w3 w sp b new
-built_by w w1 w2 w3 sp b new len copied copy_below copy_above over_out overhead fill_out nils =
+built_by {w} {w1} {w2} {w3} sp {b} {new} len copied copy_below copy_above over_out overhead fill_out nils =
     let up : (k : ℕ) → k < b.frame + 10 + new.args → get_or w3 k 0 ≡ get_or w2 k 0 = fill_out.below in
     record {
       len = fill_out.len ∙ (over_out.len ∙ len);
@@ -264,18 +264,18 @@ built_by w w1 w2 w3 sp b new len copied copy_below copy_above over_out overhead 
     }
 
 -- the new frame is the last of its page
-pub built_top : (v : List ℕ) (hs : List Head) (p : ℕ) (h : Head) → IsLaid v (set hs p h) → p < length hs → 0 < h.count
+pub built_top : {v : List ℕ} {p : ℕ} (hs : List Head) (h : Head) → IsLaid v (set hs p h) → p < length hs → 0 < h.count
     → (0 < length (frames_of (pages_of v 0 (set hs p h)) p)) × (h.frame - p * 4096 ≡ (top (frames_of (pages_of v 0 (set hs p h)) p)).at)
-built_top v hs p h laid lt some =
+built_top {v} {p} hs h laid lt some =
     let qs = pages_of v 0 (set hs p h) in
     let in' : p < length qs = omega (arith, length-pages v 0 (set hs p h), length-set hs p h) in
-    let o = opened v (set hs p h) qs p h laid refl in' (sym (get_or-set_same hs p h h lt)) in
-    let n = some_frame v (set hs p h) p h (frames_of qs p) o in
-    (omega arith, (top_place v (set hs p h) p h (frames_of qs p) o (λ z. omega arith)).0)
+    let o = opened {ps = qs} laid refl p in' (sym (get_or-set_same hs p h h lt)) in
+    let n = some_frame o in
+    (omega arith, (top_place o (λ z. omega arith)).0)
 
 -- receiver and arguments stand on the page where it has a frame
-pub callable : (w : List ℕ) (hs : List Head) (p : ℕ) (h : Head) (fs : List Frame) (args : ℕ) → Opened w hs p h fs → CanCall args fs → 0 < h.count → args + 1 ≤ h.end
-callable w hs p h fs args o can some =
+pub callable : {w : List ℕ} {hs : List Head} {p : ℕ} {h : Head} {fs : List Frame} → Opened w hs p h fs → (args : ℕ) → CanCall args fs → 0 < h.count → args + 1 ≤ h.end
+callable {w} {p = p} {h = h} o args can some =
     deep h.count h.frame h.end o.page.stands (subst (λ (gs : List Frame). CanCall args gs) o.is can) some
   where
     deep : (n fp sp : ℕ) → Stands n w (p * 4096) fp sp → CanCall args (frames_down n w (p * 4096) fp sp) → 0 < n → args + 1 ≤ sp

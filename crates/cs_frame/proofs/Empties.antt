@@ -1,9 +1,9 @@
 -- Pages without a frame.
-use Rattle.std.proofs.Common.{◌≡◌, ◌≢◌, ℕ, zero, suc, ◌+◌, ◌*◌, ◌-◌, ◌/◌, ◌%◌, ◌<◌, ◌≤◌, List, [], ◌∷◌, ◌++◌, length, get_or, replicate, refl, sym, ◌∙◌, ap, subst, arith}
+use Rattle.std.proofs.Common.{◌≡◌, ℕ, zero, suc, ◌+◌, ◌*◌, ◌≤◌, List, [], ◌∷◌, ◌++◌, length, get_or, replicate, refl, sym, ◌∙◌, ap, subst, arith}
 use Rattle.std.proofs.lemmas.List.{length-replicate}
 use Rattle.cs_frame.specs.declared.Head.{Head}
 use Rattle.cs_frame.specs.Frame.{Frame}
-use Rattle.cs_frame.specs.Layout.{NoLink, IsPage, ArePages, IsLaid, pages_of}
+use Rattle.cs_frame.specs.Layout.{ArePages, IsLaid, pages_of}
 use Rattle.cs_frame.specs.Written.{empty_heads}
 
 abbrev pub empty_head : ℕ → Head

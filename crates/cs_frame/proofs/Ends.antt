@@ -1,11 +1,11 @@
 -- The last frame of a page: a value comes or goes, or the frame itself goes.
-use Rattle.std.proofs.Common.{◌≡◌, ◌≢◌, ℕ, zero, suc, ◌+◌, ◌-◌, ◌*◌, ◌/◌, ◌%◌, ◌<◌, ◌≤◌, ◌⊎◌, List, [], ◌∷◌, ◌++◌, length, get_or, set, take, refl, sym, ◌∙◌, ap, subst, inl, inr, arith, get_or-set_other, get_or-set_same}
+use Rattle.std.proofs.Common.{◌≡◌, ◌≢◌, ℕ, zero, suc, ◌+◌, ◌-◌, ◌%◌, ◌<◌, ◌≤◌, List, [], ◌∷◌, ◌++◌, length, get_or, set, take, sym, ◌∙◌, ap, subst, inl, inr, arith, get_or-set_other, get_or-set_same}
 use Rattle.std.proofs.lemmas.Bool.{cases_lt, cases_eq}
 use Rattle.cs_word.specs.declared.Oop.{Oop}
 use Rattle.cs_frame.specs.Frame.{Frame, pushed, popped}
 use Rattle.cs_frame.specs.Page.{top, on_top, rest_of}
 use Rattle.cs_frame.specs.Layout.{oop, word_at, words_from, frame_at, frames_down, below, NoLink, IsWhole, Stands}
-use Rattle.cs_frame.proofs.Words.{Same, words_same, words_more, words_take, length-words, overhead_same, whole_same, whole_to, no_link_same}
+use Rattle.cs_frame.proofs.Words.{Same, words_same, words_more, words_take, length-words, overhead_same, whole_to, no_link_same}
 use Rattle.cs_frame.proofs.Stacks.{base_below, frames_same, top_changed}
 
 -- the last frame takes the word above it; the words from sp up to e were free

@@ -1,11 +1,11 @@
 -- All pages: what a call may use of one of them, and what it owes where it changed one.
-use Rattle.std.proofs.Common.{◌≡◌, ◌≢◌, ℕ, zero, suc, ◌+◌, ◌-◌, ◌*◌, ◌/◌, ◌%◌, ◌<◌, ◌≤◌, ◌⊎◌, List, [], ◌∷◌, length, get_or, set, refl, sym, ◌∙◌, ap, subst, inl, inr, arith}
+use Rattle.std.proofs.Common.{◌≡◌, ℕ, zero, suc, ◌+◌, ◌-◌, ◌*◌, ◌<◌, ◌≤◌, ◌⊎◌, List, [], ◌∷◌, length, get_or, set, refl, sym, ◌∙◌, ap, subst, inl, inr, arith}
 use Rattle.std.proofs.lemmas.List.{length-set, get_or_default, set-get_or}
 use Rattle.cs_frame.specs.declared.Head.{Head}
 use Rattle.cs_frame.specs.declared.FrameRef.{FrameRef}
 use Rattle.cs_frame.specs.Frame.{Frame}
-use Rattle.cs_frame.specs.Page.{used, nth, on_nth, frames_of, on_page, index_in, IsFrame, frame, on_frame}
-use Rattle.cs_frame.specs.Layout.{frame_at, frames_down, Stands, NoLink, IsWhole, IsPage, ArePages, IsLaid, pages_of}
+use Rattle.cs_frame.specs.Page.{nth, on_nth, frames_of, index_in, IsFrame, frame, on_frame}
+use Rattle.cs_frame.specs.Layout.{frame_at, frames_down, IsWhole, IsPage, ArePages, IsLaid, pages_of}
 use Rattle.cs_frame.proofs.Words.{Same, no_link_same}
 use Rattle.cs_frame.proofs.Stacks.{begin_nth, end_nth, length-frames, nth-frames, base_below, Lies, lies, frames_same, nth_changed}
 use Rattle.cs_frame.proofs.PageLaws.{at-nth_index}
@@ -13,6 +13,10 @@ use Rattle.cs_frame.proofs.PageLaws.{at-nth_index}
 pub length-pages : (w : List ℕ) (base : ℕ) (hs : List Head) → length (pages_of w base hs) ≡ length hs
 length-pages w base [] = refl
 length-pages w base (h ∷ hs) = ap suc (length-pages w (base + 4096) hs)
+
+-- each page has its head
+pub page_count : {w : List ℕ} {hs : List Head} {ps : List (List Frame)} → IsLaid w hs → pages_of w 0 hs ≡ ps → (p : ℕ) → p < length ps → p < length hs
+page_count {w} {hs} laid e p lt = omega (arith, length-pages w 0 hs, ap length e)
 
 -- the page that begins at b has the head h, and shows the frames fs
 pub record Shows (w : List ℕ) (b : ℕ) (h : Head) (fs : List Frame) : Type 0 where
@@ -79,9 +83,9 @@ pub record Opened (w : List ℕ) (hs : List Head) (p : ℕ) (h : Head) (fs : Lis
   pub small : length w ≤ 262144
   pub few : p < 64
 
-pub opened : (w : List ℕ) (hs : List Head) (ps : List (List Frame)) (p : ℕ) (h : Head) → IsLaid w hs → pages_of w 0 hs ≡ ps
+pub opened : {w : List ℕ} {hs : List Head} {ps : List (List Frame)} {h : Head} → IsLaid w hs → pages_of w 0 hs ≡ ps → (p : ℕ)
     → p < length ps → h ≡ get_or hs p h → Opened w hs p h (frames_of ps p)
-opened w hs ps p h laid e lt eh =
+opened {w} {hs} {ps} {h} laid e p lt eh =
     let in' : p < length hs = omega (arith, length-pages w 0 hs, ap length e) in
     let on : Shows w (p * 4096) h (get_or ps p []) =
     subst (λ (qs : List (List Frame)). Shows w (p * 4096) h (get_or qs p [])) e
@@ -99,10 +103,10 @@ opened w hs ps p h laid e lt eh =
     }
 
 -- what a call owes that left page p with the head h
-pub closed : (v w : List ℕ) (hs : List Head) (ps : List (List Frame)) (p : ℕ) (h : Head) → IsLaid w hs → pages_of w 0 hs ≡ ps → p < length hs
+pub closed : {v w : List ℕ} {hs : List Head} {ps : List (List Frame)} {p : ℕ} (h : Head) → IsLaid w hs → pages_of w 0 hs ≡ ps → p < length hs
     → length v ≡ length w → SameOff v w (p * 4096) → IsPage v (p * 4096) h
     → IsLaid v (set hs p h) × (pages_of v 0 (set hs p h) ≡ set ps p (frames_down h.count v (p * 4096) h.frame h.end))
-closed v w hs ps p h laid e lt len s pg =
+closed {v} {w} {hs} {ps} {p} h laid e lt len s pg =
     let r = page_set v w 0 hs p (p * 4096) h laid.pages lt (omega arith) s pg in
     let few = laid.few in let l = laid.len in (
       record { few = omega (arith, length-set hs p h); len = omega (arith, length-set hs p h); pages = r.1 },
@@ -133,14 +137,14 @@ pub record Found (w : List ℕ) (hs : List Head) (ps : List (List Frame)) (r : F
   pub few : r.page < 64
   pub is : frame ps r ≡ frame_at w (r.page * 4096) (r.page * 4096 + r.at) end
 
-pub found : (w : List ℕ) (hs : List Head) (ps : List (List Frame)) (r : FrameRef) → IsLaid w hs → pages_of w 0 hs ≡ ps
+pub found : {w : List ℕ} {hs : List Head} {ps : List (List Frame)} → IsLaid w hs → pages_of w 0 hs ≡ ps → (r : FrameRef)
     → IsFrame ps r → Found w hs ps r
-found w hs ps r laid e is =
+found {w} {hs} {ps} laid e r is =
     let h0 : Head = record { frame = 0; end = 0; count = 0 } in
     let h = get_or hs r.page h0 in
     let lt : r.page < length ps = page-in ps r.page (omega arith) in
     let eh : h ≡ get_or hs r.page h = get_or_default hs r.page h0 h (omega (arith, length-pages w 0 hs, ap length e)) in
-    let o = opened w hs ps r.page h laid e lt eh in
+    let o = opened laid e r.page lt eh in
     let k = index_in ps r in
     let n : k < h.count = omega (arith, ap length o.is, length-frames h.count w (r.page * 4096) h.frame h.end) in
     let l = lies h.count k w (r.page * 4096) h.frame h.end o.page.stands n in
@@ -169,13 +173,13 @@ found w hs ps r laid e is =
     }
 
 -- a change inside a frame, not of its link, that makes of it what g does
-pub inner_done : (g : Frame → Frame) (w v : List ℕ) (hs : List Head) (ps : List (List Frame)) (r : FrameRef) → IsLaid w hs → pages_of w 0 hs ≡ ps
+pub inner_done : (g : Frame → Frame) {w v : List ℕ} {hs : List Head} {ps : List (List Frame)} {r : FrameRef} → IsLaid w hs → pages_of w 0 hs ≡ ps
     → (f : Found w hs ps r) → length v ≡ length w
     → ((j : ℕ) → (j ≤ r.page * 4096 + r.at) ⊎ (f.end ≤ j) → get_or v j 0 ≡ get_or w j 0)
     → IsWhole v (r.page * 4096 + r.at) f.end
     → frame_at v (r.page * 4096) (r.page * 4096 + r.at) f.end ≡ g (frame_at w (r.page * 4096) (r.page * 4096 + r.at) f.end)
     → IsLaid v hs × (pages_of v 0 hs ≡ on_frame ps r g)
-inner_done g w v hs ps r laid e f len s whole here =
+inner_done g {w} {v} {hs} {ps} {r} laid e f len s whole here =
     let h = f.head in let o = f.open' in let k = index_in ps r in let b = r.page * 4096 in
     let P : ℕ → ℕ → Type 0 = λ x y. ((j : ℕ) → (j ≤ x) ⊎ (y ≤ j) → get_or v j 0 ≡ get_or w j 0) × IsWhole v x y × (frame_at v b x y ≡ g (frame_at w b x y)) in
     let q : P (begin_nth k w h.frame) (end_nth k w h.frame h.end) =
@@ -188,7 +192,7 @@ inner_done g w v hs ps r laid e f len s whole here =
       within = top;
       free = no_link_same v w h.end (b + 4096) (λ j a d. s j (inr (omega arith))) o.page.free;
     } in
-    let x = closed v w hs ps r.page h laid e o.page_in len (off s over high) pg in
+    let x = closed h laid e o.page_in len (off s over high) pg in
     let same : set hs r.page h ≡ hs = ap (λ (k' : Head). set hs r.page k') f.head_is ∙ set-get_or hs r.page h in
     let G : List Head → Type 0 = λ ks. IsLaid v ks × (pages_of v 0 ks ≡ on_frame ps r g) in
     subst G same (x.0, x.1 ∙ ap (λ (fs : List Frame). set ps r.page fs) (c.0 ∙ ap (on_nth k g) (sym o.is)))

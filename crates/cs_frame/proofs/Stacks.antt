@@ -1,10 +1,9 @@
 -- The frames of one page, counted from the last one.
-use Rattle.std.proofs.Common.{◌≡◌, ◌≢◌, ℕ, zero, suc, ◌+◌, ◌-◌, ◌*◌, ◌/◌, ◌%◌, ◌^◌, ◌<◌, ◌≤◌, ◌⊎◌, List, [], ◌∷◌, ◌++◌, length, get_or, set, take, drop, replicate, refl, sym, ◌∙◌, ap, subst, inl, inr, arith, get_or-set_other, get_or-set_same, add-zero}
-use Rattle.cs_word.specs.declared.Oop.{Oop}
-use Rattle.cs_frame.specs.Frame.{Frame, pushed, popped, with_stack}
-use Rattle.cs_frame.specs.Page.{used, IsStacked, top, on_top, rest_of, nth, on_nth}
-use Rattle.cs_frame.specs.Layout.{oop, word_at, words_from, frame_at, frames_down, below, NoLink, IsWhole, Stands}
-use Rattle.cs_frame.proofs.Words.{Same, words_same, words_more, words_take, length-words, overhead_same, frame_same, whole_same, whole_to, no_link_same}
+use Rattle.std.proofs.Common.{◌≡◌, ℕ, zero, suc, ◌+◌, ◌-◌, ◌*◌, ◌/◌, ◌<◌, ◌≤◌, ◌⊎◌, List, ◌∷◌, length, get_or, refl, sym, ◌∙◌, ap, subst, inl, inr, arith}
+use Rattle.cs_frame.specs.Frame.{Frame}
+use Rattle.cs_frame.specs.Page.{used, IsStacked, nth, on_nth}
+use Rattle.cs_frame.specs.Layout.{frame_at, frames_down, below, IsWhole, Stands}
+use Rattle.cs_frame.proofs.Words.{Same, length-words, frame_same, whole_same}
 
 -- where the frame with k frames above it begins, and where its stack ends
 

@@ -1,7 +1,7 @@
 -- The walk down the links from the last frame of a page to the frame at a place.
-use Rattle.std.proofs.Common.{◌≡◌, ◌≢◌, ℕ, zero, suc, ◌+◌, ◌*◌, ◌/◌, ◌<◌, ◌≤◌, List, length, get_or, refl, sym, ◌∙◌, arith}
-use Rattle.cs_frame.specs.Layout.{below, IsWhole, Stands}
-use Rattle.cs_frame.proofs.Stacks.{begin_nth, end_nth, Lies, lies, base_below}
+use Rattle.std.proofs.Common.{◌≡◌, ◌≢◌, ℕ, zero, suc, ◌+◌, ◌<◌, ◌≤◌, List, arith}
+use Rattle.cs_frame.specs.Layout.{below, Stands}
+use Rattle.cs_frame.proofs.Stacks.{begin_nth, end_nth, lies}
 
 -- the walk is at the frame from fp to sp; the one that it looks for is among those from here down, begins at `at` and ends at `end`
 pub record Walk (w : List ℕ) (base at end fp sp : ℕ) : Type 0 where

@@ -1,7 +1,7 @@
 -- Runs of words, and one frame read from them.
-use Rattle.std.proofs.Common.{◌≡◌, ◌≢◌, ℕ, zero, suc, ◌+◌, ◌-◌, ◌*◌, ◌/◌, ◌%◌, ◌^◌, ◌<◌, ◌≤◌, ◌⊎◌, List, [], ◌∷◌, ◌++◌, length, get_or, set, take, drop, replicate, refl, sym, ◌∙◌, ap, subst, inl, inr, arith, get_or-set_other, get_or-set_same, add-zero}
+use Rattle.std.proofs.Common.{◌≡◌, ℕ, zero, suc, ◌+◌, ◌-◌, ◌%◌, ◌<◌, ◌≤◌, ◌⊎◌, List, [], ◌∷◌, ◌++◌, length, get_or, set, take, drop, replicate, refl, sym, ◌∙◌, ap, subst, inl, inr, arith, get_or-set_other, get_or-set_same, add-zero}
 use Rattle.cs_word.specs.declared.Oop.{Oop}
-use Rattle.cs_frame.specs.Frame.{Frame, IsPc, IsLink, nil}
+use Rattle.cs_frame.specs.Frame.{IsPc}
 use Rattle.cs_frame.specs.Layout.{oop, word_at, words_from, frame_at, joined, NoLink, IsWhole}
 use Rattle.cs_frame.specs.Written.{AllAre}
 

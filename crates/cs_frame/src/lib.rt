@@ -154,7 +154,8 @@ impl Frames {
     pub fn top(&self, page: u32) -> Option<FrameRef>
         requires page { page < length self.now }
         ensures none { IsNone result ↔ (frames_of self.now page ≡ []) }
-        ensures frame { IfSome result (λ f. (f ≡ ref_of page (top (frames_of self.now page))) × IsTop self.now f) }
+        ensures frame { IfSome result (λ f. f ≡ ref_of page (top (frames_of self.now page))) }
+        ensures last { IfSome result (IsTop self.now) }
         ensures stacked { IsStacked (frames_of self.now page) }
     {
         let head = self.heads[page as usize];
@@ -203,7 +204,6 @@ impl Frames {
 
     /// Takes the last frame off its page.
     pub fn drop_top(&mut self, page: u32)
-        requires page { page < length self.old }
         requires frame { 0 < length (frames_of self.old page) }
         ensures rest { self.new ≡ on_page self.old page rest_of }
     {

@@ -1,4 +1,4 @@
-use Rattle.std.proofs.Common.{◌≡◌, ◌∙◌}
+use Rattle.std.proofs.Common.{◌∙◌}
 use Rattle.cs_frame.proofs.Empties.{heads-next}
 use Rattle.cs_frame.proofs.heads_of_empty_pages.Goals as goal
 

@@ -1,36 +1,34 @@
-use Rattle.std.proofs.Common.{◌≡◌, ◌≢◌, ℕ, zero, suc, ◌+◌, ◌*◌, ◌-◌, ◌/◌, ◌%◌, ◌^◌, ◌<◌, ◌≤◌, [], List, length, get_or, set, sym, refl, ◌∙◌, ap, subst, arith, rules}
+use Rattle.std.proofs.Common.{◌≡◌, ℕ, ◌+◌, ◌*◌, ◌/◌, ◌<◌, ◌≤◌, length, sym, ◌∙◌, subst, arith}
 use Rattle.std.proofs.lemmas.List.{get_or_default}
 use Rattle.cs_frame.specs.declared.Head.{Head}
-use Rattle.cs_frame.specs.Page.{frame, frames_of, index_in}
-use Rattle.cs_frame.specs.Layout.{pages_of, below}
-use Rattle.cs_frame.proofs.Pages.{Opened, opened, Found, found, length-pages, page-in}
-use Rattle.cs_frame.proofs.Calls.{depth_is, some_frame}
+use Rattle.cs_frame.specs.Page.{frame, index_in}
+use Rattle.cs_frame.proofs.Pages.{found, page-in, page_count}
+use Rattle.cs_frame.proofs.Calls.{depth_is}
 use Rattle.cs_frame.proofs.Walks.{Walk, walk_step, walk_end}
 use Rattle.cs_frame.proofs.Frames.depth.Goals as goal
 
 pub index-head-requires : goal.index-head-requires
 index-head-requires c =
-    let s = c.self.inside in
-    let r = c.requires.frame in
-    let lt : c.args.f.page < length s.heads.items = omega (arith, length-pages s.zone 0 s.heads.items, ap length c.self.view_is, page-in c.args.self.now c.args.f.page (omega arith)) in
+    let some = c.requires.frame in
+    let lt = page_count c.self.invariant c.self.view_is c.args.f.page (page-in c.args.self.now c.args.f.page (omega arith)) in
     search (lt, arith)
 
 pub place-at-requires-clause-page : goal.place-at-requires-clause-page
 place-at-requires-clause-page c =
-    let s = c.self.inside in let f = found s.zone s.heads.items c.args.self.now c.args.f c.self.invariant c.self.view_is c.requires.frame in omega (arith, f.few)
+    let f = found c.self.invariant c.self.view_is c.args.f c.requires.frame in omega (arith, f.few)
 
 pub place-at-requires-clause-word : goal.place-at-requires-clause-word
 place-at-requires-clause-word c =
-    let s = c.self.inside in let f = found s.zone s.heads.items c.args.self.now c.args.f c.self.invariant c.self.view_is c.requires.frame in omega (arith, f.overhead, f.high)
+    let f = found c.self.invariant c.self.view_is c.args.f c.requires.frame in omega (arith, f.overhead, f.high)
 
 pub loop-frame-init : goal.loop-frame-init
 loop-frame-init c =
     let s = c.self.inside in let h = c.index-head.result.now in
-    let f = found s.zone s.heads.items c.args.self.now c.args.f c.self.invariant c.self.view_is c.requires.frame in
+    let f = found c.self.invariant c.self.view_is c.args.f c.requires.frame in
     let same : f.head ≡ h = f.head_is ∙ (get_or_default s.heads.items c.args.f.page f.head h f.open'.page_in ∙ sym c.index-head.ensures) in
     let a = c.args.f.page * 4096 + c.args.f.at in
     let at : a ≡ c.place-at.result = (let z : a ≡ a + 0 = omega arith in z) ∙ sym c.place-at.ensures.place in
-    let d = depth_is s.zone s.heads.items c.args.self.now c.args.f f in
+    let d = depth_is f in
     let over = f.overhead in
     let end : f.end ≡ c.place-at.result + 10 + length (frame c.args.self.now c.args.f).stack = omega arith in
     let W : Head → Type 0 = λ k. Walk s.zone (c.args.f.page * 4096) c.place-at.result (c.place-at.result + 10 + length (frame c.args.self.now c.args.f).stack) k.frame k.end in

@@ -1,4 +1,4 @@
-use Rattle.std.proofs.Common.{ℕ, ◌+◌, ◌*◌, ◌≤◌, length}
+use Rattle.std.proofs.Common.{◌+◌, ◌*◌, ◌≤◌, length}
 use Rattle.cs_frame.specs.Page.{frame}
 use Rattle.cs_frame.proofs.Walks.{Walk}
 use Rattle.cs_frame.proofs.Frames.depth.Given as goal

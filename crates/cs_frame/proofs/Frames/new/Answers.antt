@@ -1,4 +1,3 @@
-use Rattle.std.proofs.Common.{◌≡◌}
 use Rattle.cs_frame.proofs.Empties.{laid_new}
 use Rattle.cs_frame.proofs.Frames.new.Goals as goal
 

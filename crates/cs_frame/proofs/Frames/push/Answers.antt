@@ -1,33 +1,32 @@
-use Rattle.std.proofs.Common.{◌≡◌, ◌≢◌, ℕ, zero, suc, ◌+◌, ◌*◌, ◌-◌, ◌/◌, ◌%◌, ◌^◌, ◌<◌, ◌≤◌, ◌∷◌, ◌++◌, [], List, length, get_or, set, sym, refl, ◌∙◌, ap, subst, arith, rules}
-use Rattle.cs_word.specs.declared.Oop.{Oop}
-use Rattle.cs_frame.specs.declared.Head.{Head}
-use Rattle.cs_frame.specs.Frame.{Frame, nil, pushed, popped}
-use Rattle.cs_frame.specs.Page.{used, IsStacked, top, frames_of, on_page, frame, ref_of, caller_of, IsTop, IsBase}
-use Rattle.cs_frame.specs.Layout.{oop, word_at, pages_of, part_of, with_part, CanHold, offset_of, joined}
-use Rattle.cs_frame.proofs.Pages.{Opened, opened, Found, found, length-pages, page-in}
-use Rattle.cs_frame.proofs.Calls.{some_frame, used_words, stacked_page, push_done, pop_bounds, pop_done, pop_value, drop_bounds, drop_done, top_empty, top_place, slot_is, depth_is, set_slot_done, offset_bounds, part_word, part_held, set_part_done, base_zero, zero_base, caller_place}
+use Rattle.std.proofs.Common.{arith}
+use Rattle.cs_frame.proofs.Pages.{opened, page-in, page_count}
+use Rattle.cs_frame.proofs.Calls.{used_words, push_done}
 use Rattle.cs_frame.proofs.Frames.push.Goals as goal
 
 pub index-head-requires : goal.index-head-requires
 index-head-requires c =
-    let s = c.self.inside in let lt : c.args.f.page < length s.heads.items = omega (arith, length-pages s.zone 0 s.heads.items, ap length c.self.view_is, page-in c.args.self.now c.args.f.page c.requires.top.0) in search (lt, arith)
+    let lt = page_count c.self.invariant c.self.view_is c.args.f.page (page-in c.args.self.now c.args.f.page c.requires.top.0) in
+    search (lt, arith)
 
 pub set-requires : goal.set-requires
 set-requires c =
-    let s = c.self.inside in let h = c.index-head.result.now in let o = opened s.zone s.heads.items c.args.self.now c.args.f.page h c.self.invariant c.self.view_is (page-in c.args.self.now c.args.f.page c.requires.top.0) c.index-head.ensures in omega (arith, o.fits, c.requires.room, used_words s.zone s.heads.items c.args.f.page h (frames_of c.args.self.now c.args.f.page) o)
+    let o = opened c.self.invariant c.self.view_is c.args.f.page (page-in c.args.self.now c.args.f.page c.requires.top.0) c.index-head.ensures in
+    omega (arith, o.fits, c.requires.room, used_words o)
 
 pub overflow_add-head : goal.overflow_add-head
 overflow_add-head c =
-    let s = c.self.inside in let h = c.index-head.result.now in let o = opened s.zone s.heads.items c.args.self.now c.args.f.page h c.self.invariant c.self.view_is (page-in c.args.self.now c.args.f.page c.requires.top.0) c.index-head.ensures in record { fits = omega (arith, o.high, o.few) }
+    let o = opened c.self.invariant c.self.view_is c.args.f.page (page-in c.args.self.now c.args.f.page c.requires.top.0) c.index-head.ensures in
+    record { fits = omega (arith, o.high, o.few) }
 
 pub index_mut-requires : goal.index_mut-requires
 index_mut-requires c =
-    let s = c.self.inside in let lt : c.args.f.page < length s.heads.items = omega (arith, length-pages s.zone 0 s.heads.items, ap length c.self.view_is, page-in c.args.self.now c.args.f.page c.requires.top.0) in search (lt, arith)
+    let lt = page_count c.self.invariant c.self.view_is c.args.f.page (page-in c.args.self.now c.args.f.page c.requires.top.0) in
+    search (lt, arith)
 
 pub invariant_of-self : goal.invariant_of-self
 invariant_of-self c =
-    let s = c.self.inside in let h = c.index-head.result.now in (push_done s.zone c.set.new.self s.heads.items c.args.self.now c.args.f.page c.args.v.0 h c.self.invariant c.self.view_is c.requires.top.0 c.index-head.ensures c.requires.room c.requires.value c.set.ensures.words).0
+    (push_done c.self.invariant c.self.view_is c.args.f.page c.args.v.0 c.requires.top.0 c.index-head.ensures c.requires.room c.requires.value c.set.ensures.words).0
 
 pub returns : goal.returns
 returns c =
-    record { pushed = (let s = c.self.inside in let h = c.index-head.result.now in (push_done s.zone c.set.new.self s.heads.items c.args.self.now c.args.f.page c.args.v.0 h c.self.invariant c.self.view_is c.requires.top.0 c.index-head.ensures c.requires.room c.requires.value c.set.ensures.words).1) }
+    record { pushed = (push_done c.self.invariant c.self.view_is c.args.f.page c.args.v.0 c.requires.top.0 c.index-head.ensures c.requires.room c.requires.value c.set.ensures.words).1 }

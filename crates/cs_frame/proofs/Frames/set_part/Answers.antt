@@ -1,29 +1,34 @@
-use Rattle.std.proofs.Common.{◌≡◌, ◌≢◌, ℕ, zero, suc, ◌+◌, ◌*◌, ◌-◌, ◌/◌, ◌%◌, ◌^◌, ◌<◌, ◌≤◌, ◌∷◌, ◌++◌, [], List, length, get_or, set, sym, refl, ◌∙◌, ap, subst, arith, rules}
-use Rattle.cs_word.specs.declared.Oop.{Oop}
-use Rattle.cs_frame.specs.declared.Head.{Head}
-use Rattle.cs_frame.specs.Frame.{Frame, nil, pushed, popped}
-use Rattle.cs_frame.specs.Page.{used, IsStacked, top, frames_of, on_page, frame, ref_of, caller_of, IsTop, IsBase}
-use Rattle.cs_frame.specs.Layout.{oop, word_at, pages_of, part_of, with_part, CanHold, offset_of, joined}
-use Rattle.cs_frame.proofs.Pages.{Opened, opened, Found, found, length-pages, page-in}
-use Rattle.cs_frame.proofs.Calls.{some_frame, used_words, stacked_page, push_done, pop_bounds, pop_done, pop_value, drop_bounds, drop_done, top_empty, top_place, slot_is, depth_is, set_slot_done, offset_bounds, part_word, part_held, set_part_done, base_zero, zero_base, caller_place}
+use Rattle.std.proofs.Common.{ℕ, ◌+◌, ◌*◌, set, ◌∙◌, ap, arith}
+use Rattle.cs_frame.proofs.Pages.{found}
+use Rattle.cs_frame.proofs.Calls.{offset_bounds, set_part_done}
 use Rattle.cs_frame.proofs.Frames.set_part.Goals as goal
 
 pub place-requires-clause-page : goal.place-requires-clause-page
 place-requires-clause-page c =
-    let s = c.self.inside in let f = found s.zone s.heads.items c.args.self.now c.args.f c.self.invariant c.self.view_is c.requires.frame in omega (arith, f.few)
+    let f = found c.self.invariant c.self.view_is c.args.f c.requires.frame in
+    omega (arith, f.few)
 
 pub place-requires-clause-word : goal.place-requires-clause-word
 place-requires-clause-word c =
-    let s = c.self.inside in let f = found s.zone s.heads.items c.args.self.now c.args.f c.self.invariant c.self.view_is c.requires.frame in let b = offset_bounds c.args.part in omega (arith, f.overhead, f.high, b.1, c.offset.ensures.offset)
+    let f = found c.self.invariant c.self.view_is c.args.f c.requires.frame in
+    let b = offset_bounds c.args.part in
+    omega (arith, f.overhead, f.high, b.1, c.offset.ensures.offset)
 
 pub set-requires : goal.set-requires
 set-requires c =
-    let s = c.self.inside in let f = found s.zone s.heads.items c.args.self.now c.args.f c.self.invariant c.self.view_is c.requires.frame in let b = offset_bounds c.args.part in let pl = c.place.ensures.place ∙ ap (λ (k : ℕ). (c.args.f.page * 4096 + c.args.f.at) + k) c.offset.ensures.offset in omega (arith, f.overhead, f.high, f.fits, b.1, pl)
+    let f = found c.self.invariant c.self.view_is c.args.f c.requires.frame in
+    let b = offset_bounds c.args.part in
+    let at = c.place.ensures.place ∙ ap (λ (k : ℕ). c.args.f.page * 4096 + c.args.f.at + k) c.offset.ensures.offset in
+    omega (arith, f.overhead, f.high, f.fits, b.1, at)
 
 pub invariant_of-self : goal.invariant_of-self
 invariant_of-self c =
-    let s = c.self.inside in let f = found s.zone s.heads.items c.args.self.now c.args.f c.self.invariant c.self.view_is c.requires.frame in let pl = c.place.ensures.place ∙ ap (λ (k : ℕ). (c.args.f.page * 4096 + c.args.f.at) + k) c.offset.ensures.offset in let ev = c.set.ensures.words ∙ ap (λ (k : ℕ). set s.zone k c.args.v.0) pl in (set_part_done c.args.part s.zone c.set.new.self s.heads.items c.args.self.now c.args.f c.args.v.0 c.self.invariant c.self.view_is c.requires.frame c.requires.held ev).0
+    let at = c.place.ensures.place ∙ ap (λ (k : ℕ). c.args.f.page * 4096 + c.args.f.at + k) c.offset.ensures.offset in
+    let e = c.set.ensures.words ∙ ap (λ (k : ℕ). set c.self.inside.zone k c.args.v.0) at in
+    (set_part_done c.self.invariant c.self.view_is c.args.f c.args.part c.args.v.0 c.requires.frame c.requires.held e).0
 
 pub returns : goal.returns
 returns c =
-    record { part = (let s = c.self.inside in let f = found s.zone s.heads.items c.args.self.now c.args.f c.self.invariant c.self.view_is c.requires.frame in let pl = c.place.ensures.place ∙ ap (λ (k : ℕ). (c.args.f.page * 4096 + c.args.f.at) + k) c.offset.ensures.offset in let ev = c.set.ensures.words ∙ ap (λ (k : ℕ). set s.zone k c.args.v.0) pl in (set_part_done c.args.part s.zone c.set.new.self s.heads.items c.args.self.now c.args.f c.args.v.0 c.self.invariant c.self.view_is c.requires.frame c.requires.held ev).1) }
+    let at = c.place.ensures.place ∙ ap (λ (k : ℕ). c.args.f.page * 4096 + c.args.f.at + k) c.offset.ensures.offset in
+    let e = c.set.ensures.words ∙ ap (λ (k : ℕ). set c.self.inside.zone k c.args.v.0) at in
+    record { part = (set_part_done c.self.invariant c.self.view_is c.args.f c.args.part c.args.v.0 c.requires.frame c.requires.held e).1 }
