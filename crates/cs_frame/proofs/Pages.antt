@@ -8,7 +8,7 @@ use Rattle.cs_frame.specs.Page.{nth, on_nth, frames_of, index_in, IsFrame, frame
 use Rattle.cs_frame.specs.Layout.{frame_at, frames_down, IsWhole, IsPage, ArePages, IsLaid, pages_of}
 use Rattle.cs_frame.proofs.Words.{Same, no_link_same}
 use Rattle.cs_frame.proofs.Stacks.{begin_nth, end_nth, length-frames, nth-frames, base_below, Lies, lies, frames_same, nth_changed}
-use Rattle.cs_frame.proofs.PageLaws.{at-nth_index}
+use Rattle.cs_frame.proofs.PageLaws.{at-nth_index, page-IsFrame}
 
 pub length-pages : (w : List ℕ) (base : ℕ) (hs : List Head) → length (pages_of w base hs) ≡ length hs
 length-pages w base [] = refl
@@ -142,7 +142,7 @@ pub found : {w : List ℕ} {hs : List Head} {ps : List (List Frame)} → IsLaid 
 found {w} {hs} {ps} laid e r is =
     let h0 : Head = record { frame = 0; end = 0; count = 0 } in
     let h = get_or hs r.page h0 in
-    let lt : r.page < length ps = page-in ps r.page (omega arith) in
+    let lt : r.page < length ps = page-IsFrame ps r is in
     let eh : h ≡ get_or hs r.page h = get_or_default hs r.page h0 h (omega (arith, length-pages w 0 hs, ap length e)) in
     let o = opened laid e r.page lt eh in
     let k = index_in ps r in

@@ -20,6 +20,9 @@ use cs_zone::Zone;
 use std::alloc::{AllocError as NoMemory, Global};
 use std::marker::Model;
 
+#[cfg(test)]
+mod tests;
+
 /// The words of a page.
 const PAGE: u32 = 4096;
 
