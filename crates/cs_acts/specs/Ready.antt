@@ -1,0 +1,36 @@
+-- When a world can be asked for something.
+use Rattle.std.specs.Prelude.{◌≡◌, ℕ, Bool, true, false, ◌&&◌, nat_lt, nat_le, length, slice_get, Option, Some, None}
+use Rattle.cs_heap.specs.Object.{Object}
+use Rattle.cs_classes.specs.Meaning.{obj_of, ref_of, is_context, kept_of}
+use Rattle.cs_classes.specs.Sound.{IsWhole}
+use Rattle.cs_model.specs.Obj.{Obj, Ptr, Raw, Method, Ctx, is_context_at}
+use Rattle.cs_model.specs.State.{Kept, object_at}
+use Rattle.cs_model.specs.Keeps.{Keeps}
+use Rattle.cs_model.specs.Read.{IsRunning}
+use Rattle.cs_acts.specs.Names.{Store}
+
+-- The heap of a world has all objects of its state but contexts, which may also be elsewhere. The class table and the roots are
+-- those of the state.
+pub record Holds (s : Store) (k : Kept) : Type 0 where
+  pub whole : IsWhole s.memory.objects s.table s.roots
+  pub object : (j : ℕ) (x : Object) → slice_get s.memory.objects j ≡ Some x → is_context x ≡ false → object_at k x.birth ≡ Some (obj_of (ref_of s.memory.objects) x)
+  pub context : (j : ℕ) (x : Object) → slice_get s.memory.objects j ≡ Some x → is_context x ≡ true → is_context_at (object_at k x.birth) ≡ true
+  pub rest : (kept_of s.memory.objects s.table s.roots k.rest.active).rest ≡ k.rest
+
+-- all that the state names is there, and the heap holds what it must
+pub record IsSound (s : Store) (k : Kept) : Type 0 where
+  pub closed : Keeps k k
+  pub holds : Holds s k
+
+-- and a context is active
+pub record IsReady (s : Store) (k : Kept) : Type 0 where
+  pub sound : IsSound s k
+  pub running : IsRunning k
+
+-- the slots that may be written: those of a pointer object, and the literals of a method behind its header
+abbrev pub is_storable : Option Obj → ℕ → Bool
+is_storable None i = false
+is_storable (Some (Ptr class format hash slots)) i = nat_lt i (length slots)
+is_storable (Some (Raw class format hash bytes)) i = false
+is_storable (Some (Method class format hash header literals bytecodes)) i = nat_lt 0 i && nat_le i (length literals)
+is_storable (Some (Ctx c)) i = false

@@ -1,0 +1,11 @@
+pub mod Tables
+pub mod Heaps
+pub mod Refs
+pub mod Sorts
+pub mod Objects
+pub mod Edits
+pub mod Contexts
+pub mod Sounds
+pub mod Wholes
+pub mod Writes
+pub mod Makings

@@ -1,0 +1,136 @@
+-- What an object of the heap is as an object of the model: one of four sorts by its class and format.
+use Rattle.std.proofs.Common.{◌≡◌, ℕ, zero, suc, ◌+◌, ◌<◌, ◌≤◌, Bool, true, false, cond, List, [], ◌∷◌, length, map, take, drop, Option, Some, None, refl, ap, sym, ◌∙◌, arith, get_or, ap₂, subst}
+use Rattle.std.specs.Prelude.{slice_index}
+use Rattle.std.specs.List.{AllPass}
+use Rattle.std.proofs.lemmas.Bool.{leb-true, le-ltb}
+use Rattle.std.proofs.lemmas.Bool.Decides.{nat_tests}
+use Rattle.cs_heap.specs.Format.{is_method, is_pointers}
+use Rattle.cs_heap.specs.Object.{Object}
+use Rattle.cs_model.specs.Ref.{Ref}
+use Rattle.cs_model.specs.Obj.{Context, Ctx, Method, Obj, Ptr, Raw}
+use Rattle.cs_classes.specs.Meaning.{code_in, context_of, depth_in, header_in, is_context, literals_in, method_of, obj_of, used_bytes}
+use Rattle.cs_classes.specs.Sound.{references_in}
+
+pub data Sort (x : Object) : Type 0 where
+  AContext : (context : is_context x ≡ true) → Sort x
+  Pointers : (other : is_context x ≡ false) (pointers : is_pointers x.format ≡ true) → Sort x
+  AMethod : (other : is_context x ≡ false) (bits : is_pointers x.format ≡ false) (method : is_method x.format ≡ true) → Sort x
+  Bytes : (other : is_context x ≡ false) (bits : is_pointers x.format ≡ false) (bytes : is_method x.format ≡ false) → Sort x
+
+pub sort_of : (x : Object) → Sort x
+sort_of x = go (is_context x) (is_pointers x.format) (is_method x.format) refl refl refl
+  where
+    go : (a b c : Bool) → is_context x ≡ a → is_pointers x.format ≡ b → is_method x.format ≡ c → Sort x
+    go true b c p q r = AContext p
+    go false true c p q r = Pointers p q
+    go false false true p q r = AMethod p q r
+    go false false false p q r = Bytes p q r
+
+pub obj_of-context : (refer : ℕ → Ref) (x : Object) → is_context x ≡ true → obj_of refer x ≡ Ctx (context_of refer x.hash x.words)
+unfolding obj_of
+obj_of-context refer x h = rw h refl
+
+pub obj_of-pointers : (refer : ℕ → Ref) (x : Object) → is_context x ≡ false → is_pointers x.format ≡ true → obj_of refer x ≡ Ptr x.class x.format x.hash (map refer x.words)
+unfolding obj_of
+obj_of-pointers refer x h i = rw (h, i) refl
+
+pub obj_of-method : (refer : ℕ → Ref) (x : Object) → is_context x ≡ false → is_pointers x.format ≡ false → is_method x.format ≡ true
+    → obj_of refer x ≡ Method x.class x.format x.hash (header_in x.words) (map refer (literals_in x.words)) (used_bytes x.format (code_in x.words))
+unfolding obj_of method_of
+obj_of-method refer x h i j = rw (h, i, j) refl
+
+pub obj_of-bytes : (refer : ℕ → Ref) (x : Object) → is_context x ≡ false → is_pointers x.format ≡ false → is_method x.format ≡ false
+    → obj_of refer x ≡ Raw x.class x.format x.hash (used_bytes x.format x.words)
+unfolding obj_of
+obj_of-bytes refer x h i j = rw (h, i, j) refl
+
+-- ---- and from what it is to its sort
+
+pub record IsPointersOf (refer : ℕ → Ref) (x : Object) (c f h : ℕ) (refs : List Ref) : Type 0 where
+  pub other : is_context x ≡ false
+  pub pointers : is_pointers x.format ≡ true
+  pub class : x.class ≡ c
+  pub format : x.format ≡ f
+  pub hash : x.hash ≡ h
+  pub slots : map refer x.words ≡ refs
+
+pub pointers_of : (refer : ℕ → Ref) (x : Object) (class format hash : ℕ) (slots : List Ref) → obj_of refer x ≡ Ptr class format hash slots → IsPointersOf refer x class format hash slots
+pointers_of refer x class format hash slots h = go (sort_of x)
+  where
+    go : Sort x → IsPointersOf refer x class format hash slots
+    go (AContext p) = absurd (let e = sym (obj_of-context refer x p) ∙ h in cc)
+    go (Pointers p q) = let e = sym (obj_of-pointers refer x p q) ∙ h in record { other = p; pointers = q; class = cc; format = cc; hash = cc; slots = cc }
+    go (AMethod p q r) = absurd (let e = sym (obj_of-method refer x p q r) ∙ h in cc)
+    go (Bytes p q r) = absurd (let e = sym (obj_of-bytes refer x p q r) ∙ h in cc)
+
+pub record IsContextOf (refer : ℕ → Ref) (x : Object) (c : Context) : Type 0 where
+  pub context : is_context x ≡ true
+  pub value : context_of refer x.hash x.words ≡ c
+
+pub context_is : (refer : ℕ → Ref) (x : Object) (c : Context) → obj_of refer x ≡ Ctx c → IsContextOf refer x c
+context_is refer x c h = go (sort_of x)
+  where
+    go : Sort x → IsContextOf refer x c
+    go (AContext p) = let e = sym (obj_of-context refer x p) ∙ h in record { context = p; value = cc }
+    go (Pointers p q) = absurd (let e = sym (obj_of-pointers refer x p q) ∙ h in cc)
+    go (AMethod p q r) = absurd (let e = sym (obj_of-method refer x p q r) ∙ h in cc)
+    go (Bytes p q r) = absurd (let e = sym (obj_of-bytes refer x p q r) ∙ h in cc)
+
+-- ---- what an object's references refer to decides what it is
+
+pub map_alike : (p : ℕ → Bool) (r s : ℕ → Ref) → ((w : ℕ) → p w ≡ true → r w ≡ s w) → (ws : List ℕ) → AllPass p ws → map r ws ≡ map s ws
+map_alike p r s h [] all = refl
+map_alike p r s h (w ∷ ws) all = ap₂ (λ (a : Ref) (rest : List Ref). a ∷ rest) (h w (all 0 0 (omega arith))) (map_alike p r s h ws (λ k d l. all (suc k) d (omega (arith, l))))
+
+pub pass_take : (p : ℕ → Bool) (n : ℕ) (ws : List ℕ) → AllPass p ws → AllPass p (take n ws)
+pass_take p zero ws all = λ k d l. absurd (omega (arith, l))
+pass_take p (suc n) [] all = all
+pass_take p (suc n) (w ∷ ws) all = at (pass_take p n ws (λ j e m. all (suc j) e (omega (arith, m))))
+  where
+    at : AllPass p (take n ws) → (k d : ℕ) → k < length (take (suc n) (w ∷ ws)) → p (get_or (take (suc n) (w ∷ ws)) k d) ≡ true
+    at rest zero d l = all 0 d (omega arith)
+    at rest (suc k) d l = rest k d (omega (arith, l))
+
+pub pass_drop : (p : ℕ → Bool) (n : ℕ) (ws : List ℕ) → AllPass p ws → AllPass p (drop n ws)
+pass_drop p zero ws all = all
+pass_drop p (suc n) [] all = all
+pass_drop p (suc n) (w ∷ ws) all = pass_drop p n ws (λ j e m. all (suc j) e (omega (arith, m)))
+
+pub context_alike : (p : ℕ → Bool) (r s : ℕ → Ref) → ((w : ℕ) → p w ≡ true → r w ≡ s w) → (hash : ℕ) (ws : List ℕ) → 6 ≤ length ws → AllPass p ws → context_of r hash ws ≡ context_of s hash ws
+unfolding context_of
+context_alike p r s h hash ws enough all = λ i. record {
+  hash = hash;
+  sender = h (get_or ws 0 0) (all 0 0 (omega (arith, enough))) i;
+  pc = (context_of r hash ws).pc;
+  method = h (get_or ws 3 0) (all 3 0 (omega (arith, enough))) i;
+  closure = h (get_or ws 4 0) (all 4 0 (omega (arith, enough))) i;
+  receiver = h (get_or ws 5 0) (all 5 0 (omega (arith, enough))) i;
+  stack = map_alike p r s h (take (depth_in ws) (drop 6 ws)) (pass_take p (depth_in ws) (drop 6 ws) (pass_drop p 6 ws all)) i;
+  size = (context_of r hash ws).size;
+}
+
+pub not_pointers : (format : ℕ) → is_method format ≡ true → is_pointers format ≡ false
+not_pointers format h = grind (arith, nat_tests)
+
+pub references-pointers : (x : Object) → is_pointers x.format ≡ true → references_in x ≡ x.words
+references-pointers x h = rw h refl
+
+pub references-method : (x : Object) → is_method x.format ≡ true → references_in x ≡ literals_in x.words
+references-method x h = rw (not_pointers x.format h, h) refl
+
+pub obj_of-alike : (p : ℕ → Bool) (r s : ℕ → Ref) → ((w : ℕ) → p w ≡ true → r w ≡ s w) → (x : Object) → AllPass p (references_in x)
+    → (is_context x ≡ true → (x.format ≡ 3) × (6 ≤ length x.words)) → obj_of r x ≡ obj_of s x
+obj_of-alike p r s h x all context = go (sort_of x)
+  where
+    go : Sort x → obj_of r x ≡ obj_of s x
+    go (AContext c) =
+        let shape = context c in
+        let words = subst (AllPass p) (references-pointers x (ap is_pointers shape.0)) all in
+        obj_of-context r x c ∙ ap Ctx (context_alike p r s h x.hash x.words shape.1 words) ∙ sym (obj_of-context s x c)
+    go (Pointers o q) =
+        let words = subst (AllPass p) (references-pointers x q) all in
+        obj_of-pointers r x o q ∙ ap (Ptr x.class x.format x.hash) (map_alike p r s h x.words words) ∙ sym (obj_of-pointers s x o q)
+    go (AMethod o b m) =
+        let words = subst (AllPass p) (references-method x m) all in
+        obj_of-method r x o b m ∙ ap (λ (ls : List Ref). Method x.class x.format x.hash (header_in x.words) ls (used_bytes x.format (code_in x.words))) (map_alike p r s h (literals_in x.words) words) ∙ sym (obj_of-method s x o b m)
+    go (Bytes o b m) = obj_of-bytes r x o b m ∙ sym (obj_of-bytes s x o b m)

@@ -1,0 +1,289 @@
+-- The kept parts that a heap, its class table and its roots stand for, when an object changes or comes, and when a class
+-- enters the table.
+use Rattle.std.proofs.Common.{◌≡◌, ℕ, zero, suc, ◌+◌, ◌<◌, ◌≤◌, Bool, true, false, cond, List, [], ◌∷◌, ◌++◌, length, map, take, drop, Option, Some, None, option_map, is_some, refl, ap, ap₂, subst, sym, ◌∙◌, arith, get_or, ◌⊎◌, inl, inr}
+use Rattle.std.specs.Prelude.{slice_get, unwrap_or}
+use Rattle.std.specs.Option.{option_map_or}
+use Rattle.std.specs.Ordering.{nat_cmp, eq_by_cmp}
+use Rattle.std.specs.Cmp.{nat_cmp_total}
+use Rattle.std.specs.FinMap.{FinMap, entries, find, from_entries, get, get-entries, get-from_entries, get-insert, insert, nat_cmp-IsAntisymmetric, same_map}
+use Rattle.std.specs.List.{AllByRecursion, AllPass}
+use Rattle.cs_word.specs.declared.Kind.{Kind}
+use Rattle.cs_word.specs.declared.Kind.TheVariants as kind
+use Rattle.cs_word.specs.Word.{kind_of}
+use Rattle.std.proofs.lemmas.Bool.{cases_eq}
+use Rattle.std.proofs.lemmas.List.{length-append}
+use Rattle.cs_heap.specs.Object.{Object, at_index, base, birth_of, is_object, object_at, with_object}
+use Rattle.cs_heap.proofs.Laws.{is_object-old, is_object-with_object, length-with_object}
+use Rattle.cs_model.specs.Ref.{Ref}
+use Rattle.cs_model.specs.Ref as ref
+use Rattle.cs_model.specs.Obj.{Ctx, Method, Obj, Ptr}
+use Rattle.cs_model.specs.State.{IsHeld, Kept, NamesHeld, RestHeld, put, with_rest}
+use Rattle.cs_model.specs.Operation.{add_of, edit_found, edit_object}
+use Rattle.cs_model.specs.Instance.{with_class}
+use Rattle.cs_classes.specs.declared.Roots.{Roots}
+use Rattle.cs_classes.specs.Meaning.{birth_at, classes_of, context_of, depth_in, is_context, kept_of, literals_in, meaning_at, obj_of, objects_of, ref_of, ref_of_kind}
+use Rattle.cs_classes.specs.Sound.{IsSound, IsSoundObject, IsWhole, is_reference, is_reference_kind, nil_of, references_in}
+use Rattle.cs_classes.proofs.Heaps.{object_there, element_within, IsEdit, birth_at-with_object, birth_of-object_at, birth_of-push, birth_of-with_object, is_object-object_at, slice_get-at_index_other, slice_get-at_index_same, slice_get-push, stands, with_object-stands}
+use Rattle.cs_classes.proofs.Objects.{AreApart, Comes, IsFresh, get-objects_of, get-objects_of-element, objects_of-comes, objects_of-push, objects_of-with_object}
+use Rattle.cs_classes.proofs.Refs.{is_reference-push, nil_of-push, nil_of-with_object, ref_of-push}
+use Rattle.cs_classes.proofs.Sorts.{AContext, AMethod, Bytes, Pointers, Sort, obj_of-alike, obj_of-bytes, obj_of-context, obj_of-method, obj_of-pointers, pass_drop, pass_take, references-method, references-pointers, sort_of}
+use Rattle.cs_classes.proofs.Sounds.{sound-push, sound-with_object, sound_at, whole_context}
+
+-- ---- the class table
+
+find-map_values : (g : ℕ → ℕ) (q : ℕ) (es : List (ℕ × ℕ)) → find nat_cmp q (map (λ e. (e.0, g e.1)) es) ≡ option_map g (find nat_cmp q es)
+find-map_values g q [] = refl
+find-map_values g q (e ∷ es) = go (eq_by_cmp nat_cmp q e.0) (find-map_values g q es)
+  where
+    go : (b : Bool) → find nat_cmp q (map (λ (d : ℕ × ℕ). (d.0, g d.1)) es) ≡ option_map g (find nat_cmp q es)
+        → cond b (Some (g e.1)) (find nat_cmp q (map (λ (d : ℕ × ℕ). (d.0, g d.1)) es)) ≡ option_map g (cond b (Some e.1) (find nat_cmp q es))
+    go true h = refl
+    go false h = h
+
+pub get-classes_of : (os : List Object) (table : FinMap nat_cmp ℕ) (q : ℕ) → get (classes_of os table) q ≡ option_map (birth_of os) (get table q)
+unfolding classes_of
+get-classes_of os table q =
+    get-from_entries nat_cmp_total (map (λ (e : ℕ × ℕ). (e.0, birth_of os e.1)) (entries table)) q
+    ∙ find-map_values (birth_of os) q (entries table) ∙ ap (option_map (birth_of os)) (sym (get-entries table q))
+
+-- a class enters the table
+pub classes_of-insert : (os : List Object) (table : FinMap nat_cmp ℕ) (index a : ℕ) → classes_of os (insert table index a) ≡ insert (classes_of os table) index (birth_of os a)
+classes_of-insert os table index a = same_map nat_cmp_total nat_cmp-IsAntisymmetric _ _ alike
+  where
+    moved : (b : Bool) (o : Option ℕ) → option_map (birth_of os) (cond b (Some a) o) ≡ cond b (Some (birth_of os a)) (option_map (birth_of os) o)
+    moved true o = refl
+    moved false o = refl
+    alike : (q : ℕ) → get {R = nat_cmp} (classes_of os (insert table index a)) q ≡ get {R = nat_cmp} (insert (classes_of os table) index (birth_of os a)) q
+    alike q =
+        get-classes_of os (insert table index a) q ∙ ap (option_map (birth_of os)) (get-insert nat_cmp_total table index a q)
+        ∙ moved (eq_by_cmp nat_cmp q index) (get table q) ∙ ap (cond (eq_by_cmp nat_cmp q index) (Some (birth_of os a))) (sym (get-classes_of os table q))
+        ∙ sym (get-insert nat_cmp_total (classes_of os table) index (birth_of os a) q)
+
+classes_of-alike : (os us : List Object) (table : FinMap nat_cmp ℕ) → ((index a : ℕ) → get table index ≡ Some a → birth_of us a ≡ birth_of os a) → classes_of us table ≡ classes_of os table
+classes_of-alike os us table same = same_map nat_cmp_total nat_cmp-IsAntisymmetric _ _ alike
+  where
+    go : (q : ℕ) (o : Option ℕ) → get table q ≡ o → option_map (birth_of us) o ≡ option_map (birth_of os) o
+    go q None e = refl
+    go q (Some a) e = ap Some (same q a e)
+    alike : (q : ℕ) → get {R = nat_cmp} (classes_of us table) q ≡ get {R = nat_cmp} (classes_of os table) q
+    alike q = get-classes_of us table q ∙ go q (get table q) refl ∙ sym (get-classes_of os table q)
+
+pub kept_of-set_entry : (os : List Object) (table : FinMap nat_cmp ℕ) (roots : Roots) (active : Option ℕ) (index a : ℕ)
+    → kept_of os (insert table index a) roots active ≡ with_rest (with_class index (birth_of os a) (kept_of os table roots active).rest) (kept_of os table roots active)
+kept_of-set_entry os table roots active index a = ap (λ (classes : FinMap nat_cmp ℕ). with_rest (record (kept_of os table roots active).rest { classes = classes }) (kept_of os table roots active)) (classes_of-insert os table index a)
+
+pub whole-set_entry : (os : List Object) (table : FinMap nat_cmp ℕ) (roots : Roots) (index a : ℕ) → IsWhole os table roots → is_object os a ≡ true → IsWhole os (insert table index a) roots
+whole-set_entry os table roots index a w h = record {
+  heap = w.heap;
+  first = w.first;
+  nil = w.nil;
+  births = w.births;
+  indices = λ k x e. entered (eq_by_cmp nat_cmp x.class index) (get table x.class) (get-insert nat_cmp_total table index a x.class) (w.indices k x e);
+  classes = λ i b e. there i b (eq_by_cmp nat_cmp i index) (get-insert nat_cmp_total table index a i) e;
+  special = w.special;
+}
+  where
+    entered : (b : Bool) (o : Option ℕ) {p : Option ℕ} → p ≡ cond b (Some a) o → is_some o ≡ true → is_some p ≡ true
+    entered true o e s = ap is_some e
+    entered false o e s = ap is_some e ∙ s
+    there : (i b : ℕ) (t : Bool) → get (insert table index a) i ≡ cond t (Some a) (get table i) → get (insert table index a) i ≡ Some b → is_object os b ≡ true
+    there i b true e f = let is : a ≡ b = cc in subst (λ (n : ℕ). is_object os n ≡ true) is h
+    there i b false e f = w.classes i b (sym e ∙ f)
+
+-- ---- one object changes
+
+pub kept_of-with_object : (os : List Object) (table : FinMap nat_cmp ℕ) (roots : Roots) (active : Option ℕ) (a : ℕ) (x : Object) (f : Object → Object) (g : Obj → Obj)
+    → IsEdit f → IsSound os → object_at os a ≡ Some x → obj_of (ref_of os) (f x) ≡ g (obj_of (ref_of os) x)
+    → kept_of (with_object os a f) table roots active ≡ edit_object (kept_of os table roots active) (ref.Obj (birth_of os a)) g
+unfolding put
+kept_of-with_object os table roots active a x f g edit sound there means =
+    let k : Kept = kept_of os table roots active in
+    let birth : birth_of os a ≡ x.birth = birth_of-object_at os a x there in
+    let found : get (objects_of os) (birth_of os a) ≡ Some (obj_of (ref_of os) x) = get-objects_of os a sound (is_object-object_at os a x there) ∙ ap (option_map (obj_of (ref_of os))) there in
+    let objects : objects_of (with_object os a f) ≡ insert (objects_of os) (birth_of os a) (g (obj_of (ref_of os) x)) =
+        objects_of-with_object os a x f edit sound.apart there ∙ ap₂ (insert (objects_of os)) (sym birth) means in
+    let classes = classes_of-alike os (with_object os a f) table (λ index b e. birth_of-with_object os a b f edit) in
+    let changed : kept_of (with_object os a f) table roots active ≡ put k (birth_of os a) (g (obj_of (ref_of os) x)) = λ i. record {
+      objects = objects i;
+      rest = record {
+        nil = birth_at-with_object os a 0 f edit i;
+        false_ = birth_at-with_object os a 1 f edit i;
+        true_ = birth_at-with_object os a 2 f edit i;
+        special = birth_of-with_object os a roots.special.0 f edit i;
+        header = k.rest.header;
+        classes = classes i;
+        last_hash = roots.last_hash;
+        next = roots.next_birth;
+        active = active;
+      };
+    } in
+    changed ∙ sym (ap (λ (o : Option Obj). edit_found g (birth_of os a) o k) found)
+
+pub whole-with_object : (os : List Object) (table : FinMap nat_cmp ℕ) (roots : Roots) (a : ℕ) (x : Object) (f : Object → Object)
+    → IsEdit f → IsWhole os table roots → object_at os a ≡ Some x → IsSoundObject os (f x) → IsWhole (with_object os a f) table roots
+whole-with_object os table roots a x f edit w there new =
+    let s = stands os a x there in
+    let list = with_object-stands os a x s.0 f s.1 in
+    record {
+      heap = sound-with_object os a x f edit w.heap there new;
+      first = omega (arith, w.first, length-with_object os a f);
+      nil = nil_of-with_object os a f edit ∙ w.nil;
+      births = λ k y h. let z = before s.0 k y (subst (λ (ys : List Object). slice_get ys k ≡ Some y) list h) in
+          subst (λ (n : ℕ). n < roots.next_birth) z.1.1.0 (w.births k z.0 z.1.0);
+      indices = λ k y h. let z = before s.0 k y (subst (λ (ys : List Object). slice_get ys k ≡ Some y) list h) in
+          subst (λ (n : ℕ). is_some (get table n) ≡ true) z.1.1.1 (w.indices k z.0 z.1.0);
+      classes = λ i b e. is_object-with_object os a b f edit.slots ∙ w.classes i b e;
+      special = is_object-with_object os a roots.special.0 f edit.slots ∙ w.special;
+    }
+  where
+    before : (k j : ℕ) (y : Object) → slice_get (at_index k f os) j ≡ Some y → (z : Object) × ((slice_get os j ≡ Some z) × ((z.birth ≡ y.birth) × (z.class ≡ y.class)))
+    before k j y h = go (cases_eq k j)
+      where
+        changed : (o : Option Object) → slice_get os j ≡ o → option_map f o ≡ Some y → (z : Object) × ((slice_get os j ≡ Some z) × ((z.birth ≡ y.birth) × (z.class ≡ y.class)))
+        changed None e g = absurd (cc)
+        changed (Some z) e g =
+            let is : f z ≡ y = cc in
+            (z, (e, (sym (edit.birth z) ∙ ap (λ (u : Object). u.birth) is, sym (edit.class z) ∙ ap (λ (u : Object). u.class) is)))
+        go : (k ≡ j) ⊎ (k ≡ j → ⊥) → (z : Object) × ((slice_get os j ≡ Some z) × ((z.birth ≡ y.birth) × (z.class ≡ y.class)))
+        go (inl e) = changed (slice_get os j) refl (sym (slice_get-at_index_same j f os) ∙ ap (λ (n : ℕ). slice_get (at_index n f os) j) (sym e) ∙ h)
+        go (inr other) = (y, (sym (slice_get-at_index_other k j f os other) ∙ h, (refl, refl)))
+
+-- ---- one object comes
+
+-- no object has the next birth
+pub next_is_fresh : (os : List Object) (table : FinMap nat_cmp ℕ) (roots : Roots) → IsWhole os table roots → IsFresh os roots.next_birth
+next_is_fresh os table roots w k x h e = omega (arith, w.births k x h, e)
+
+-- what stands means what it meant
+pub obj_of-push : (os : List Object) (y x : Object) → IsSoundObject os x → obj_of (ref_of (os ++ y ∷ [])) x ≡ obj_of (ref_of os) x
+obj_of-push os y x s = obj_of-alike (is_reference os) (ref_of (os ++ y ∷ [])) (ref_of os) (ref_of-push os y) x s.references
+    (λ c. let whole = whole_context os x s c in (whole.format, whole.fields))
+
+births_push : (os : List Object) (y : Object) (k : ℕ) → k < length os → birth_at (os ++ y ∷ []) k ≡ birth_at os k
+births_push [] y k h = absurd (omega (arith, h))
+births_push (x ∷ os) y zero h = refl
+births_push (x ∷ os) y (suc k) h = births_push os y k (omega (arith, h))
+
+-- the roots when one more birth has been given
+abbrev pub after_birth : Roots → Roots
+after_birth roots = record roots { next_birth = roots.next_birth + 1 }
+
+pub kept_of-push : (os : List Object) (table : FinMap nat_cmp ℕ) (roots : Roots) (active : Option ℕ) (y : Object) → IsWhole os table roots → y.birth ≡ roots.next_birth
+    → kept_of (os ++ y ∷ []) table (after_birth roots) active ≡ add_of (kept_of os table roots active) (obj_of (ref_of (os ++ y ∷ [])) y)
+unfolding put add_of
+kept_of-push os table roots active y w next =
+    let k : Kept = kept_of os table roots active in
+    let new : Obj = obj_of (ref_of (os ++ y ∷ [])) y in
+    let fresh : IsFresh os y.birth = λ j x h e. next_is_fresh os table roots w j x h (e ∙ next) in
+    let objects : objects_of (os ++ y ∷ []) ≡ insert (objects_of os) roots.next_birth new =
+        objects_of-push os y fresh (λ j x h. obj_of-push os y x (w.heap.each j x h)) ∙ ap (λ (b : ℕ). insert (objects_of os) b new) next in
+    let classes = classes_of-alike os (os ++ y ∷ []) table (λ index b e. birth_of-push os y b (w.classes index b e)) in
+    let nil = births_push os y 0 (omega (arith, w.first)) in
+    let false_ = births_push os y 1 (omega (arith, w.first)) in
+    let true_ = births_push os y 2 (omega (arith, w.first)) in
+    let special = birth_of-push os y roots.special.0 w.special in
+    λ i. record {
+      objects = objects i;
+      rest = record {
+        nil = nil i;
+        false_ = false_ i;
+        true_ = true_ i;
+        special = special i;
+        header = k.rest.header;
+        classes = classes i;
+        last_hash = roots.last_hash;
+        next = roots.next_birth + 1;
+        active = active;
+      };
+    }
+
+pub whole-push : (os : List Object) (table : FinMap nat_cmp ℕ) (roots : Roots) (y : Object) → IsWhole os table roots → y.birth ≡ roots.next_birth
+    → is_some (get table y.class) ≡ true → IsSoundObject (os ++ y ∷ []) y → IsWhole (os ++ y ∷ []) table (after_birth roots)
+whole-push os table roots y w next class new = record {
+  heap = sound-push os y w.heap (λ j x h e. next_is_fresh os table roots w j x h (e ∙ next)) new;
+  first = omega (arith, w.first, length-append os (y ∷ []));
+  nil = nil_of-push os y (omega (arith, w.first)) ∙ w.nil;
+  births = λ k x h. births k x (slice_get-push os y k x h);
+  indices = λ k x h. indices k x (slice_get-push os y k x h);
+  classes = λ i b e. is_object-old os y b (w.classes i b e);
+  special = is_object-old os y roots.special.0 w.special;
+}
+  where
+    births : (k : ℕ) (x : Object) → (slice_get os k ≡ Some x) ⊎ ((k ≡ length os) × (y ≡ x)) → x.birth < roots.next_birth + 1
+    births k x (inl h) = omega (arith, w.births k x h)
+    births k x (inr h) = omega (arith, next, ap (λ (z : Object). z.birth) h.1)
+    indices : (k : ℕ) (x : Object) → (slice_get os k ≡ Some x) ⊎ ((k ≡ length os) × (y ≡ x)) → is_some (get table x.class) ≡ true
+    indices k x (inl h) = w.indices k x h
+    indices k x (inr h) = subst (λ (z : Object). is_some (get table z.class) ≡ true) h.1 class
+
+-- ---- what the kept parts name is there
+
+pub ref_of-held : (os : List Object) (table : FinMap nat_cmp ℕ) (roots : Roots) (active : Option ℕ) (w : ℕ) → IsSound os → is_reference os w ≡ true → IsHeld (kept_of os table roots active) (ref_of os w)
+unfolding ref_of is_reference
+ref_of-held os table roots active w sound h = at (kind_of w) h
+  where
+    at : (k : Kind) → is_reference_kind os k ≡ true → IsHeld (kept_of os table roots active) (ref_of_kind os k)
+    at (kind.Small z) h = tt
+    at (kind.Character c) h = tt
+    at (kind.Object a) h =
+        let x = object_there os a h in
+        ap is_some (get-objects_of os a sound h ∙ ap (option_map (obj_of (ref_of os))) x.1)
+    at (kind.Link b) h = tt
+
+all_held : (os : List Object) (table : FinMap nat_cmp ℕ) (roots : Roots) (active : Option ℕ) → IsSound os → (ws : List ℕ) → AllPass (is_reference os) ws
+    → AllByRecursion (IsHeld (kept_of os table roots active)) (map (ref_of os) ws)
+all_held os table roots active sound [] all = tt
+all_held os table roots active sound (w ∷ ws) all =
+    (ref_of-held os table roots active w sound (all 0 0 (omega arith)), all_held os table roots active sound ws (λ k d l. all (suc k) d (omega (arith, l))))
+
+pub obj_of-held : (os : List Object) (table : FinMap nat_cmp ℕ) (roots : Roots) (active : Option ℕ) (x : Object) → IsSound os → IsSoundObject os x → NamesHeld (kept_of os table roots active) (obj_of (ref_of os) x)
+unfolding context_of
+obj_of-held os table roots active x sound s = go (sort_of x)
+  where
+    held : Obj → Type 0
+    held = NamesHeld (kept_of os table roots active)
+    go : Sort x → NamesHeld (kept_of os table roots active) (obj_of (ref_of os) x)
+    go (AContext c) =
+        let whole = whole_context os x s c in
+        let word : (i : ℕ) → i < 6 → IsHeld (kept_of os table roots active) (ref_of os (get_or x.words i 0)) =
+            λ i l. ref_of-held os table roots active (get_or x.words i 0) sound (whole.references i 0 (omega (arith, l, whole.fields))) in
+        subst held (sym (obj_of-context (ref_of os) x c)) (record {
+          sender = word 0 (omega arith);
+          method = word 3 (omega arith);
+          closure = word 4 (omega arith);
+          receiver = word 5 (omega arith);
+          stack = all_held os table roots active sound (take (depth_in x.words) (drop 6 x.words)) (pass_take (is_reference os) (depth_in x.words) (drop 6 x.words) (pass_drop (is_reference os) 6 x.words whole.references));
+        })
+    go (Pointers o p) = subst held (sym (obj_of-pointers (ref_of os) x o p))
+        (all_held os table roots active sound x.words (subst (AllPass (is_reference os)) (references-pointers x p) s.references))
+    go (AMethod o p m) = subst held (sym (obj_of-method (ref_of os) x o p m))
+        (all_held os table roots active sound (literals_in x.words) (subst (AllPass (is_reference os)) (references-method x m) s.references))
+    go (Bytes o p m) = subst held (sym (obj_of-bytes (ref_of os) x o p m)) tt
+
+-- all that an object names is there
+pub kept_of-closed : (os : List Object) (table : FinMap nat_cmp ℕ) (roots : Roots) (active : Option ℕ) (i : ℕ) (o : Obj) → IsSound os → get (objects_of os) i ≡ Some o → NamesHeld (kept_of os table roots active) o
+kept_of-closed os table roots active i o sound h =
+    let from = objects_of-comes os i o sound.apart h in
+    subst (NamesHeld (kept_of os table roots active)) from.meaning (obj_of-held os table roots active from.object sound (sound.each from.place from.object from.element))
+
+birth_at-held : (os : List Object) (table : FinMap nat_cmp ℕ) (roots : Roots) (active : Option ℕ) (k : ℕ) → IsSound os → k < length os → IsHeld (kept_of os table roots active) (ref.Obj (birth_at os k))
+birth_at-held os table roots active k sound l =
+    let x = element_within os k l in
+    ap is_some (ap (λ (o : Option Object). get (objects_of os) (option_map_or (λ (y : Object). y.birth) o 0)) x.1 ∙ get-objects_of-element os k x.0 sound.apart x.1)
+
+pub kept_of-roots : (os : List Object) (table : FinMap nat_cmp ℕ) (roots : Roots) (active : Option ℕ) → IsWhole os table roots
+    → ((i : ℕ) → active ≡ Some i → IsHeld (kept_of os table roots active) (ref.Obj i)) → RestHeld (kept_of os table roots active)
+kept_of-roots os table roots active w running = record {
+  nil = birth_at-held os table roots active 0 w.heap (omega (arith, w.first));
+  false_ = birth_at-held os table roots active 1 w.heap (omega (arith, w.first));
+  true_ = birth_at-held os table roots active 2 w.heap (omega (arith, w.first));
+  special = object_held roots.special.0 w.special;
+  classes = λ index i e. class_held index i (get table index) refl (sym (get-classes_of os table index) ∙ e);
+  active = running;
+}
+  where
+    object_held : (a : ℕ) → is_object os a ≡ true → IsHeld (kept_of os table roots active) (ref.Obj (birth_of os a))
+    object_held a h = let x = object_there os a h in ap is_some (get-objects_of os a w.heap h ∙ ap (option_map (obj_of (ref_of os))) x.1)
+    class_held : (index i : ℕ) (o : Option ℕ) → get table index ≡ o → option_map (birth_of os) o ≡ Some i → IsHeld (kept_of os table roots active) (ref.Obj i)
+    class_held index i None e h = absurd (cc)
+    class_held index i (Some a) e h = let is : birth_of os a ≡ i = cc in subst (λ (n : ℕ). IsHeld (kept_of os table roots active) (ref.Obj n)) is (object_held a (w.classes index a e))

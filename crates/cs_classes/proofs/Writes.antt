@@ -1,0 +1,193 @@
+-- What each write to a heap does to the kept parts that it stands for: the laws for the crates above.
+--
+-- The premises are what the code knows of the object x at an address a: that it stands there, its sort, and that a word
+-- that is stored is a reference. Each law says that the heap is whole again, and what its kept parts are.
+use Rattle.std.proofs.Common.{◌≡◌, ℕ, pos, ◌+◌, ◌-◌, ◌*◌, ◌/◌, ◌%◌, ◌^◌, ◌<◌, ◌≤◌, Bool, true, false, List, length, take, set, Option, Some, None, refl, ap, ap₂, subst, sym, ◌∙◌, arith, get_or}
+use Rattle.std.specs.Prelude.{slice_index, unwrap_or, is_some, ◌==◌, ◌||◌, IsTrue}
+use Rattle.std.specs.Option.{option_map_or}
+use Rattle.std.specs.Ordering.{nat_cmp}
+use Rattle.std.specs.FinMap.{FinMap}
+use Rattle.std.proofs.lemmas.Bool.{or_right}
+use Rattle.std.proofs.lemmas.Bool.Decides.{nat_tests}
+use Rattle.std.proofs.lemmas.List.{get_or-set_other, length-set}
+use Rattle.cs_word.specs.Word.{small_word}
+use Rattle.cs_heap.specs.Format.{is_method, is_pointers}
+use Rattle.cs_heap.specs.Object.{Object, birth_of, object_at, set_word, slot_of, with_byte, with_hash, with_object, with_slot}
+use Rattle.cs_heap.specs.Object as heap
+use Rattle.cs_model.specs.Ref.{Ref}
+use Rattle.cs_model.specs.Ref as ref
+use Rattle.cs_model.specs.Obj.{edit_context, Context, Obj, literal_count, popped, pushed, stored, with_pc, with_stack}
+use Rattle.cs_model.specs.Obj as model
+use Rattle.cs_model.specs.State.{Kept}
+use Rattle.cs_model.specs.Operation.{edit_object, store_byte_of, store_of}
+use Rattle.cs_model.specs.Operation as operation
+use Rattle.cs_classes.specs.declared.Roots.{Roots}
+use Rattle.cs_classes.specs.Meaning.{context_of, count_of, depth_in, header_in, is_context, kept_of, obj_of, ref_of}
+use Rattle.cs_classes.specs.Sound.{IsSoundObject, IsWhole, is_reference, nil_of}
+use Rattle.cs_classes.proofs.Heaps.{IsEdit, is_object-object_at, set_word-IsEdit, with_object-twice}
+use Rattle.cs_classes.proofs.Refs.{count_of-small, is_reference-small, ref_of-object, small_natural}
+use Rattle.cs_classes.proofs.Edits.{obj_of-hash, obj_of-set_byte, obj_of-set_code, obj_of-set_literal, obj_of-set_word}
+use Rattle.cs_classes.proofs.Contexts.{context_of-closure, context_of-higher, context_of-lower, context_of-method, context_of-pc, context_of-push, context_of-receiver, context_of-sender, context_of-stack, depth_is, obj_of-edit_context}
+use Rattle.cs_classes.proofs.Sounds.{IsContextWrite, method_other, sound-hash, sound-set_bytes, sound-set_code, sound-set_context, sound-set_literal, sound-set_slot, sound_at, whole_context}
+use Rattle.cs_classes.proofs.Wholes.{kept_of-with_object, whole-with_object}
+
+-- a write: the heap is whole again, and its kept parts are those that g makes
+pub record Does (os us : List Object) (table : FinMap nat_cmp ℕ) (roots : Roots) (g : Kept → Kept) : Type 0 where
+  pub whole : IsWhole us table roots
+  pub kept : (active : Option ℕ) → kept_of us table roots active ≡ g (kept_of os table roots active)
+
+-- what is known of the object that is written
+pub record Holds (os : List Object) (table : FinMap nat_cmp ℕ) (roots : Roots) (a : ℕ) (x : Object) : Type 0 where
+  pub whole : IsWhole os table roots
+  pub there : object_at os a ≡ Some x
+
+slots_at_most : (n : ℕ) → (n == 22 || n == 62) ≡ true → n ≤ 62
+slots_at_most n h = grind (arith, nat_tests)
+
+-- the depth of a stack is a SmallInteger
+small_depth : (os : List Object) (x : Object) (d : ℕ) → IsSoundObject os x → is_context x ≡ true → d ≤ length x.words - 6 → d < 2 ^ 30
+small_depth os x d s c l = omega (arith, l, slots_at_most (length x.words) (s.context c).slots)
+
+module _ {os : List Object} {table : FinMap nat_cmp ℕ} {roots : Roots} {a : ℕ} {x : Object} (h : Holds os table roots a x) where
+  pub sound_object : IsSoundObject os x
+  sound_object = sound_at os a x h.whole.heap h.there
+
+  -- any edit that keeps the object sound
+  pub does-edit : (f : Object → Object) (g : Obj → Obj) → IsEdit f → IsSoundObject os (f x) → obj_of (ref_of os) (f x) ≡ g (obj_of (ref_of os) x)
+      → Does os (with_object os a f) table roots (λ k. edit_object k (ref_of os a) g)
+  does-edit f g edit sound means = record {
+    whole = whole-with_object os table roots a x f edit h.whole h.there sound;
+    kept = λ active. kept_of-with_object os table roots active a x f g edit h.whole.heap h.there means
+        ∙ ap (λ (r : Ref). edit_object (kept_of os table roots active) r g) (sym (ref_of-object os a (is_object-object_at os a x h.there)));
+  }
+
+  slot_is : (i : ℕ) → slot_of os a i ≡ slice_index x.words i
+  slot_is i = ap (λ (o : Option Object). option_map_or (λ (y : Object). slice_index y.words i) o 0) h.there
+
+  -- ---- pointer objects
+
+  pub does-set_slot : (i v : ℕ) → is_context x ≡ false → is_pointers x.format ≡ true → is_reference os v ≡ true
+      → Does os (with_slot os a i v) table roots (λ k. store_of k (ref_of os a) i (ref_of os v))
+  unfolding store_of
+  does-set_slot i v other p r =
+      does-edit (set_word i v) (operation.with_slot i (ref_of os v)) (set_word-IsEdit i v) (sound-set_slot os x i v sound_object other p r) (obj_of-set_word (ref_of os) x i v other p)
+
+  -- ---- methods
+
+  pub does-set_literal : (i v : ℕ) → is_method x.format ≡ true → 0 < i → i ≤ literal_count (header_in x.words) → is_reference os v ≡ true
+      → Does os (with_slot os a i v) table roots (λ k. store_of k (ref_of os a) i (ref_of os v))
+  unfolding store_of
+  does-set_literal i v m l u r =
+      does-edit (set_word i v) (operation.with_slot i (ref_of os v)) (set_word-IsEdit i v) (sound-set_literal os x i v sound_object m l r)
+      (obj_of-set_literal (ref_of os) x i v (method_other os x sound_object m) m l u)
+
+  -- bytecode i, counted from behind the literals
+  pub does-set_code : (i b : ℕ) → is_method x.format ≡ true → b < 256
+      → Does os (with_byte os a (4 * (1 + literal_count (header_in x.words)) + i) b) table roots (λ k. store_byte_of k (ref_of os a) i b)
+  unfolding store_byte_of
+  does-set_code i b m f =
+      let n : ℕ = 4 * (1 + literal_count (header_in x.words)) + i in
+      let v : ℕ = heap.with_byte_in (slice_index x.words (n / 4)) (n % 4) b in
+      let done = does-edit (set_word (n / 4) v) (operation.with_byte i b) (set_word-IsEdit (n / 4) v) (sound-set_code os x (n / 4) v sound_object m (omega arith))
+          (obj_of-set_code (ref_of os) x i b (method_other os x sound_object m) m f) in
+      subst (λ (w : ℕ). Does os (with_slot os a (n / 4) (heap.with_byte_in w (n % 4) b)) table roots (λ k. edit_object k (ref_of os a) (operation.with_byte i b))) (sym (slot_is (n / 4))) done
+
+  -- ---- raw bytes
+
+  pub does-set_byte : (i b : ℕ) → is_context x ≡ false → is_pointers x.format ≡ false → is_method x.format ≡ false → b < 256
+      → Does os (with_byte os a i b) table roots (λ k. store_byte_of k (ref_of os a) i b)
+  unfolding store_byte_of
+  does-set_byte i b other p m f =
+      let v : ℕ = heap.with_byte_in (slice_index x.words (i / 4)) (i % 4) b in
+      let done = does-edit (set_word (i / 4) v) (operation.with_byte i b) (set_word-IsEdit (i / 4) v) (sound-set_bytes os x (i / 4) v sound_object other p m)
+          (obj_of-set_byte (ref_of os) x i b other p m f) in
+      subst (λ (w : ℕ). Does os (with_slot os a (i / 4) (heap.with_byte_in w (i % 4) b)) table roots (λ k. edit_object k (ref_of os a) (operation.with_byte i b))) (sym (slot_is (i / 4))) done
+
+  -- ---- hashes
+
+  pub does-set_hash : (hash : ℕ) → Does os (with_hash os a hash) table roots (λ k. edit_object k (ref_of os a) (operation.with_hash hash))
+  does-set_hash hash =
+      does-edit (λ (y : Object). record y { hash = hash }) (operation.with_hash hash) (record { slots = λ (y : Object). refl; birth = λ (y : Object). refl; class = λ (y : Object). refl })
+      (sound-hash os x hash sound_object) (obj_of-hash (ref_of os) x hash)
+
+  -- ---- contexts
+
+  module _ (c : is_context x ≡ true) where
+    fields : 6 ≤ length x.words
+    fields = (whole_context os x sound_object c).fields
+
+    context_edit : (i v : ℕ) (g : Context → Context) → IsContextWrite os x i v → context_of (ref_of os) x.hash (set x.words i v) ≡ g (context_of (ref_of os) x.hash x.words)
+        → Does os (with_slot os a i v) table roots (λ k. edit_object k (ref_of os a) (edit_context g))
+    context_edit i v g write means =
+        does-edit (set_word i v) (edit_context g) (set_word-IsEdit i v) (sound-set_context os x i v sound_object c write) (obj_of-edit_context (ref_of os) x (set_word i v x) g c c means)
+
+    plain : (i v : ℕ) → (i ≡ 1 → ⊥) → (i ≡ 2 → ⊥) → is_reference os v ≡ true → IsContextWrite os x i v
+    plain i v one two r = record { reference = r; pc = λ e. absurd (one e); stackp = λ e. absurd (two e); depth = λ e. absurd (two e) }
+
+    pub does-set_sender : (v : ℕ) → is_reference os v ≡ true → Does os (with_slot os a 0 v) table roots (λ k. edit_object k (ref_of os a) (edit_context (λ d. record d { sender = ref_of os v })))
+    does-set_sender v r =
+        context_edit 0 v (λ d. record d { sender = ref_of os v }) (plain 0 v (λ e. omega (arith, e)) (λ e. omega (arith, e)) r) (context_of-sender (ref_of os) x.hash x.words v fields)
+
+    -- nil, or a SmallInteger that isn't negative
+    pub does-set_pc : (v : ℕ) → is_reference os v ≡ true → IsTrue (v == nil_of os || is_some (count_of v)) → Does os (with_slot os a 1 v) table roots (λ k. edit_object k (ref_of os a) (edit_context (with_pc (count_of v))))
+    does-set_pc v r h =
+        context_edit 1 v (with_pc (count_of v)) (record { reference = r; pc = λ e. h; stackp = λ e. absurd (omega (arith, e)); depth = λ e. absurd (omega (arith, e)) }) (context_of-pc (ref_of os) x.hash x.words v fields)
+
+    pub does-set_method : (v : ℕ) → is_reference os v ≡ true → Does os (with_slot os a 3 v) table roots (λ k. edit_object k (ref_of os a) (edit_context (λ d. record d { method = ref_of os v })))
+    does-set_method v r =
+        context_edit 3 v (λ d. record d { method = ref_of os v }) (plain 3 v (λ e. omega (arith, e)) (λ e. omega (arith, e)) r) (context_of-method (ref_of os) x.hash x.words v fields)
+
+    pub does-set_closure : (v : ℕ) → is_reference os v ≡ true → Does os (with_slot os a 4 v) table roots (λ k. edit_object k (ref_of os a) (edit_context (λ d. record d { closure = ref_of os v })))
+    does-set_closure v r =
+        context_edit 4 v (λ d. record d { closure = ref_of os v }) (plain 4 v (λ e. omega (arith, e)) (λ e. omega (arith, e)) r) (context_of-closure (ref_of os) x.hash x.words v fields)
+
+    pub does-set_receiver : (v : ℕ) → is_reference os v ≡ true → Does os (with_slot os a 5 v) table roots (λ k. edit_object k (ref_of os a) (edit_context (λ d. record d { receiver = ref_of os v })))
+    does-set_receiver v r =
+        context_edit 5 v (λ d. record d { receiver = ref_of os v }) (plain 5 v (λ e. omega (arith, e)) (λ e. omega (arith, e)) r) (context_of-receiver (ref_of os) x.hash x.words v fields)
+
+    -- a value of the stack, counted from the lowest; a word beyond the stack means nothing
+    pub does-set_stack : (i v : ℕ) → is_reference os v ≡ true → Does os (with_slot os a (6 + i) v) table roots (λ k. edit_object k (ref_of os a) (edit_context (stored i (ref_of os v))))
+    does-set_stack i v r =
+        context_edit (6 + i) v (stored i (ref_of os v)) (plain (6 + i) v (λ e. omega (arith, e)) (λ e. omega (arith, e)) r) (context_of-stack (ref_of os) x.hash x.words i v fields)
+
+    -- a word of stackp
+    stackp_write : (y : Object) (d : ℕ) → length y.words ≡ length x.words → d ≤ length x.words - 6 → IsContextWrite os y 2 (small_word (pos d))
+    stackp_write y d long l =
+        let small : d < 2 ^ 30 = small_depth os x d sound_object c l in
+        let count = count_of-small d small in
+        record {
+          reference = is_reference-small os (pos d) (small_natural d small);
+          pc = λ e. absurd (omega (arith, e));
+          stackp = λ e. or_right (small_word (pos d) == nil_of os) (is_some (count_of (small_word (pos d)))) (ap is_some count);
+          depth = λ e. omega (arith, ap (λ (o : Option ℕ). unwrap_or o 0) count, l, long);
+        }
+
+    -- the n topmost values leave the stack
+    pub does-pop : (n : ℕ) → Does os (with_slot os a 2 (small_word (pos (depth_in x.words - n)))) table roots (λ k. edit_object k (ref_of os a) (edit_context (popped n)))
+    does-pop n =
+        let whole = whole_context os x sound_object c in
+        let d : ℕ = depth_in x.words - n in
+        let l : d ≤ length x.words - 6 = omega (arith, whole.depth) in
+        let deep = depth_is (ref_of os) x.hash x.words whole.depth in
+        let old : Context = context_of (ref_of os) x.hash x.words in
+        context_edit 2 (small_word (pos d)) (popped n) (stackp_write x d refl l)
+        (context_of-lower (ref_of os) x.hash x.words (small_word (pos d)) d fields (count_of-small d (small_depth os x d sound_object c l)) (omega (arith, deep))
+        ∙ ap (λ (m : ℕ). with_stack (take (m - n) old.stack) old) (sym deep))
+
+    -- a value is pushed: first it, and then stackp
+    pub does-push : (v : ℕ) → depth_in x.words < length x.words - 6 → is_reference os v ≡ true
+        → Does os (with_slot (with_slot os a (6 + depth_in x.words) v) a 2 (small_word (pos (depth_in x.words + 1)))) table roots (λ k. edit_object k (ref_of os a) (edit_context (pushed (ref_of os v))))
+    does-push v room r =
+        let d : ℕ = depth_in x.words in
+        let w : ℕ = small_word (pos (d + 1)) in
+        let first : Object = set_word (6 + d) v x in
+        let l : d + 1 ≤ length x.words - 6 = omega (arith, room) in
+        let first_sound = sound-set_context os x (6 + d) v sound_object c (plain (6 + d) v (λ e. omega (arith, e)) (λ e. omega (arith, e)) r) in
+        let both : Object → Object = λ (y : Object). set_word 2 w (set_word (6 + d) v y) in
+        let done = does-edit both (edit_context (pushed (ref_of os v)))
+            (record { slots = λ (y : Object). length-set (set y.words (6 + d) v) 2 w ∙ length-set y.words (6 + d) v; birth = λ (y : Object). refl; class = λ (y : Object). refl })
+            (sound-set_context os first 2 w first_sound c (stackp_write first (d + 1) (length-set x.words (6 + d) v) l))
+            (obj_of-edit_context (ref_of os) x (both x) (pushed (ref_of os v)) c c
+            (context_of-push (ref_of os) x.hash x.words v w fields room (count_of-small (d + 1) (small_depth os x (d + 1) sound_object c l)))) in
+        subst (λ (us : List Object). Does os us table roots (λ k. edit_object k (ref_of os a) (edit_context (pushed (ref_of os v)))))
+        (sym (with_object-twice os a (set_word (6 + d) v) (set_word 2 w) (set_word-IsEdit (6 + d) v))) done

@@ -1,0 +1,102 @@
+//! The class table of an image and what a heap means: the state of the machine that it stands for.
+//!
+//! Spur finds the class of an object by the class index in its header. The table holds a class for each index, or
+//! nothing. It is kept beside the heap and its memory is counted in no limit.
+//!
+//! What the words of a heap mean is defined in `specs/Meaning.antt`, and `proofs/` has the laws on how the meaning
+//! changes with each write. Every crate above stands on these.
+#![tactic(auto)]
+
+ghost use Rattle.std.specs.Prelude.{◌≡◌, ℕ, ◌<◌, IfOk, option_map};
+ghost use Rattle.std.specs.FinMap.{empty, get, insert};
+
+use cs_heap::Heap;
+use cs_word::Oop;
+use std::alloc::{AllocError, Global};
+use std::marker::Model;
+
+/// How many entries a class table has: one for each class index below it.
+pub const ENTRIES: u32 = 16384;
+
+/// The class table.
+///
+/// It is seen as a finite map from class indices to the addresses of classes; an empty entry is no key of it.
+#[derive(Drop)]
+pub struct Classes {
+    /// A class for each index, or None where the entry is empty.
+    entries: Vec<Option<Oop>>,
+}
+
+impl Model for Classes {
+    ghost use Rattle.std.specs.Prelude.{ℕ, ◌≡◌, length};
+    ghost use Rattle.std.specs.Ordering.{nat_cmp};
+    ghost use Rattle.std.specs.FinMap.{FinMap, code, from_entries};
+    ghost use Rattle.std.specs.Coded.{coded_ℕ};
+    ghost use Rattle.cs_classes.specs.Table.{filled};
+
+    ghost Value = { FinMap nat_cmp ℕ };
+
+    ghost coded = { code coded_ℕ coded_ℕ };
+
+    ghost view = { λ c. from_entries (filled 0 c.entries.items) };
+
+    ghost invariant = { λ c. length c.entries.items ≡ 16384 };
+}
+
+/// What an image keeps beside its objects and its class table.
+#[derive(Clone, Copy)]
+pub struct Roots {
+    /// The special-object array.
+    pub special: Oop,
+    /// The last identity hash that was given, below 2^22.
+    pub last_hash: u32,
+    /// The birth that the next object takes. Births are given in order and never twice.
+    pub next_birth: u64,
+    /// The 64 bytes of the image header, of which those at places 8 to 23 mean nothing here.
+    pub header: [u8; 64],
+}
+
+/// An image in memory.
+#[derive(Drop)]
+pub struct Loaded {
+    /// Its objects.
+    pub heap: Heap,
+    /// Its class table.
+    pub classes: Classes,
+    /// What it keeps beside these.
+    pub roots: Roots,
+}
+
+impl Classes {
+    /// A table whose entries are all empty.
+    pub fn new(alloc: Global) -> Result<Classes, AllocError>
+        ensures empty { IfOk result (λ classes. classes ≡ empty) }
+    {
+        let mut entries = Vec::new(alloc);
+        entries.resize(ENTRIES as usize, None)?;
+        Ok(Classes { entries })
+    }
+
+    /// How many entries the table has, the empty ones included: always 16,384.
+    pub fn len(&self) -> u32
+        ensures { result ≡ 16384 }
+    {
+        ENTRIES
+    }
+
+    /// The class of this index; None exactly where the entry is empty.
+    pub fn entry(&self, index: u32) -> Option<Oop>
+        requires { index < 16384 }
+        ensures { option_map (λ o. o.0) result ≡ get self.now index }
+    {
+        self.entries[index as usize]
+    }
+
+    /// Puts a class into the entry of this index.
+    pub fn set_entry(&mut self, index: u32, class: Oop)
+        requires { index < 16384 }
+        ensures { self.new ≡ insert self.old index class.0 }
+    {
+        self.entries[index as usize] = Some(class);
+    }
+}

@@ -1,0 +1,400 @@
+-- The laws of the object memory, for the crates above: what is read after a write and after an allocation, and how the
+-- addresses lie.
+use Rattle.std.proofs.Common.{◌≡◌, ◌≢◌, ◌⊎◌, inl, inr, ℕ, zero, suc, ◌+◌, ◌*◌, ◌/◌, ◌%◌, ◌<◌, ◌≤◌, Bool, true, false, List, [], ◌∷◌, ◌++◌, length, get_or, Option, Some, None, option_map, option_and_then, is_some, refl, ap, sym, ◌∙◌, arith, get_or-set_same, get_or-set_other, length-append}
+use Rattle.std.proofs.lemmas.List.{length-replicate, length-set}
+use Rattle.std.specs.Prelude.{slice_get, slice_set, sum_by}
+use Rattle.std.specs.Option.{option_map_or}
+use Rattle.cs_heap.specs.Object.{Object, address_among, address_of, at_index, base, byte_in, byte_of, field_of, hash_of, header_address, index_among, index_of, is_object, new_object, new_slot, next_address, next_of, object_at, set_word, size, slot_count_of, slot_counts, slot_of, units, used, with_byte, with_byte_in, with_hash, with_object, with_slot}
+use Rattle.cs_heap.proofs.Places.{Found, address_past, found_by_address, found_by_index, has_index, index_split, next_of-found, object_at-found, used-append, used-cons, used-push}
+
+-- ---- addresses and indices
+
+-- an index and an address that lead to one another
+pub address_of-index : (xs : List Object) (a k : ℕ) → index_of xs a ≡ Some k → address_of xs k ≡ Some a
+address_of-index xs a k h = (found_by_address xs a k h).address_is
+
+pub index_of-address : (xs : List Object) (a k : ℕ) → address_of xs k ≡ Some a → index_of xs a ≡ Some k
+index_of-address xs a k h = (found_by_index xs a k h).index_is
+
+-- two objects of one index have one address
+pub index_of-injective : (xs : List Object) (a b k : ℕ) → index_of xs a ≡ Some k → index_of xs b ≡ Some k → a ≡ b
+index_of-injective xs a b k h i =
+    let p : address_of xs k ≡ Some a = address_of-index xs a k h in
+    let q : address_of xs k ≡ Some b = address_of-index xs b k i in
+    cc
+
+pub address_of-injective : (xs : List Object) (j k a : ℕ) → address_of xs j ≡ Some a → address_of xs k ≡ Some a → j ≡ k
+address_of-injective xs j k a h i =
+    let p : index_of xs a ≡ Some j = index_of-address xs a j h in
+    let q : index_of xs a ≡ Some k = index_of-address xs a k i in
+    cc
+
+-- looking up an address is looking up its index
+pub object_at-address : (xs : List Object) (a k : ℕ) → address_of xs k ≡ Some a → object_at xs a ≡ slice_get xs k
+object_at-address xs a k h = ap (option_and_then (slice_get xs)) (index_of-address xs a k h)
+
+-- there are as many addresses as objects
+pub index_of-below : (xs : List Object) (a k : ℕ) → index_of xs a ≡ Some k → k < length xs
+index_of-below xs a k h =
+    let s = (found_by_address xs a k h).split in
+    omega (arith, s.count, ap length s.list, length-append s.before (s.x ∷ s.after))
+
+pub address_of-below : (xs : List Object) (k : ℕ) → k < length xs → is_some (address_of xs k) ≡ true
+unfolding address_among
+address_of-below xs k h = go xs base k h
+  where
+    go : (xs : List Object) (at k : ℕ) → k < length xs → is_some (address_among (slot_counts xs) at k) ≡ true
+    go [] at k h = absurd (omega (arith, h))
+    go (x ∷ xs) at zero h = refl
+    go (x ∷ xs) at (suc k) h = go xs (at + 8 * units (length x.words)) k (omega (arith, h))
+
+pub address_of-past : (xs : List Object) (k : ℕ) → length xs ≤ k → address_of xs k ≡ None
+address_of-past xs k h = address_past xs base k h
+
+-- the walk by `next` follows the list
+pub next_of-address : (xs : List Object) (a k : ℕ) → address_of xs k ≡ Some a → next_of xs a ≡ address_of xs (k + 1)
+next_of-address xs a k h = next_of-found xs a k (found_by_index xs a k h)
+
+-- every address is a multiple of 8, from that of the first object on, and the object ends within the words that are used
+pub record IsPlaced (xs : List Object) (a : ℕ) : Type 0 where
+  pub above : base ≤ a
+  pub aligned : a % 8 ≡ 0
+  pub below : a < base + 4 * used xs
+  pub ends : a + 8 + 4 * slot_count_of xs a ≤ base + 4 * used xs
+
+pub object_placed : (xs : List Object) (a : ℕ) → is_object xs a ≡ true → IsPlaced xs a
+object_placed xs a h =
+    let f = has_index xs a h in
+    let s = f.1.split in
+    let all : used xs ≡ used s.before + (size (length s.x.words) + used s.after) =
+    ap used s.list ∙ used-append s.before (s.x ∷ s.after) ∙ ap (λ (n : ℕ). used s.before + n) (used-cons s.x s.after) in
+    let slots : slot_count_of xs a ≡ length s.x.words = ap (λ (o : Option Object). option_map_or (λ (x : Object). length x.words) o 0) (object_at-found xs a f.0 f.1) in
+    let even : used s.before % 2 ≡ 0 = used_even s.before in
+    record {
+      above = omega (arith, s.place);
+      aligned = omega (arith, s.place, even);
+      below = omega (arith, s.place, all);
+      ends = omega (arith, s.place, all, slots);
+    }
+  where
+    used_even : (xs : List Object) → used xs % 2 ≡ 0
+    used_even [] = refl
+    used_even (x ∷ xs) = omega (arith, used-cons x xs, used_even xs)
+
+-- ---- an object that keeps its number of slots is changed
+
+abbrev pub KeepsCount : (Object → Object) → Type 0
+KeepsCount f = (x : Object) → length (f x).words ≡ length x.words
+
+slot_counts-at_index : (k : ℕ) (f : Object → Object) (xs : List Object) → KeepsCount f → slot_counts (at_index k f xs) ≡ slot_counts xs
+unfolding at_index
+slot_counts-at_index k f [] h = refl
+slot_counts-at_index zero f (x ∷ xs) h = ap (λ (n : ℕ). n ∷ slot_counts xs) (h x)
+slot_counts-at_index (suc k) f (x ∷ xs) h = ap (λ (ns : List ℕ). length x.words ∷ ns) (slot_counts-at_index k f xs h)
+
+pub slot_counts-with_object : (xs : List Object) (a : ℕ) (f : Object → Object) → KeepsCount f → slot_counts (with_object xs a f) ≡ slot_counts xs
+slot_counts-with_object xs a f h = go (index_of xs a)
+  where
+    go : (o : Option ℕ) → slot_counts (option_map_or (λ k. at_index k f xs) o xs) ≡ slot_counts xs
+    go None = refl
+    go (Some k) = slot_counts-at_index k f xs h
+
+pub length-with_object : (xs : List Object) (a : ℕ) (f : Object → Object) → length (with_object xs a f) ≡ length xs
+unfolding at_index
+length-with_object xs a f = go (index_of xs a)
+  where
+    at : (k : ℕ) (xs : List Object) → length (at_index k f xs) ≡ length xs
+    at k [] = refl
+    at zero (x ∷ xs) = refl
+    at (suc k) (x ∷ xs) = ap suc (at k xs)
+
+    go : (o : Option ℕ) → length (option_map_or (λ k. at_index k f xs) o xs) ≡ length xs
+    go None = refl
+    go (Some k) = at k xs
+
+pub used-with_object : (xs : List Object) (a : ℕ) (f : Object → Object) → KeepsCount f → used (with_object xs a f) ≡ used xs
+used-with_object xs a f h = ap (sum_by size) (slot_counts-with_object xs a f h)
+
+pub index_of-with_object : (xs : List Object) (a b : ℕ) (f : Object → Object) → KeepsCount f → index_of (with_object xs a f) b ≡ index_of xs b
+index_of-with_object xs a b f h = ap (λ (ns : List ℕ). index_among ns base b) (slot_counts-with_object xs a f h)
+
+pub is_object-with_object : (xs : List Object) (a b : ℕ) (f : Object → Object) → KeepsCount f → is_object (with_object xs a f) b ≡ is_object xs b
+is_object-with_object xs a b f h = ap is_some (index_of-with_object xs a b f h)
+
+pub address_of-with_object : (xs : List Object) (a k : ℕ) (f : Object → Object) → KeepsCount f → address_of (with_object xs a f) k ≡ address_of xs k
+address_of-with_object xs a k f h = ap (λ (ns : List ℕ). address_among ns base k) (slot_counts-with_object xs a f h)
+
+pub next_address-with_object : (xs : List Object) (a slots : ℕ) (f : Object → Object) → KeepsCount f → next_address (with_object xs a f) slots ≡ next_address xs slots
+next_address-with_object xs a slots f h = ap (λ (n : ℕ). header_address (base + 4 * n) slots) (used-with_object xs a f h)
+
+slice_get-at_index_same : (k : ℕ) (f : Object → Object) (xs : List Object) → slice_get (at_index k f xs) k ≡ option_map f (slice_get xs k)
+unfolding at_index
+slice_get-at_index_same k f [] = refl
+slice_get-at_index_same zero f (x ∷ xs) = refl
+slice_get-at_index_same (suc k) f (x ∷ xs) = slice_get-at_index_same k f xs
+
+slice_get-at_index_other : (k j : ℕ) (f : Object → Object) (xs : List Object) → k ≢ j → slice_get (at_index k f xs) j ≡ slice_get xs j
+unfolding at_index
+slice_get-at_index_other k j f [] h = refl
+slice_get-at_index_other zero zero f (x ∷ xs) h = absurd (h refl)
+slice_get-at_index_other zero (suc j) f (x ∷ xs) h = refl
+slice_get-at_index_other (suc k) zero f (x ∷ xs) h = refl
+slice_get-at_index_other (suc k) (suc j) f (x ∷ xs) h = slice_get-at_index_other k j f xs (λ e. h (ap suc e))
+
+-- the object itself
+pub object_at-with_object_same : (xs : List Object) (a : ℕ) (f : Object → Object) → KeepsCount f → object_at (with_object xs a f) a ≡ option_map f (object_at xs a)
+object_at-with_object_same xs a f h = ap (option_and_then (slice_get (with_object xs a f))) (index_of-with_object xs a a f h) ∙ go (index_of xs a)
+  where
+    go : (o : Option ℕ) → option_and_then (slice_get (option_map_or (λ k. at_index k f xs) o xs)) o ≡ option_map f (option_and_then (slice_get xs) o)
+    go None = refl
+    go (Some k) = slice_get-at_index_same k f xs
+
+-- every other one
+pub object_at-with_object_other : (xs : List Object) (a b : ℕ) (f : Object → Object) → KeepsCount f → a ≢ b → object_at (with_object xs a f) b ≡ object_at xs b
+object_at-with_object_other xs a b f h other =
+    ap (option_and_then (slice_get (with_object xs a f))) (index_of-with_object xs a b f h) ∙ go (index_of xs a) refl (index_of xs b) refl
+  where
+    go : (o : Option ℕ) → index_of xs a ≡ o → (p : Option ℕ) → index_of xs b ≡ p
+        → option_and_then (slice_get (option_map_or (λ k. at_index k f xs) o xs)) p ≡ option_and_then (slice_get xs) p
+    go None i p j = refl
+    go (Some k) i None j = refl
+    go (Some k) i (Some l) j = slice_get-at_index_other k l f xs (λ e. other (index_of-injective xs a b l (i ∙ ap Some e) j))
+
+pub field_of-with_object_same : (g : Object → ℕ) (xs : List Object) (a : ℕ) (f : Object → Object) → KeepsCount f → field_of g (with_object xs a f) a ≡ field_of (λ x. g (f x)) xs a
+field_of-with_object_same g xs a f h = ap (λ (o : Option Object). option_map_or g o 0) (object_at-with_object_same xs a f h) ∙ go (object_at xs a)
+  where
+    go : (o : Option Object) → option_map_or g (option_map f o) 0 ≡ option_map_or (λ x. g (f x)) o 0
+    go None = refl
+    go (Some x) = refl
+
+pub field_of-with_object_other : (g : Object → ℕ) (xs : List Object) (a b : ℕ) (f : Object → Object) → KeepsCount f → a ≢ b → field_of g (with_object xs a f) b ≡ field_of g xs b
+field_of-with_object_other g xs a b f h other = ap (λ (o : Option Object). option_map_or g o 0) (object_at-with_object_other xs a b f h other)
+
+-- what the change leaves alone, of any object
+pub field_of-with_object_kept : (g : Object → ℕ) (xs : List Object) (a b : ℕ) (f : Object → Object) → KeepsCount f → ((x : Object) → g (f x) ≡ g x) → field_of g (with_object xs a f) b ≡ field_of g xs b
+unfolding at_index
+field_of-with_object_kept g xs a b f h same =
+    ap (λ (o : Option ℕ). option_map_or g (option_and_then (slice_get (with_object xs a f)) o) 0) (index_of-with_object xs a b f h) ∙ go (index_of xs a) (index_of xs b)
+  where
+    at : (k j : ℕ) (xs : List Object) → option_map_or g (slice_get (at_index k f xs) j) 0 ≡ option_map_or g (slice_get xs j) 0
+    at k j [] = refl
+    at zero zero (x ∷ xs) = same x
+    at zero (suc j) (x ∷ xs) = refl
+    at (suc k) zero (x ∷ xs) = refl
+    at (suc k) (suc j) (x ∷ xs) = at k j xs
+
+    go : (o p : Option ℕ) → option_map_or g (option_and_then (slice_get (option_map_or (λ k. at_index k f xs) o xs)) p) 0 ≡ option_map_or g (option_and_then (slice_get xs) p) 0
+    go None p = refl
+    go (Some k) None = refl
+    go (Some k) (Some j) = at k j xs
+
+-- ---- a slot is stored
+
+pub set_word_keeps : (i v : ℕ) → KeepsCount (set_word i v)
+set_word_keeps i v x = length-set x.words i v
+
+pub index_of-with_slot : (xs : List Object) (a i v b : ℕ) → index_of (with_slot xs a i v) b ≡ index_of xs b
+index_of-with_slot xs a i v b = index_of-with_object xs a b (set_word i v) (set_word_keeps i v)
+
+pub is_object-with_slot : (xs : List Object) (a i v b : ℕ) → is_object (with_slot xs a i v) b ≡ is_object xs b
+is_object-with_slot xs a i v b = ap is_some (index_of-with_slot xs a i v b)
+
+pub used-with_slot : (xs : List Object) (a i v : ℕ) → used (with_slot xs a i v) ≡ used xs
+used-with_slot xs a i v = used-with_object xs a (set_word i v) (set_word_keeps i v)
+
+-- class, format, hash, birth and the number of slots stay: each is a field that the store keeps
+pub field_of-with_slot : (g : Object → ℕ) (xs : List Object) (a i v b : ℕ) → ((x : Object) → g (set_word i v x) ≡ g x) → field_of g (with_slot xs a i v) b ≡ field_of g xs b
+field_of-with_slot g xs a i v b same = field_of-with_object_kept g xs a b (set_word i v) (set_word_keeps i v) same
+
+pub slot_count_of-with_slot : (xs : List Object) (a i v b : ℕ) → slot_count_of (with_slot xs a i v) b ≡ slot_count_of xs b
+slot_count_of-with_slot xs a i v b = field_of-with_slot (λ (x : Object). length x.words) xs a i v b (set_word_keeps i v)
+
+-- what was stored is read
+pub slot_of-with_slot_same : (xs : List Object) (a i v : ℕ) → i < slot_count_of xs a → slot_of (with_slot xs a i v) a i ≡ v
+slot_of-with_slot_same xs a i v h =
+    field_of-with_object_same (λ (x : Object). get_or x.words i 0) xs a (set_word i v) (set_word_keeps i v) ∙ go (object_at xs a) h
+  where
+    go : (o : Option Object) → i < option_map_or (λ x. length x.words) o 0 → option_map_or (λ x. get_or (slice_set x.words i v) i 0) o 0 ≡ v
+    go None h = absurd (omega (arith, h))
+    go (Some x) h = get_or-set_same x.words i v 0 h
+
+-- every other slot is as it was
+pub slot_of-with_slot_other_slot : (xs : List Object) (a i v b j : ℕ) → j ≢ i → slot_of (with_slot xs a i v) b j ≡ slot_of xs b j
+slot_of-with_slot_other_slot xs a i v b j other =
+    field_of-with_slot (λ (x : Object). get_or x.words j 0) xs a i v b (λ x. get_or-set_other x.words i j v 0 other)
+
+pub slot_of-with_slot_other_object : (xs : List Object) (a i v b j : ℕ) → a ≢ b → slot_of (with_slot xs a i v) b j ≡ slot_of xs b j
+slot_of-with_slot_other_object xs a i v b j other =
+    field_of-with_object_other (λ (x : Object). get_or x.words j 0) xs a b (set_word i v) (set_word_keeps i v) other
+
+-- ---- a hash is given
+
+abbrev pub give_hash : ℕ → Object → Object
+give_hash hash x = record x { hash = hash }
+
+pub index_of-with_hash : (xs : List Object) (a hash b : ℕ) → index_of (with_hash xs a hash) b ≡ index_of xs b
+index_of-with_hash xs a hash b = index_of-with_object xs a b (give_hash hash) (λ x. refl)
+
+pub is_object-with_hash : (xs : List Object) (a hash b : ℕ) → is_object (with_hash xs a hash) b ≡ is_object xs b
+is_object-with_hash xs a hash b = ap is_some (index_of-with_hash xs a hash b)
+
+pub used-with_hash : (xs : List Object) (a hash : ℕ) → used (with_hash xs a hash) ≡ used xs
+used-with_hash xs a hash = used-with_object xs a (give_hash hash) (λ x. refl)
+
+-- all but the hash stays
+pub field_of-with_hash : (g : Object → ℕ) (xs : List Object) (a hash b : ℕ) → ((x : Object) → g (give_hash hash x) ≡ g x) → field_of g (with_hash xs a hash) b ≡ field_of g xs b
+field_of-with_hash g xs a hash b same = field_of-with_object_kept g xs a b (give_hash hash) (λ x. refl) same
+
+pub hash_of-with_hash_same : (xs : List Object) (a hash : ℕ) → is_object xs a ≡ true → hash_of (with_hash xs a hash) a ≡ hash
+hash_of-with_hash_same xs a hash h = let f = has_index xs a h in
+    field_of-with_object_same (λ (x : Object). x.hash) xs a (give_hash hash) (λ x. refl)
+    ∙ ap (λ (o : Option Object). option_map_or (λ (x : Object). hash) o 0) (object_at-found xs a f.0 f.1)
+
+pub hash_of-with_hash_other : (xs : List Object) (a hash b : ℕ) → a ≢ b → hash_of (with_hash xs a hash) b ≡ hash_of xs b
+hash_of-with_hash_other xs a hash b other = field_of-with_object_other (λ (x : Object). x.hash) xs a b (give_hash hash) (λ x. refl) other
+
+-- ---- a byte is stored
+
+-- a word with one byte replaced: that byte, and the others
+pub byte_in-with_byte_in_same : (w j b : ℕ) → j < 4 → b < 256 → byte_in (with_byte_in w j b) j ≡ b
+byte_in-with_byte_in_same w zero b h small = omega (arith, small)
+byte_in-with_byte_in_same w (suc zero) b h small = omega (arith, small)
+byte_in-with_byte_in_same w (suc (suc zero)) b h small = omega (arith, small)
+byte_in-with_byte_in_same w (suc (suc (suc zero))) b h small = omega (arith, small)
+byte_in-with_byte_in_same w (suc (suc (suc (suc j)))) b h small = absurd (omega (arith, h))
+
+pub byte_in-with_byte_in_other : (w j k b : ℕ) → j < 4 → k < 4 → k ≢ j → b < 256 → byte_in (with_byte_in w j b) k ≡ byte_in w k
+byte_in-with_byte_in_other w zero zero b h i other small = absurd (other refl)
+byte_in-with_byte_in_other w zero (suc zero) b h i other small = omega (arith, small)
+byte_in-with_byte_in_other w zero (suc (suc zero)) b h i other small = omega (arith, small)
+byte_in-with_byte_in_other w zero (suc (suc (suc zero))) b h i other small = omega (arith, small)
+byte_in-with_byte_in_other w (suc zero) zero b h i other small = omega (arith, small)
+byte_in-with_byte_in_other w (suc zero) (suc zero) b h i other small = absurd (other refl)
+byte_in-with_byte_in_other w (suc zero) (suc (suc zero)) b h i other small = omega (arith, small)
+byte_in-with_byte_in_other w (suc zero) (suc (suc (suc zero))) b h i other small = omega (arith, small)
+byte_in-with_byte_in_other w (suc (suc zero)) zero b h i other small = omega (arith, small)
+byte_in-with_byte_in_other w (suc (suc zero)) (suc zero) b h i other small = omega (arith, small)
+byte_in-with_byte_in_other w (suc (suc zero)) (suc (suc zero)) b h i other small = absurd (other refl)
+byte_in-with_byte_in_other w (suc (suc zero)) (suc (suc (suc zero))) b h i other small = omega (arith, small)
+byte_in-with_byte_in_other w (suc (suc (suc zero))) zero b h i other small = omega (arith, small)
+byte_in-with_byte_in_other w (suc (suc (suc zero))) (suc zero) b h i other small = omega (arith, small)
+byte_in-with_byte_in_other w (suc (suc (suc zero))) (suc (suc zero)) b h i other small = omega (arith, small)
+byte_in-with_byte_in_other w (suc (suc (suc zero))) (suc (suc (suc zero))) b h i other small = absurd (other refl)
+byte_in-with_byte_in_other w (suc (suc (suc (suc j)))) k b h i other small = absurd (omega (arith, h))
+byte_in-with_byte_in_other w j (suc (suc (suc (suc k)))) b h i other small = absurd (omega (arith, i))
+
+pub byte_of-with_byte_same : (xs : List Object) (a i b : ℕ) → i < 4 * slot_count_of xs a → b < 256 → byte_of (with_byte xs a i b) a i ≡ b
+byte_of-with_byte_same xs a i b h small =
+    ap (λ (w : ℕ). byte_in w (i % 4)) (slot_of-with_slot_same xs a (i / 4) (with_byte_in (slot_of xs a (i / 4)) (i % 4) b) (omega (arith, h)))
+    ∙ byte_in-with_byte_in_same (slot_of xs a (i / 4)) (i % 4) b (omega arith) small
+
+pub byte_of-with_byte_other_object : (xs : List Object) (a i b c j : ℕ) → a ≢ c → byte_of (with_byte xs a i b) c j ≡ byte_of xs c j
+byte_of-with_byte_other_object xs a i b c j other =
+    ap (λ (w : ℕ). byte_in w (j % 4)) (slot_of-with_slot_other_object xs a (i / 4) (with_byte_in (slot_of xs a (i / 4)) (i % 4) b) c (j / 4) other)
+
+-- ---- an object is added at the end
+
+abbrev pub pushed : List Object → Object → List Object
+pushed xs y = xs ++ y ∷ []
+
+pub length-new_words : (class format slots birth : ℕ) → length (new_object class format slots birth).words ≡ slots
+length-new_words class format slots birth = length-replicate slots (new_slot format)
+
+-- the address that `allocate` answers, in the form of the laws below
+pub next_address-new : (xs : List Object) (a class format slots birth : ℕ) → a ≡ next_address xs slots → a ≡ next_address xs (length (new_object class format slots birth).words)
+next_address-new xs a class format slots birth h = h ∙ ap (next_address xs) (sym (length-new_words class format slots birth))
+
+-- the new object has the next address and the next index
+pub index_of-new : (xs : List Object) (y : Object) (a : ℕ) → a ≡ next_address xs (length y.words) → index_of (pushed xs y) a ≡ Some (length xs)
+index_of-new xs y a h = index_split xs [] y base a h
+
+pub is_object-new : (xs : List Object) (y : Object) (a : ℕ) → a ≡ next_address xs (length y.words) → is_object (pushed xs y) a ≡ true
+is_object-new xs y a h = ap is_some (index_of-new xs y a h)
+
+pub object_at-new : (xs : List Object) (y : Object) (a : ℕ) → a ≡ next_address xs (length y.words) → object_at (pushed xs y) a ≡ Some y
+object_at-new xs y a h = ap (option_and_then (slice_get (pushed xs y))) (index_of-new xs y a h) ∙ last xs
+  where
+    last : (xs : List Object) → slice_get (xs ++ y ∷ []) (length xs) ≡ Some y
+    last [] = refl
+    last (x ∷ xs) = last xs
+
+pub field_of-new : (g : Object → ℕ) (xs : List Object) (y : Object) (a : ℕ) → a ≡ next_address xs (length y.words) → field_of g (pushed xs y) a ≡ g y
+field_of-new g xs y a h = ap (λ (o : Option Object). option_map_or g o 0) (object_at-new xs y a h)
+
+-- a change of the new object is another new object
+pub with_object-new : (xs : List Object) (y : Object) (a : ℕ) (f : Object → Object) → a ≡ next_address xs (length y.words) → with_object (pushed xs y) a f ≡ pushed xs (f y)
+unfolding at_index
+with_object-new xs y a f h = ap (λ (o : Option ℕ). option_map_or (λ k. at_index k f (pushed xs y)) o (pushed xs y)) (index_of-new xs y a h) ∙ last xs
+  where
+    last : (xs : List Object) → at_index (length xs) f (xs ++ y ∷ []) ≡ xs ++ f y ∷ []
+    last [] = refl
+    last (x ∷ xs) = ap (λ (zs : List Object). x ∷ zs) (last xs)
+
+-- before, nothing was there
+pub no_object-next : (xs : List Object) (slots : ℕ) → is_object xs (next_address xs slots) ≡ false
+no_object-next xs slots = go (is_object xs (next_address xs slots)) refl
+  where
+    go : (b : Bool) → is_object xs (next_address xs slots) ≡ b → is_object xs (next_address xs slots) ≡ false
+    go false e = e
+    go true e = absurd (let p = object_placed xs (next_address xs slots) e in omega (arith, p.below))
+
+-- the others stay where they were
+pub index_of-old : (xs : List Object) (y : Object) (a k : ℕ) → index_of xs a ≡ Some k → index_of (pushed xs y) a ≡ Some k
+index_of-old xs y a k h = let s = (found_by_address xs a k h).split in
+    ap (λ (zs : List Object). index_of (pushed zs y) a) s.list
+    ∙ ap (λ (zs : List Object). index_of zs a) (regroup s.before s.after s.x)
+    ∙ index_split s.before (pushed s.after y) s.x base a s.place ∙ ap Some s.count
+  where
+    regroup : (before after : List Object) (x : Object) → (before ++ x ∷ after) ++ y ∷ [] ≡ before ++ x ∷ (after ++ y ∷ [])
+    regroup [] after x = refl
+    regroup (z ∷ zs) after x = ap (λ (ws : List Object). z ∷ ws) (regroup zs after x)
+
+pub is_object-old : (xs : List Object) (y : Object) (a : ℕ) → is_object xs a ≡ true → is_object (pushed xs y) a ≡ true
+is_object-old xs y a h = let f = has_index xs a h in ap is_some (index_of-old xs y a f.0 f.1.index_is)
+
+pub object_at-old : (xs : List Object) (y : Object) (a : ℕ) → is_object xs a ≡ true → object_at (pushed xs y) a ≡ object_at xs a
+object_at-old xs y a h =
+    let f = has_index xs a h in
+    ap (option_and_then (slice_get (pushed xs y))) (index_of-old xs y a f.0 f.1.index_is)
+    ∙ within xs f.0 (index_of-below xs a f.0 f.1.index_is)
+    ∙ sym (ap (option_and_then (slice_get xs)) f.1.index_is)
+  where
+    within : (xs : List Object) (k : ℕ) → k < length xs → slice_get (xs ++ y ∷ []) k ≡ slice_get xs k
+    within [] k h = absurd (omega (arith, h))
+    within (x ∷ xs) zero h = refl
+    within (x ∷ xs) (suc k) h = within xs k (omega (arith, h))
+
+pub field_of-old : (g : Object → ℕ) (xs : List Object) (y : Object) (a : ℕ) → is_object xs a ≡ true → field_of g (pushed xs y) a ≡ field_of g xs a
+field_of-old g xs y a h = ap (λ (o : Option Object). option_map_or g o 0) (object_at-old xs y a h)
+
+-- and there is no other new one
+pub is_object-pushed : (xs : List Object) (y : Object) (a : ℕ) → is_object (pushed xs y) a ≡ true → (is_object xs a ≡ true) ⊎ (a ≡ next_address xs (length y.words))
+is_object-pushed xs y a h =
+    let f = has_index (pushed xs y) a h in
+    go (is_object xs a) refl f.0 f.1
+  where
+    new_is : (k : ℕ) → Found (pushed xs y) a k → length xs ≤ k → a ≡ next_address xs (length y.words)
+    new_is k f past =
+        let within = index_of-below (pushed xs y) a k f.index_is in
+        let last : length xs ≡ k = omega (arith, past, within, length-append xs (y ∷ [])) in
+        index_of-injective (pushed xs y) a (next_address xs (length y.words)) k f.index_is (index_of-new xs y (next_address xs (length y.words)) refl ∙ ap Some last)
+
+    old_is : (k : ℕ) → Found (pushed xs y) a k → k < length xs → is_object xs a ≡ true
+    old_is k f within = has (address_of xs k) refl (address_of-below xs k within)
+      where
+        has : (o : Option ℕ) → address_of xs k ≡ o → is_some o ≡ true → is_object xs a ≡ true
+        has None e h = absurd (cc)
+        has (Some b) e h =
+            let at : index_of xs b ≡ Some k = index_of-address xs b k e in
+            let same : a ≡ b = index_of-injective (pushed xs y) a b k f.index_is (index_of-old xs y b k at) in
+            ap is_some (ap (index_of xs) same ∙ at)
+
+    go : (b : Bool) → is_object xs a ≡ b → (k : ℕ) → Found (pushed xs y) a k → (is_object xs a ≡ true) ⊎ (a ≡ next_address xs (length y.words))
+    go true e k f = inl e
+    go false e k f = inr (new_is k f (past k f e))
+      where
+        past : (k : ℕ) → Found (pushed xs y) a k → is_object xs a ≡ false → length xs ≤ k
+        past k f e = omega (arith, (λ (less : k < length xs). let t : is_object xs a ≡ true = old_is k f less in let no : ⊥ = cc in no))
+
+pub used-pushed : (xs : List Object) (y : Object) → used (pushed xs y) ≡ used xs + size (length y.words)
+used-pushed xs y = used-push xs y

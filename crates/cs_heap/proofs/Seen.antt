@@ -1,0 +1,195 @@
+-- What the heap's functions read at an address, and how a caller sees what they write.
+use Rattle.std.proofs.Common.{◌≡◌, ℕ, ◌+◌, ◌*◌, ◌/◌, ◌%◌, ◌^◌, ◌<◌, ◌≤◌, true, List, [], ◌∷◌, ◌++◌, length, get_or, is_some, Option, refl, ap, ap₂, sym, ◌∙◌, arith, min}
+use Rattle.std.proofs.Math.ListN.{set}
+use Rattle.std.proofs.lemmas.Grind.{get_or_default_zero, flat_map-append}
+use Rattle.std.proofs.lemmas.List.{append-nil, length-set}
+use Rattle.std.specs.Prelude.{flat_map, vec_capacity, replicate}
+use Rattle.std.specs.Option.{option_map_or}
+use Rattle.cs_heap.specs.Format.{format_allows}
+use Rattle.cs_heap.specs.Object.{Memory, Object, field_of, index_of, new_object, new_slot, object_at, size, set_word, slot_count_of, with_hash, with_slot}
+use Rattle.cs_heap.specs.Layout.{IsHeap, IsLaid, IsStorable, births_of, header, header_seen, marks_of, memory, objects, row, words_of}
+use Rattle.cs_heap.specs.declared.Heap.TheInside.{Inside}
+use Rattle.cs_heap.proofs.OneObject.{length-copies, length-row, words_of_is}
+use Rattle.cs_heap.proofs.Decoding.{shape_below, stored_header}
+use Rattle.cs_heap.proofs.Places.{Found, has_index, has_number, object_at-found}
+use Rattle.cs_heap.proofs.Standing.{IsKnown, IsThere, all-push, changed, known, laid_now, laid_seen, limit_seen, objects_are, unit_of, write_header, write_slot}
+use Rattle.cs_word.specs.Header.{IsWritable, header_bits}
+use Rattle.cs_word.specs.declared.header.Flags.{Flags}
+use Rattle.cs_word.specs.declared.header.Header.{Header}
+
+pub record IsSeen (h : Inside) (xs : List Object) (address : ℕ) : Type 0 where
+  pub index : ℕ
+  pub found : Found xs address index
+  pub known_there : IsKnown h xs address index found
+
+pub seen : (h : Inside) (m : Memory) → IsHeap h → memory h ≡ m → (address : ℕ) → is_some (index_of m.objects address) ≡ true → IsSeen h m.objects address
+seen h m ok is address h' = let f = has_index m.objects address h' in
+    record { index = f.0; found = f.1; known_there = known h m.objects (laid_seen h m ok is) address f.0 f.1 }
+
+-- the same of an object that has slot i
+pub seen_slot : (h : Inside) (m : Memory) → IsHeap h → memory h ≡ m → (address i : ℕ) → i < slot_count_of m.objects address → IsSeen h m.objects address
+seen_slot h m ok is address i less = let f = has_number m.objects address i (λ (x : Object). length x.words) less in
+    record { index = f.0; found = f.1; known_there = known h m.objects (laid_seen h m ok is) address f.0 f.1 }
+
+module _ (h : Inside) (xs : List Object) (address : ℕ) (s : IsSeen h xs address) where
+  abbrev pub the_object : Object
+  the_object = s.found.split.x
+
+  pub there_is : IsThere h (unit_of address) the_object
+  there_is = s.known_there.there
+
+  pub object_is : object_at xs address ≡ Option.Some the_object
+  object_is = object_at-found xs address s.index s.found
+
+  pub field_is : (g : Object → ℕ) → field_of g xs address ≡ g the_object
+  field_is g = ap (λ (o : Option Object). option_map_or g o 0) object_is
+
+  pub header_is : header_seen xs address ≡ header the_object
+  header_is = ap of_option object_is
+    where
+      of_option : Option Object → Header
+      of_option o = record {
+        class = option_map_or (λ x. x.class) o 0;
+        flags = option_map_or (λ x. x.flags) o (record { 0 = 0 });
+        format = option_map_or (λ x. x.format) o 0;
+        hash = option_map_or (λ x. x.hash) o 0;
+        slots = min 255 (option_map_or (λ x. length x.words) o 0);
+      }
+
+  pub writable : IsWritable (header the_object)
+  writable = record {
+    class = there_is.storable.class;
+    format = shape_below (the_object).format (length (the_object).words) there_is.storable.shape;
+    hash = there_is.storable.hash;
+  }
+
+-- a read of the code, whose default is what it read
+pub read_is : (xs : List ℕ) (i j v : ℕ) → i ≡ j → j < length xs → v ≡ get_or xs i v → v ≡ get_or xs j 0
+read_is xs i j v e less h = h ∙ ap (λ (n : ℕ). get_or xs n v) e ∙ get_or_default_zero xs j v less
+
+-- ---- after a write
+
+-- the heap is sound, and a caller sees these objects and the same limit
+pub record IsNow (new : Inside) (m : Memory) (ys : List Object) : Type 0 where
+  pub sound : IsHeap new
+  pub view_is : memory new ≡ (let seen : Memory = record { limit = m.limit; objects = ys } in seen)
+
+-- no vector gave up room
+pub record IsRoomy (h new : Inside) : Type 0 where
+  pub limit : new.limit ≡ h.limit
+  pub words : vec_capacity h.words ≤ vec_capacity new.words
+  pub births : vec_capacity h.births ≤ vec_capacity new.births
+  pub marks : vec_capacity h.marks ≤ vec_capacity new.marks
+
+pub now : (h new : Inside) (m : Memory) (ys : List Object) → IsHeap h → memory h ≡ m → IsLaid new ys → length new.words.items ≤ h.limit → IsRoomy h new → IsNow new m ys
+now h new m ys ok is laid within roomy = record {
+  sound = record {
+    laid = laid_now new ys laid;
+    within = omega (arith, roomy.limit, within);
+    least = omega (arith, roomy.limit, ok.least);
+    most = omega (arith, roomy.limit, ok.most);
+    word_room = omega (arith, roomy.limit, roomy.words, ok.word_room);
+    birth_room = omega (arith, roomy.limit, roomy.births, ok.birth_room);
+    mark_room = omega (arith, roomy.limit, roomy.marks, ok.mark_room);
+  };
+  view_is = ap₂ made (roomy.limit ∙ limit_seen h m is) (objects_are new ys laid);
+}
+  where
+    made : ℕ → List Object → Memory
+    made limit objects = record { limit = limit; objects = objects }
+
+-- a slot was stored
+pub slot_stored : (h new : Inside) (m : Memory) (address place i v : ℕ) → IsHeap h → memory h ≡ m → i < slot_count_of m.objects address
+    → place ≡ 2 * unit_of address + 2 + i → new.words.items ≡ set h.words.items place v → new.births.items ≡ h.births.items → new.marks.items ≡ h.marks.items
+    → IsRoomy h new → IsNow new m (with_slot m.objects address i v)
+slot_stored h new m address place i v ok is less at words births marks roomy =
+    let s = seen_slot h m ok is address i less in
+    let k = s.known_there in
+    let x : Object = s.found.split.x in
+    let within : i < length x.words = omega (arith, less, field_is h m.objects address s (λ (y : Object). length y.words)) in
+    let long = length-set x.words i v in
+    let stored : IsStorable (set_word i v x) = record {
+      class = k.there.storable.class;
+      flags = k.there.storable.flags;
+      shape = ap (format_allows x.format) long ∙ k.there.storable.shape;
+      hash = k.there.storable.hash;
+      count = omega (arith, long, k.there.storable.count);
+    } in
+    now h new m (with_slot m.objects address i v) ok is
+    (changed h new m.objects address s.index (set_word i v) s.found (laid_seen h m ok is)
+    (words ∙ ap (λ (n : ℕ). set h.words.items n v) at ∙ write_slot h s.found.split.before s.found.split.after x k.parts (unit_of address) i v k.place within)
+    births marks refl long stored)
+    (omega (arith, ap length words, length-set h.words.items place v, ok.within)) roomy
+
+abbrev with_this_hash : ℕ → Object → Object
+with_this_hash hash x = record x { hash = hash }
+
+-- a header was stored
+pub hash_stored : (h new : Inside) (m : Memory) (address u hash bits : ℕ) → IsHeap h → memory h ≡ m → is_some (index_of m.objects address) ≡ true → hash < 2 ^ 22
+    → u ≡ unit_of address → bits ≡ header_bits (record (header_seen m.objects address) { hash = hash })
+    → new.words.items ≡ set (set h.words.items (2 * u) (bits % 2 ^ 32)) (2 * u + 1) (bits / 2 ^ 32) → new.births.items ≡ h.births.items → new.marks.items ≡ h.marks.items
+    → IsRoomy h new → IsNow new m (with_hash m.objects address hash)
+hash_stored h new m address u hash bits ok is known_object below at bits_are words births marks roomy =
+    let s = seen h m ok is address known_object in
+    let k = s.known_there in
+    let x : Object = s.found.split.x in
+    let y : Object = with_this_hash hash x in
+    let stored : IsStorable y = record {
+      class = k.there.storable.class;
+      flags = k.there.storable.flags;
+      shape = k.there.storable.shape;
+      hash = below;
+      count = k.there.storable.count;
+    } in
+    let new_bits : bits ≡ stored_header y = bits_are ∙ ap (λ (a : Header). header_bits (record a { hash = hash })) (header_is h m.objects address s) in
+    now h new m (with_hash m.objects address hash) ok is
+    (changed h new m.objects address s.index (with_this_hash hash) s.found (laid_seen h m ok is)
+    (words ∙ ap₂ (λ (n : ℕ) (b : ℕ). set (set h.words.items (2 * n) (b % 2 ^ 32)) (2 * n + 1) (b / 2 ^ 32)) at new_bits
+    ∙ write_header h s.found.split.before s.found.split.after x k.parts (unit_of address) y k.place refl)
+    births marks refl refl stored)
+    (omega (arith, ap length words, length-set (set h.words.items (2 * u) (bits % 2 ^ 32)) (2 * u + 1) (bits / 2 ^ 32), length-set h.words.items (2 * u) (bits % 2 ^ 32), ok.within)) roomy
+
+-- an object was added
+pub object_added : (h new : Inside) (m : Memory) (y : Object) → IsHeap h → memory h ≡ m → IsStorable y
+    → new.words.items ≡ h.words.items ++ words_of y → new.births.items ≡ h.births.items ++ births_of y → new.marks.items ≡ h.marks.items ++ marks_of y
+    → length new.words.items ≤ h.limit → IsRoomy h new → IsNow new m (m.objects ++ y ∷ [])
+object_added h new m y ok is stored words births marks within roomy =
+    let laid = laid_seen h m ok is in
+    now h new m (m.objects ++ y ∷ []) ok is (record {
+      words = words ∙ ap (λ (zs : List ℕ). zs ++ words_of y) laid.words ∙ pushed words_of m.objects y;
+      births = births ∙ ap (λ (zs : List ℕ). zs ++ births_of y) laid.births ∙ pushed births_of m.objects y;
+      marks = marks ∙ ap (λ (zs : List ℕ). zs ++ marks_of y) laid.marks ∙ pushed marks_of m.objects y;
+      storable = all-push m.objects y laid.storable stored;
+    }) within roomy
+  where
+    pushed : (f : Object → List ℕ) (xs : List Object) (y : Object) → flat_map f xs ++ f y ≡ flat_map f (xs ++ y ∷ [])
+    pushed f xs y = ap (λ (zs : List ℕ). flat_map f xs ++ zs) (sym (append-nil (f y))) ∙ sym (flat_map-append f xs (y ∷ []))
+
+-- ---- the new object
+
+-- the row that the code adds
+abbrev pub new_row : ℕ → ℕ → ℕ → Flags → ℕ → ℕ → List ℕ
+new_row class format slots flags count value =
+    row (header_bits (record { class = class; flags = flags; format = format; hash = 0; slots = count })) (replicate slots value)
+
+pub length-new_row : (class format slots : ℕ) (flags : Flags) (count value : ℕ) → length (new_row class format slots flags count value) ≡ size slots
+length-new_row class format slots flags count value =
+    length-row (header_bits (record { class = class; flags = flags; format = format; hash = 0; slots = count })) (replicate slots value)
+    ∙ ap size (length-copies slots value)
+
+pub new_words : (class format slots birth : ℕ) (flags : Flags) (count value : ℕ) → flags.0 ≡ 0 → count ≡ min slots 255 → value ≡ new_slot format
+    → new_row class format slots flags count value ≡ words_of (new_object class format slots birth)
+new_words class format slots birth flags count value none count_is value_is =
+    ap (new_row class format slots flags count) value_is
+    ∙ ap₂ (λ (f : ℕ) (n : ℕ). new_row class format slots (record { 0 = f }) n (new_slot format)) none
+    (count_is ∙ omega (arith, length-copies slots (new_slot format)))
+    ∙ sym (words_of_is (new_object class format slots birth))
+
+pub new_storable : (class format slots birth : ℕ) → class < 2 ^ 22 → format_allows format slots ≡ true → slots < 2 ^ 32 → IsStorable (new_object class format slots birth)
+new_storable class format slots birth below shape few = record {
+  class = below;
+  flags = omega arith;
+  shape = ap (format_allows format) (length-copies slots (new_slot format)) ∙ shape;
+  hash = omega arith;
+  count = omega (arith, few, length-copies slots (new_slot format));
+}

@@ -1,0 +1,62 @@
+-- The report of a run: one line feed and one line.
+use Rattle.std.specs.Prelude.{ℕ, if◌then◌else◌, List, ◌++◌, Option, Some, None, option_map, option_and_then, codes, decimal}
+use Rattle.cs_model.specs.declared.stop.Stop.{Stop}
+use Rattle.cs_model.specs.declared.stop.Stop.TheVariants as why
+use Rattle.cs_model.specs.Ref.{Ref, birth_of}
+use Rattle.cs_model.specs.Obj.{context_in}
+use Rattle.cs_model.specs.State.{Kept, State, is_nil, active_process, object_at}
+use Rattle.cs_model.specs.Read.{active_birth, active_context}
+use Rattle.cs_model.specs.Due.{is_idle}
+use Rattle.cs_model.specs.Step.{Ending, Steps, Quit, Idle, Stopped}
+
+abbrev pub reason_text : Stop → List ℕ
+reason_text why.BadCode = codes "BadCode"
+reason_text why.BadLiteral = codes "BadLiteral"
+reason_text why.BadField = codes "BadField"
+reason_text why.BadStore = codes "BadStore"
+reason_text why.StackUnder = codes "StackUnder"
+reason_text why.StackOver = codes "StackOver"
+reason_text why.BadArgs = codes "BadArgs"
+reason_text why.BadSpecial = codes "BadSpecial"
+reason_text why.BadProcess = codes "BadProcess"
+reason_text why.NotUnderstood = codes "NotUnderstood"
+reason_text why.ClassLoop = codes "ClassLoop"
+reason_text why.ChainTooLong = codes "ChainTooLong"
+reason_text why.BirthLimit = codes "BirthLimit"
+reason_text why.NotBuilt = codes "NotBuilt"
+
+abbrev pub ending_text : Ending → List ℕ
+ending_text Steps = codes "Steps"
+ending_text Quit = codes "Quit"
+ending_text Idle = codes "Idle"
+ending_text (Stopped reason) = codes "Stopped " ++ reason_text reason
+
+-- where a run stands: the births of the active process and context, and the pc; none where no process is active
+pub record Place : Type 0 where
+  pub process : Option ℕ
+  pub context : Option ℕ
+  pub pc : Option ℕ
+
+abbrev pub no_place : Place
+no_place = record { process = None; context = None; pc = None }
+
+abbrev pub place_at : Kept → Option Ref → Place
+place_at k None = no_place
+place_at k (Some p) = if is_nil k p then no_place else record { process = birth_of p; context = k.rest.active; pc = (active_context k).pc }
+
+unfoldable pub place_of : Kept → Place
+place_of k = place_at k (active_process k)
+
+abbrev pub number_text : Option ℕ → List ℕ
+number_text None = codes "-"
+number_text (Some n) = decimal n
+
+abbrev pub place_text : Place → List ℕ
+place_text p = codes " process=" ++ number_text p.process ++ codes " context=" ++ number_text p.context ++ codes " pc=" ++ number_text p.pc
+
+-- the line of an ending, the completed bytecodes and the place
+abbrev pub line_of : Ending → ℕ → Place → List ℕ
+line_of e steps p = codes "\n" ++ ending_text e ++ codes " steps=" ++ decimal steps ++ place_text p ++ codes "\n"
+
+unfoldable pub report_of : State → Ending → List ℕ
+report_of s e = line_of e s.run.steps (place_of s.kept)

@@ -1,0 +1,148 @@
+//! A world in which each activation is a context in the heap.
+//!
+//! It is the plainest representation of the machine: what it keeps is what the model says, and no frame, page or marriage
+//! stands between.
+#![tactic(auto)]
+
+ghost use Rattle.cs_plain.specs.View.{view_of};
+
+use cs_acts::{Act, Loaded, Roots, World};
+use cs_classes::Classes;
+use cs_heap::Heap;
+use cs_word::{Kind, Oop};
+
+/// A world of heap contexts.
+#[derive(Drop)]
+pub struct PlainWorld {
+    heap: Heap,
+    classes: Classes,
+    roots: Roots,
+    active: Option<Oop>,
+}
+
+/// The slots of a context, in the order of the Blue Book: sender, pc, stackp, method, closure, receiver, and then its stack.
+const PC: u32 = 1;
+const STACKP: u32 = 2;
+const METHOD: u32 = 3;
+const CLOSURE: u32 = 4;
+const RECEIVER: u32 = 5;
+const STACK: u32 = 6;
+
+/// The number that a word is, and 0 where it is no SmallInteger or a negative one.
+fn count(word: Oop) -> u32 {
+    match word.kind() {
+        Kind::Small(value) if value > 0 => value as u32,
+        _ => 0,
+    }
+}
+
+/// The word of a count below 2^30.
+fn count_word(count: u32) -> Oop {
+    Oop(2 * count + 1)
+}
+
+impl PlainWorld {
+    /// The active context.
+    fn active_context(&self) -> Oop {
+        let Some(context) = self.active else {
+            unreachable!();
+        };
+        context
+    }
+}
+
+impl World for PlainWorld {
+    ghost view = { view_of };
+
+    ghost use Rattle.cs_plain.specs.View.{act_of, stored_of};
+
+    ghost stored = { stored_of };
+
+    ghost act = { act_of };
+
+    fn heap(&self) -> &Heap {
+        &self.heap
+    }
+
+    fn classes(&self) -> &Classes {
+        &self.classes
+    }
+
+    fn roots(&self) -> &Roots {
+        &self.roots
+    }
+
+    fn active(&self) -> Act {
+        match self.active {
+            Some(context) => Act::Context(context),
+            None => Act::Gone,
+        }
+    }
+
+    fn act_birth(&self, a: Act) -> u64 {
+        match a {
+            Act::Context(context) => self.heap.birth(context),
+            _ => unreachable!(),
+        }
+    }
+
+    fn act_closure(&self, a: Act) -> Oop {
+        match a {
+            Act::Context(context) => self.heap.slot(context, CLOSURE),
+            _ => unreachable!(),
+        }
+    }
+
+    fn receiver(&self) -> Oop {
+        self.heap.slot(self.active_context(), RECEIVER)
+    }
+
+    fn method(&self) -> Oop {
+        self.heap.slot(self.active_context(), METHOD)
+    }
+
+    fn pc(&self) -> u32 {
+        count(self.heap.slot(self.active_context(), PC))
+    }
+
+    fn set_pc(&mut self, pc: u32) {
+        let context = self.active_context();
+        self.heap.set_slot(context, PC, count_word(pc));
+    }
+
+    fn depth(&self) -> u32 {
+        count(self.heap.slot(self.active_context(), STACKP))
+    }
+
+    fn size(&self) -> u32 {
+        self.heap.slot_count(self.active_context()) - STACK
+    }
+
+    fn stack_at(&self, i: u32) -> Oop {
+        self.heap.slot(self.active_context(), STACK + i)
+    }
+
+    fn set_stack(&mut self, i: u32, v: Oop) {
+        let context = self.active_context();
+        self.heap.set_slot(context, STACK + i, v);
+    }
+
+    fn store(&mut self, o: Oop, i: u32, v: Oop) {
+        self.heap.set_slot(o, i, v);
+    }
+
+    fn push(&mut self, v: Oop) {
+        let context = self.active_context();
+        let depth = self.depth();
+        self.heap.set_slot(context, STACK + depth, v);
+        self.heap.set_slot(context, STACKP, count_word(depth + 1));
+    }
+
+    fn pop(&mut self) -> Oop {
+        let context = self.active_context();
+        let depth = self.depth();
+        let value = self.stack_at(depth - 1);
+        self.heap.set_slot(context, STACKP, count_word(depth - 1));
+        value
+    }
+}

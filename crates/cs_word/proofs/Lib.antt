@@ -1,0 +1,4 @@
+mod Floor
+mod Shifts
+pub mod Words
+pub mod Headers

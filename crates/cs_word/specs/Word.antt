@@ -1,0 +1,34 @@
+-- Object words of 32-bit Spur: the low bits say what a word is.
+use Rattle.std.specs.Prelude.{ℕ, ℤ, pos, negsuc, neg_ℤ, ◌-ℤ◌, ◌≤ℤ◌, ◌<ℤ◌, ◌+◌, ◌-◌, ◌*◌, ◌/◌, ◌%◌, ◌^◌, ◌==◌, nat_lt, if◌then◌else◌}
+use Rattle.cs_word.specs.declared.Kind.{Kind}
+use Rattle.cs_word.specs.declared.Kind.TheVariants.{Small, Character, Object, Link}
+
+-- a SmallInteger has 31 bits: -2^30 to 2^30 - 1
+abbrev pub IsSmall : ℤ → Type 0
+IsSmall z = (neg_ℤ (pos (2 ^ 30)) ≤ℤ z) × (z <ℤ pos (2 ^ 30))
+
+-- the word shifted right by one, as a signed number
+abbrev pub small_value : ℕ → ℤ
+small_value word = if nat_lt word (2 ^ 31) then pos (word / 2) else pos (word / 2) -ℤ pos (2 ^ 31)
+
+-- what the low bits of a word say
+abbrev pub kind_of : ℕ → Kind
+kind_of word = if word % 2 == 1 then Small (small_value word)
+    else (if word % 4 == 2 then Character (word / 4)
+    else (if word % 8 == 0 then Object word else Link word))
+
+-- the word of a SmallInteger: 2 * z + 1, modulo 2^32
+abbrev pub small_word : ℤ → ℕ
+small_word (pos n) = 2 * n + 1
+small_word (negsuc n) = 2 ^ 32 - 2 * n - 1
+
+-- the word of a Character
+abbrev pub character_word : ℕ → ℕ
+character_word code = 4 * code + 2
+
+-- the word that says this
+abbrev pub word_of : Kind → ℕ
+word_of (Small z) = small_word z
+word_of (Character code) = character_word code
+word_of (Object word) = word
+word_of (Link word) = word
