@@ -3,13 +3,12 @@ use Rattle.std.proofs.Common.{◌≡◌, ◌≢◌, ℕ, zero, suc, ◌+◌, ◌
 use Rattle.std.specs.List.{CopiedTo, SameBelow, SameFrom}
 use Rattle.std.proofs.lemmas.Bool.{cases_lt}
 use Rattle.std.proofs.lemmas.List.{length-set}
-use Rattle.cs_word.specs.declared.Oop.{Oop}
 use Rattle.cs_frame.specs.declared.Head.{Head}
 use Rattle.cs_frame.specs.declared.Begin.{Begin}
 use Rattle.cs_frame.specs.declared.NewFrame.{NewFrame}
 use Rattle.cs_frame.specs.Frame.{Frame, nil, cut}
 use Rattle.cs_frame.specs.Page.{used, top, frames_of, on_page, fresh, called, CanCall, HoldsValues}
-use Rattle.cs_frame.specs.Layout.{oop, words_from, frame_at, frames_down, below, joined, NoLink, IsWhole, Stands, IsPage, IsLaid, pages_of}
+use Rattle.cs_frame.specs.Layout.{words_from, frame_at, frames_down, below, joined, NoLink, IsWhole, Stands, IsPage, IsLaid, pages_of}
 use Rattle.cs_frame.specs.Written.{SameOutside, AllAre, HasOverhead, half_word}
 use Rattle.cs_frame.proofs.Words.{Same, words_same, words_append, words_take, words_drop, words_moved, words_const, length-words, frame_parts, overhead_same, whole_to}
 use Rattle.cs_frame.proofs.Stacks.{base_below, used_is, top_changed}
@@ -43,16 +42,16 @@ built_stack v w sp b new x =
     let e : end_with b new - (b.frame + 10) ≡ new.args + new.fill = omega arith in
     let i = b.frame + 10 in
     ap (λ (j : ℕ). words_from v i j) e ∙ (words_append v i new.args new.fill
-    ∙ (ap (λ (ys : List Oop). ys ++ words_from v (i + new.args) new.fill) (words_moved v w i (sp - new.args) new.args x.moved)
-    ∙ ap (λ (ys : List Oop). words_from w (sp - new.args) new.args ++ ys) (words_const v (i + new.args) new.fill 65536 x.nils)))
+    ∙ (ap (λ (ys : List ℕ). ys ++ words_from v (i + new.args) new.fill) (words_moved v w i (sp - new.args) new.args x.moved)
+    ∙ ap (λ (ys : List ℕ). words_from w (sp - new.args) new.args ++ ys) (words_const v (i + new.args) new.fill 65536 x.nils)))
 
 pub built_frame : (v w : List ℕ) (base sp : ℕ) (b : Begin) (new : NewFrame) → Built v w sp b new
-    → frame_at v base b.frame (end_with b new) ≡ fresh new (b.frame - base) (oop b.sender) (words_from w (sp - new.args) new.args)
+    → frame_at v base b.frame (end_with b new) ≡ fresh new (b.frame - base) b.sender (words_from w (sp - new.args) new.args)
 built_frame v w base sp b new x =
     let h = x.overhead in
     frame_parts v base b.frame (end_with b new) _ _ _ _ _ _ _ _ _ h.sender_is h.pc_is h.method_is h.closure_is h.context_is h.low_is h.high_is h.receiver_is
     (built_stack v w sp b new x)
-    ∙ ap (λ (n : ℕ). record (fresh new (b.frame - base) (oop b.sender) (words_from w (sp - new.args) new.args)) { birth = n }) (birth_back new.birth)
+    ∙ ap (λ (n : ℕ). record (fresh new (b.frame - base) b.sender (words_from w (sp - new.args) new.args)) { birth = n }) (birth_back new.birth)
 
 -- nine places behind the first
 nine : (P : ℕ → Type 0) → P 1 → P 2 → P 3 → P 4 → P 5 → P 6 → P 7 → P 8 → P 9 → (j : ℕ) → 0 < j → j < 10 → P j
@@ -86,7 +85,7 @@ built_whole v w sp b new x plain sender args =
           | inr d ↦ plain_at v k 65536 (x.nils k d hi) (λ q. omega arith)
         ]
       ];
-      pc = inl (ap oop h.pc_is);
+      pc = inl h.pc_is;
     }
   where
     head : HasOverhead v b.frame (b.caller * 8 + 4) b.sender new → (k : ℕ) → b.frame + 1 ≤ k → k < b.frame + 10 → get_or v k 0 % 8 ≢ 4
@@ -121,9 +120,9 @@ build_top zero v w base fp sp b new st can be x plain =
     let at : b.frame - base ≡ 0 = omega arith in
     let none : words_from w (sp - new.args) new.args ≡ [] = ap (λ (j : ℕ). words_from w (sp - new.args) j) can in
     let sender : b.sender % 8 ≢ 4 = λ q. plain.receiver (ap (λ (n : ℕ). n % 8) (sym f.2) ∙ q) in (
-      ap (λ (g : Frame). g ∷ []) (built_frame v w base sp b new x ∙ (ap (λ (a : ℕ). fresh new a (oop b.sender) (words_from w (sp - new.args) new.args)) at
-          ∙ (ap (λ (s : ℕ). fresh new 0 (oop s) (words_from w (sp - new.args) new.args)) f.2
-          ∙ ap (λ (ys : List Oop). fresh new 0 new.receiver ys) none))),
+      ap (λ (g : Frame). g ∷ []) (built_frame v w base sp b new x ∙ (ap (λ (a : ℕ). fresh new a b.sender (words_from w (sp - new.args) new.args)) at
+          ∙ (ap (λ (s : ℕ). fresh new 0 s (words_from w (sp - new.args) new.args)) f.2
+          ∙ ap (λ (ys : List ℕ). fresh new 0 new.receiver.0 ys) none))),
       (built_whole v w sp b new x plain sender (λ k lo hi. absurd (omega arith)), f.0),
     )
 build_top (suc n) v w base fp sp b new st can be x plain =
@@ -143,7 +142,7 @@ build_top (suc n) v w base fp sp b new st can be x plain =
     let down : get_or v b.frame 0 / 8 ≡ fp = ap (λ (y : ℕ). y / 8) x.overhead.link_is ∙ ((let e : (b.caller * 8 + 4) / 8 ≡ b.caller = omega arith in e) ∙ f.1) in
     let F : ℕ → List Frame = λ l. frames_down (suc n) v base l b.frame in
     let S : ℕ → Type 0 = λ l. Stands (suc n) v base l b.frame in
-    let W : ℕ → List Oop = λ j. words_from w (fp + 10) j in
+    let W : ℕ → List ℕ = λ j. words_from w (fp + 10) j in
     let caller = cut new.args (frame_at w base fp sp) in
     let rest = frames_down n w base (below w fp) fp in
     let stack : words_from v (fp + 10) (b.frame - (fp + 10)) ≡ take (length (W d) - (new.args + 1)) (W d) =
@@ -151,7 +150,7 @@ build_top (suc n) v w base fp sp b new st can be x plain =
     ∙ (ap W kept_is ∙ (sym (words_take w (fp + 10) kept d (omega arith)) ∙ ap (λ (j : ℕ). take (j - (new.args + 1)) (W d)) (sym len))) in
     let old : frame_at v base fp b.frame ≡ caller =
     overhead_same v w base fp sp b.frame (λ k a c. x.below_it k (omega arith))
-    ∙ ap (λ (ys : List Oop). record (frame_at w base fp sp) { stack = ys }) stack in
+    ∙ ap (λ (ys : List ℕ). record (frame_at w base fp sp) { stack = ys }) stack in
     let args : words_from w (sp - new.args) new.args ≡ drop (length (W d) - new.args) (W d) =
     let e : sp - new.args ≡ (fp + 10) + (d - new.args) = omega arith in let g : new.args ≡ d - (d - new.args) = omega arith in
     ap (λ (i : ℕ). words_from w i new.args) e ∙ (ap (λ (j : ℕ). words_from w ((fp + 10) + (d - new.args)) j) g
@@ -162,9 +161,9 @@ build_top (suc n) v w base fp sp b new st can be x plain =
     let given = drop (length (W d) - new.args) (W d) in
     let new_top : frame_at v base b.frame (end_with b new) ≡ fresh new (used (caller ∷ rest)) nil given =
     built_frame v w base sp b new x
-    ∙ (ap (λ (a : ℕ). fresh new a (oop b.sender) (words_from w (sp - new.args) new.args)) at
-    ∙ (ap (λ (s : ℕ). fresh new (used (caller ∷ rest)) (oop s) (words_from w (sp - new.args) new.args)) f.2
-    ∙ ap (λ (ys : List Oop). fresh new (used (caller ∷ rest)) nil ys) args)) in
+    ∙ (ap (λ (a : ℕ). fresh new a b.sender (words_from w (sp - new.args) new.args)) at
+    ∙ (ap (λ (s : ℕ). fresh new (used (caller ∷ rest)) s (words_from w (sp - new.args) new.args)) f.2
+    ∙ ap (λ (ys : List ℕ). fresh new (used (caller ∷ rest)) nil ys) args)) in
     let sender : b.sender % 8 ≢ 4 = λ q. (let s = f.2 in omega arith) in
     let whole = built_whole v w sp b new x plain sender (λ k a c. values k (omega arith) (omega arith)) in (
       ap (λ (g : Frame). g ∷ frames_down (suc n) v base (below v b.frame) b.frame) new_top

@@ -4,7 +4,6 @@ use Rattle.std.proofs.Common.{◌≡◌, ◌≢◌, ℕ, zero, suc, ◌+◌, ◌
 use Rattle.std.proofs.lemmas.Bool.{cases_Bool, cases_eq, eqb-true, eq-eqb, ne_eqb}
 use Rattle.std.proofs.lemmas.List.{length-set, length-replicate, length-take, set-set, set-get_or, set_comm, take_at}
 use Rattle.std.proofs.Math.Seq.{drop-nil, split_at}
-use Rattle.cs_word.specs.declared.Oop.{Oop}
 use Rattle.cs_frame.specs.declared.FrameRef.{FrameRef}
 use Rattle.cs_frame.specs.declared.NewFrame.{NewFrame}
 use Rattle.cs_frame.specs.Frame.{Frame, pushed, popped, with_stack, cut, nil}
@@ -162,13 +161,13 @@ IsFrame-on_frame ps r q g keeps is iq =
 
 -- The stack of the last frame.
 
-pub popped-pushed : (v : Oop) (f : Frame) → popped (pushed v f) ≡ f
+pub popped-pushed : (v : ℕ) (f : Frame) → popped (pushed v f) ≡ f
 popped-pushed v f =
     let n : length f.stack ≡ length (f.stack ++ v ∷ []) - 1 = omega (arith, length-append f.stack (v ∷ [])) in
-    ap (λ (xs : List Oop). with_stack xs f) (take_at f.stack (v ∷ []) _ n)
+    ap (λ (xs : List ℕ). with_stack xs f) (take_at f.stack (v ∷ []) _ n)
 
 -- a push and then a pop give the page back
-pub popped-pushed_page : (ps : List (List Frame)) (p : ℕ) (v : Oop) → p < length ps → on_page (on_page ps p (on_top (pushed v))) p (on_top popped) ≡ ps
+pub popped-pushed_page : (ps : List (List Frame)) (p : ℕ) (v : ℕ) → p < length ps → on_page (on_page ps p (on_top (pushed v))) p (on_top popped) ≡ ps
 popped-pushed_page ps p v lt =
     on_page-on_page ps p (on_top (pushed v)) (on_top popped) lt
     ∙ on_page-same ps p (λ fs. on_top popped (on_top (pushed v) fs)) (back (frames_of ps p))
@@ -178,7 +177,7 @@ popped-pushed_page ps p v lt =
     back (f ∷ fs) = ap (λ (g : Frame). g ∷ fs) (popped-pushed v f)
 
 -- what a call takes of a stack: the receiver and the arguments above it
-pub stack-cut : (xs : List Oop) (args : ℕ) → args + 1 ≤ length xs
+pub stack-cut : (xs : List ℕ) (args : ℕ) → args + 1 ≤ length xs
     → xs ≡ take (length xs - (args + 1)) xs ++ get_or xs (length xs - (args + 1)) nil ∷ drop (length xs - args) xs
 stack-cut xs args le =
     let i = length xs - (args + 1) in
@@ -197,7 +196,7 @@ rest_of-called new [] = refl
 rest_of-called new (f ∷ fs) = refl
 
 pub stack-called : (new : NewFrame) (fs : List Frame) → (top (called new fs)).stack ≡ drop (length (top fs).stack - new.args) (top fs).stack ++ replicate new.fill nil
-stack-called new [] = ap (λ (xs : List Oop). xs ++ replicate new.fill nil) (sym (drop-nil {A = Oop} (0 - new.args)))
+stack-called new [] = ap (λ (xs : List ℕ). xs ++ replicate new.fill nil) (sym (drop-nil {A = ℕ} (0 - new.args)))
 stack-called new (f ∷ fs) = refl
 
 pub length-stack_called : (new : NewFrame) (fs : List Frame) → CanCall new.args fs → length (top (called new fs)).stack ≡ new.args + new.fill
@@ -218,7 +217,7 @@ used-on_nth k g [] lt = absurd (omega arith)
 used-on_nth zero g (f ∷ fs) lt = omega arith
 used-on_nth (suc k) g (f ∷ fs) lt = let r = used-on_nth k g fs (omega arith) in omega arith
 
-pub used-pushed : (v : Oop) (fs : List Frame) → 0 < length fs → used (on_top (pushed v) fs) ≡ used fs + 1
+pub used-pushed : (v : ℕ) (fs : List Frame) → 0 < length fs → used (on_top (pushed v) fs) ≡ used fs + 1
 used-pushed v [] lt = absurd (omega arith)
 used-pushed v (f ∷ fs) lt = omega (arith, length-append f.stack (v ∷ []))
 

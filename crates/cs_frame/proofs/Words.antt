@@ -1,8 +1,7 @@
 -- Runs of words, and one frame read from them.
 use Rattle.std.proofs.Common.{◌≡◌, ℕ, zero, suc, ◌+◌, ◌-◌, ◌%◌, ◌<◌, ◌≤◌, ◌⊎◌, List, [], ◌∷◌, ◌++◌, length, get_or, set, take, drop, replicate, refl, sym, ◌∙◌, ap, subst, inl, inr, arith, get_or-set_other, get_or-set_same, add-zero}
-use Rattle.cs_word.specs.declared.Oop.{Oop}
 use Rattle.cs_frame.specs.Frame.{IsPc}
-use Rattle.cs_frame.specs.Layout.{oop, word_at, words_from, frame_at, joined, NoLink, IsWhole}
+use Rattle.cs_frame.specs.Layout.{words_from, frame_at, joined, NoLink, IsWhole}
 use Rattle.cs_frame.specs.Written.{AllAre}
 
 -- the two agree on the words from i up to j
@@ -12,25 +11,25 @@ Same v w i j = (k : ℕ) → i ≤ k → k < j → get_or v k 0 ≡ get_or w k 0
 pub words_same : (v w : List ℕ) (i n : ℕ) → Same v w i (i + n) → words_from v i n ≡ words_from w i n
 words_same v w i zero s = refl
 words_same v w i (suc n) s =
-    ap (λ (x : ℕ). oop x ∷ words_from v (i + 1) n) (s i (omega arith) (omega arith))
-    ∙ ap (λ (ys : List Oop). word_at w i ∷ ys) (words_same v w (i + 1) n (λ k a b. s k (omega arith) (omega arith)))
+    ap (λ (x : ℕ). x ∷ words_from v (i + 1) n) (s i (omega arith) (omega arith))
+    ∙ ap (λ (ys : List ℕ). get_or w i 0 ∷ ys) (words_same v w (i + 1) n (λ k a b. s k (omega arith) (omega arith)))
 
-pub words_more : (w : List ℕ) (i n : ℕ) → words_from w i (suc n) ≡ words_from w i n ++ word_at w (i + n) ∷ []
+pub words_more : (w : List ℕ) (i n : ℕ) → words_from w i (suc n) ≡ words_from w i n ++ get_or w (i + n) 0 ∷ []
 words_more w i zero = rw add-zero
 words_more w i (suc n) =
     let e : (i + 1) + n ≡ i + suc n = omega arith in
-    ap (λ (ys : List Oop). word_at w i ∷ ys) (words_more w (i + 1) n ∙ ap (λ (k : ℕ). words_from w (i + 1) n ++ word_at w k ∷ []) e)
+    ap (λ (ys : List ℕ). get_or w i 0 ∷ ys) (words_more w (i + 1) n ∙ ap (λ (k : ℕ). words_from w (i + 1) n ++ get_or w k 0 ∷ []) e)
 
 pub length-words : (w : List ℕ) (i n : ℕ) → length (words_from w i n) ≡ n
 length-words w i zero = refl
 length-words w i (suc n) = ap suc (length-words w (i + 1) n)
 
-pub words_at : (w : List ℕ) (i n k : ℕ) (d : Oop) → k < n → get_or (words_from w i n) k d ≡ word_at w (i + k)
+pub words_at : (w : List ℕ) (i n k : ℕ) (d : ℕ) → k < n → get_or (words_from w i n) k d ≡ get_or w (i + k) 0
 words_at w i zero k d h = absurd (omega arith)
 words_at w i (suc n) zero d h = rw add-zero
 words_at w i (suc n) (suc k) d h =
     let e : (i + 1) + k ≡ i + suc k = omega arith in
-    words_at w (i + 1) n k d (omega arith) ∙ ap (λ (j : ℕ). word_at w j) e
+    words_at w (i + 1) n k d (omega arith) ∙ ap (λ (j : ℕ). get_or w j 0) e
 
 pub words_append : (w : List ℕ) (i m n : ℕ) → words_from w i (m + n) ≡ words_from w i m ++ words_from w (i + m) n
 words_append w i zero n =
@@ -38,13 +37,13 @@ words_append w i zero n =
     ap (λ (j : ℕ). words_from w i j) e ∙ ap (λ (j : ℕ). words_from w j n) (sym f)
 words_append w i (suc m) n =
     let e : suc m + n ≡ suc (m + n) = omega arith in let f : (i + 1) + m ≡ i + suc m = omega arith in
-    ap (λ (j : ℕ). words_from w i j) e ∙ ap (λ (ys : List Oop). word_at w i ∷ ys)
+    ap (λ (j : ℕ). words_from w i j) e ∙ ap (λ (ys : List ℕ). get_or w i 0 ∷ ys)
     (words_append w (i + 1) m n ∙ ap (λ (j : ℕ). words_from w (i + 1) m ++ words_from w j n) f)
 
 pub words_take : (w : List ℕ) (i m n : ℕ) → m ≤ n → take m (words_from w i n) ≡ words_from w i m
 words_take w i zero n le = refl
 words_take w i (suc m) zero le = absurd (omega arith)
-words_take w i (suc m) (suc n) le = ap (λ (ys : List Oop). word_at w i ∷ ys) (words_take w (i + 1) m n (omega arith))
+words_take w i (suc m) (suc n) le = ap (λ (ys : List ℕ). get_or w i 0 ∷ ys) (words_take w (i + 1) m n (omega arith))
 
 pub words_drop : (w : List ℕ) (i m n : ℕ) → m ≤ n → drop m (words_from w i n) ≡ words_from w (i + m) (n - m)
 words_drop w i zero n le =
@@ -63,41 +62,41 @@ words_moved v w i j (suc n) s =
     let rest = words_moved v w (i + 1) (j + 1) n (λ k a.
     ap (λ (m : ℕ). get_or v m 0) (let e : (i + 1) + k ≡ i + suc k = omega arith in e) ∙ (s (suc k) (omega arith)
     ∙ ap (λ (m : ℕ). get_or w m 0) (let e : j + suc k ≡ (j + 1) + k = omega arith in e))) in
-    ap (λ (x : ℕ). oop x ∷ words_from v (i + 1) n) first ∙ ap (λ (ys : List Oop). word_at w j ∷ ys) rest
+    ap (λ (x : ℕ). x ∷ words_from v (i + 1) n) first ∙ ap (λ (ys : List ℕ). get_or w j 0 ∷ ys) rest
 
-pub words_const : (v : List ℕ) (i n x : ℕ) → AllAre v i (i + n) x → words_from v i n ≡ replicate n (oop x)
+pub words_const : (v : List ℕ) (i n x : ℕ) → AllAre v i (i + n) x → words_from v i n ≡ replicate n x
 words_const v i zero x a = refl
 words_const v i (suc n) x a =
-    ap (λ (y : ℕ). oop y ∷ words_from v (i + 1) n) (a i (omega arith) (omega arith))
-    ∙ ap (λ (ys : List Oop). oop x ∷ ys) (words_const v (i + 1) n x (λ k l m. a k (omega arith) (omega arith)))
+    ap (λ (y : ℕ). y ∷ words_from v (i + 1) n) (a i (omega arith) (omega arith))
+    ∙ ap (λ (ys : List ℕ). x ∷ ys) (words_const v (i + 1) n x (λ k l m. a k (omega arith) (omega arith)))
 
 -- a write of the k-th word of a run
-pub words_set : (w : List ℕ) (i n k x : ℕ) → k < n → i + k < length w → words_from (set w (i + k) x) i n ≡ set (words_from w i n) k (oop x)
+pub words_set : (w : List ℕ) (i n k x : ℕ) → k < n → i + k < length w → words_from (set w (i + k) x) i n ≡ set (words_from w i n) k x
 words_set w i zero k x h lt = absurd (omega arith)
 words_set w i (suc n) zero x h lt =
     let e : i + 0 ≡ i = omega arith in let lt' : i < length w = omega arith in
-    subst (λ (j : ℕ). words_from (set w j x) i (suc n) ≡ oop x ∷ words_from w (i + 1) n) (sym e)
-    (ap (λ (y : ℕ). oop y ∷ words_from (set w i x) (i + 1) n) (get_or-set_same w i x 0 lt')
-    ∙ ap (λ (ys : List Oop). oop x ∷ ys) (words_same (set w i x) w (i + 1) n (λ j a b. get_or-set_other w i j x 0 (omega arith))))
+    subst (λ (j : ℕ). words_from (set w j x) i (suc n) ≡ x ∷ words_from w (i + 1) n) (sym e)
+    (ap (λ (y : ℕ). y ∷ words_from (set w i x) (i + 1) n) (get_or-set_same w i x 0 lt')
+    ∙ ap (λ (ys : List ℕ). x ∷ ys) (words_same (set w i x) w (i + 1) n (λ j a b. get_or-set_other w i j x 0 (omega arith))))
 words_set w i (suc n) (suc k) x h lt =
     let e : (i + 1) + k ≡ i + suc k = omega arith in
-    subst (λ (j : ℕ). words_from (set w j x) i (suc n) ≡ word_at w i ∷ set (words_from w (i + 1) n) k (oop x)) e
-    (ap (λ (y : ℕ). oop y ∷ words_from (set w ((i + 1) + k) x) (i + 1) n) (get_or-set_other w ((i + 1) + k) i x 0 (omega arith))
-    ∙ ap (λ (ys : List Oop). word_at w i ∷ ys) (words_set w (i + 1) n k x (omega arith) (omega arith)))
+    subst (λ (j : ℕ). words_from (set w j x) i (suc n) ≡ get_or w i 0 ∷ set (words_from w (i + 1) n) k x) e
+    (ap (λ (y : ℕ). y ∷ words_from (set w ((i + 1) + k) x) (i + 1) n) (get_or-set_other w ((i + 1) + k) i x 0 (omega arith))
+    ∙ ap (λ (ys : List ℕ). get_or w i 0 ∷ ys) (words_set w (i + 1) n k x (omega arith) (omega arith)))
 
 -- a frame by its words
-pub frame_parts : (v : List ℕ) (base fp sp a1 a2 a3 a4 a5 a6 a7 a8 : ℕ) (stack : List Oop) → get_or v (fp + 1) 0 ≡ a1 → get_or v (fp + 2) 0 ≡ a2
+pub frame_parts : (v : List ℕ) (base fp sp a1 a2 a3 a4 a5 a6 a7 a8 : ℕ) (stack : List ℕ) → get_or v (fp + 1) 0 ≡ a1 → get_or v (fp + 2) 0 ≡ a2
     → get_or v (fp + 3) 0 ≡ a3 → get_or v (fp + 4) 0 ≡ a4 → get_or v (fp + 5) 0 ≡ a5 → get_or v (fp + 6) 0 ≡ a6 → get_or v (fp + 7) 0 ≡ a7
     → get_or v (fp + 8) 0 ≡ a8 → words_from v (fp + 10) (sp - (fp + 10)) ≡ stack
     → frame_at v base fp sp ≡ record {
       at = fp - base;
-      caller = oop a1;
-      saved_pc = oop a2;
-      method = oop a3;
-      closure = oop a4;
-      context = oop a5;
+      caller = a1;
+      saved_pc = a2;
+      method = a3;
+      closure = a4;
+      context = a5;
       birth = joined a6 a7;
-      receiver = oop a8;
+      receiver = a8;
       stack = stack;
     }
 frame_parts v base fp sp a1 a2 a3 a4 a5 a6 a7 a8 stack e1 e2 e3 e4 e5 e6 e7 e8 es = rw (e1, e2, e3, e4, e5, e6, e7, e8, es)
@@ -113,14 +112,14 @@ overhead_same v w base fp sp sp' s =
 pub frame_same : (v w : List ℕ) (base fp sp : ℕ) → fp + 10 ≤ sp → Same v w fp sp → frame_at v base fp sp ≡ frame_at w base fp sp
 frame_same v w base fp sp le s =
     overhead_same v w base fp sp sp (λ k a b. s k a (omega arith))
-    ∙ ap (λ (ys : List Oop). record (frame_at w base fp sp) { stack = ys })
+    ∙ ap (λ (ys : List ℕ). record (frame_at w base fp sp) { stack = ys })
     (words_same v w (fp + 10) (sp - (fp + 10)) (λ k a b. s k (omega arith) (omega arith)))
 
 pub no_link_same : (v w : List ℕ) (i j : ℕ) → Same v w i j → NoLink w i j → NoLink v i j
 no_link_same v w i j s n k a b e = n k a b (ap (λ (x : ℕ). x % 8) (sym (s k a b)) ∙ e)
 
-pub pc_same : (v w : List ℕ) (k : ℕ) → get_or v k 0 ≡ get_or w k 0 → IsPc (word_at w k) → IsPc (word_at v k)
-pc_same v w k e p = subst (λ (n : ℕ). IsPc (oop n)) (sym e) p
+pub pc_same : (v w : List ℕ) (k : ℕ) → get_or v k 0 ≡ get_or w k 0 → IsPc (get_or w k 0) → IsPc (get_or v k 0)
+pc_same v w k e p = subst (λ (n : ℕ). IsPc n) (sym e) p
 
 pub whole_same : (v w : List ℕ) (fp sp : ℕ) → Same v w fp sp → IsWhole w fp sp → IsWhole v fp sp
 whole_same v w fp sp s h =

@@ -1,21 +1,14 @@
 -- How the words of the zone are read as frames: down the saved frame pointers from the last frame of a page.
 use Rattle.std.specs.Prelude.{◌≡◌, ◌≢◌, ℕ, zero, suc, ◌+◌, ◌-◌, ◌*◌, ◌/◌, ◌%◌, ◌^◌, ◌<◌, ◌≤◌, List, [], ◌∷◌, length, slice_index}
-use Rattle.cs_word.specs.declared.Oop.{Oop}
 use Rattle.cs_frame.specs.declared.Head.{Head}
 use Rattle.cs_frame.specs.declared.Part.{Part}
 use Rattle.cs_frame.specs.declared.Part.TheVariants as part
 use Rattle.cs_frame.specs.Frame.{Frame, IsLink, IsPc, IsValue, with_caller, with_saved_pc, with_method, with_closure, with_context, with_receiver}
 
-abbrev pub oop : ℕ → Oop
-oop word = record { 0 = word }
-
-abbrev pub word_at : List ℕ → ℕ → Oop
-word_at w i = oop (slice_index w i)
-
 -- n words from i on
-abbrev pub words_from : List ℕ → ℕ → ℕ → List Oop
+abbrev pub words_from : List ℕ → ℕ → ℕ → List ℕ
 words_from w i zero = []
-words_from w i (suc n) = word_at w i ∷ words_from w (i + 1) n
+words_from w i (suc n) = slice_index w i ∷ words_from w (i + 1) n
 
 -- the number that two SmallIntegers of 31 bits keep
 abbrev pub joined : ℕ → ℕ → ℕ
@@ -25,13 +18,13 @@ joined low high = low / 2 + high / 2 * 2 ^ 31
 abbrev pub frame_at : List ℕ → ℕ → ℕ → ℕ → Frame
 frame_at w base fp sp = record {
   at = fp - base;
-  caller = word_at w (fp + 1);
-  saved_pc = word_at w (fp + 2);
-  method = word_at w (fp + 3);
-  closure = word_at w (fp + 4);
-  context = word_at w (fp + 5);
+  caller = slice_index w (fp + 1);
+  saved_pc = slice_index w (fp + 2);
+  method = slice_index w (fp + 3);
+  closure = slice_index w (fp + 4);
+  context = slice_index w (fp + 5);
   birth = joined (slice_index w (fp + 6)) (slice_index w (fp + 7));
-  receiver = word_at w (fp + 8);
+  receiver = slice_index w (fp + 8);
   stack = words_from w (fp + 10) (sp - (fp + 10));
 }
 
@@ -53,7 +46,7 @@ pub record IsWhole (w : List ℕ) (fp sp : ℕ) : Type 0 where
   pub overhead : fp + 10 ≤ sp
   pub link : IsLink (slice_index w fp)
   pub values : NoLink w (fp + 1) sp
-  pub pc : IsPc (word_at w (fp + 2))
+  pub pc : IsPc (slice_index w (fp + 2))
 
 -- the frames lie on each other without a gap, the base frame at base
 abbrev pub Stands : ℕ → List ℕ → ℕ → ℕ → ℕ → Type 0
@@ -91,7 +84,7 @@ offset_of part.Closure = 4
 offset_of part.Context = 5
 offset_of part.Receiver = 8
 
-abbrev pub part_of : Part → Frame → Oop
+abbrev pub part_of : Part → Frame → ℕ
 part_of part.Caller f = f.caller
 part_of part.SavedPc f = f.saved_pc
 part_of part.Method f = f.method
@@ -99,7 +92,7 @@ part_of part.Closure f = f.closure
 part_of part.Context f = f.context
 part_of part.Receiver f = f.receiver
 
-abbrev pub with_part : Part → Oop → Frame → Frame
+abbrev pub with_part : Part → ℕ → Frame → Frame
 with_part part.Caller v f = with_caller v f
 with_part part.SavedPc v f = with_saved_pc v f
 with_part part.Method v f = with_method v f
@@ -108,7 +101,7 @@ with_part part.Context v f = with_context v f
 with_part part.Receiver v f = with_receiver v f
 
 -- what the part may hold
-abbrev pub CanHold : Part → Oop → Type 0
+abbrev pub CanHold : Part → ℕ → Type 0
 CanHold part.Caller v = IsValue v
 CanHold part.SavedPc v = IsPc v
 CanHold part.Method v = IsValue v

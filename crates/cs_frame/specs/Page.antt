@@ -1,7 +1,6 @@
 -- A page: the frames that stand on it, the last one first. Each frame but the lowest, the base frame, was called by the one
 -- behind it in the list.
 use Rattle.std.specs.Prelude.{◌≡◌, ℕ, zero, suc, ◌+◌, ◌-◌, ◌<◌, ◌≤◌, ◌==◌, if◌then◌else◌, List, [], ◌∷◌, ◌++◌, length, drop, replicate, slice_index_or, slice_set}
-use Rattle.cs_word.specs.declared.Oop.{Oop}
 use Rattle.cs_frame.specs.declared.FrameRef.{FrameRef}
 use Rattle.cs_frame.specs.declared.NewFrame.{NewFrame}
 use Rattle.cs_frame.specs.Frame.{Frame, nil, blank, cut, IsValue}
@@ -83,23 +82,23 @@ abbrev pub IsBase : List (List Frame) → FrameRef → Type 0
 IsBase ps r = suc (index_in ps r) ≡ length (frames_of ps r.page)
 
 -- a frame as it is made: its stack is the arguments and then nils, and it has no pc and no context
-abbrev pub fresh : NewFrame → ℕ → Oop → List Oop → Frame
+abbrev pub fresh : NewFrame → ℕ → ℕ → List ℕ → Frame
 fresh new at caller arguments = record {
   at = at;
   caller = caller;
   saved_pc = nil;
-  method = new.method;
-  closure = new.closure;
+  method = new.method.0;
+  closure = new.closure.0;
   context = nil;
   birth = new.birth;
-  receiver = new.receiver;
+  receiver = new.receiver.0;
   stack = arguments ++ replicate new.fill nil;
 }
 
 -- the page with a new frame: the base frame where the page was empty, with its receiver for a sender; else one above the
 -- last frame, whose receiver and arguments it takes
 abbrev pub called : NewFrame → List Frame → List Frame
-called new [] = fresh new 0 new.receiver [] ∷ []
+called new [] = fresh new 0 new.receiver.0 [] ∷ []
 called new (f ∷ fs) =
     let caller = cut new.args f in
     fresh new (used (caller ∷ fs)) nil (drop (length f.stack - new.args) f.stack) ∷ caller ∷ fs
@@ -111,6 +110,6 @@ CanCall args (f ∷ fs) = args + 1 ≤ length f.stack
 
 -- what a new frame is given to hold is no link
 pub record HoldsValues (new : NewFrame) : Type 0 where
-  pub method : IsValue new.method
-  pub closure : IsValue new.closure
-  pub receiver : IsValue new.receiver
+  pub method : IsValue new.method.0
+  pub closure : IsValue new.closure.0
+  pub receiver : IsValue new.receiver.0

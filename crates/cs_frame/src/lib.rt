@@ -9,8 +9,8 @@
 //! last one first (`specs/Page.antt`). Each frame keeps its own place, `at`, as long as it stands.
 #![tactic(auto)]
 
-ghost use Rattle.std.specs.Prelude.{◌≡◌, ℕ, zero, ◌+◌, ◌*◌, ◌/◌, ◌^◌, ◌<◌, ◌≤◌, ◌↔◌, List, [], ◌∷◌, ◌++◌, IfOk, IsNone, IfSome, replicate, length, slice_index_or};
-ghost use Rattle.cs_frame.specs.Frame.{Frame, IsValue, IsPc, nil, with_caller, with_saved_pc, with_method, with_closure, with_context, with_receiver, with_slot, pushed, popped};
+ghost use Rattle.std.specs.Prelude.{◌≡◌, ℕ, zero, ◌+◌, ◌*◌, ◌/◌, ◌^◌, ◌<◌, ◌≤◌, ◌↔◌, List, [], ◌∷◌, ◌++◌, IfOk, IsNone, IfSome, replicate, length, slice_index};
+ghost use Rattle.cs_frame.specs.Frame.{Frame, IsValue, IsPc, with_caller, with_saved_pc, with_method, with_closure, with_context, with_receiver, with_slot, pushed, popped};
 ghost use Rattle.cs_frame.specs.Page.{used, IsStacked, top, on_top, rest_of, frames_of, on_page, ref_of, IsFrame, frame, caller_of, on_frame, IsTop, IsBase, called, CanCall, HoldsValues};
 ghost use Rattle.cs_frame.specs.Layout.{part_of, with_part, CanHold, offset_of};
 ghost use Rattle.cs_frame.specs.Written.{empty_heads, SameOutside, AllAre, HasOverhead, half_word};
@@ -225,8 +225,8 @@ impl Frames {
     pub fn push(&mut self, f: FrameRef, v: Oop)
         requires top { IsTop self.old f }
         requires room { used (frames_of self.old f.page) < 4096 }
-        requires value { IsValue v }
-        ensures pushed { self.new ≡ on_page self.old f.page (on_top (pushed v)) }
+        requires value { IsValue v.0 }
+        ensures pushed { self.new ≡ on_page self.old f.page (on_top (pushed v.0)) }
     {
         let page = f.page as usize;
         let head = self.heads[page];
@@ -243,7 +243,7 @@ impl Frames {
     pub fn pop(&mut self, f: FrameRef) -> Oop
         requires top { IsTop self.old f }
         requires value { 0 < length (top (frames_of self.old f.page)).stack }
-        ensures value { (top (frames_of self.old f.page)).stack ≡ (top (frames_of self.new f.page)).stack ++ result ∷ [] }
+        ensures value { (top (frames_of self.old f.page)).stack ≡ (top (frames_of self.new f.page)).stack ++ result.0 ∷ [] }
         ensures popped { self.new ≡ on_page self.old f.page (on_top popped) }
     {
         let page = f.page as usize;
@@ -277,7 +277,7 @@ impl Frames {
     pub fn slot(&self, f: FrameRef, i: u32) -> Oop
         requires frame { IsFrame self.now f }
         requires index { i < length (frame self.now f).stack }
-        ensures value { result ≡ slice_index_or (frame self.now f).stack i nil }
+        ensures value { result.0 ≡ slice_index (frame self.now f).stack i }
     {
         Oop(self.zone.get(place(f, OVERHEAD + i)))
     }
@@ -286,8 +286,8 @@ impl Frames {
     pub fn set_slot(&mut self, f: FrameRef, i: u32, v: Oop)
         requires frame { IsFrame self.old f }
         requires index { i < length (frame self.old f).stack }
-        requires value { IsValue v }
-        ensures slot { self.new ≡ on_frame self.old f (with_slot i v) }
+        requires value { IsValue v.0 }
+        ensures slot { self.new ≡ on_frame self.old f (with_slot i v.0) }
     {
         self.zone.set(place(f, OVERHEAD + i), v.0);
     }
@@ -322,8 +322,8 @@ impl Frames {
     /// The pc at which the frame's activation goes on: nil or a SmallInteger.
     pub fn saved_pc(&self, f: FrameRef) -> Oop
         requires frame { IsFrame self.now f }
-        ensures saved_pc { result ≡ (frame self.now f).saved_pc }
-        ensures pc { IsPc result }
+        ensures saved_pc { result.0 ≡ (frame self.now f).saved_pc }
+        ensures pc { IsPc result.0 }
     {
         self.part(f, Part::SavedPc)
     }
@@ -331,8 +331,8 @@ impl Frames {
     /// Saves the pc, nil or a SmallInteger.
     pub fn set_saved_pc(&mut self, f: FrameRef, v: Oop)
         requires frame { IsFrame self.old f }
-        requires pc { IsPc v }
-        ensures saved_pc { self.new ≡ on_frame self.old f (with_saved_pc v) }
+        requires pc { IsPc v.0 }
+        ensures saved_pc { self.new ≡ on_frame self.old f (with_saved_pc v.0) }
     {
         self.set_part(f, Part::SavedPc, v);
     }
@@ -340,7 +340,7 @@ impl Frames {
     /// The method that runs in the frame.
     pub fn method(&self, f: FrameRef) -> Oop
         requires frame { IsFrame self.now f }
-        ensures method { result ≡ (frame self.now f).method }
+        ensures method { result.0 ≡ (frame self.now f).method }
     {
         self.part(f, Part::Method)
     }
@@ -348,8 +348,8 @@ impl Frames {
     /// Changes the method that runs in the frame.
     pub fn set_method(&mut self, f: FrameRef, v: Oop)
         requires frame { IsFrame self.old f }
-        requires value { IsValue v }
-        ensures method { self.new ≡ on_frame self.old f (with_method v) }
+        requires value { IsValue v.0 }
+        ensures method { self.new ≡ on_frame self.old f (with_method v.0) }
     {
         self.set_part(f, Part::Method, v);
     }
@@ -357,7 +357,7 @@ impl Frames {
     /// The closure that the frame evaluates, or nil where it runs a method.
     pub fn closure(&self, f: FrameRef) -> Oop
         requires frame { IsFrame self.now f }
-        ensures closure { result ≡ (frame self.now f).closure }
+        ensures closure { result.0 ≡ (frame self.now f).closure }
     {
         self.part(f, Part::Closure)
     }
@@ -365,8 +365,8 @@ impl Frames {
     /// Changes the frame's closure.
     pub fn set_closure(&mut self, f: FrameRef, v: Oop)
         requires frame { IsFrame self.old f }
-        requires value { IsValue v }
-        ensures closure { self.new ≡ on_frame self.old f (with_closure v) }
+        requires value { IsValue v.0 }
+        ensures closure { self.new ≡ on_frame self.old f (with_closure v.0) }
     {
         self.set_part(f, Part::Closure, v);
     }
@@ -374,7 +374,7 @@ impl Frames {
     /// The context that the frame is the body of, or nil where it has none.
     pub fn context(&self, f: FrameRef) -> Oop
         requires frame { IsFrame self.now f }
-        ensures context { result ≡ (frame self.now f).context }
+        ensures context { result.0 ≡ (frame self.now f).context }
     {
         self.part(f, Part::Context)
     }
@@ -382,8 +382,8 @@ impl Frames {
     /// Changes the frame's context.
     pub fn set_context(&mut self, f: FrameRef, v: Oop)
         requires frame { IsFrame self.old f }
-        requires value { IsValue v }
-        ensures context { self.new ≡ on_frame self.old f (with_context v) }
+        requires value { IsValue v.0 }
+        ensures context { self.new ≡ on_frame self.old f (with_context v.0) }
     {
         self.set_part(f, Part::Context, v);
     }
@@ -391,7 +391,7 @@ impl Frames {
     /// The receiver of the frame's activation.
     pub fn receiver(&self, f: FrameRef) -> Oop
         requires frame { IsFrame self.now f }
-        ensures receiver { result ≡ (frame self.now f).receiver }
+        ensures receiver { result.0 ≡ (frame self.now f).receiver }
     {
         self.part(f, Part::Receiver)
     }
@@ -399,8 +399,8 @@ impl Frames {
     /// Changes the receiver of the frame's activation.
     pub fn set_receiver(&mut self, f: FrameRef, v: Oop)
         requires frame { IsFrame self.old f }
-        requires value { IsValue v }
-        ensures receiver { self.new ≡ on_frame self.old f (with_receiver v) }
+        requires value { IsValue v.0 }
+        ensures receiver { self.new ≡ on_frame self.old f (with_receiver v.0) }
     {
         self.set_part(f, Part::Receiver, v);
     }
@@ -408,7 +408,7 @@ impl Frames {
     /// The sender of a base frame.
     pub fn sender(&self, f: FrameRef) -> Oop
         requires base { IsBase self.now f }
-        ensures sender { result ≡ (frame self.now f).caller }
+        ensures sender { result.0 ≡ (frame self.now f).caller }
     {
         self.part(f, Part::Caller)
     }
@@ -416,24 +416,24 @@ impl Frames {
     /// Changes the sender of a base frame.
     pub fn set_sender(&mut self, f: FrameRef, ctx: Oop)
         requires base { IsBase self.old f }
-        requires value { IsValue ctx }
-        ensures sender { self.new ≡ on_frame self.old f (with_caller ctx) }
+        requires value { IsValue ctx.0 }
+        ensures sender { self.new ≡ on_frame self.old f (with_caller ctx.0) }
     {
         self.set_part(f, Part::Caller, ctx);
     }
 
     fn part(&self, f: FrameRef, part: Part) -> Oop
         requires frame { IsFrame self.now f }
-        ensures part { result ≡ part_of part (frame self.now f) }
-        ensures held { CanHold part result }
+        ensures part { result.0 ≡ part_of part (frame self.now f) }
+        ensures held { CanHold part result.0 }
     {
         Oop(self.zone.get(place(f, part.offset())))
     }
 
     fn set_part(&mut self, f: FrameRef, part: Part, v: Oop)
         requires frame { IsFrame self.old f }
-        requires held { CanHold part v }
-        ensures part { self.new ≡ on_frame self.old f (with_part part v) }
+        requires held { CanHold part v.0 }
+        ensures part { self.new ≡ on_frame self.old f (with_part part v.0) }
     {
         self.zone.set(place(f, part.offset()), v.0);
     }

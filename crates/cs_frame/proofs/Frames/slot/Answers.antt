@@ -1,6 +1,4 @@
-use Rattle.std.proofs.Common.{◌∙◌, ap, arith}
-use Rattle.cs_frame.specs.Frame.{nil}
-use Rattle.cs_frame.specs.Layout.{oop, word_at}
+use Rattle.std.proofs.Common.{ℕ, get_or, ◌∙◌, ap, arith}
 use Rattle.cs_frame.proofs.Pages.{found}
 use Rattle.cs_frame.proofs.Calls.{slot_is, depth_is}
 use Rattle.cs_frame.proofs.Frames.slot.Goals as goal
@@ -34,5 +32,5 @@ get-requires c =
 pub returns : goal.returns
 returns c =
     let f = found c.self.invariant c.self.view_is c.args.f c.requires.frame in
-    let e = ap oop c.get.ensures.word ∙ ap (word_at c.self.inside.zone) c.place.ensures.place in
-    record { value = (e ∙ slot_is f c.args.i nil c.requires.index) }
+    let e = c.get.ensures.word ∙ ap (λ (k : ℕ). get_or c.self.inside.zone k 0) c.place.ensures.place in
+    record { value = (e ∙ slot_is f c.args.i 0 c.requires.index) }
