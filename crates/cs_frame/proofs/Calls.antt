@@ -11,7 +11,8 @@ use Rattle.cs_frame.specs.Page.{used, IsStacked, top, on_top, rest_of, nth, fram
 use Rattle.cs_frame.specs.Layout.{words_from, frame_at, frames_down, below, IsWhole, IsPage, IsLaid, pages_of, offset_of, part_of, with_part, CanHold}
 use Rattle.cs_frame.proofs.Words.{words_same, words_at, length-words, words_set, frame_parts, overhead_same}
 use Rattle.cs_frame.proofs.Stacks.{begin_nth, begin-suc, length-frames, nth-frames, lies, used_is, stacked}
-use Rattle.cs_frame.proofs.Pages.{Opened, opened, closed, SameOff, Found, found, inner_done, page-in}
+use Rattle.cs_frame.proofs.PageLaws.{page_in}
+use Rattle.cs_frame.proofs.Pages.{Opened, opened, closed, SameOff, Found, found, inner_done}
 use Rattle.cs_frame.proofs.Ends.{pushed_top, Pops, pops, Drops, drops}
 
 -- a write on the page changes no other
@@ -34,7 +35,7 @@ pub push_done : {w v : List ℕ} {hs : List Head} {ps : List (List Frame)} {h : 
     → let h' : Head = record { frame = h.frame; end = h.end + 1; count = h.count } in
     IsLaid v (set hs p h') × (pages_of v 0 (set hs p h') ≡ on_page ps p (on_top (pushed x)))
 push_done {w} {v} {hs} {ps} {h} laid e p x some eh room plain ev =
-    let o = opened laid e p (page-in ps p some) eh in
+    let o = opened laid e p (page_in ps p some) eh in
     let b = p * 4096 in
     let h' : Head = record { frame = h.frame; end = h.end + 1; count = h.count } in
     let u = used_words o in let n = some_frame o in
@@ -49,7 +50,7 @@ pub pop_bounds : {w : List ℕ} {hs : List Head} {ps : List (List Frame)} {h : H
     → 0 < length (frames_of ps p) → h ≡ get_or hs p h → 0 < length (top (frames_of ps p)).stack
     → Opened w hs p h (frames_of ps p) × Pops h.count w (p * 4096) h.frame h.end (p * 4096 + 4096)
 pop_bounds {w} {hs} {ps} {h} laid e p some eh value =
-    let o = opened laid e p (page-in ps p some) eh in
+    let o = opened laid e p (page_in ps p some) eh in
     let value' : 0 < length (top (frames_down h.count w (p * 4096) h.frame h.end)).stack =
     subst (λ (fs : List Frame). 0 < length (top fs).stack) o.is value in
     (o, pops h.count w (p * 4096) h.frame h.end (p * 4096 + 4096) o.page.stands value' o.page.free)
@@ -76,7 +77,7 @@ pop_value {w} {hs} {ps} {h} {x} laid e p some eh value ex =
     let d = pop_done laid e p some eh value in
     let S : List Frame → List ℕ = λ fs. (top fs).stack in
     let now : frames_of (pages_of w 0 (set hs p h')) p ≡ frames_down h.count w (p * 4096) h.frame (h.end - 1) =
-    ap (λ (qs : List (List Frame)). frames_of qs p) d.1 ∙ (get_or-set_same ps p (on_top popped (frames_of ps p)) [] (page-in ps p some)
+    ap (λ (qs : List (List Frame)). frames_of qs p) d.1 ∙ (get_or-set_same ps p (on_top popped (frames_of ps p)) [] (page_in ps p some)
     ∙ (ap (on_top popped) o.is ∙ sym t.frames)) in
     ap S o.is ∙ (t.value ∙ (ap (λ (ys : List ℕ). ys ++ get_or w (h.end - 1) 0 ∷ []) (ap S (sym now))
     ∙ ap (λ (y : ℕ). S (frames_of (pages_of w 0 (set hs p h')) p) ++ y ∷ []) (sym ex)))
@@ -85,7 +86,7 @@ pub drop_bounds : {w : List ℕ} {hs : List Head} {ps : List (List Frame)} {h : 
     → 0 < length (frames_of ps p) → h ≡ get_or hs p h
     → Opened w hs p h (frames_of ps p) × Drops h.count w (p * 4096) h.frame h.end (p * 4096 + 4096)
 drop_bounds {w} {hs} {ps} {h} laid e p some eh =
-    let o = opened laid e p (page-in ps p some) eh in
+    let o = opened laid e p (page_in ps p some) eh in
     let some' : 0 < length (frames_down h.count w (p * 4096) h.frame h.end) = subst (λ (fs : List Frame). 0 < length fs) o.is some in
     let high = o.high in let fits = o.fits in
     (o, drops h.count w (p * 4096) h.frame h.end (p * 4096 + 4096) o.page.stands some' (omega arith) o.page.free)

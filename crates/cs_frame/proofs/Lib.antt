@@ -7,3 +7,4 @@ pub mod Walks
 pub mod Empties
 pub mod Builds
 pub mod PageLaws
+pub mod Values

@@ -1,6 +1,6 @@
 -- Laws of pages as lists of frames, for the crates above: what a change leaves alone, where a frame stands, and how many
 -- words are used.
-use Rattle.std.proofs.Common.{◌≡◌, ◌≢◌, ℕ, zero, suc, ◌+◌, ◌-◌, ◌<◌, ◌≤◌, List, [], ◌∷◌, ◌++◌, length, get_or, set, take, drop, replicate, cond, eqb, refl, sym, ◌∙◌, ap, inl, inr, arith, get_or-set_other, get_or-set_same, length-append, length-drop}
+use Rattle.std.proofs.Common.{subst, ◌≡◌, ◌≢◌, ℕ, zero, suc, ◌+◌, ◌-◌, ◌<◌, ◌≤◌, List, [], ◌∷◌, ◌++◌, length, get_or, set, take, drop, replicate, cond, eqb, refl, sym, ◌∙◌, ap, inl, inr, arith, get_or-set_other, get_or-set_same, length-append, length-drop}
 use Rattle.std.proofs.lemmas.Bool.{cases_Bool, cases_eq, eqb-true, eq-eqb, ne_eqb}
 use Rattle.std.proofs.lemmas.List.{length-set, length-replicate, length-take, set-set, set-get_or, set_comm, take_at}
 use Rattle.std.proofs.Math.Seq.{drop-nil, split_at}
@@ -36,6 +36,12 @@ on_page-on_page_other ps p q g h ne =
 
 pub on_page-same : (ps : List (List Frame)) (p : ℕ) (h : List Frame → List Frame) → h (frames_of ps p) ≡ frames_of ps p → on_page ps p h ≡ ps
 on_page-same ps p h e = ap (λ (fs : List Frame). set ps p fs) e ∙ set-get_or ps p []
+
+-- a page that has frames is one of the pages
+pub page_in : (ps : List (List Frame)) (p : ℕ) → 0 < length (frames_of ps p) → p < length ps
+page_in [] p lt = absurd (omega arith)
+page_in (q ∷ qs) zero lt = omega arith
+page_in (q ∷ qs) (suc p) lt = let r = page_in qs p lt in omega arith
 
 -- One frame of a page.
 
@@ -104,13 +110,18 @@ IsTop-is_frame ps r is = first (frames_of ps r.page) is.0 is.1
         let here : index_of (f ∷ fs) r.at ≡ 0 = ap (λ b. cond b 0 (suc (index_of fs r.at))) (eq-eqb f.at r.at (sym e)) in
         (here, omega arith)
 
+-- and it stays the last one while it and the frames below change
+pub IsTop-on_top : (ps : List (List Frame)) (r : FrameRef) (g : Frame → Frame) → KeepsPlace g → IsTop ps r → IsTop (on_page ps r.page (on_top g)) r
+IsTop-on_top ps r g keeps is =
+    subst (λ (fs : List Frame). (0 < length fs) × (r.at ≡ (top fs).at)) (sym (frames_of-on_page ps r.page (on_top g) (page_in ps r.page is.0)))
+    (first (frames_of ps r.page) is.0 is.1)
+  where
+    first : (fs : List Frame) → 0 < length fs → r.at ≡ (top fs).at → (0 < length (on_top g fs)) × (r.at ≡ (top (on_top g fs)).at)
+    first [] lt e = absurd (omega arith)
+    first (f ∷ fs) lt e = (omega arith, e ∙ sym (keeps f))
+
 pub page-IsFrame : (ps : List (List Frame)) (r : FrameRef) → IsFrame ps r → r.page < length ps
 page-IsFrame ps r is = page_in ps r.page (omega arith)
-  where
-    page_in : (qs : List (List Frame)) (p : ℕ) → 0 < length (frames_of qs p) → p < length qs
-    page_in [] p lt = absurd (omega arith)
-    page_in (q ∷ qs) zero lt = omega arith
-    page_in (q ∷ qs) (suc p) lt = let i = page_in qs p lt in omega arith
 
 -- A change of one frame leaves every other frame and page.
 

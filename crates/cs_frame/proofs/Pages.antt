@@ -8,7 +8,7 @@ use Rattle.cs_frame.specs.Page.{nth, on_nth, frames_of, index_in, IsFrame, frame
 use Rattle.cs_frame.specs.Layout.{frame_at, frames_down, IsWhole, IsPage, ArePages, IsLaid, pages_of}
 use Rattle.cs_frame.proofs.Words.{Same, no_link_same}
 use Rattle.cs_frame.proofs.Stacks.{begin_nth, end_nth, length-frames, nth-frames, base_below, Lies, lies, frames_same, nth_changed}
-use Rattle.cs_frame.proofs.PageLaws.{at-nth_index, page-IsFrame}
+use Rattle.cs_frame.proofs.PageLaws.{at-nth_index, page_in, page-IsFrame}
 
 pub length-pages : (w : List ℕ) (base : ℕ) (hs : List Head) → length (pages_of w base hs) ≡ length hs
 length-pages w base [] = refl
@@ -112,12 +112,6 @@ closed {v} {w} {hs} {ps} {p} h laid e lt len s pg =
       record { few = omega (arith, length-set hs p h); len = omega (arith, length-set hs p h); pages = r.1 },
       r.0 ∙ ap (λ (qs : List (List Frame)). set qs p (frames_down h.count v (p * 4096) h.frame h.end)) e,
     )
-
--- a page that has frames is one of the pages
-pub page-in : (ps : List (List Frame)) (p : ℕ) → 0 < length (frames_of ps p) → p < length ps
-page-in [] p lt = absurd (omega arith)
-page-in (q ∷ qs) zero lt = omega arith
-page-in (q ∷ qs) (suc p) lt = let r = page-in qs p lt in omega arith
 
 -- the frame that a reference names, which ends at `end`
 pub record Found (w : List ℕ) (hs : List Head) (ps : List (List Frame)) (r : FrameRef) : Type 0 where

@@ -9,9 +9,12 @@
 //! last one first (`specs/Page.antt`). Each frame keeps its own place, `at`, as long as it stands.
 #![tactic(auto)]
 
-ghost use Rattle.std.specs.Prelude.{◌≡◌, ℕ, zero, ◌+◌, ◌*◌, ◌/◌, ◌^◌, ◌<◌, ◌≤◌, ◌↔◌, List, [], ◌∷◌, ◌++◌, IfOk, IsNone, IfSome, replicate, length, slice_index};
-ghost use Rattle.cs_frame.specs.Frame.{Frame, IsValue, IsPc, with_caller, with_saved_pc, with_method, with_closure, with_context, with_receiver, with_slot, pushed, popped};
-ghost use Rattle.cs_frame.specs.Page.{used, IsStacked, top, on_top, rest_of, frames_of, on_page, ref_of, IsFrame, frame, caller_of, on_frame, IsTop, IsBase, called, CanCall, HoldsValues};
+ghost use Rattle.std.specs.Prelude.{◌≡◌, ℕ, zero, ◌+◌, ◌*◌, ◌/◌, ◌^◌, ◌<◌, ◌≤◌, ◌↔◌, List, [], ◌∷◌, ◌++◌};
+ghost use Rattle.std.specs.Prelude.{IfOk, IsNone, IfSome, replicate, length, slice_index};
+ghost use Rattle.cs_frame.specs.Frame.{Frame, IsValue, IsPc, pushed, popped, with_slot};
+ghost use Rattle.cs_frame.specs.Frame.{with_caller, with_saved_pc, with_method, with_closure, with_context, with_receiver};
+ghost use Rattle.cs_frame.specs.Page.{used, IsStacked, top, on_top, rest_of, frames_of, on_page, ref_of};
+ghost use Rattle.cs_frame.specs.Page.{IsFrame, frame, caller_of, on_frame, IsTop, IsBase, called, CanCall, HoldsValues};
 ghost use Rattle.cs_frame.specs.Layout.{part_of, with_part, CanHold, offset_of};
 ghost use Rattle.cs_frame.specs.Written.{empty_heads, SameOutside, AllAre, HasOverhead, half_word};
 
@@ -24,7 +27,7 @@ use std::marker::Model;
 mod tests;
 
 /// The words of a page.
-const PAGE: u32 = 4096;
+const PAGE_WORDS: u32 = 4096;
 
 /// The words of a frame beside its stack: the saved frame pointer, the sender, the saved pc,
 /// method, closure, context, the two halves of the birth, the receiver, and a spare one.
@@ -102,7 +105,7 @@ fn place(f: FrameRef, k: u32) -> u32
     requires word { f.at + k < 4096 }
     ensures place { result ≡ (f.page * 4096 + f.at) + k }
 {
-    f.page * PAGE + f.at + k
+    f.page * PAGE_WORDS + f.at + k
 }
 
 /// The stack pages. The contracts see a list of pages, each a list of frames, the last one first.
@@ -130,7 +133,7 @@ impl Frames {
         requires pages { (1 ≤ pages) × (pages ≤ 64) }
         ensures empty { IfOk result (λ f. f ≡ replicate pages []) }
     {
-        let zone = Zone::new(alloc, pages * PAGE)?;
+        let zone = Zone::new(alloc, pages * PAGE_WORDS)?;
         let heads = heads_of_empty_pages(alloc, pages)?;
         Ok(Frames { zone, heads })
     }
@@ -150,7 +153,7 @@ impl Frames {
         ensures stacked { IsStacked (frames_of self.now page) }
     {
         let head = self.heads[page as usize];
-        page * PAGE + PAGE - head.end
+        page * PAGE_WORDS + PAGE_WORDS - head.end
     }
 
     /// The last frame of the page, or `None` exactly where the page is empty.
@@ -167,7 +170,7 @@ impl Frames {
         } else {
             Some(FrameRef {
                 page,
-                at: head.frame - page * PAGE,
+                at: head.frame - page * PAGE_WORDS,
             })
         }
     }
@@ -188,7 +191,7 @@ impl Frames {
         ensures top { IsTop self.new result }
     {
         let head = self.heads[page as usize];
-        let first = page * PAGE;
+        let first = page * PAGE_WORDS;
         let begin = begin_of(first, head, &new);
         let stack = begin.frame + OVERHEAD;
         self.zone.copy(head.end - new.args, stack, new.args);
@@ -243,7 +246,8 @@ impl Frames {
     pub fn pop(&mut self, f: FrameRef) -> Oop
         requires top { IsTop self.old f }
         requires value { 0 < length (top (frames_of self.old f.page)).stack }
-        ensures value { (top (frames_of self.old f.page)).stack ≡ (top (frames_of self.new f.page)).stack ++ result.0 ∷ [] }
+        ensures value { (top (frames_of self.old f.page)).stack
+            ≡ (top (frames_of self.new f.page)).stack ++ result.0 ∷ [] }
         ensures popped { self.new ≡ on_page self.old f.page (on_top popped) }
     {
         let page = f.page as usize;
@@ -304,7 +308,7 @@ impl Frames {
             let link = self.zone.get(place(f, 0));
             Some(FrameRef {
                 page: f.page,
-                at: link / 8 - f.page * PAGE,
+                at: link / 8 - f.page * PAGE_WORDS,
             })
         }
     }
@@ -451,8 +455,10 @@ struct Begin {
 /// other frame begins where the receiver stands on its caller's stack.
 fn begin_of(first: u32, head: Head, new: &NewFrame) -> Begin
     requires caller { 0 < head.count → new.now.args + 1 ≤ head.end }
-    ensures base { head.count ≡ 0 → (result.frame ≡ first) × (result.caller ≡ first) × (result.sender ≡ new.now.receiver.0) }
-    ensures later { 0 < head.count → (result.frame + (new.now.args + 1) ≡ head.end) × (result.caller ≡ head.frame) × (result.sender ≡ 65536) }
+    ensures base { head.count ≡ 0
+        → (result.frame ≡ first) × (result.caller ≡ first) × (result.sender ≡ new.now.receiver.0) }
+    ensures later { 0 < head.count
+        → (result.frame + (new.now.args + 1) ≡ head.end) × (result.caller ≡ head.frame) × (result.sender ≡ 65536) }
 {
     if head.count == 0 {
         Begin {
@@ -518,7 +524,7 @@ fn heads_of_empty_pages(alloc: Global, pages: u32) -> Result<Vec<Head>, NoMemory
 {
     let mut heads = Vec::new(alloc);
     for page in 0..pages {
-        let first = page * PAGE;
+        let first = page * PAGE_WORDS;
         heads.push(Head {
             frame: first,
             end: first,

@@ -1,5 +1,6 @@
 ghost use Rattle.std.specs.Prelude.{◌≡◌, ◌≢◌, ℕ, ◌<◌, ◌≤◌, ◌+◌, ◌%◌, ◌^◌, length};
-ghost use Rattle.cs_frame.specs.Page.{frames_of, IsFrame, IsTop, CanCall};
+ghost use Rattle.cs_frame.specs.Frame.{IsValue};
+ghost use Rattle.cs_frame.specs.Page.{used, frames_of, IsFrame, IsTop, CanCall};
 
 use super::*;
 use std::process::Abort;
@@ -44,6 +45,7 @@ fn take(rt: &impl Abort, frames: &mut Frames, step: &Step)
             let f = last(rt, frames);
             assert!(rt; frames.room(f.page) > 0);
             assert!(rt; v % 8 != 4);
+            assert_eq!(rt; push_and_pop(frames, f, Oop(*v)), Oop(*v));
             frames.push(f, Oop(*v));
         }
         Step::Pop(v) => {
@@ -83,6 +85,18 @@ fn look_for_arguments(rt: &impl Abort, frames: &Frames, args: u32)
         None => assert!(rt; args == 0),
         Some(f) => assert!(rt; frames.depth(f) > args),
     }
+}
+
+// A push and then a pop give the pages back, and the value.
+fn push_and_pop(frames: &mut Frames, f: FrameRef, v: Oop) -> Oop
+    requires top { IsTop frames.old f }
+    requires room { used (frames_of frames.old f.page) < 4096 }
+    requires value { IsValue v.0 }
+    ensures value { result.0 ≡ v.0 }
+    ensures same { frames.new ≡ frames.old }
+{
+    frames.push(f, v);
+    frames.pop(f)
 }
 
 #[test]

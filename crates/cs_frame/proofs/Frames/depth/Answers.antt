@@ -2,7 +2,8 @@ use Rattle.std.proofs.Common.{◌≡◌, ℕ, ◌+◌, ◌*◌, ◌/◌, ◌<◌
 use Rattle.std.proofs.lemmas.List.{get_or_default}
 use Rattle.cs_frame.specs.declared.Head.{Head}
 use Rattle.cs_frame.specs.Page.{frame, index_in}
-use Rattle.cs_frame.proofs.Pages.{found, page-in, page_count}
+use Rattle.cs_frame.proofs.PageLaws.{page_in}
+use Rattle.cs_frame.proofs.Pages.{found, page_count}
 use Rattle.cs_frame.proofs.Calls.{depth_is}
 use Rattle.cs_frame.proofs.Walks.{Walk, walk_step, walk_end}
 use Rattle.cs_frame.proofs.Frames.depth.Goals as goal
@@ -10,7 +11,7 @@ use Rattle.cs_frame.proofs.Frames.depth.Goals as goal
 pub index-head-requires : goal.index-head-requires
 index-head-requires c =
     let some = c.requires.frame in
-    let lt = page_count c.self.invariant c.self.view_is c.args.f.page (page-in c.args.self.now c.args.f.page (omega arith)) in
+    let lt = page_count c.self.invariant c.self.view_is c.args.f.page (page_in c.args.self.now c.args.f.page (omega arith)) in
     search (lt, arith)
 
 pub place-at-requires-clause-page : goal.place-at-requires-clause-page

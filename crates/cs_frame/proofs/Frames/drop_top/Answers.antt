@@ -1,11 +1,12 @@
 use Rattle.std.proofs.Common.{arith}
-use Rattle.cs_frame.proofs.Pages.{page-in, page_count}
+use Rattle.cs_frame.proofs.PageLaws.{page_in}
+use Rattle.cs_frame.proofs.Pages.{page_count}
 use Rattle.cs_frame.proofs.Calls.{drop_bounds, drop_done}
 use Rattle.cs_frame.proofs.Frames.drop_top.Goals as goal
 
 pub index-head-requires : goal.index-head-requires
 index-head-requires c =
-    let lt = page_count c.self.invariant c.self.view_is c.args.page (page-in c.args.self.now c.args.page c.requires.frame) in
+    let lt = page_count c.self.invariant c.self.view_is c.args.page (page_in c.args.self.now c.args.page c.requires.frame) in
     search (lt, arith)
 
 pub get-link-requires : goal.get-link-requires
@@ -25,7 +26,7 @@ overflow_sub-head c =
 
 pub index_mut-requires : goal.index_mut-requires
 index_mut-requires c =
-    let lt = page_count c.self.invariant c.self.view_is c.args.page (page-in c.args.self.now c.args.page c.requires.frame) in
+    let lt = page_count c.self.invariant c.self.view_is c.args.page (page_in c.args.self.now c.args.page c.requires.frame) in
     search (lt, arith)
 
 pub invariant_of-self : goal.invariant_of-self

@@ -1,11 +1,12 @@
 use Rattle.std.proofs.Common.{arith}
-use Rattle.cs_frame.proofs.Pages.{page-in, page_count}
+use Rattle.cs_frame.proofs.PageLaws.{page_in}
+use Rattle.cs_frame.proofs.Pages.{page_count}
 use Rattle.cs_frame.proofs.Calls.{pop_bounds, pop_done, pop_value}
 use Rattle.cs_frame.proofs.Frames.pop.Goals as goal
 
 pub index-head-requires : goal.index-head-requires
 index-head-requires c =
-    let lt = page_count c.self.invariant c.self.view_is c.args.f.page (page-in c.args.self.now c.args.f.page c.requires.top.0) in
+    let lt = page_count c.self.invariant c.self.view_is c.args.f.page (page_in c.args.self.now c.args.f.page c.requires.top.0) in
     search (lt, arith)
 
 pub overflow_sub-head : goal.overflow_sub-head
@@ -25,7 +26,7 @@ overflow_sub-head-2 c =
 
 pub index_mut-requires : goal.index_mut-requires
 index_mut-requires c =
-    let lt = page_count c.self.invariant c.self.view_is c.args.f.page (page-in c.args.self.now c.args.f.page c.requires.top.0) in
+    let lt = page_count c.self.invariant c.self.view_is c.args.f.page (page_in c.args.self.now c.args.f.page c.requires.top.0) in
     search (lt, arith)
 
 pub invariant_of-self : goal.invariant_of-self
