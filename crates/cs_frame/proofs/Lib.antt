@@ -8,3 +8,4 @@ pub mod Empties
 pub mod Builds
 pub mod PageLaws
 pub mod Values
+pub mod Links
