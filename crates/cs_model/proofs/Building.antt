@@ -56,7 +56,7 @@ is_built_bytecode_same : {v m : Kept} → Keeps v m → (r : Run) → TimerHeld 
 unfolding is_built_bytecode
 is_built_bytecode_same k r timer =
     and_same (two (λ bytes n. is_built_byte (slice_get bytes n)) (bytecodes_same k) (two (λ pc xs. pc - first_pc xs) (pc_same k) (literals_same k)))
-      (given_same _ _ (instruction_at_same k) (is true) (λ i a. is_built_at_same k r timer i))
+    (given_same _ _ (instruction_at_same k) (is true) (λ i a. is_built_at_same k r timer i))
 
 is_built_same : {v m : Kept} {r q : Run} → Keeps v m → Same (TimerHeld v) r q → Same Any (is_built (record { kept = v; run = r })) (is_built (record { kept = m; run = q }))
 unfolding is_built

@@ -81,5 +81,5 @@ context_words size = words_of_slots (context_fields + size)
 unfoldable pub enter_block_out : Kept → Ref → ℕ → Out
 enter_block_out k closure args =
     if nat_le (args + length (copied_values k closure)) (block_size k closure) then
-      made_context (context_words (block_size k closure)) (out ends.Entered (enter_block_of k closure args))
+    made_context (context_words (block_size k closure)) (out ends.Entered (enter_block_of k closure args))
     else stop why.StackOver k

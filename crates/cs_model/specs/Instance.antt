@@ -112,8 +112,8 @@ make_with k class shape size NoIndex = NotInstantiable
 make_with k class shape size NoneFree = TableFull
 make_with k class shape size (IndexAt index) =
     if is_instance_index index size then
-      New (add_of (take_index k class index) (new_instance (nil_of k) index (shape / 65536) (shape % 65536) size)) (next_ref k)
-        (words_of (new_instance (nil_of k) index (shape / 65536) (shape % 65536) size))
+    New (add_of (take_index k class index) (new_instance (nil_of k) index (shape / 65536) (shape % 65536) size)) (next_ref k)
+    (words_of (new_instance (nil_of k) index (shape / 65536) (shape % 65536) size))
     else NotInstantiable
 
 abbrev pub make_shaped : Kept → Ref → ℕ → Option ℕ → Made
@@ -165,5 +165,5 @@ hash_of k x = if hash_or_zero (object_of k x) == 0 then next_hash k.rest.last_ha
 unfoldable pub hash_given : Kept → Ref → Kept
 hash_given k x =
     if hash_or_zero (object_of k x) == 0 then
-      with_rest (with_last_hash (next_hash k.rest.last_hash) k.rest) (edit_object k x (with_hash (next_hash k.rest.last_hash)))
+    with_rest (with_last_hash (next_hash k.rest.last_hash) k.rest) (edit_object k x (with_hash (next_hash k.rest.last_hash)))
     else k

@@ -192,4 +192,3 @@ header_in (Some (Ctx c)) = 0
 abbrev pub at_least : ℕ → Option (List Ref) → Option (List Ref)
 at_least n None = None
 at_least n (Some slots) = if nat_le n (length slots) then Some slots else None
-

@@ -19,9 +19,9 @@ stack_put k birth i v c = if nat_lt i (length c.stack) then Some (edit_found (ed
 unfoldable pub stack_at_put_prim : Kept → ℕ → Out
 stack_at_put_prim k args = with_count k 2 args
     (answer_in
-      (option_and_then (λ birth. option_and_then (λ c. option_and_then (λ i. stack_put k birth i (argument k 2 1) c) (slot_index (argument k 2 0)))
-        (context_in (object_at k birth))) (birth_of (receiver k 2)))
-      k 2 (argument k 2 1))
+    (option_and_then (λ birth. option_and_then (λ c. option_and_then (λ i. stack_put k birth i (argument k 2 1) c) (slot_index (argument k 2 0)))
+    (context_in (object_at k birth))) (birth_of (receiver k 2)))
+    k 2 (argument k 2 1))
 
 unfoldable pub stackp_prim : Kept → ℕ → Out
 stackp_prim k args = with_count k 0 args (answer_if k 0 (option_map (λ c. small_count (length c.stack)) (context_in (object_of k (receiver k 0)))))

@@ -71,8 +71,8 @@ byte_code (ref.Obj i) = None
 unfoldable pub char_at_put_prim : Kept → ℕ → Out
 char_at_put_prim k args = with_count k 2 args
     (if is_bytes k (receiver k 2) then
-      answer_in (option_and_then (λ place. option_map (λ b. store_byte_of k (receiver k 2) place b) (byte_code (argument k 2 1))) (place_of k (receiver k 2) (argument k 2 0)))
-        k 2 (argument k 2 1)
+    answer_in (option_and_then (λ place. option_map (λ b. store_byte_of k (receiver k 2) place b) (byte_code (argument k 2 1))) (place_of k (receiver k 2) (argument k 2 0)))
+    k 2 (argument k 2 1)
     else fail k)
 
 -- ---- 68, 69: literals of a method; 1 is the header
@@ -218,7 +218,7 @@ make_method k class count header NoIndex = fail k
 make_method k class count header NoneFree = fail k
 make_method k class count header (IndexAt index) =
     if is_method_index index then
-      made (words_of (method_of k index count header)) (answer (add_of (take_index k class index) (method_of k index count header)) 2 (next_ref k))
+    made (words_of (method_of k index count header)) (answer (add_of (take_index k class index) (method_of k index count header)) 2 (next_ref k))
     else fail k
 
 abbrev pub is_method_shape : Option ℕ → Bool
@@ -230,7 +230,7 @@ new_method_prim k args = with_count k 2 args
     (given (index_of (argument k 2 0)) (fail k) (λ count.
     given (index_of (argument k 2 1)) (fail k) (λ header.
     if is_method_shape (shape_of k (receiver k 2)) && is_header header then
-      make_method k (receiver k 2) count header (class_index_for k (receiver k 2))
+    make_method k (receiver k 2) count header (class_index_for k (receiver k 2))
     else fail k)))
 
 -- ---- 105: copying elements

@@ -48,8 +48,8 @@ is_suspended k (Some context) (Some list) = is_nil k list && is_live_at k (conte
 unfoldable pub resume_prim : Kept → ℕ → Out
 resume_prim k args = with_count k 0 args
     (if is_suspended k (slot_or_none k process_slots suspended_context (receiver k 0)) (slot_or_none k process_slots my_list (receiver k 0)) then
-      given (active_process k) (stop why.BadSpecial k) (λ running.
-      if same_ref running (receiver k 0) then fail k else answered (resume (answer k 0 (receiver k 0)).state (receiver k 0)))
+    given (active_process k) (stop why.BadSpecial k) (λ running.
+    if same_ref running (receiver k 0) then fail k else answered (resume (answer k 0 (receiver k 0)).state (receiver k 0)))
     else fail k)
 
 -- the active process answers nil and stops; another one answers the list that it leaves

@@ -46,8 +46,11 @@ with_end e o = record o { end = e }
 unfoldable pub snapshot_prim : State → ℕ → Result
 snapshot_prim s args = counted s 0 args
     (if s.run.snapping then
-      record { out = with_end ends.Snapshot (answer (forgotten s.kept) 0 (boolean s.kept false)); run = s.run;
-        snapshot = Some (settle_kept (answer s.kept 0 (boolean s.kept true)).state) }
+    record {
+      out = with_end ends.Snapshot (answer (forgotten s.kept) 0 (boolean s.kept false));
+      run = s.run;
+      snapshot = Some (settle_kept (answer s.kept 0 (boolean s.kept true)).state);
+    }
     else fails s)
 
 -- ---- 113: the run ends, and the receiver is answered
@@ -74,7 +77,7 @@ unfoldable pub timer_prim : State → ℕ → Result
 timer_prim s args = counted s 2 args
     (given (small_of (argument s.kept 2 1)) (fails s) (λ moment.
     if is_nil s.kept (argument s.kept 2 0) || is_semaphore s.kept (argument s.kept 2 0) then
-      arm s (answer s.kept 2 (receiver s.kept 2)).state (argument s.kept 2 0) moment
+    arm s (answer s.kept 2 (receiver s.kept 2)).state (argument s.kept 2 0) moment
     else fails s))
 
 -- ---- 900: output; 901: input

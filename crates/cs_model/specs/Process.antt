@@ -82,7 +82,7 @@ if_list k list = if is_some (slots_of k list_slots list) then Some list else Non
 unfoldable pub list_of_process : Kept → Ref → Ref → Option Ref
 list_of_process k scheduler p =
     option_and_then (λ lists. option_and_then (λ list. if_list k list)
-      (list_at lists (option_and_then (λ x. index_of x) (slot_or_none k process_slots priority p))))
+    (list_at lists (option_and_then (λ x. index_of x) (slot_or_none k process_slots priority p))))
     (lists_of k scheduler)
 
 abbrev pub with_list_of : Kept → Ref → (Ref → Out) → Out
@@ -197,11 +197,11 @@ preempt k running p =
 unfoldable pub resume : Kept → Ref → Out
 resume k p =
     if is_some (slots_of k process_slots p) then
-      with_active_process k (λ running.
-      if is_nil k running then start k p else
-      with_priority k p (λ mine.
-      with_priority k running (λ its.
-      if int_lt its mine then preempt k running p else with_list_of k p (λ list. add_last k list p))))
+    with_active_process k (λ running.
+    if is_nil k running then start k p else
+    with_priority k p (λ mine.
+    with_priority k running (λ its.
+    if int_lt its mine then preempt k running p else with_list_of k p (λ list. add_last k list p))))
     else stop why.BadProcess k
 
 -- one more excess signal, if that is still a SmallInteger
@@ -222,7 +222,7 @@ abbrev pub wait_behind : Kept → Ref → Out
 wait_behind k semaphore =
     with_active_process k (λ running.
     if is_some (slots_of k process_slots running) then
-      looked (and_then (add_last (stop_running k running) semaphore running) (λ t. start_next t))
+    looked (and_then (add_last (stop_running k running) semaphore running) (λ t. start_next t))
     else stop why.BadProcess k)
 
 -- an excess signal is taken, or the process waits
@@ -253,7 +253,7 @@ find_link zero k p before (Some link) = if is_nil k link then NotThere else TooF
 find_link (suc n) k p before (Some link) =
     if is_nil k link then NotThere else
     if is_some (slots_of k process_slots link) then
-      (if same_ref link p then At before else find_link n k p (Some link) (slot_or_none k process_slots next_link link))
+    (if same_ref link p then At before else find_link n k p (Some link) (slot_or_none k process_slots next_link link))
     else NoProcess
 
 -- a process that isn't active leaves its list

@@ -145,7 +145,7 @@ abbrev pub arrive : Kept → Ref → List ℕ → Option ℕ → Out
 arrive k value dying None = cannot_return_out k value
 arrive k value dying (Some target) =
     if is_live k target && not (is_among target dying) then
-      (if has_room (context_in (object_at k target)) then done (cut_to_of k dying target value) else stop why.StackOver k)
+    (if has_room (context_in (object_at k target)) then done (cut_to_of k dying target value) else stop why.StackOver k)
     else cannot_return_out k value
 
 -- to the sender of the active context, which dies

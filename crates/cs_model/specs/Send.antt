@@ -37,7 +37,7 @@ offer k method args (Some number) = out (ends.Primitive method number) k
 unfoldable pub invoke : Kept → Ref → ℕ → Out
 invoke k method args =
     if argument_count (header_in (object_of k method)) == args then
-      offer k method args (primitive_number (header_in (object_of k method)) (bytecodes_in (object_of k method)))
+    offer k method args (primitive_number (header_in (object_of k method)) (bytecodes_in (object_of k method)))
     else stop why.BadArgs k
 
 -- ---- what isn't understood

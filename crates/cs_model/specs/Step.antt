@@ -142,8 +142,8 @@ do_return r k value local = returned r (back k value local)
 abbrev pub followed : Run → Out → Result
 followed r o =
     given (message_in o.end)
-      (given (return_in o.end) (result o r) (λ p. counting o.count (do_return r o.state p.0 p.1)))
-      (λ m. counting o.count (do_send r o.state m.selector m.args m.above))
+    (given (return_in o.end) (result o r) (λ p. counting o.count (do_return r o.state p.0 p.1)))
+    (λ m. counting o.count (do_send r o.state m.selector m.args m.above))
 
 -- the instruction at the active pc
 unfoldable pub instruction_at : Kept → Option Instr
