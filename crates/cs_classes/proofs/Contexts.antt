@@ -1,10 +1,10 @@
 -- What a context means when one of its words is written.
-use Rattle.std.proofs.Common.{◌≡◌, ℕ, zero, suc, ◌+◌, ◌-◌, ◌<◌, ◌≤◌, Bool, true, false, List, [], ◌∷◌, ◌++◌, length, map, take, drop, Option, Some, None, refl, ap, ap₂, subst, sym, ◌∙◌, arith, get_or, set}
+use Rattle.std.proofs.Common.{◌≡◌, ℕ, zero, suc, ◌+◌, ◌-◌, ◌<◌, ◌≤◌, true, List, [], ◌∷◌, ◌++◌, length, map, take, drop, Option, Some, refl, ap, ap₂, sym, ◌∙◌, arith, get_or, set}
 use Rattle.std.specs.Prelude.{slice_index, unwrap_or}
 use Rattle.std.proofs.lemmas.List.{get_or-drop, get_or-set_other, get_or-set_same, length-drop, length-map, length-set, length-take, map-append, map-set, set_past, take-map, take_more}
-use Rattle.cs_heap.specs.Object.{Object, set_word}
+use Rattle.cs_heap.specs.Object.{Object}
 use Rattle.cs_model.specs.Ref.{Ref}
-use Rattle.cs_model.specs.Obj.{edit_context, Context, Ctx, Obj, popped, pushed, stored, with_pc, with_stack}
+use Rattle.cs_model.specs.Obj.{edit_context, Context, Ctx, pushed, stored, with_pc, with_stack}
 use Rattle.cs_classes.specs.Meaning.{context_of, count_of, depth_in, is_context, obj_of}
 use Rattle.cs_classes.proofs.Edits.{take_set}
 use Rattle.cs_classes.proofs.Sorts.{obj_of-context}
@@ -57,6 +57,7 @@ context_of-stack refer hash ws i v h = along (6 + i) (omega arith) ∙ by_six (�
   where
     along : (n : ℕ) → n ≡ suc (suc (suc (suc (suc (suc i))))) → context_of refer hash (set ws n v) ≡ context_of refer hash (set ws (suc (suc (suc (suc (suc (suc i)))))) v)
     along n e = ap (λ (k : ℕ). context_of refer hash (set ws k v)) e
+
     go : (a b c d e f : ℕ) (rest : List ℕ) → context_of refer hash (set (a ∷ b ∷ c ∷ d ∷ e ∷ f ∷ rest) (suc (suc (suc (suc (suc (suc i)))))) v) ≡ stored i (refer v) (context_of refer hash (a ∷ b ∷ c ∷ d ∷ e ∷ f ∷ rest))
     go a b c d e f rest =
         let depth : ℕ = unwrap_or (count_of c) 0 in
@@ -91,9 +92,9 @@ unfolding context_of
 context_of-lower refer hash ws v d h e l =
     context_of-stackp refer hash ws v h
     ∙ ap (λ (xs : List Ref). with_stack xs (context_of refer hash ws))
-      (ap (λ (o : Option ℕ). map refer (take (unwrap_or o 0) (drop 6 ws))) e
-      ∙ ap (map refer) (sym (take_take d (depth_in ws) (drop 6 ws) (omega (arith, l, length-map (take (depth_in ws) (drop 6 ws)) refer))))
-      ∙ sym (take-map refer d (take (depth_in ws) (drop 6 ws))))
+    (ap (λ (o : Option ℕ). map refer (take (unwrap_or o 0) (drop 6 ws))) e
+    ∙ ap (map refer) (sym (take_take d (depth_in ws) (drop 6 ws) (omega (arith, l, length-map (take (depth_in ws) (drop 6 ws)) refer))))
+    ∙ sym (take-map refer d (take (depth_in ws) (drop 6 ws))))
 
 -- a stackp that is one higher: the word that was next is the top
 pub context_of-higher : (refer : ℕ → Ref) (hash : ℕ) (ws : List ℕ) (v : ℕ) → 6 ≤ length ws → depth_in ws < length ws - 6 → count_of v ≡ Some (depth_in ws + 1)
@@ -103,10 +104,10 @@ context_of-higher refer hash ws v h l e =
     let within : depth_in ws < length (drop 6 ws) = omega (arith, l, length-drop 6 ws) in
     context_of-stackp refer hash ws v h
     ∙ ap (λ (xs : List Ref). with_stack xs (context_of refer hash ws))
-      (ap (λ (o : Option ℕ). map refer (take (unwrap_or o 0) (drop 6 ws))) e
-      ∙ ap (map refer) (take_more (drop 6 ws) (depth_in ws) 0 within)
-      ∙ map-append refer (take (depth_in ws) (drop 6 ws)) (get_or (drop 6 ws) (depth_in ws) 0 ∷ [])
-      ∙ ap (λ (w : ℕ). map refer (take (depth_in ws) (drop 6 ws)) ++ refer w ∷ []) (get_or-drop 6 ws (depth_in ws) 0))
+    (ap (λ (o : Option ℕ). map refer (take (unwrap_or o 0) (drop 6 ws))) e
+    ∙ ap (map refer) (take_more (drop 6 ws) (depth_in ws) 0 within)
+    ∙ map-append refer (take (depth_in ws) (drop 6 ws)) (get_or (drop 6 ws) (depth_in ws) 0 ∷ [])
+    ∙ ap (λ (w : ℕ). map refer (take (depth_in ws) (drop 6 ws)) ++ refer w ∷ []) (get_or-drop 6 ws (depth_in ws) 0))
 
 -- a word behind the stack means nothing
 pub context_of-behind : (refer : ℕ → Ref) (hash : ℕ) (ws : List ℕ) (i v : ℕ) → 6 ≤ length ws → length (context_of refer hash ws).stack ≤ i → context_of refer hash (set ws (6 + i) v) ≡ context_of refer hash ws

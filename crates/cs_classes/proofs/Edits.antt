@@ -1,5 +1,5 @@
 -- What an object means when one of its words or bytes is written.
-use Rattle.std.proofs.Common.{◌≡◌, ℕ, zero, suc, ◌+◌, ◌-◌, ◌*◌, ◌/◌, ◌%◌, ◌^◌, ◌<◌, ◌≤◌, Bool, true, false, List, [], ◌∷◌, ◌++◌, length, map, take, drop, refl, ap, ap₂, sym, ◌∙◌, arith, get_or, set, cond, eqb, ◌⊎◌, inl, inr}
+use Rattle.std.proofs.Common.{◌≡◌, ℕ, zero, suc, ◌+◌, ◌-◌, ◌*◌, ◌/◌, ◌%◌, ◌<◌, ◌≤◌, true, false, List, [], ◌∷◌, length, map, take, drop, refl, ap, ap₂, sym, ◌∙◌, arith, get_or, set, cond, eqb, ◌⊎◌, inl, inr}
 use Rattle.std.specs.Prelude.{slice_index, unwrap_or}
 use Rattle.std.proofs.lemmas.Bool.{cases_eq, eq-eqb, ne_eqb}
 use Rattle.std.proofs.lemmas.List.{drop-set-add, drop-set-lt, get_or-drop, get_or-set_other, length-set, map-set, take-set-le}
@@ -161,6 +161,7 @@ obj_of-hash refer x h = go (sort_of x)
   where
     y : Object
     y = record x { hash = h }
+
     go : Sort x → obj_of refer y ≡ with_hash h (obj_of refer x)
     go (AContext c) = obj_of-context refer y c ∙ sym (ap (with_hash h) (obj_of-context refer x c))
     go (Pointers o p) = obj_of-pointers refer y o p ∙ sym (ap (with_hash h) (obj_of-pointers refer x o p))

@@ -1,5 +1,5 @@
 -- The list of a heap's objects when one of them changes, or one more comes.
-use Rattle.std.proofs.Common.{◌≡◌, ◌≢◌, ℕ, zero, suc, ◌⊎◌, inl, inr, ◌+◌, ◌<◌, Bool, true, List, [], ◌∷◌, ◌++◌, length, Option, Some, None, option_map, option_and_then, is_some, refl, ap, sym, ◌∙◌, arith}
+use Rattle.std.proofs.Common.{◌≡◌, ◌≢◌, ℕ, zero, suc, ◌⊎◌, inl, inr, ◌<◌, true, List, [], ◌∷◌, ◌++◌, length, Option, Some, None, option_map, option_and_then, is_some, refl, ap, ◌∙◌, arith}
 use Rattle.std.specs.Prelude.{slice_get}
 use Rattle.std.specs.Option.{option_map_or}
 use Rattle.std.proofs.lemmas.List.{length-set}
@@ -73,6 +73,7 @@ with_object-twice os a f g edit =
     twice k [] = refl
     twice zero (x ∷ xs) = refl
     twice (suc k) (x ∷ xs) = ap (λ (ys : List Object). x ∷ ys) (twice k xs)
+
     go : (o : Option ℕ) → option_map_or (λ (k : ℕ). at_index k g (option_map_or (λ (j : ℕ). at_index j f os) o os)) o (option_map_or (λ (j : ℕ). at_index j f os) o os)
         ≡ option_map_or (λ (k : ℕ). at_index k (λ x. g (f x)) os) o os
     go None = refl
@@ -93,6 +94,7 @@ birth_at-with_object os a j f edit = go (index_of os a)
     at zero (suc j) (x ∷ xs) = refl
     at (suc k) zero (x ∷ xs) = refl
     at (suc k) (suc j) (x ∷ xs) = at k j xs
+
     go : (o : Option ℕ) → option_map_or (λ (y : Object). y.birth) (slice_get (option_map_or (λ (k : ℕ). at_index k f os) o os) j) 0 ≡ option_map_or (λ (y : Object). y.birth) (slice_get os j) 0
     go None = refl
     go (Some k) = at k j os

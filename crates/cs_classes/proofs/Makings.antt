@@ -1,6 +1,6 @@
 -- What a new object is, and what it adds to the kept parts: the laws for the crates above.
-use Rattle.std.proofs.Common.{◌≡◌, ℕ, zero, suc, ◌+◌, ◌-◌, ◌*◌, ◌<◌, ◌≤◌, Bool, true, false, List, [], ◌∷◌, ◌++◌, length, map, take, drop, replicate, Option, Some, None, is_some, refl, ap, ap₂, subst, sym, ◌∙◌, arith, get_or}
-use Rattle.std.specs.Prelude.{slice_get, slice_index, unwrap_or, ◌==◌, ◌||◌, IsTrue, IsSome}
+use Rattle.std.proofs.Common.{◌≡◌, ℕ, zero, suc, ◌+◌, ◌-◌, ◌*◌, ◌<◌, true, false, List, [], ◌∷◌, ◌++◌, length, map, take, replicate, Option, Some, None, is_some, refl, ap, ap₂, subst, sym, ◌∙◌, arith, get_or}
+use Rattle.std.specs.Prelude.{slice_index, unwrap_or, ◌==◌, ◌||◌, IsTrue}
 use Rattle.std.specs.List.{AllPass}
 use Rattle.std.specs.Option.{option_map_or}
 use Rattle.std.specs.Ordering.{nat_cmp}
@@ -9,19 +9,18 @@ use Rattle.std.proofs.lemmas.Bool.{eq-eqb, false≢true, or_left}
 use Rattle.std.proofs.lemmas.Bool.Decides.{nat_tests}
 use Rattle.std.proofs.lemmas.List.{get_or-replicate, length-replicate, take-replicate}
 use Rattle.cs_heap.specs.Format.{format_allows, is_method, is_pointers}
-use Rattle.cs_heap.specs.Object.{Object, address_of, base, birth_of, byte_in, is_object, new_object, new_slot, object_at}
-use Rattle.cs_heap.proofs.Laws.{address_of-below, index_of-address, is_object-old, object_at-address}
+use Rattle.cs_heap.specs.Object.{Object, address_of, base, is_object, new_object, new_slot}
+use Rattle.cs_heap.proofs.Laws.{address_of-below, index_of-address, object_at-address}
 use Rattle.cs_model.specs.Ref.{Ref}
 use Rattle.cs_model.specs.Ref as ref
 use Rattle.cs_model.specs.Obj.{Ctx, Method, Obj, Ptr, Raw}
-use Rattle.cs_model.specs.State.{IsHeld, Kept, RestHeld}
+use Rattle.cs_model.specs.State.{Kept}
 use Rattle.cs_model.specs.Operation.{add_of, new_pointers}
 use Rattle.cs_model.specs.Operation as operation
 use Rattle.cs_model.specs.Instance.{new_context}
 use Rattle.cs_classes.specs.declared.Roots.{Roots}
-use Rattle.cs_classes.specs.Meaning.{birth_at, bytes_of, classes_of, code_in, context_of, count_of, depth_in, header_in, is_context, kept_of, literals_in, obj_of, objects_of, ref_of, unused_bytes, used_bytes}
-use Rattle.cs_classes.specs.Sound.{IsSoundContext, IsSoundMethod, IsSoundObject, IsWhole, is_reference, nil_of, references_in}
-use Rattle.cs_classes.proofs.Heaps.{is_object-object_at}
+use Rattle.cs_classes.specs.Meaning.{birth_at, bytes_of, code_in, context_of, count_of, depth_in, header_in, is_context, kept_of, literals_in, obj_of, ref_of, unused_bytes, used_bytes}
+use Rattle.cs_classes.specs.Sound.{IsSoundMethod, IsSoundObject, IsWhole, is_reference, nil_of, references_in}
 use Rattle.cs_classes.proofs.Refs.{is_reference-object, is_reference-push, nil_of-push, ref_of-object, ref_of-push}
 use Rattle.cs_classes.proofs.Sorts.{map_alike, not_pointers, obj_of-bytes, obj_of-context, obj_of-method, obj_of-pointers, references-method, references-pointers}
 use Rattle.cs_classes.proofs.Wholes.{after_birth, kept_of-push, whole-push}
@@ -76,8 +75,10 @@ module _ {os : List Object} {table : FinMap nat_cmp ℕ} {roots : Roots} (w : Is
     where
       y : Object
       y = new_object class format slots roots.next_birth
+
       words : y.words ≡ replicate slots base
       words = rw p refl
+
       sound : IsSoundObject (os ++ y ∷ []) y
       sound = record {
         shape = subst (λ (n : ℕ). IsTrue (format_allows format n)) (sym (length-replicate slots (new_slot format))) shape;
@@ -85,6 +86,7 @@ module _ {os : List Object} {table : FinMap nat_cmp ℕ} {roots : Roots} (w : Is
         context = λ c. absurd (false≢true (sym other ∙ c));
         method = λ m. absurd (false≢true (sym (not_pointers format m) ∙ p));
       }
+
       means : obj_of (ref_of (os ++ y ∷ [])) y ≡ Ptr class format 0 (replicate slots (ref.Obj (birth_at os 0)))
       means = obj_of-pointers (ref_of (os ++ y ∷ [])) y other p ∙ ap (Ptr class format 0) (ap (map (ref_of (os ++ y ∷ []))) words ∙ nils y slots)
 
@@ -103,10 +105,13 @@ module _ {os : List Object} {table : FinMap nat_cmp ℕ} {roots : Roots} (w : Is
     where
       y : Object
       y = new_object class format slots roots.next_birth
+
       words : y.words ≡ replicate slots 0
       words = rw p refl
+
       none : references_in y ≡ []
       none = rw (p, m) refl
+
       sound : IsSoundObject (os ++ y ∷ []) y
       sound = record {
         shape = subst (λ (n : ℕ). IsTrue (format_allows format n)) (sym (length-replicate slots (new_slot format))) shape;
@@ -114,10 +119,12 @@ module _ {os : List Object} {table : FinMap nat_cmp ℕ} {roots : Roots} (w : Is
         context = λ c. absurd (false≢true (sym other ∙ c));
         method = λ n. absurd (false≢true (sym m ∙ n));
       }
+
       bytes : used_bytes format (replicate slots 0) ≡ replicate (4 * slots - unused_bytes format) 0
       bytes = ap (λ (n : ℕ). take (4 * n - unused_bytes format) (bytes_of (replicate slots 0))) (length-replicate slots 0)
           ∙ ap (take (4 * slots - unused_bytes format)) (zero_bytes slots)
           ∙ take-replicate (4 * slots - unused_bytes format) (4 * slots) 0 (omega arith)
+
       means : obj_of (ref_of (os ++ y ∷ [])) y ≡ Raw class format 0 (replicate (4 * slots - unused_bytes format) 0)
       means = obj_of-bytes (ref_of (os ++ y ∷ [])) y other p m ∙ ap (Raw class format 0) (ap (used_bytes format) words ∙ bytes)
 
@@ -135,10 +142,11 @@ module _ {os : List Object} {table : FinMap nat_cmp ℕ} {roots : Roots} (w : Is
         context = λ c. absurd (false≢true (sym other ∙ c));
         method = λ _. sound_method;
       }
+
       means : obj_of (ref_of (os ++ y ∷ [])) y ≡ Method y.class y.format y.hash (header_in y.words) (map (ref_of os) (literals_in y.words)) (used_bytes y.format (code_in y.words))
       means = obj_of-method (ref_of (os ++ y ∷ [])) y other (not_pointers y.format m) m
           ∙ ap (λ (ls : List Ref). Method y.class y.format y.hash (header_in y.words) ls (used_bytes y.format (code_in y.words)))
-            (map_alike (is_reference os) (ref_of (os ++ y ∷ [])) (ref_of os) (ref_of-push os y) (literals_in y.words) all)
+          (map_alike (is_reference os) (ref_of (os ++ y ∷ [])) (ref_of os) (ref_of-push os y) (literals_in y.words) all)
 
   -- a context: its fields are nil and its stack is empty
   new_context_of : (refer : ℕ → Ref) (m : ℕ) → context_of refer 0 (replicate (suc (suc (suc (suc (suc (suc m)))))) base) ≡ new_context (refer base) m
@@ -154,20 +162,28 @@ module _ {os : List Object} {table : FinMap nat_cmp ℕ} {roots : Roots} (w : Is
     where
       y : Object
       y = new_object 36 3 (6 + size) roots.next_birth
+
       long : length y.words ≡ 6 + size
       long = length-replicate (6 + size) base
+
       word : (i : ℕ) → i < 6 → slice_index y.words i ≡ base
       word i l = get_or-replicate (6 + size) i base 0 (omega (arith, l))
+
       depth : depth_in y.words ≡ 0
       depth = ap (λ (v : ℕ). unwrap_or (count_of v) 0) (word 2 (omega arith))
+
       nil : nil_of (os ++ y ∷ []) ≡ base
       nil = nil_of-push os y (omega (arith, w.first)) ∙ w.nil
+
       is_nil : (i : ℕ) → i < 6 → IsTrue (slice_index y.words i == nil_of (os ++ y ∷ []) || is_some (count_of (slice_index y.words i)))
       is_nil i l = or_left (slice_index y.words i == nil_of (os ++ y ∷ [])) (is_some (count_of (slice_index y.words i))) (eq-eqb (slice_index y.words i) (nil_of (os ++ y ∷ [])) (word i l ∙ sym nil))
+
       shape : (n : ℕ) → (n == 16 || n == 56) ≡ true → ((6 + n) == 22 || (6 + n) == 62) ≡ true
       shape n h = grind (arith, nat_tests)
+
       allowed : (n : ℕ) → IsTrue (format_allows 3 n)
       allowed n = refl
+
       sound : IsSoundObject (os ++ y ∷ []) y
       sound = record {
         shape = allowed (length y.words);
@@ -181,6 +197,7 @@ module _ {os : List Object} {table : FinMap nat_cmp ℕ} {roots : Roots} (w : Is
         };
         method = λ m. absurd (false≢true m);
       }
+
       means : obj_of (ref_of (os ++ y ∷ [])) y ≡ Ctx (new_context (ref.Obj (birth_at os 0)) size)
       means =
           let refer : ℕ → Ref = ref_of (os ++ y ∷ []) in

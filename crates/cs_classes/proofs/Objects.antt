@@ -1,18 +1,18 @@
 -- The objects of a heap by their births: what is at a birth, and what becomes of them when an object changes or comes.
-use Rattle.std.proofs.Common.{◌≡◌, ℕ, zero, suc, ◌+◌, ◌<◌, Bool, true, false, cond, List, [], ◌∷◌, ◌++◌, length, map, Option, Some, None, option_map, refl, ap, subst, sym, ◌∙◌, arith, ◌⊎◌, inl, inr, ap₂}
+use Rattle.std.proofs.Common.{◌≡◌, ℕ, zero, suc, Bool, true, false, cond, List, [], ◌∷◌, ◌++◌, map, Option, Some, None, option_map, refl, ap, sym, ◌∙◌, arith, ◌⊎◌, inl, inr, ap₂}
 use Rattle.std.specs.Prelude.{slice_get}
 use Rattle.std.specs.Ordering.{nat_cmp, eq_by_cmp}
 use Rattle.std.specs.Cmp.{nat_cmp_total}
-use Rattle.std.specs.FinMap.{FinMap, find, from_entries, from_entries_push, get, get-from_entries, get-insert, insert, nat_cmp-IsAntisymmetric, same_map}
+use Rattle.std.specs.FinMap.{find, from_entries, from_entries_push, get, get-from_entries, get-insert, insert, nat_cmp-IsAntisymmetric, same_map}
 use Rattle.std.proofs.lemmas.Bool.{cases_eq}
 use Rattle.std.proofs.lemmas.List.{map-append}
 use Rattle.cs_heap.specs.Object.{Object, at_index, birth_of, is_object, object_at, with_object}
 use Rattle.cs_model.specs.Ref.{Ref}
 use Rattle.cs_model.specs.Obj.{Obj}
 use Rattle.cs_classes.specs.Meaning.{meaning_at, obj_of, objects_of, ref_of}
-use Rattle.cs_classes.specs.Sound.{IsSound, IsSoundObject}
-use Rattle.cs_classes.proofs.Heaps.{IsEdit, Stands, birth_of-object_at, is_object-object_at, object_there, slice_get-push, stands, with_object-stands}
-use Rattle.cs_classes.proofs.Refs.{ref_of-push, ref_of-with_object}
+use Rattle.cs_classes.specs.Sound.{IsSound}
+use Rattle.cs_classes.proofs.Heaps.{IsEdit, birth_of-object_at, is_object-object_at, object_there, stands, with_object-stands}
+use Rattle.cs_classes.proofs.Refs.{ref_of-with_object}
 use Rattle.cs_classes.proofs.Tables.{ties_other, ties_same}
 
 -- no two objects have one birth
@@ -86,6 +86,7 @@ find_changed f g (y ∷ os) (suc k) x q apart h keeps =
   where
     rest : Option Obj
     rest = find nat_cmp q (entries_by f os)
+
     swapped : (q ≡ y.birth) ⊎ (q ≡ y.birth → ⊥) → cond (eq_by_cmp nat_cmp q y.birth) (Some (f y)) (cond (eq_by_cmp nat_cmp q x.birth) (Some (f (g x))) rest)
         ≡ cond (eq_by_cmp nat_cmp q x.birth) (Some (f (g x))) (cond (eq_by_cmp nat_cmp q y.birth) (Some (f y)) rest)
     swapped (inl e) =
@@ -149,6 +150,7 @@ objects_of-with_object os a x f edit apart there = same_map nat_cmp_total nat_cm
   where
     means : Object → Obj
     means = obj_of (ref_of os)
+
     alike : (q : ℕ) → get {R = nat_cmp} (from_entries (entries_by (obj_of (ref_of (with_object os a f))) (with_object os a f))) q
         ≡ get {R = nat_cmp} (insert (from_entries (entries_by (obj_of (ref_of os)) os)) x.birth (obj_of (ref_of os) (f x))) q
     alike q =

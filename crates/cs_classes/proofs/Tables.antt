@@ -1,11 +1,11 @@
 -- What the class table has at an index, and how that changes.
-use Rattle.std.proofs.Common.{◌≡◌, ℕ, zero, suc, ◌+◌, ◌<◌, Bool, true, false, cond, List, [], ◌∷◌, length, replicate, Option, Some, None, option_map, refl, ap, sym, ◌∙◌, arith, get_or, set, inl, inr, take, ◌++◌, ◌-◌, subst}
-use Rattle.std.proofs.lemmas.List.{get_or-replicate, get_or-set_same, get_or-set_other}
+use Rattle.std.proofs.Common.{◌≡◌, ℕ, zero, suc, ◌+◌, ◌<◌, true, false, cond, List, [], ◌∷◌, length, replicate, Option, Some, None, option_map, refl, ap, sym, ◌∙◌, arith, get_or, set, inl, inr, take, ◌++◌}
+use Rattle.std.proofs.lemmas.List.{get_or-set_same, get_or-set_other}
 use Rattle.std.proofs.lemmas.Bool.{cases_eq}
 use Rattle.std.proofs.lemmas.Bool.Decides.{nat_tests}
 use Rattle.std.specs.Ordering.{nat_cmp, eq_by_cmp}
 use Rattle.std.specs.Cmp.{nat_cmp_total}
-use Rattle.std.specs.FinMap.{FinMap, empty, find, from_entries, get, get-empty, get-from_entries, get-insert, insert, nat_cmp-IsAntisymmetric, same_map}
+use Rattle.std.specs.FinMap.{find, from_entries, get, get-from_entries, get-insert, insert, nat_cmp-IsAntisymmetric, same_map}
 use Rattle.cs_word.specs.declared.Oop.{Oop}
 use Rattle.cs_classes.specs.Table.{filled}
 
@@ -60,9 +60,9 @@ filled_set es i o h = same_map nat_cmp_total nat_cmp-IsAntisymmetric _ _ alike
   where
     alike : (q : ℕ) → get (from_entries {R = nat_cmp} (filled 0 (set es i (Some o)))) q ≡ get {R = nat_cmp} (insert (from_entries (filled 0 es)) i o.0) q
     alike q = get-filled (set es i (Some o)) q ∙ elim (cases_eq q i) as (λ _. option_map (λ (p : Oop). p.0) (get_or (set es i (Some o)) q None) ≡ cond (eq_by_cmp nat_cmp q i) (Some o.0) (get (from_entries {R = nat_cmp} (filled 0 es)) q)) [
-        | inl e ↦ same e
-        | inr other ↦ rw (ties_other q i other, get_or-set_other es i q (Some o) None other) (sym (get-filled es q))
-      ] ∙ sym (get-insert nat_cmp_total (from_entries (filled 0 es)) i o.0 q)
+      | inl e ↦ same e
+      | inr other ↦ rw (ties_other q i other, get_or-set_other es i q (Some o) None other) (sym (get-filled es q))
+    ] ∙ sym (get-insert nat_cmp_total (from_entries (filled 0 es)) i o.0 q)
       where
         same : q ≡ i → option_map (λ (p : Oop). p.0) (get_or (set es i (Some o)) q None) ≡ cond (eq_by_cmp nat_cmp q i) (Some o.0) (get (from_entries {R = nat_cmp} (filled 0 es)) q)
         same e = rw e (rw (ties_same i, get_or-set_same es i (Some o) None h) refl)

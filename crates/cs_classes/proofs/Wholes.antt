@@ -1,33 +1,33 @@
 -- The kept parts that a heap, its class table and its roots stand for, when an object changes or comes, and when a class
 -- enters the table.
-use Rattle.std.proofs.Common.{◌≡◌, ℕ, zero, suc, ◌+◌, ◌<◌, ◌≤◌, Bool, true, false, cond, List, [], ◌∷◌, ◌++◌, length, map, take, drop, Option, Some, None, option_map, is_some, refl, ap, ap₂, subst, sym, ◌∙◌, arith, get_or, ◌⊎◌, inl, inr}
-use Rattle.std.specs.Prelude.{slice_get, unwrap_or}
+use Rattle.std.proofs.Common.{◌≡◌, ℕ, zero, suc, ◌+◌, ◌<◌, Bool, true, false, cond, List, [], ◌∷◌, ◌++◌, length, map, take, drop, Option, Some, None, option_map, is_some, refl, ap, ap₂, subst, sym, ◌∙◌, arith, get_or, ◌⊎◌, inl, inr}
+use Rattle.std.specs.Prelude.{slice_get}
 use Rattle.std.specs.Option.{option_map_or}
 use Rattle.std.specs.Ordering.{nat_cmp, eq_by_cmp}
 use Rattle.std.specs.Cmp.{nat_cmp_total}
-use Rattle.std.specs.FinMap.{FinMap, entries, find, from_entries, get, get-entries, get-from_entries, get-insert, insert, nat_cmp-IsAntisymmetric, same_map}
+use Rattle.std.specs.FinMap.{FinMap, entries, find, get, get-entries, get-from_entries, get-insert, insert, nat_cmp-IsAntisymmetric, same_map}
 use Rattle.std.specs.List.{AllByRecursion, AllPass}
 use Rattle.cs_word.specs.declared.Kind.{Kind}
 use Rattle.cs_word.specs.declared.Kind.TheVariants as kind
 use Rattle.cs_word.specs.Word.{kind_of}
 use Rattle.std.proofs.lemmas.Bool.{cases_eq}
 use Rattle.std.proofs.lemmas.List.{length-append}
-use Rattle.cs_heap.specs.Object.{Object, at_index, base, birth_of, is_object, object_at, with_object}
+use Rattle.cs_heap.specs.Object.{Object, at_index, birth_of, is_object, object_at, with_object}
 use Rattle.cs_heap.proofs.Laws.{is_object-old, is_object-with_object, length-with_object}
 use Rattle.cs_model.specs.Ref.{Ref}
 use Rattle.cs_model.specs.Ref as ref
-use Rattle.cs_model.specs.Obj.{Ctx, Method, Obj, Ptr}
+use Rattle.cs_model.specs.Obj.{Obj}
 use Rattle.cs_model.specs.State.{IsHeld, Kept, NamesHeld, RestHeld, put, with_rest}
 use Rattle.cs_model.specs.Operation.{add_of, edit_found, edit_object}
-use Rattle.cs_model.specs.Instance.{with_class}
+use Rattle.cs_model.specs.Instance.{with_class, with_last_hash}
 use Rattle.cs_classes.specs.declared.Roots.{Roots}
-use Rattle.cs_classes.specs.Meaning.{birth_at, classes_of, context_of, depth_in, is_context, kept_of, literals_in, meaning_at, obj_of, objects_of, ref_of, ref_of_kind}
-use Rattle.cs_classes.specs.Sound.{IsSound, IsSoundObject, IsWhole, is_reference, is_reference_kind, nil_of, references_in}
+use Rattle.cs_classes.specs.Meaning.{birth_at, classes_of, context_of, depth_in, kept_of, literals_in, obj_of, objects_of, ref_of, ref_of_kind}
+use Rattle.cs_classes.specs.Sound.{IsSound, IsSoundObject, IsWhole, is_reference, is_reference_kind}
 use Rattle.cs_classes.proofs.Heaps.{object_there, element_within, IsEdit, birth_at-with_object, birth_of-object_at, birth_of-push, birth_of-with_object, is_object-object_at, slice_get-at_index_other, slice_get-at_index_same, slice_get-push, stands, with_object-stands}
-use Rattle.cs_classes.proofs.Objects.{AreApart, Comes, IsFresh, get-objects_of, get-objects_of-element, objects_of-comes, objects_of-push, objects_of-with_object}
-use Rattle.cs_classes.proofs.Refs.{is_reference-push, nil_of-push, nil_of-with_object, ref_of-push}
+use Rattle.cs_classes.proofs.Objects.{IsFresh, get-objects_of, get-objects_of-element, objects_of-comes, objects_of-push, objects_of-with_object}
+use Rattle.cs_classes.proofs.Refs.{nil_of-push, nil_of-with_object, ref_of-push}
 use Rattle.cs_classes.proofs.Sorts.{AContext, AMethod, Bytes, Pointers, Sort, obj_of-alike, obj_of-bytes, obj_of-context, obj_of-method, obj_of-pointers, pass_drop, pass_take, references-method, references-pointers, sort_of}
-use Rattle.cs_classes.proofs.Sounds.{sound-push, sound-with_object, sound_at, whole_context}
+use Rattle.cs_classes.proofs.Sounds.{sound-push, sound-with_object, whole_context}
 
 -- ---- the class table
 
@@ -53,6 +53,7 @@ classes_of-insert os table index a = same_map nat_cmp_total nat_cmp-IsAntisymmet
     moved : (b : Bool) (o : Option ℕ) → option_map (birth_of os) (cond b (Some a) o) ≡ cond b (Some (birth_of os a)) (option_map (birth_of os) o)
     moved true o = refl
     moved false o = refl
+
     alike : (q : ℕ) → get {R = nat_cmp} (classes_of os (insert table index a)) q ≡ get {R = nat_cmp} (insert (classes_of os table) index (birth_of os a)) q
     alike q =
         get-classes_of os (insert table index a) q ∙ ap (option_map (birth_of os)) (get-insert nat_cmp_total table index a q)
@@ -65,6 +66,7 @@ classes_of-alike os us table same = same_map nat_cmp_total nat_cmp-IsAntisymmetr
     go : (q : ℕ) (o : Option ℕ) → get table q ≡ o → option_map (birth_of us) o ≡ option_map (birth_of os) o
     go q None e = refl
     go q (Some a) e = ap Some (same q a e)
+
     alike : (q : ℕ) → get {R = nat_cmp} (classes_of us table) q ≡ get {R = nat_cmp} (classes_of os table) q
     alike q = get-classes_of us table q ∙ go q (get table q) refl ∙ sym (get-classes_of os table q)
 
@@ -86,6 +88,7 @@ whole-set_entry os table roots index a w h = record {
     entered : (b : Bool) (o : Option ℕ) {p : Option ℕ} → p ≡ cond b (Some a) o → is_some o ≡ true → is_some p ≡ true
     entered true o e s = ap is_some e
     entered false o e s = ap is_some e ∙ s
+
     there : (i b : ℕ) (t : Bool) → get (insert table index a) i ≡ cond t (Some a) (get table i) → get (insert table index a) i ≡ Some b → is_object os b ≡ true
     there i b true e f = let is : a ≡ b = cc in subst (λ (n : ℕ). is_object os n ≡ true) is h
     there i b false e f = w.classes i b (sym e ∙ f)
@@ -101,7 +104,7 @@ kept_of-with_object os table roots active a x f g edit sound there means =
     let birth : birth_of os a ≡ x.birth = birth_of-object_at os a x there in
     let found : get (objects_of os) (birth_of os a) ≡ Some (obj_of (ref_of os) x) = get-objects_of os a sound (is_object-object_at os a x there) ∙ ap (option_map (obj_of (ref_of os))) there in
     let objects : objects_of (with_object os a f) ≡ insert (objects_of os) (birth_of os a) (g (obj_of (ref_of os) x)) =
-        objects_of-with_object os a x f edit sound.apart there ∙ ap₂ (insert (objects_of os)) (sym birth) means in
+    objects_of-with_object os a x f edit sound.apart there ∙ ap₂ (insert (objects_of os)) (sym birth) means in
     let classes = classes_of-alike os (with_object os a f) table (λ index b e. birth_of-with_object os a b f edit) in
     let changed : kept_of (with_object os a f) table roots active ≡ put k (birth_of os a) (g (obj_of (ref_of os) x)) = λ i. record {
       objects = objects i;
@@ -144,6 +147,7 @@ whole-with_object os table roots a x f edit w there new =
         changed (Some z) e g =
             let is : f z ≡ y = cc in
             (z, (e, (sym (edit.birth z) ∙ ap (λ (u : Object). u.birth) is, sym (edit.class z) ∙ ap (λ (u : Object). u.class) is)))
+
         go : (k ≡ j) ⊎ (k ≡ j → ⊥) → (z : Object) × ((slice_get os j ≡ Some z) × ((z.birth ≡ y.birth) × (z.class ≡ y.class)))
         go (inl e) = changed (slice_get os j) refl (sym (slice_get-at_index_same j f os) ∙ ap (λ (n : ℕ). slice_get (at_index n f os) j) (sym e) ∙ h)
         go (inr other) = (y, (sym (slice_get-at_index_other k j f os other) ∙ h, (refl, refl)))
@@ -176,7 +180,7 @@ kept_of-push os table roots active y w next =
     let new : Obj = obj_of (ref_of (os ++ y ∷ [])) y in
     let fresh : IsFresh os y.birth = λ j x h e. next_is_fresh os table roots w j x h (e ∙ next) in
     let objects : objects_of (os ++ y ∷ []) ≡ insert (objects_of os) roots.next_birth new =
-        objects_of-push os y fresh (λ j x h. obj_of-push os y x (w.heap.each j x h)) ∙ ap (λ (b : ℕ). insert (objects_of os) b new) next in
+    objects_of-push os y fresh (λ j x h. obj_of-push os y x (w.heap.each j x h)) ∙ ap (λ (b : ℕ). insert (objects_of os) b new) next in
     let classes = classes_of-alike os (os ++ y ∷ []) table (λ index b e. birth_of-push os y b (w.classes index b e)) in
     let nil = births_push os y 0 (omega (arith, w.first)) in
     let false_ = births_push os y 1 (omega (arith, w.first)) in
@@ -212,6 +216,7 @@ whole-push os table roots y w next class new = record {
     births : (k : ℕ) (x : Object) → (slice_get os k ≡ Some x) ⊎ ((k ≡ length os) × (y ≡ x)) → x.birth < roots.next_birth + 1
     births k x (inl h) = omega (arith, w.births k x h)
     births k x (inr h) = omega (arith, next, ap (λ (z : Object). z.birth) h.1)
+
     indices : (k : ℕ) (x : Object) → (slice_get os k ≡ Some x) ⊎ ((k ≡ length os) × (y ≡ x)) → is_some (get table x.class) ≡ true
     indices k x (inl h) = w.indices k x h
     indices k x (inr h) = subst (λ (z : Object). is_some (get table z.class) ≡ true) h.1 class
@@ -242,11 +247,12 @@ obj_of-held os table roots active x sound s = go (sort_of x)
   where
     held : Obj → Type 0
     held = NamesHeld (kept_of os table roots active)
+
     go : Sort x → NamesHeld (kept_of os table roots active) (obj_of (ref_of os) x)
     go (AContext c) =
         let whole = whole_context os x s c in
         let word : (i : ℕ) → i < 6 → IsHeld (kept_of os table roots active) (ref_of os (get_or x.words i 0)) =
-            λ i l. ref_of-held os table roots active (get_or x.words i 0) sound (whole.references i 0 (omega (arith, l, whole.fields))) in
+        λ i l. ref_of-held os table roots active (get_or x.words i 0) sound (whole.references i 0 (omega (arith, l, whole.fields))) in
         subst held (sym (obj_of-context (ref_of os) x c)) (record {
           sender = word 0 (omega arith);
           method = word 3 (omega arith);
@@ -284,6 +290,30 @@ kept_of-roots os table roots active w running = record {
   where
     object_held : (a : ℕ) → is_object os a ≡ true → IsHeld (kept_of os table roots active) (ref.Obj (birth_of os a))
     object_held a h = let x = object_there os a h in ap is_some (get-objects_of os a w.heap h ∙ ap (option_map (obj_of (ref_of os))) x.1)
+
     class_held : (index i : ℕ) (o : Option ℕ) → get table index ≡ o → option_map (birth_of os) o ≡ Some i → IsHeld (kept_of os table roots active) (ref.Obj i)
     class_held index i None e h = absurd (cc)
     class_held index i (Some a) e h = let is : birth_of os a ≡ i = cc in subst (λ (n : ℕ). IsHeld (kept_of os table roots active) (ref.Obj n)) is (object_held a (w.classes index a e))
+
+-- what is there is below the next birth
+pub kept_of-below : (os : List Object) (table : FinMap nat_cmp ℕ) (roots : Roots) (i : ℕ) (o : Obj) → IsWhole os table roots → get (objects_of os) i ≡ Some o → i < roots.next_birth
+kept_of-below os table roots i o w h =
+    let from = objects_of-comes os i o w.heap.apart h in
+    subst (λ (b : ℕ). b < roots.next_birth) from.birth (w.births from.place from.object from.element)
+
+-- ---- another hash is the last one that was given
+
+pub whole-last_hash : (os : List Object) (table : FinMap nat_cmp ℕ) (roots : Roots) (hash : ℕ) → IsWhole os table roots → IsWhole os table (record roots { last_hash = hash })
+whole-last_hash os table roots hash w = record {
+  heap = w.heap;
+  first = w.first;
+  nil = w.nil;
+  births = w.births;
+  indices = w.indices;
+  classes = w.classes;
+  special = w.special;
+}
+
+pub kept_of-last_hash : (os : List Object) (table : FinMap nat_cmp ℕ) (roots : Roots) (active : Option ℕ) (hash : ℕ)
+    → kept_of os table (record roots { last_hash = hash }) active ≡ with_rest (with_last_hash hash (kept_of os table roots active).rest) (kept_of os table roots active)
+kept_of-last_hash os table roots active hash = refl

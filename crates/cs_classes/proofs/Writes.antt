@@ -2,22 +2,20 @@
 --
 -- The premises are what the code knows of the object x at an address a: that it stands there, its sort, and that a word
 -- that is stored is a reference. Each law says that the heap is whole again, and what its kept parts are.
-use Rattle.std.proofs.Common.{◌≡◌, ℕ, pos, ◌+◌, ◌-◌, ◌*◌, ◌/◌, ◌%◌, ◌^◌, ◌<◌, ◌≤◌, Bool, true, false, List, length, take, set, Option, Some, None, refl, ap, ap₂, subst, sym, ◌∙◌, arith, get_or}
+use Rattle.std.proofs.Common.{◌≡◌, ℕ, pos, ◌+◌, ◌-◌, ◌*◌, ◌/◌, ◌%◌, ◌^◌, ◌<◌, ◌≤◌, true, false, List, length, take, set, Option, Some, refl, ap, subst, sym, ◌∙◌, arith, map, drop}
 use Rattle.std.specs.Prelude.{slice_index, unwrap_or, is_some, ◌==◌, ◌||◌, IsTrue}
 use Rattle.std.specs.Option.{option_map_or}
 use Rattle.std.specs.Ordering.{nat_cmp}
 use Rattle.std.specs.FinMap.{FinMap}
 use Rattle.std.proofs.lemmas.Bool.{or_right}
 use Rattle.std.proofs.lemmas.Bool.Decides.{nat_tests}
-use Rattle.std.proofs.lemmas.List.{get_or-set_other, length-set}
+use Rattle.std.proofs.lemmas.List.{length-set}
 use Rattle.cs_word.specs.Word.{small_word}
 use Rattle.cs_heap.specs.Format.{is_method, is_pointers}
 use Rattle.cs_heap.specs.Object.{Object, birth_of, object_at, set_word, slot_of, with_byte, with_hash, with_object, with_slot}
 use Rattle.cs_heap.specs.Object as heap
 use Rattle.cs_model.specs.Ref.{Ref}
-use Rattle.cs_model.specs.Ref as ref
-use Rattle.cs_model.specs.Obj.{edit_context, Context, Obj, literal_count, popped, pushed, stored, with_pc, with_stack}
-use Rattle.cs_model.specs.Obj as model
+use Rattle.cs_model.specs.Obj.{Context, Obj, edit_context, literal_count, popped, pushed, stored, with_pc, with_stack}
 use Rattle.cs_model.specs.State.{Kept}
 use Rattle.cs_model.specs.Operation.{edit_object, store_byte_of, store_of}
 use Rattle.cs_model.specs.Operation as operation
@@ -27,7 +25,7 @@ use Rattle.cs_classes.specs.Sound.{IsSoundObject, IsWhole, is_reference, nil_of}
 use Rattle.cs_classes.proofs.Heaps.{IsEdit, is_object-object_at, set_word-IsEdit, with_object-twice}
 use Rattle.cs_classes.proofs.Refs.{count_of-small, is_reference-small, ref_of-object, small_natural}
 use Rattle.cs_classes.proofs.Edits.{obj_of-hash, obj_of-set_byte, obj_of-set_code, obj_of-set_literal, obj_of-set_word}
-use Rattle.cs_classes.proofs.Contexts.{context_of-closure, context_of-higher, context_of-lower, context_of-method, context_of-pc, context_of-push, context_of-receiver, context_of-sender, context_of-stack, depth_is, obj_of-edit_context}
+use Rattle.cs_classes.proofs.Contexts.{context_of-closure, context_of-lower, context_of-method, context_of-pc, context_of-push, context_of-receiver, context_of-sender, context_of-stack, context_of-stackp, depth_is, obj_of-edit_context}
 use Rattle.cs_classes.proofs.Sounds.{IsContextWrite, method_other, sound-hash, sound-set_bytes, sound-set_code, sound-set_context, sound-set_literal, sound-set_slot, sound_at, whole_context}
 use Rattle.cs_classes.proofs.Wholes.{kept_of-with_object, whole-with_object}
 
@@ -89,7 +87,7 @@ module _ {os : List Object} {table : FinMap nat_cmp ℕ} {roots : Roots} {a : �
       let n : ℕ = 4 * (1 + literal_count (header_in x.words)) + i in
       let v : ℕ = heap.with_byte_in (slice_index x.words (n / 4)) (n % 4) b in
       let done = does-edit (set_word (n / 4) v) (operation.with_byte i b) (set_word-IsEdit (n / 4) v) (sound-set_code os x (n / 4) v sound_object m (omega arith))
-          (obj_of-set_code (ref_of os) x i b (method_other os x sound_object m) m f) in
+      (obj_of-set_code (ref_of os) x i b (method_other os x sound_object m) m f) in
       subst (λ (w : ℕ). Does os (with_slot os a (n / 4) (heap.with_byte_in w (n % 4) b)) table roots (λ k. edit_object k (ref_of os a) (operation.with_byte i b))) (sym (slot_is (n / 4))) done
 
   -- ---- raw bytes
@@ -100,7 +98,7 @@ module _ {os : List Object} {table : FinMap nat_cmp ℕ} {roots : Roots} {a : �
   does-set_byte i b other p m f =
       let v : ℕ = heap.with_byte_in (slice_index x.words (i / 4)) (i % 4) b in
       let done = does-edit (set_word (i / 4) v) (operation.with_byte i b) (set_word-IsEdit (i / 4) v) (sound-set_bytes os x (i / 4) v sound_object other p m)
-          (obj_of-set_byte (ref_of os) x i b other p m f) in
+      (obj_of-set_byte (ref_of os) x i b other p m f) in
       subst (λ (w : ℕ). Does os (with_slot os a (i / 4) (heap.with_byte_in w (i % 4) b)) table roots (λ k. edit_object k (ref_of os a) (operation.with_byte i b))) (sym (slot_is (i / 4))) done
 
   -- ---- hashes
@@ -174,6 +172,14 @@ module _ {os : List Object} {table : FinMap nat_cmp ℕ} {roots : Roots} {a : �
         (context_of-lower (ref_of os) x.hash x.words (small_word (pos d)) d fields (count_of-small d (small_depth os x d sound_object c l)) (omega (arith, deep))
         ∙ ap (λ (m : ℕ). with_stack (take (m - n) old.stack) old) (sym deep))
 
+    -- the stack is so deep: what stands in its words
+    pub does-set_stackp : (d : ℕ) → d ≤ length x.words - 6
+        → Does os (with_slot os a 2 (small_word (pos d))) table roots (λ k. edit_object k (ref_of os a) (edit_context (with_stack (map (ref_of os) (take d (drop 6 x.words))))))
+    does-set_stackp d l =
+        context_edit 2 (small_word (pos d)) (with_stack (map (ref_of os) (take d (drop 6 x.words)))) (stackp_write x d refl l)
+        (context_of-stackp (ref_of os) x.hash x.words (small_word (pos d)) fields
+        ∙ ap (λ (o : Option ℕ). with_stack (map (ref_of os) (take (unwrap_or o 0) (drop 6 x.words))) (context_of (ref_of os) x.hash x.words)) (count_of-small d (small_depth os x d sound_object c l)))
+
     -- a value is pushed: first it, and then stackp
     pub does-push : (v : ℕ) → depth_in x.words < length x.words - 6 → is_reference os v ≡ true
         → Does os (with_slot (with_slot os a (6 + depth_in x.words) v) a 2 (small_word (pos (depth_in x.words + 1)))) table roots (λ k. edit_object k (ref_of os a) (edit_context (pushed (ref_of os v))))
@@ -185,9 +191,9 @@ module _ {os : List Object} {table : FinMap nat_cmp ℕ} {roots : Roots} {a : �
         let first_sound = sound-set_context os x (6 + d) v sound_object c (plain (6 + d) v (λ e. omega (arith, e)) (λ e. omega (arith, e)) r) in
         let both : Object → Object = λ (y : Object). set_word 2 w (set_word (6 + d) v y) in
         let done = does-edit both (edit_context (pushed (ref_of os v)))
-            (record { slots = λ (y : Object). length-set (set y.words (6 + d) v) 2 w ∙ length-set y.words (6 + d) v; birth = λ (y : Object). refl; class = λ (y : Object). refl })
-            (sound-set_context os first 2 w first_sound c (stackp_write first (d + 1) (length-set x.words (6 + d) v) l))
-            (obj_of-edit_context (ref_of os) x (both x) (pushed (ref_of os v)) c c
-            (context_of-push (ref_of os) x.hash x.words v w fields room (count_of-small (d + 1) (small_depth os x (d + 1) sound_object c l)))) in
+        (record { slots = λ (y : Object). length-set (set y.words (6 + d) v) 2 w ∙ length-set y.words (6 + d) v; birth = λ (y : Object). refl; class = λ (y : Object). refl })
+        (sound-set_context os first 2 w first_sound c (stackp_write first (d + 1) (length-set x.words (6 + d) v) l))
+        (obj_of-edit_context (ref_of os) x (both x) (pushed (ref_of os v)) c c
+        (context_of-push (ref_of os) x.hash x.words v w fields room (count_of-small (d + 1) (small_depth os x (d + 1) sound_object c l)))) in
         subst (λ (us : List Object). Does os us table roots (λ k. edit_object k (ref_of os a) (edit_context (pushed (ref_of os v)))))
         (sym (with_object-twice os a (set_word (6 + d) v) (set_word 2 w) (set_word-IsEdit (6 + d) v))) done
