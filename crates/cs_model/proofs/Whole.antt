@@ -1,18 +1,15 @@
 -- The laws of whole states, in plain words.
-use Rattle.std.proofs.Common.{◌≡◌, ℕ, Bool, refl, Option, Some, None}
+use Rattle.std.proofs.Common.{ℕ, Bool, Option}
 use Rattle.cs_model.specs.Ref.{Ref}
 use Rattle.cs_model.specs.State.{Kept, Run, State, IsHeld}
-use Rattle.cs_model.specs.PrimRun.{Result}
 use Rattle.cs_model.specs.PrimTable.{prim}
 use Rattle.cs_model.specs.Due.{due}
 use Rattle.cs_model.specs.Step.{try_primitive, do_send, do_return, bytecode, step, run}
 use Rattle.cs_model.specs.Built.{built_step, built_run}
-use Rattle.cs_model.specs.Settle.{opened}
 use Rattle.cs_model.specs.Keeps.{Keeps, TimerHeld, KeepsState}
 use Rattle.cs_model.specs.Alike.{AlikeResult, AlikeHappened, AlikeStep, AlikeRan, IsHeldIf}
 use Rattle.cs_model.proofs.Same.{Same, same}
 use Rattle.cs_model.proofs.Tables.{prim_alike}
-use Rattle.cs_model.proofs.Running.{open_moved, timer_off}
 use Rattle.cs_model.proofs.Happening.{run_same, due_alike}
 use Rattle.cs_model.proofs.Stepping.{above_held, try_primitive_alike, do_send_alike, do_return_alike, bytecode_of_state, step_alike, run_alike}
 use Rattle.cs_model.proofs.Building.{built_step_alike, built_run_alike}

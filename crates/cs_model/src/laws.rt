@@ -37,15 +37,13 @@ pub fn a_write_stands()
     ensures same { (k : Kept) (i : ℕ) (o : Obj) → object_at (put k i o) i ≡ Some o }
     ensures other { (k : Kept) (i j : ℕ) (o : Obj) → (j ≡ i → ⊥) → object_at (put k i o) j ≡ object_at k j }
     ensures rest { (k : Kept) (i : ℕ) (o : Obj) → (put k i o).rest ≡ k.rest }
-{
-}
+{}
 
 /// A state that keeps another one keeps itself, and all that this one keeps.
 pub fn keeping_is_transitive()
     ensures itself { (v m : Kept) → Keeps v m → Keeps v v }
     ensures transitive { (u v m : Kept) → Keeps u v → Keeps v m → Keeps u m }
-{
-}
+{}
 
 /// What is read of a state by references that it holds is the same in each state that it keeps.
 pub fn keeping_agrees_in_reads()
@@ -69,8 +67,7 @@ pub fn keeping_agrees_in_reads()
     ensures home { (v m : Kept) (i : ℕ) → Keeps v m → IsSome (object_at v i) → home m i ≡ home v i }
     ensures is_idle { (v m : Kept) → Keeps v m → is_idle m ≡ is_idle v }
     ensures instruction_at { (v m : Kept) → Keeps v m → instruction_at m ≡ instruction_at v }
-{
-}
+{}
 
 /// What is read of a closed state is there. A state is closed where it keeps itself.
 pub fn what_is_read_is_held()
@@ -82,8 +79,7 @@ pub fn what_is_read_is_held()
     ensures scheduler { (v : Kept) (x : Ref) → Keeps v v → scheduler_of v ≡ Some x → IsHeld v x }
     ensures process { (v : Kept) (x : Ref) → Keeps v v → active_process v ≡ Some x → IsHeld v x }
     ensures method { (v : Kept) (class selector : Ref) → Keeps v v → IsHeld v class → SoughtHeld v (lookup v class selector) }
-{
-}
+{}
 
 /// Behind the same operation on both, a state that keeps another one keeps it again.
 pub fn keeping_survives_an_operation()
@@ -108,8 +104,7 @@ pub fn keeping_survives_an_operation()
     ensures hash_given { (v m : Kept) (x : Ref) → Keeps v m → IsHeld v x → Keeps (hash_given v x) (hash_given m x) }
     ensures settle { (v m : Kept) → Keeps v m → Keeps (settle_kept v) (settle_kept m) }
     ensures open { (v m : Kept) → Keeps v m → Keeps (open_kept v) (open_kept m) }
-{
-}
+{}
 
 /// What a closed state has, it has behind each operation.
 pub fn what_was_held_still_is()
@@ -134,15 +129,13 @@ pub fn what_was_held_still_is()
     ensures hash_given { (v : Kept) (x : Ref) → Keeps v v → IsHeld v x → Grows v (hash_given v x) }
     ensures settle { (v : Kept) → Keeps v v → Grows v (settle_kept v) }
     ensures open { (v : Kept) → Keeps v v → Grows v (open_kept v) }
-{
-}
+{}
 
 /// Instances are made alike, and classes get the same index.
 pub fn keeping_survives_a_making()
     ensures instance { (v m : Kept) (x : Ref) (size : ℕ) → Keeps v m → IsHeld v x → AlikeMade v (instantiate v x size) (instantiate m x size) }
     ensures index { (v m : Kept) (x : Ref) → Keeps v m → IsHeld v x → AlikeHashed v (behavior_hash v x) (behavior_hash m x) }
-{
-}
+{}
 
 /// Each instruction ends alike, and so do the parts of which instructions are composed.
 pub fn keeping_survives_an_instruction()
@@ -151,8 +144,7 @@ pub fn keeping_survives_an_instruction()
     ensures jump { (v m : Kept) (offset : ℤ) → Keeps v m → Alike v (jump_out v offset) (jump_out m offset) }
     ensures special_send { (v m : Kept) (special args : ℕ) → Keeps v m → Alike v (special_send_out v special args) (special_send_out m special args) }
     ensures selector_send { (v m : Kept) (i : ℕ) → Keeps v m → Alike v (send_selector_out v i) (send_selector_out m i) }
-{
-}
+{}
 
 /// A send ends alike, whatever it finds, and so does a perform.
 pub fn keeping_survives_a_send()
@@ -165,8 +157,7 @@ pub fn keeping_survives_a_send()
     ensures with_arguments { (v m : Kept) → Keeps v m → Alike v (perform_with_arguments v) (perform_with_arguments m) }
     ensures executed { (v m : Kept) → Keeps v m → Alike v (execute_method v) (execute_method m) }
     ensures whole { (v m : Kept) (r : Run) (x : Ref) (args : ℕ) (above : Option Ref) → Keeps v m → TimerHeld v r → IsHeld v x → IsHeldIf v above → AlikeResult v (do_send r v x args above) (do_send r m x args above) }
-{
-}
+{}
 
 /// A return ends alike: to the sender, to the sender of the home, or to what is told of it.
 pub fn keeping_survives_a_return()
@@ -176,8 +167,7 @@ pub fn keeping_survives_a_return()
     ensures refused { (v m : Kept) (x : Ref) → Keeps v m → IsHeld v x → Alike v (cannot_return_out v x) (cannot_return_out m x) }
     ensures unwound { (v m : Kept) (x : Ref) (mark : ℕ) → Keeps v m → IsHeld v x → IsSome (object_at v mark) → Alike v (unwind_out v x mark) (unwind_out m x mark) }
     ensures whole { (v m : Kept) (r : Run) (x : Ref) (local : Bool) → Keeps v m → TimerHeld v r → IsHeld v x → AlikeResult v (do_return r v x local) (do_return r m x local) }
-{
-}
+{}
 
 /// Each operation on processes, semaphores and their lists ends alike.
 pub fn keeping_survives_a_switch()
@@ -189,8 +179,7 @@ pub fn keeping_survives_a_switch()
     ensures waited { (v m : Kept) (x : Ref) → Keeps v m → IsHeld v x → Alike v (wait v x) (wait m x) }
     ensures suspended { (v m : Kept) (p : Ref) → Keeps v m → IsHeld v p → Alike v (suspend v p) (suspend m p) }
     ensures yielded { (v m : Kept) → Keeps v m → Alike v (give_way v) (give_way m) }
-{
-}
+{}
 
 /// Each primitive ends alike.
 pub fn keeping_survives_a_primitive()
@@ -198,21 +187,18 @@ pub fn keeping_survives_a_primitive()
     ensures answered { (v m : Kept) (args : ℕ) (x : Ref) → Keeps v m → IsHeld v x → Alike v (answer v args x) (answer m args x) }
     ensures any { (s t : State) (number args : ℕ) → KeepsState s t → AlikeResult s.kept (prim number args s) (prim number args t) }
     ensures tried { (s t : State) (x : Ref) (number : ℕ) → KeepsState s t → IsHeld s.kept x → AlikeResult s.kept (try_primitive s x number) (try_primitive t x number) }
-{
-}
+{}
 
 /// The events that are due happen alike.
 pub fn keeping_survives_an_event()
     ensures external { (v m : Kept) (n : ℕ) → Keeps v m → Alike v (signal_external v n) (signal_external m n) }
     ensures due { (s t : State) → KeepsState s t → AlikeHappened s.kept (due s) (due t) }
-{
-}
+{}
 
 /// A bytecode with all that it leads to ends alike.
 pub fn keeping_survives_a_bytecode()
     ensures { (s t : State) → KeepsState s t → AlikeResult s.kept (bytecode s) (bytecode t) }
-{
-}
+{}
 
 /// A step of a state that keeps another one, and a step of that one, end in the same way, with the same counts, equal run parts and
 /// the same next birth; the results keep each other again, and so do the states that they saved.
@@ -224,8 +210,7 @@ pub fn keeping_survives_a_step()
     ensures keeps { (s t : State) → KeepsState s t → KeepsState (step s).state (step t).state }
     ensures held { (s t : State) → KeepsState s t → Grows s.kept (step s).state.kept }
     ensures snapshot { (s t : State) → KeepsState s t → KeepsIf (step s).snapshot (step t).snapshot }
-{
-}
+{}
 
 /// The same of a run of so many steps.
 pub fn keeping_survives_a_run()
@@ -236,12 +221,10 @@ pub fn keeping_survives_a_run()
     ensures keeps { (n : ℕ) (s t : State) → KeepsState s t → KeepsState (run n s).state (run n t).state }
     ensures held { (n : ℕ) (s t : State) → KeepsState s t → Grows s.kept (run n s).state.kept }
     ensures snapshots { (n : ℕ) (s t : State) → KeepsState s t → AllKeep (run n s).snapshots (run n t).snapshots }
-{
-}
+{}
 
 /// The same of the step and the run of a machine that stops where a step is not built.
 pub fn keeping_survives_what_is_built()
     ensures step { (s t : State) → KeepsState s t → AlikeStep s.kept (built_step s) (built_step t) }
     ensures run { (n : ℕ) (s t : State) → KeepsState s t → AlikeRan s.kept (built_run n s) (built_run n t) }
-{
-}
+{}
