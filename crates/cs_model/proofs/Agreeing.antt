@@ -1,18 +1,17 @@
 -- What is read is the same in a state that keeps another one, and in that one; and what is read is there.
-use Rattle.std.proofs.Common.{◌≡◌, ℕ, Bool, true, Option, Some, None, List, refl, IsSome}
+use Rattle.std.proofs.Common.{◌≡◌, ℕ, Bool, Some, List}
 use Rattle.std.specs.Prelude.{slice_get}
 use Rattle.std.specs.List.{AllByRecursion}
-use Rattle.std.specs.FinMap.{get}
 use Rattle.cs_model.specs.Ref.{Ref}
 use Rattle.cs_model.specs.Ref as ref
-use Rattle.cs_model.specs.Obj.{Obj, Context}
-use Rattle.cs_model.specs.State.{Kept, object_at, object_of, slots_of, special_at, scheduler_of, active_process, is_nil, IsHeld, ContextHeld, NamesHeld}
+use Rattle.cs_model.specs.Obj.{Context}
+use Rattle.cs_model.specs.State.{Kept, object_at, object_of, slots_of, special_at, scheduler_of, active_process, is_nil, IsHeld, ContextHeld}
 use Rattle.cs_model.specs.Read.{class_of, active_birth, active_context, stack_of, depth_of, size_of, pc_of, receiver_of, method_of, literals_of, bytecodes_of}
 use Rattle.cs_model.specs.Operation.{nil_of}
 use Rattle.cs_model.specs.Number.{boolean}
 use Rattle.cs_model.specs.Context.{context_get, accepts}
 use Rattle.cs_model.specs.Enter.{can_evaluate}
-use Rattle.cs_model.specs.Exec.{literal_at, variable_value, pc_after}
+use Rattle.cs_model.specs.Exec.{literal_at, variable_value}
 use Rattle.cs_model.specs.Lookup.{lookup}
 use Rattle.cs_model.specs.Return.{sender_birth, senders_to, home, is_marked, is_live}
 use Rattle.cs_model.specs.Process.{slot_or_none}
@@ -22,12 +21,12 @@ use Rattle.cs_model.specs.Due.{is_idle}
 use Rattle.cs_model.specs.Step.{instruction_at}
 use Rattle.cs_model.specs.Keeps.{Keeps}
 use Rattle.cs_model.specs.Alike.{SoughtHeld}
-use Rattle.cs_model.proofs.Same.{Same, same, SameOption, some, equal, holds, option_equal, option_holds, is}
-use Rattle.cs_model.proofs.Reading.{Has, AllHeld, listed, nil_same, boolean_same, is_nil_same, object_at_same, object_of_same, slots_of_same, special_at_same, scheduler_same, active_process_same, class_of_same, active_birth_same, active_ref_same, active_context_same, slice_same, stack_same, depth_same, size_same, pc_same, receiver_same, method_same, literals_same, bytecodes_same}
+use Rattle.cs_model.proofs.Same.{same, equal, holds, option_equal, option_holds, is}
+use Rattle.cs_model.proofs.Reading.{Has, nil_same, boolean_same, is_nil_same, object_at_same, object_of_same, slots_of_same, special_at_same, scheduler_same, active_process_same, class_of_same, active_birth_same, active_ref_same, active_context_same, slice_same, stack_same, depth_same, size_same, pc_same, receiver_same, method_same, literals_same, bytecodes_same}
 use Rattle.cs_model.proofs.Fields.{context_get_same, accepts_same}
 use Rattle.cs_model.proofs.Making.{class_index_for_same, hash_of_same}
 use Rattle.cs_model.proofs.Entering.{can_evaluate_same}
-use Rattle.cs_model.proofs.Executing.{literal_at_same, variable_value_same, pc_after_same}
+use Rattle.cs_model.proofs.Executing.{literal_at_same, variable_value_same}
 use Rattle.cs_model.proofs.Searching.{lookup_same, sender_birth_same, senders_to_same, home_same, is_marked_same, is_live_same}
 use Rattle.cs_model.proofs.Scheduling.{slot_same}
 use Rattle.cs_model.proofs.Processing.{is_semaphore_same}

@@ -1,20 +1,19 @@
 -- Whether a step is built is alike, and so is the step of a machine that stops where it isn't.
-use Rattle.std.proofs.Common.{◌≡◌, ℕ, ◌+◌, ◌-◌, ◌==◌, ◌&&◌, ◌||◌, not, Bool, true, false, refl, Option, Some, None, nat_lt, nat_le, if◌then◌else◌}
+use Rattle.std.proofs.Common.{ℕ, ◌+◌, ◌-◌, ◌==◌, not, true, false, Option, Some, None, nat_lt}
 use Rattle.std.specs.Prelude.{slice_get}
 use Rattle.cs_model.specs.declared.stop.Stop.TheVariants as why
 use Rattle.cs_model.specs.declared.instruction.Instr.{Instr}
 use Rattle.cs_model.specs.Ref.{Ref}
 use Rattle.cs_model.specs.Obj.{first_pc, header_in, bytecodes_in, argument_count, primitive_number}
 use Rattle.cs_model.specs.State.{Kept, Run, State, IsHeld}
-use Rattle.cs_model.specs.Read.{pc_of, literals_of, bytecodes_of}
 use Rattle.cs_model.specs.Lookup.{Sought, Missing, Loop}
 use Rattle.cs_model.specs.Lookup as sought
-use Rattle.cs_model.specs.Step.{Message, is_fail, birth_limit, Step, run_by, step}
-use Rattle.cs_model.specs.End.{End, Out, no_count}
-use Rattle.cs_model.specs.Built.{is_built_code, is_built_number, answers, method_number, is_built_method, is_built_found, is_built_send, is_built_end, is_built_at, is_built_byte, is_built_bytecode, is_built, built_step, built_run}
+use Rattle.cs_model.specs.Step.{Message, is_fail, birth_limit}
+use Rattle.cs_model.specs.End.{Out, no_count}
+use Rattle.cs_model.specs.Built.{is_built_number, answers, is_built_method, is_built_found, is_built_send, is_built_end, is_built_at, is_built_byte, is_built_bytecode, is_built, built_step, built_run}
 use Rattle.cs_model.specs.Keeps.{Keeps, TimerHeld, KeepsState}
 use Rattle.cs_model.specs.Alike.{SoughtHeld, Alike, AlikeStep, AlikeRan}
-use Rattle.cs_model.proofs.Same.{Same, same, SameOption, none, some, Any, is, of_option, value, two, if_same}
+use Rattle.cs_model.proofs.Same.{Same, same, Any, is, of_option, value, two, if_same}
 use Rattle.cs_model.proofs.Reading.{object_of_same, depth_same, pc_same, literals_same, bytecodes_same, rest_same}
 use Rattle.cs_model.proofs.Operating.{set_pc_moved}
 use Rattle.cs_model.proofs.Fields.{and_same, or_else_same}

@@ -25,3 +25,4 @@ pub mod Stepping
 pub mod Building
 pub mod Agreeing
 pub mod Surviving
+pub mod Whole

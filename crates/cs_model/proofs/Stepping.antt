@@ -233,7 +233,7 @@ add_count_alike (same n s) h = record { ending = h.ending; count = ap (plus n) h
 
 -- ---- a step
 
-bytecode_of_state : {s t : State} → KeepsState s t → AlikeResult s.kept (bytecode s) (bytecode t)
+pub bytecode_of_state : {s t : State} → KeepsState s t → AlikeResult s.kept (bytecode s) (bytecode t)
 bytecode_of_state {s} {t} k = with_run k.kept (run_same k) where
   with_run : {v m : Kept} {r q : Run} → Keeps v m → Same (TimerHeld v) r q → AlikeResult v (bytecode (record { kept = v; run = r })) (bytecode (record { kept = m; run = q }))
   with_run k (same r timer) = bytecode_alike k r timer

@@ -1,13 +1,11 @@
 -- The operations in plain words: a state that keeps another one keeps it behind the same operation on both, and has all that it
 -- had; and what both come to is alike.
-use Rattle.std.proofs.Common.{◌≡◌, ℕ, ℤ, Bool, refl, sym, Option, Some, None, List}
+use Rattle.std.proofs.Common.{ℕ, ℤ, Bool, refl, Option, List}
 use Rattle.std.specs.List.{AllByRecursion}
 use Rattle.cs_model.specs.declared.instruction.Op.{Op}
-use Rattle.cs_model.specs.declared.instruction.Instr.{Instr}
-use Rattle.cs_model.specs.declared.event.EventKind.{EventKind}
 use Rattle.cs_model.specs.Ref.{Ref}
-use Rattle.cs_model.specs.Obj.{Obj, Context, words_of}
-use Rattle.cs_model.specs.State.{Kept, Run, State, put, IsHeld, ContextHeld, NamesHeld}
+use Rattle.cs_model.specs.Obj.{Obj, Context}
+use Rattle.cs_model.specs.State.{Kept, put, IsHeld, ContextHeld, NamesHeld}
 use Rattle.cs_model.specs.Operation.{put_active, set_pc_of, push_of, drop_of, set_stack_of, store_of, store_byte_of, add_of, enter_of, kill_of, kill_all, resume_of, suspend_of, leave_of, cut_to_of}
 use Rattle.cs_model.specs.Context.{context_put}
 use Rattle.cs_model.specs.Enter.{enter_block_of, enter_block_out}
@@ -23,9 +21,9 @@ use Rattle.cs_model.specs.PrimTable.{kept_prim}
 use Rattle.cs_model.specs.Due.{signal_external}
 use Rattle.cs_model.specs.Keeps.{Keeps, Grows}
 use Rattle.cs_model.specs.Alike.{Alike, IsHeldIf, AlikeMade, AlikeHashed}
-use Rattle.cs_model.proofs.Same.{Same, same, SameOption, none, some, Any, is}
-use Rattle.cs_model.proofs.Keeping.{Moved, put_moved}
-use Rattle.cs_model.proofs.Reading.{Has, AllHeld, listed}
+use Rattle.cs_model.proofs.Same.{same, is}
+use Rattle.cs_model.proofs.Keeping.{put_moved}
+use Rattle.cs_model.proofs.Reading.{Has, listed}
 use Rattle.cs_model.proofs.Operating.{put_active_moved, set_pc_moved, push_moved, drop_moved, set_stack_moved, store_moved, store_byte_moved, add_moved, enter_moved, kill_moved, kill_all_moved, resume_moved, suspend_moved, leave_moved, cut_to_moved}
 use Rattle.cs_model.proofs.Fields.{context_put_moved}
 use Rattle.cs_model.proofs.Making.{SameMade, makes, refused, full, SameHashed, hashes, no_class, none_left, instantiate_same, behavior_hash_same, take_index_moved, hash_given_moved}

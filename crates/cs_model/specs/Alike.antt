@@ -1,8 +1,7 @@
 -- What is alike where a state keeps another one and the same is done to both.
-use Rattle.std.specs.Prelude.{◌≡◌, ℕ, Bool, Option, Some, None, List, [], ◌∷◌}
-use Rattle.cs_model.specs.declared.stop.Stop.{Stop}
+use Rattle.std.specs.Prelude.{◌≡◌, Option, Some, None, List, [], ◌∷◌}
 use Rattle.cs_model.specs.Ref.{Ref}
-use Rattle.cs_model.specs.State.{Kept, State, IsHeld}
+use Rattle.cs_model.specs.State.{Kept, IsHeld}
 use Rattle.cs_model.specs.Keeps.{Keeps, Grows, TimerHeld, KeepsState}
 use Rattle.cs_model.specs.End.{End, Out, Count}
 use Rattle.cs_model.specs.End as ends

@@ -1,10 +1,10 @@
 -- Entering blocks (methods are entered by an operation alone).
-use Rattle.std.specs.Prelude.{ℕ, ℤ, pos, ◌+◌, ◌-◌, ◌==◌, ◌&&◌, Bool, true, false, nat_le, if◌then◌else◌, List, [], ◌++◌, length, drop, Option, Some, None, is_some, option_and_then, slice_get, unwrap_or}
+use Rattle.std.specs.Prelude.{ℕ, ◌+◌, ◌==◌, ◌&&◌, Bool, false, nat_le, if◌then◌else◌, List, [], ◌++◌, length, drop, Option, Some, None, is_some, slice_get, unwrap_or}
 use Rattle.cs_model.specs.Ref.{Ref, Small, same_ref, index_of}
 use Rattle.cs_model.specs.Ref as ref
-use Rattle.cs_model.specs.Obj.{Obj, Context, Ptr, Raw, Method, Ctx, context_in, is_method, lies_in, header_in, context_size, words_of_slots, context_fields}
+use Rattle.cs_model.specs.Obj.{Obj, Context, Ptr, Raw, Method, Ctx, context_in, is_method, header_in, context_size, words_of_slots, context_fields}
 use Rattle.cs_model.specs.State.{Kept, object_of}
-use Rattle.cs_model.specs.Read.{active_birth, active_context, stack_of}
+use Rattle.cs_model.specs.Read.{active_birth}
 use Rattle.cs_model.specs.Operation.{nil_of, enter_with, last_values}
 use Rattle.cs_model.specs.Context.{closure_class, lies_if_index}
 use Rattle.cs_model.specs.declared.stop.Stop.TheVariants as why

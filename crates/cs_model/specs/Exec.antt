@@ -1,12 +1,12 @@
 -- What each instruction does (V3PlusClosures; Blue Book, part four). The pc has been moved past it.
-use Rattle.std.specs.Prelude.{ℕ, ◌+◌, ◌-◌, ◌*◌, ◌<◌, ℤ, pos, negsuc, ◌+ℤ◌, ◌==◌, ◌&&◌, Bool, true, false, nat_lt, nat_le, if◌then◌else◌, List, [], ◌∷◌, ◌++◌, length, Option, Some, None, option_and_then, slice_get, unwrap_or}
+use Rattle.std.specs.Prelude.{ℕ, ◌+◌, ◌-◌, ◌*◌, ℤ, pos, negsuc, ◌+ℤ◌, ◌==◌, Bool, true, false, nat_lt, nat_le, if◌then◌else◌, List, ◌∷◌, length, Option, Some, None, option_and_then, slice_get, unwrap_or}
 use Rattle.cs_model.specs.declared.stop.Stop.TheVariants as why
 use Rattle.cs_model.specs.declared.instruction.Op.{Op}
 use Rattle.cs_model.specs.declared.instruction.Op.TheVariants as op
 use Rattle.cs_model.specs.Ref.{Ref, Small, same_ref, small_of, index_of}
 use Rattle.cs_model.specs.Ref as ref
-use Rattle.cs_model.specs.Obj.{Obj, Context, Ptr, Raw, Method, Ctx, slots_in, context_in, lies_in, words_of, words_of_slots}
-use Rattle.cs_model.specs.State.{Kept, object_at, object_of, slots_of, special_at, is_nil}
+use Rattle.cs_model.specs.Obj.{Obj, Context, Ptr, Raw, Method, Ctx, slots_in, lies_in, words_of_slots}
+use Rattle.cs_model.specs.State.{Kept, object_of, slots_of, special_at, is_nil}
 use Rattle.cs_model.specs.Read.{active_birth, active_context, stack_of, depth_of, size_of, pc_of, receiver_of, method_of, literals_of, from_top, class_of}
 use Rattle.cs_model.specs.Operation.{set_pc_of, push_of, drop_of, pop_of, set_stack_of, store_of, add_of, next_ref, nil_of, last_values, edit_object}
 use Rattle.cs_model.specs.Context.{context_get, accepts, context_put, closure_class}

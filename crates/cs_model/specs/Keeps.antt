@@ -1,10 +1,6 @@
 -- A state that lacks nothing of another one but contexts that nothing in it names.
-use Rattle.std.specs.Prelude.{◌≡◌, ℕ, Bool, false, Option, Some, None, IsSome}
-use Rattle.std.specs.List.{AllByRecursion}
-use Rattle.std.specs.FinMap.{get}
-use Rattle.cs_model.specs.Ref.{Ref, Small, Char}
-use Rattle.cs_model.specs.Ref as ref
-use Rattle.cs_model.specs.Obj.{Obj, Context, Ptr, Raw, Method, Ctx, is_context}
+use Rattle.std.specs.Prelude.{◌≡◌, ℕ, false, Some, IsSome}
+use Rattle.cs_model.specs.Obj.{Obj, is_context}
 use Rattle.cs_model.specs.State.{Kept, Run, State, Timer, RestHeld, NamesHeld, IsHeld, object_at}
 
 -- v keeps m: what v has, m has alike; of what m has, v lacks contexts alone; what v names, v has; the rest is equal

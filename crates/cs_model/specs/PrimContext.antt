@@ -1,11 +1,11 @@
 -- Primitives on the stack values of contexts: 210 and 211 read and write value i, counted from 1, and 212 is stackp. (Fields
 -- of contexts, and their copies, are cases of the primitives on objects.)
-use Rattle.std.specs.Prelude.{ℕ, Bool, nat_lt, if◌then◌else◌, length, Option, Some, None, option_map, option_and_then, slice_get}
+use Rattle.std.specs.Prelude.{ℕ, nat_lt, if◌then◌else◌, length, Option, Some, None, option_map, option_and_then, slice_get}
 use Rattle.cs_model.specs.Ref.{Ref, birth_of}
-use Rattle.cs_model.specs.Obj.{Obj, Context, context_in, edit_context, stored}
+use Rattle.cs_model.specs.Obj.{Context, context_in, edit_context, stored}
 use Rattle.cs_model.specs.State.{Kept, object_at, object_of}
 use Rattle.cs_model.specs.Operation.{edit_found}
-use Rattle.cs_model.specs.PrimAnswer.{fail, answer_if, receiver, argument, with_count}
+use Rattle.cs_model.specs.PrimAnswer.{answer_if, receiver, argument, with_count}
 use Rattle.cs_model.specs.PrimObject.{slot_index, small_count, answer_in}
 use Rattle.cs_model.specs.End.{Out}
 

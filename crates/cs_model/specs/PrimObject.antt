@@ -1,12 +1,11 @@
 -- Primitives on objects (Blue Book, part four: array and stream, storage management; the numbers are this machine's own).
-use Rattle.std.specs.Prelude.{ℕ, zero, suc, ℤ, pos, negsuc, ◌+◌, ◌-◌, ◌*◌, ◌/◌, ◌%◌, ◌==◌, ◌&&◌, ◌||◌, not, Bool, true, false, nat_lt, nat_le, if◌then◌else◌, List, [], ◌∷◌, length, replicate, Option, Some, None, is_some, option_map, option_and_then, slice_get, unwrap_or}
+use Rattle.std.specs.Prelude.{ℕ, zero, suc, pos, negsuc, ◌+◌, ◌-◌, ◌/◌, ◌%◌, ◌==◌, ◌&&◌, ◌||◌, not, Bool, true, false, nat_lt, nat_le, if◌then◌else◌, List, [], ◌∷◌, length, replicate, Option, Some, None, is_some, option_map, option_and_then, slice_get, unwrap_or}
 use Rattle.std.specs.FinMap.{get}
-use Rattle.cs_model.specs.declared.stop.Stop.TheVariants as why
 use Rattle.cs_model.specs.Ref.{Ref, Small, Char, birth_of, index_of, same_ref}
 use Rattle.cs_model.specs.Ref as ref
-use Rattle.cs_model.specs.Obj.{Obj, Context, Ptr, Raw, Method, Ctx, class_index_in, context_class, context_fields, hash_in, is_context, is_header, literal_count, slots_in, context_in, words_of}
+use Rattle.cs_model.specs.Obj.{Obj, Context, Ptr, Raw, Method, Ctx, class_index_in, context_class, hash_in, is_context, is_header, literal_count, words_of}
 use Rattle.cs_model.specs.State.{Kept, object_at, object_of, slots_of, special_at}
-use Rattle.cs_model.specs.Read.{class_of, active_birth, depth_of}
+use Rattle.cs_model.specs.Read.{class_of}
 use Rattle.cs_model.specs.Operation.{store_of, store_byte_of, add_of, next_ref, nil_of}
 use Rattle.cs_model.specs.Context.{context_get, accepts, context_put}
 use Rattle.cs_model.specs.Number.{boolean}
@@ -14,8 +13,7 @@ use Rattle.cs_model.specs.Instance.{Made, New, NotInstantiable, TableFull, insta
 use Rattle.cs_model.specs.Element.{Range, range_of, place_of, element_at, with_element, copy_elements}
 use Rattle.cs_model.specs.Exec.{fill_of, is_active, small_operands}
 use Rattle.cs_model.specs.PrimAnswer.{fail, answer, answer_if, receiver, argument, with_count}
-use Rattle.cs_model.specs.End.{Out, out, stop, given, made, looked}
-use Rattle.cs_model.specs.End as ends
+use Rattle.cs_model.specs.End.{Out, stop, given, made, looked}
 
 -- ---- 60 to 64: elements
 

@@ -1,14 +1,13 @@
 -- Primitives on processes and semaphores (Blue Book, part four: process primitives). A primitive answers first and switches
 -- afterwards, in the same step.
-use Rattle.std.specs.Prelude.{ℕ, ◌==◌, ◌&&◌, not, Bool, true, false, if◌then◌else◌, List, Option, Some, None, is_some, option_and_then, slice_get}
+use Rattle.std.specs.Prelude.{ℕ, ◌&&◌, Bool, false, if◌then◌else◌, Option, Some, None}
 use Rattle.cs_model.specs.declared.stop.Stop.TheVariants as why
 use Rattle.cs_model.specs.Ref.{Ref, same_ref}
-use Rattle.cs_model.specs.Obj.{context_in}
-use Rattle.cs_model.specs.State.{Kept, object_of, slots_of, special_at, is_nil, active_process}
+use Rattle.cs_model.specs.State.{Kept, special_at, is_nil, active_process}
 use Rattle.cs_model.specs.Read.{class_of}
 use Rattle.cs_model.specs.Operation.{nil_of}
 use Rattle.cs_model.specs.Return.{context_birth, is_live}
-use Rattle.cs_model.specs.Process.{process_slots, suspended_context, my_list, slot_or_none, list_slots, first_link, signal, wait, resume, suspend, suspend_active, suspend_other, give_way}
+use Rattle.cs_model.specs.Process.{process_slots, suspended_context, my_list, slot_or_none, signal, wait, resume, suspend_active, suspend_other, give_way}
 use Rattle.cs_model.specs.PrimAnswer.{fail, answer, receiver, with_count}
 use Rattle.cs_model.specs.End.{Out, out, stop, done, given, is_done, counting}
 use Rattle.cs_model.specs.End as ends

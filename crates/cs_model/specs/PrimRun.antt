@@ -1,7 +1,6 @@
 -- Primitives on the run: snapshots, the end, the clock, the timer, output and input. They see the whole state.
-use Rattle.std.specs.Prelude.{ℕ, ℤ, pos, ◌+◌, ◌==◌, ◌&&◌, ◌||◌, not, Bool, true, false, int_lt, nat_lt, if◌then◌else◌, List, [], ◌∷◌, ◌++◌, Option, Some, None, is_some, option_and_then}
+use Rattle.std.specs.Prelude.{ℕ, ℤ, ◌==◌, ◌||◌, true, false, int_lt, nat_lt, if◌then◌else◌, List, [], ◌∷◌, ◌++◌, Option, Some, None}
 use Rattle.cs_model.specs.Ref.{Ref, Small, small_of, index_of}
-use Rattle.cs_model.specs.Obj.{Obj}
 use Rattle.cs_model.specs.State.{Kept, Run, State, Timer, object_of, is_nil, active_process}
 use Rattle.cs_model.specs.Operation.{store_of, nil_of}
 use Rattle.cs_model.specs.Number.{boolean}

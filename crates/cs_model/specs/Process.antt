@@ -6,12 +6,12 @@
 -- where they are needed. Nothing keeps apart what these names stand for: a list may be the scheduler itself. So each
 -- definition reads the active process once, before anything is written; it keeps its context, then the links change, and then
 -- the other process starts.
-use Rattle.std.specs.Prelude.{ℕ, zero, suc, ℤ, pos, negsuc, ◌+◌, ◌-◌, ◌+ℤ◌, ◌-ℤ◌, ◌==◌, ◌&&◌, not, Bool, true, false, int_lt, nat_lt, nat_le, if◌then◌else◌, List, [], ◌∷◌, length, Option, Some, None, is_some, option_and_then, slice_get, unwrap_or}
+use Rattle.std.specs.Prelude.{ℕ, zero, suc, ℤ, pos, ◌+ℤ◌, ◌-ℤ◌, Bool, false, int_lt, if◌then◌else◌, List, [], ◌∷◌, Option, Some, None, is_some, option_and_then, slice_get, unwrap_or}
 use Rattle.cs_model.specs.declared.stop.Stop.TheVariants as why
 use Rattle.cs_model.specs.Ref.{Ref, Small, Char, birth_of, same_ref, small_of, index_of}
 use Rattle.cs_model.specs.Ref as ref
-use Rattle.cs_model.specs.Obj.{Obj, Context, context_in, slots_in}
-use Rattle.cs_model.specs.State.{Kept, object_at, object_of, slots_of, is_nil, scheduler_of, active_process}
+use Rattle.cs_model.specs.Obj.{slots_in}
+use Rattle.cs_model.specs.State.{Kept, object_of, slots_of, is_nil, scheduler_of, active_process}
 use Rattle.cs_model.specs.Read.{active_birth}
 use Rattle.cs_model.specs.Operation.{store_of, resume_of, suspend_of, nil_of}
 use Rattle.cs_model.specs.Return.{context_birth, is_live}

@@ -1,5 +1,5 @@
 -- One step of the machine: the events that are due, and one bytecode with all that it leads to. A run is a number of steps.
-use Rattle.std.specs.Prelude.{ℕ, zero, suc, ◌+◌, ◌-◌, ◌==◌, ◌&&◌, Bool, true, false, not, nat_lt, if◌then◌else◌, List, [], ◌∷◌, ◌++◌, Option, Some, None, is_some}
+use Rattle.std.specs.Prelude.{ℕ, zero, suc, ◌+◌, ◌-◌, ◌&&◌, Bool, true, false, not, nat_lt, if◌then◌else◌, List, [], ◌∷◌, ◌++◌, Option, Some, None, is_some}
 use Rattle.cs_model.specs.declared.stop.Stop.{Stop}
 use Rattle.cs_model.specs.declared.stop.Stop.TheVariants as why
 use Rattle.cs_model.specs.declared.instruction.Instr.{Instr}
