@@ -1,7 +1,8 @@
 -- The active method as it lies in the heap.
-use Rattle.std.proofs.Common.{◌≡◌, ℕ, ◌+◌, ◌-◌, ◌*◌, ◌/◌, ◌<◌, ◌≤◌, ◌%◌, ◌^◌, Bool, true, false, refl, sym, ap, subst, ◌∙◌, arith, Option, Some, None, List, [], ◌∷◌, length, map, take, drop, get_or}
-use Rattle.std.specs.Prelude.{slice_get, slice_index, unwrap_or, option_map, ◌==◌, if◌then◌else◌, nat_lt}
+use Rattle.std.proofs.Common.{◌≡◌, ◌⊎◌, inl, inr, ℕ, zero, suc, ◌+◌, ◌-◌, ◌*◌, ◌/◌, ◌<◌, ◌≤◌, ◌%◌, ◌^◌, Bool, true, false, refl, sym, ap, ap₂, subst, ◌∙◌, arith, Option, Some, None, List, [], ◌∷◌, length, map, take, drop, get_or}
+use Rattle.std.specs.Prelude.{slice_get, slice_index, unwrap_or, option_map, ◌==◌, ◌&&◌, if◌then◌else◌, nat_lt, nat_le}
 use Rattle.std.specs.Option.{option_map_or}
+use Rattle.std.proofs.lemmas.Bool.Decides.{nat_tests}
 use Rattle.std.proofs.lemmas.List.{get_or-drop, get_or-take, length-drop, length-map, length-take}
 use Rattle.std.proofs.lemmas.Option.{slice_get-get_or, slice_get-map, slice_get_past}
 use Rattle.cs_word.specs.declared.Oop.{Oop}
@@ -9,15 +10,15 @@ use Rattle.cs_word.specs.declared.Kind.{Kind}
 use Rattle.cs_word.specs.declared.Kind.TheVariants as kind
 use Rattle.cs_word.specs.Word.{kind_of, small_value}
 use Rattle.cs_heap.specs.Format.{is_method}
-use Rattle.cs_heap.specs.Object.{Memory, Object, field_of, is_object, object_at, slot_count_of, slot_of}
-use Rattle.cs_classes.specs.Meaning.{ref_of, obj_of, is_context, header_in, literals_in, used_bytes, code_in, count_of, unused_bytes}
+use Rattle.cs_heap.specs.Object.{Memory, Object, byte_in, byte_of, field_of, format_of, is_object, object_at, slot_count_of, slot_of}
+use Rattle.cs_classes.specs.Meaning.{bytes_of, ref_of, obj_of, is_context, header_in, literals_in, used_bytes, code_in, count_of, unused_bytes}
 use Rattle.cs_classes.specs.Sound.{IsSoundMethod, IsSoundObject, is_reference, references_in}
 use Rattle.cs_classes.proofs.Heaps.{is_object-object_at}
 use Rattle.cs_classes.proofs.Sorts.{AContext, AMethod, Bytes, Pointers, Sort, sort_of, obj_of-pointers, obj_of-method, obj_of-bytes, references-method}
 use Rattle.cs_classes.proofs.Sounds.{sound_at}
 use Rattle.cs_model.specs.Ref.{Ref}
 use Rattle.cs_model.specs.Obj as obj
-use Rattle.cs_model.specs.Obj.{Obj, Context, Ptr, Raw, Method, Ctx, is_context_at, lies_in, literal_count}
+use Rattle.cs_model.specs.Obj.{Obj, Context, Ptr, Raw, Method, Ctx, is_context_at, first_pc, lies_in, literal_count}
 use Rattle.cs_model.specs.State.{Kept, object_of}
 use Rattle.cs_model.specs.Read.{active_context, method_of, pc_of, literals_of}
 use Rattle.cs_acts.specs.Names.{Store, Names, IsNamed, NamesOption, name_of}
@@ -154,3 +155,70 @@ literal_names s k w i o m h is =
 
 pub no_literal_names : (s : Store) (k : Kept) (i : ℕ) → length (literals_of k) ≤ i → NamesOption s None (slice_get (literals_of k) i)
 no_literal_names s k i h = record { sound = tt; is = sym (slice_get_past (literals_of k) i h) }
+
+-- ---- bytes
+
+pub length-bytes_of : (ws : List ℕ) → length (bytes_of ws) ≡ 4 * length ws
+unfolding bytes_of
+length-bytes_of [] = refl
+length-bytes_of (w ∷ ws) = omega (arith, length-bytes_of ws)
+
+-- byte i is in word i / 4
+pub get_or-bytes_of : (ws : List ℕ) (i : ℕ) → i < 4 * length ws → get_or (bytes_of ws) i 0 ≡ byte_in (get_or ws (i / 4) 0) (i % 4)
+unfolding bytes_of
+get_or-bytes_of [] i h = absurd (omega (arith, h))
+get_or-bytes_of (w ∷ ws) zero h = refl
+get_or-bytes_of (w ∷ ws) (suc zero) h = refl
+get_or-bytes_of (w ∷ ws) (suc (suc zero)) h = refl
+get_or-bytes_of (w ∷ ws) (suc (suc (suc zero))) h = refl
+get_or-bytes_of (w ∷ ws) (suc (suc (suc (suc i)))) h =
+    get_or-bytes_of ws i (omega (arith, h)) ∙ ap (λ n. byte_in (get_or ws (i / 4) 0) n) rest ∙ ap (λ n. byte_in (get_or (w ∷ ws) n 0) ((suc (suc (suc (suc i)))) % 4)) word
+  where
+    word : suc (i / 4) ≡ suc (suc (suc (suc i))) / 4
+    word = omega arith
+    rest : i % 4 ≡ suc (suc (suc (suc i))) % 4
+    rest = omega arith
+
+module _ (os : List Object) (o : Option Obj) (w : ℕ) (m : IsMethodAt os o w) where
+  abbrev code : List ℕ
+  code = code_in (words os o w m)
+
+  length-code : 1 + literal_count (header_in m.object.words) + length code ≡ length m.object.words
+  length-code = omega (arith, literals_fit os o w m, length-drop (1 + literal_count (header_in m.object.words)) m.object.words)
+
+  -- the format says how many bytes at the end are unused: fewer than the bytecodes have
+  unused : unused_bytes m.object.format ≤ 4 * length code
+  unused = omega (arith, length-code, unused_few m.object.format m.format, needed (nat_lt 0 (unused_bytes m.object.format)) refl (parts os o w m).literals)
+    where
+      unused_few : (f : ℕ) → is_method f ≡ true → unused_bytes f < 4
+      unused_few f h = grind (arith, nat_tests)
+      none : (u : ℕ) → nat_lt 0 u ≡ false → u ≡ 0
+      none u e = grind (arith, nat_tests)
+      needed : (b : Bool) → nat_lt 0 (unused_bytes m.object.format) ≡ b → literal_count (header_in m.object.words) + (if b then 1 else 0) < length m.object.words
+          → (unused_bytes m.object.format ≡ 0) ⊎ (literal_count (header_in m.object.words) + 1 < length m.object.words)
+      needed true e h = inr h
+      needed false e h = inl (none (unused_bytes m.object.format) e)
+
+  pub length-bytecodes : length (used_bytes m.object.format code) ≡ 4 * length code - unused_bytes m.object.format
+  length-bytecodes = omega (arith, length-take (4 * length code - unused_bytes m.object.format) (bytes_of code), length-bytes_of code)
+
+  slots_are : slot_count_of os w ≡ length m.object.words
+  slots_are = field_is os o w m (λ x. length x.words)
+
+  pub format_is : is_method (format_of os w) ≡ true
+  format_is = ap is_method (field_is os o w m (λ x. x.format)) ∙ m.format
+
+  -- the byte behind the last bytecode, counted from the header on
+  pub end_is : 4 * (literal_count (header_in m.object.words) + 1) + length (used_bytes m.object.format code) ≡ 4 * slot_count_of os w - unused_bytes (format_of os w)
+  end_is =
+      let format : unused_bytes (format_of os w) ≡ unused_bytes m.object.format = ap unused_bytes (field_is os o w m (λ x. x.format)) in
+      omega (arith, length-bytecodes, length-code, unused, slots_are, format)
+
+-- where a pc lies, as the code reads it
+pub lies_read : (os : List Object) (k : Kept) (w n end pc : ℕ) → IsMethodAt os (method_of k) w → n ≡ literal_count (unwrap_or (count_of (slot_of os w 0)) 0) → end ≡ 4 * slot_count_of os w - unused_bytes (format_of os w)
+    → (nat_le (4 * (n + 1) + 1) pc && nat_le pc (end + 1)) ≡ lies_in (method_of k) pc
+lies_read os k w n end pc m count is =
+    let ls : List Ref = map (ref_of os) (literals_in m.object.words) in
+    let literals : n ≡ length ls = count ∙ ap literal_count (header_is os (method_of k) w m) ∙ sym (length-literals os (method_of k) w m) ∙ sym (length-map (literals_in m.object.words) (ref_of os)) in
+    let last : end + 1 ≡ first_pc ls + length (used_bytes m.object.format (code_in m.object.words)) = omega (arith, is, end_is os (method_of k) w m, literals, length-literals os (method_of k) w m, length-map (literals_in m.object.words) (ref_of os)) in
+    ap₂ (λ (a b : ℕ). nat_le (4 * (a + 1) + 1) pc && nat_le pc b) literals last ∙ sym (ap (λ p. lies_in p pc) m.means)
