@@ -1,12 +1,12 @@
 //! What code above a world reads of its state.
-ghost use Rattle.std.specs.Prelude.{◌≡◌, ◌<◌, ◌+◌, ◌*◌, ◌-◌, Bool, ◌&&◌, IsSome, IsTrue, Some, length, nat_le, slice_get, unwrap_or, true, Option, option_map};
+ghost use Rattle.std.specs.Prelude.{◌≡◌, ◌<◌, ◌≤◌, ◌^◌, ◌+◌, ◌*◌, ◌-◌, Bool, ◌&&◌, IsSome, IsTrue, Some, length, nat_le, slice_get, unwrap_or, true, Option, option_map};
 ghost use Rattle.cs_heap.specs.Format.{is_method};
 ghost use Rattle.cs_heap.specs.Object.{format_of, is_object, next_of, slot_count_of, slot_of};
 ghost use Rattle.cs_classes.specs.Meaning.{count_of, unused_bytes};
 ghost use Rattle.cs_model.specs.Number.{boolean};
 ghost use Rattle.cs_model.specs.Obj.{lies_in, literal_count};
 ghost use Rattle.cs_model.specs.Operation.{nil_of};
-ghost use Rattle.cs_model.specs.Read.{literals_of, method_of};
+ghost use Rattle.cs_model.specs.Read.{depth_of, from_top, literals_of, method_of, stack_of};
 ghost use Rattle.cs_acts.specs.Names.{Names, NamesOption};
 ghost use Rattle.cs_acts.specs.Ready.{IsReady, IsSound};
 
@@ -86,9 +86,10 @@ fn behind(heap: &Heap, o: Oop) -> Oop
 }
 
 /// Whether a pc lies in the active method: from its first bytecode to the one behind its last.
-pub fn lies<W: World>(w: &W, pc: u32) -> bool
+pub fn lies<W: World>(w: &W, pc: u64) -> bool
     requires { IsReady (W.stored w.now) (W.view w.now) }
-    ensures { result ≡ lies_in (method_of (W.view w.now)) pc }
+    ensures value { result ≡ lies_in (method_of (W.view w.now)) pc }
+    ensures below { IsTrue result → pc < 2 ^ 32 }
 {
     let heap = w.heap();
     let method = w.method();
@@ -109,8 +110,36 @@ fn byte_count(heap: &Heap, method: Oop) -> u32
 }
 
 /// Whether a pc is neither before the first nor behind the last.
-fn is_between(first: u32, last: u32, pc: u32) -> bool
-    ensures { result ≡ (nat_le first pc && nat_le pc last) }
+fn is_between(first: u32, last: u32, pc: u64) -> bool
+    ensures value { result ≡ (nat_le first pc && nat_le pc last) }
+    ensures below { IsTrue result → pc ≤ last }
 {
-    first <= pc && pc <= last
+    u64::from(first) <= pc && pc <= u64::from(last)
+}
+
+/// The `n`-th value from the top of the active stack, counted from 0; None exactly where the stack holds fewer.
+pub fn from_top<W: World>(w: &W, n: u32) -> Option<Oop>
+    requires { IsReady (W.stored w.now) (W.view w.now) }
+    ensures value { NamesOption (W.stored w.now) result (from_top n (stack_of (W.view w.now))) }
+    ensures there { IsSome result → n < depth_of (W.view w.now) }
+{
+    let depth = w.depth();
+    if n < depth {
+        Some(w.stack_at(depth - (n + 1)))
+    } else {
+        None
+    }
+}
+
+/// Argument or temporary `i` of the active context, counted from 0 at the bottom of its stack; None exactly where the stack
+/// holds fewer values.
+pub fn temporary<W: World>(w: &W, i: u32) -> Option<Oop>
+    requires { IsReady (W.stored w.now) (W.view w.now) }
+    ensures value { NamesOption (W.stored w.now) result (slice_get (stack_of (W.view w.now)) i) }
+{
+    if i < w.depth() {
+        Some(w.stack_at(i))
+    } else {
+        None
+    }
 }
