@@ -57,6 +57,7 @@ found_method os o w pc x there sound said lies = go (sort_of x)
   where
     means : is_context x ≡ false → lies_in (Some (obj_of (ref_of os) x)) pc ≡ true
     means other = subst (λ p. lies_in p pc ≡ true) (said.0 other) lies
+
     go : Sort x → IsMethodAt os o w
     go (AContext c) = absurd (no_context o pc (said.1 c) lies)
     go (Pointers other p) = absurd (let l = subst (λ p. lies_in (Some p) pc ≡ true) (obj_of-pointers (ref_of os) x other p) (means other) in cc)
@@ -73,6 +74,7 @@ method_there s k o ready names =
   where
     none : (q : Option Obj) → q ≡ None → lies_in q (pc_of k) ≡ true → ⊥
     none q e l = let m = subst (λ p. lies_in p (pc_of k) ≡ true) e l in absurd (cc)
+
     go : (p : Option Object) → object_named s.memory.objects o.0 ≡ p → Says (ref_of s.memory.objects) p (object_of k (active_context k).method) → lies_in (object_of k (active_context k).method) (pc_of k) ≡ true
         → IsMethodAt s.memory.objects (object_of k (active_context k).method) o.0
     go None e said l = absurd (none _ said l)
@@ -176,6 +178,7 @@ get_or-bytes_of (w ∷ ws) (suc (suc (suc (suc i)))) h =
   where
     word : suc (i / 4) ≡ suc (suc (suc (suc i))) / 4
     word = omega arith
+
     rest : i % 4 ≡ suc (suc (suc (suc i))) % 4
     rest = omega arith
 
@@ -192,8 +195,10 @@ module _ (os : List Object) (o : Option Obj) (w : ℕ) (m : IsMethodAt os o w) w
     where
       unused_few : (f : ℕ) → is_method f ≡ true → unused_bytes f < 4
       unused_few f h = grind (arith, nat_tests)
+
       none : (u : ℕ) → nat_lt 0 u ≡ false → u ≡ 0
       none u e = grind (arith, nat_tests)
+
       needed : (b : Bool) → nat_lt 0 (unused_bytes m.object.format) ≡ b → literal_count (header_in m.object.words) + (if b then 1 else 0) < length m.object.words
           → (unused_bytes m.object.format ≡ 0) ⊎ (literal_count (header_in m.object.words) + 1 < length m.object.words)
       needed true e h = inr h
