@@ -1,6 +1,6 @@
 -- When a world can be asked for something.
-use Rattle.std.specs.Prelude.{◌≡◌, ℕ, Bool, true, false, ◌&&◌, nat_lt, nat_le, length, slice_get, Option, Some, None}
-use Rattle.cs_heap.specs.Object.{Object}
+use Rattle.std.specs.Prelude.{◌≡◌, ℕ, ◌≤◌, Bool, true, false, ◌&&◌, nat_lt, nat_le, length, slice_get, Option, Some, None}
+use Rattle.cs_heap.specs.Object.{Object, used}
 use Rattle.cs_classes.specs.Meaning.{obj_of, ref_of, is_context, kept_of}
 use Rattle.cs_classes.specs.Sound.{IsWhole}
 use Rattle.cs_model.specs.Obj.{Obj, Ptr, Raw, Method, Ctx, is_context_at}
@@ -9,12 +9,14 @@ use Rattle.cs_model.specs.Keeps.{Keeps}
 use Rattle.cs_model.specs.Read.{IsRunning}
 use Rattle.cs_acts.specs.Names.{Store}
 
--- The heap of a world has all objects of its state but contexts, which may also be elsewhere. The class table and the roots are
--- those of the state.
+-- The heap of a world has all objects of its state but contexts, which may also be elsewhere, and no more words than its limit.
+-- The class table and the roots are those of the state.
 pub record Holds (s : Store) (k : Kept) : Type 0 where
   pub whole : IsWhole s.memory.objects s.table s.roots
   pub object : (j : ℕ) (x : Object) → slice_get s.memory.objects j ≡ Some x → is_context x ≡ false → object_at k x.birth ≡ Some (obj_of (ref_of s.memory.objects) x)
   pub context : (j : ℕ) (x : Object) → slice_get s.memory.objects j ≡ Some x → is_context x ≡ true → is_context_at (object_at k x.birth) ≡ true
+  pub within : used s.memory.objects ≤ s.memory.limit
+  pub most : s.memory.limit ≤ 67108864
   pub rest : (kept_of s.memory.objects s.table s.roots k.rest.active).rest ≡ k.rest
 
 -- all that the state names is there, and the heap holds what it must

@@ -1,0 +1,3 @@
+mod Active
+mod Written
+mod Slots

@@ -1,17 +1,21 @@
 -- The state that a world of heap contexts keeps: all of it stands in the heap.
-use Rattle.std.specs.Prelude.{ℕ, List, Option, Some, None, option_map, option_and_then}
+use Rattle.std.specs.Prelude.{ℕ, List, if◌then◌else◌, Option, Some, None, option_and_then}
 use Rattle.cs_word.specs.declared.Oop.{Oop}
 use Rattle.cs_heap.specs.Object.{Object, object_at}
-use Rattle.cs_classes.specs.Meaning.{kept_of}
+use Rattle.cs_classes.specs.Meaning.{is_context, kept_of}
 use Rattle.cs_model.specs.State.{Kept}
 use Rattle.cs_acts.specs.declared.act.Act.{Act}
 use Rattle.cs_acts.specs.declared.act.Act.TheVariants as act
 use Rattle.cs_acts.specs.Names.{Store}
 use Rattle.cs_plain.specs.declared.PlainWorld.{PlainWorld}
 
--- the birth of the object at an address
+abbrev pub birth_in : Option Object → Option ℕ
+birth_in None = None
+birth_in (Some x) = if is_context x then Some x.birth else None
+
+-- the birth of the context at an address
 abbrev pub birth_at : List Object → Oop → Option ℕ
-birth_at objects o = option_map (λ x. x.birth) (object_at objects o.0)
+birth_at objects o = birth_in (object_at objects o.0)
 
 abbrev pub active_in : List Object → Option Oop → Option ℕ
 active_in objects active = option_and_then (birth_at objects) active

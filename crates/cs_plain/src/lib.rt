@@ -4,7 +4,11 @@
 //! stands between.
 #![tactic(auto)]
 
-ghost use Rattle.cs_plain.specs.View.{view_of};
+ghost use Rattle.std.specs.Prelude.{◌≡◌, ◌<◌, ◌^◌, pos, Some, unwrap_or};
+ghost use Rattle.cs_word.specs.Word.{small_word};
+ghost use Rattle.cs_classes.specs.Meaning.{count_of};
+ghost use Rattle.cs_model.specs.Ref.{natural_of};
+ghost use Rattle.cs_acts.specs.Ready.{IsReady};
 
 use cs_acts::{Act, Loaded, Roots, World};
 use cs_classes::Classes;
@@ -28,22 +32,40 @@ const CLOSURE: u32 = 4;
 const RECEIVER: u32 = 5;
 const STACK: u32 = 6;
 
+/// The number itself, and 0 for a negative one.
+fn natural(value: i32) -> u32
+    ensures { result ≡ unwrap_or (natural_of value) 0 }
+{
+    if value < 0 { 0 } else { value as u32 }
+}
+
 /// The number that a word is, and 0 where it is no SmallInteger or a negative one.
-fn count(word: Oop) -> u32 {
+#[tactic(auto, unfolding(cs_classes::specs::Meaning::count_of))]
+fn count(word: Oop) -> u32
+    ensures { result ≡ unwrap_or (count_of word.0) 0 }
+{
     match word.kind() {
-        Kind::Small(value) if value > 0 => value as u32,
+        Kind::Small(value) => natural(value),
         _ => 0,
     }
 }
 
 /// The word of a count below 2^30.
-fn count_word(count: u32) -> Oop {
+fn count_word(count: u32) -> Oop
+    requires { count < 2 ^ 30 }
+    ensures { result.0 ≡ small_word (pos count) }
+{
     Oop(2 * count + 1)
 }
 
 impl PlainWorld {
+    ghost use Rattle.cs_plain.specs.View.{stored_of, view_of};
+
     /// The active context.
-    fn active_context(&self) -> Oop {
+    fn active_context(&self) -> Oop
+        requires { IsReady (stored_of self.now) (view_of self.now) }
+        ensures { self.now.active ≡ Some result }
+    {
         let Some(context) = self.active else {
             unreachable!();
         };
@@ -52,9 +74,9 @@ impl PlainWorld {
 }
 
 impl World for PlainWorld {
-    ghost view = { view_of };
+    ghost use Rattle.cs_plain.specs.View.{act_of, stored_of, view_of};
 
-    ghost use Rattle.cs_plain.specs.View.{act_of, stored_of};
+    ghost view = { view_of };
 
     ghost stored = { stored_of };
 

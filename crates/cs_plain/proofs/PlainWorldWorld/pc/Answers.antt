@@ -1,0 +1,13 @@
+use Rattle.std.proofs.Common.{ap, unwrap_or, ◌∙◌, arith}
+use Rattle.cs_classes.specs.Meaning.{count_of}
+use Rattle.cs_plain.proofs.Active.{active_is}
+use Rattle.cs_plain.proofs.Slots.{pc_is_read, fields_within, slot_is, slots_are}
+use Rattle.cs_plain.proofs.PlainWorldWorld.pc.Goals as goal
+
+pub slot-requires : goal.slot-requires
+slot-requires c = let a = active_is _ _ c.requires c.active_context.ensures in omega (arith, slots_are c.requires a.1, fields_within c.requires a.1)
+
+pub returns : goal.returns
+returns c =
+    let a = active_is _ _ c.requires c.active_context.ensures in
+    c.count.ensures ∙ ap (λ n. unwrap_or (count_of n) 0) (c.slot.ensures ∙ slot_is c.requires a.1 1) ∙ pc_is_read c.requires a.1

@@ -1,0 +1,90 @@
+-- What the slots of the active context are in the state.
+use Rattle.std.proofs.Common.{◌≡◌, ℕ, ◌+◌, ◌-◌, ◌<◌, ◌≤◌, Bool, true, false, refl, sym, ap, subst, ◌∙◌, Option, Some, None, unwrap_or, List, length, map, take, drop, length-take, length-drop, get_or, option_map, arith, rules}
+use Rattle.std.specs.Prelude.{◌==◌, ◌||◌, slice_get, slice_index}
+use Rattle.std.specs.List.{AllPass}
+use Rattle.std.specs.Option.{option_map_or}
+use Rattle.std.proofs.lemmas.List.{get_or-drop, get_or-take, length-map}
+use Rattle.std.proofs.lemmas.List.Elements.{All-get_or}
+use Rattle.std.proofs.lemmas.Bool.Decides.{nat_tests}
+use Rattle.std.proofs.lemmas.Option.{slice_get-map, slice_get-get_or}
+use Rattle.cs_word.specs.declared.Oop.{Oop}
+use Rattle.cs_heap.specs.Object.{Object, birth_of, object_at, slot_count_of, slot_of}
+use Rattle.cs_classes.specs.Meaning.{context_of, count_of, depth_in, ref_of}
+use Rattle.cs_classes.specs.Sound.{IsSoundObject, is_reference}
+use Rattle.cs_classes.proofs.Contexts.{depth_is}
+use Rattle.cs_classes.proofs.Sounds.{IsWholeContext, sound_at, whole_context}
+use Rattle.cs_model.specs.Ref.{Ref}
+use Rattle.cs_model.specs.Obj.{Context}
+use Rattle.cs_model.specs.Read.{active_context, depth_of, pc_of, size_of, stack_of}
+use Rattle.cs_acts.specs.Names.{Names}
+use Rattle.cs_acts.specs.Ready.{IsReady}
+use Rattle.cs_plain.specs.declared.PlainWorld.{PlainWorld}
+use Rattle.cs_plain.specs.View.{stored_of, view_of}
+use Rattle.cs_plain.proofs.Active.{Active}
+
+slots_at_most : (n : ℕ) → (n == 22 || n == 62) ≡ true → n ≤ 62
+slots_at_most n h = grind (arith, nat_tests)
+
+module _ {w : PlainWorld} {a : Oop} {x : Object} (ready : IsReady (stored_of w) (view_of w)) (active : Active w a x) where
+  pub sound_active : IsSoundObject w.heap.objects x
+  sound_active = sound_at w.heap.objects a.0 x ready.sound.holds.whole.heap active.there
+
+  pub whole_active : IsWholeContext w.heap.objects x
+  whole_active = whole_context w.heap.objects x sound_active active.context
+
+  pub slots_are : slot_count_of w.heap.objects a.0 ≡ length x.words
+  slots_are = ap (λ (o : Option Object). option_map_or (λ (y : Object). length y.words) o 0) active.there
+
+  pub slot_is : (i : ℕ) → slot_of w.heap.objects a.0 i ≡ slice_index x.words i
+  slot_is i = ap (λ (o : Option Object). option_map_or (λ (y : Object). slice_index y.words i) o 0) active.there
+
+  -- a slot that is read refers to what the context of the state has there
+  pub names_slot : (v : Oop) (i : ℕ) (y : Ref) → i < length x.words → v.0 ≡ slot_of w.heap.objects a.0 i → ref_of w.heap.objects (slice_index x.words i) ≡ y → Names (stored_of w) v y
+  names_slot v i y within read is =
+      let word : v.0 ≡ slice_index x.words i = read ∙ slot_is i in
+      record {
+        sound = ap (is_reference w.heap.objects) word ∙ All-get_or (λ (u : ℕ). is_reference w.heap.objects u ≡ true) x.words i 0 within whole_active.references;
+        is = ap (ref_of w.heap.objects) word ∙ is;
+      }
+
+  -- 22 or 62 slots
+  pub few_slots : length x.words ≤ 62
+  few_slots = slots_at_most (length x.words) (sound_active.context active.context).slots
+
+  pub depth_is_read : depth_in x.words ≡ depth_of (view_of w)
+  depth_is_read = sym (depth_is (ref_of w.heap.objects) x.hash x.words whole_active.depth) ∙ ap (λ (c : Context). length c.stack) active.is
+
+  pub size_is_read : length x.words - 6 ≡ size_of (view_of w)
+  unfolding context_of
+  size_is_read = ap (λ (c : Context). c.size) active.is
+
+  pub pc_is_read : unwrap_or (count_of (slice_index x.words 1)) 0 ≡ pc_of (view_of w)
+  unfolding context_of
+  pc_is_read = ap (λ (c : Context). unwrap_or c.pc 0) active.is
+
+  pub receiver_is_read : ref_of w.heap.objects (slice_index x.words 5) ≡ (active_context (view_of w)).receiver
+  unfolding context_of
+  receiver_is_read = ap (λ (c : Context). c.receiver) active.is
+
+  pub method_is_read : ref_of w.heap.objects (slice_index x.words 3) ≡ (active_context (view_of w)).method
+  unfolding context_of
+  method_is_read = ap (λ (c : Context). c.method) active.is
+
+  pub fields_within : 6 ≤ length x.words
+  fields_within = whole_active.fields
+
+  pub depth_within : depth_of (view_of w) ≤ length x.words - 6
+  depth_within = omega (arith, depth_is_read, whole_active.depth)
+
+  stack_words : stack_of (view_of w) ≡ map (ref_of w.heap.objects) (take (depth_in x.words) (drop 6 x.words))
+  unfolding context_of
+  stack_words = ap (λ (c : Context). c.stack) (sym active.is)
+
+  pub stack_is_read : (i : ℕ) (d : Ref) → i < depth_of (view_of w) → ref_of w.heap.objects (slice_index x.words (6 + i)) ≡ unwrap_or (slice_get (stack_of (view_of w)) i) d
+  stack_is_read i d h =
+      let words : List ℕ = take (depth_in x.words) (drop 6 x.words) in
+      let few : i < length words = omega (arith, h, depth_is_read, whole_active.depth, length-take (depth_in x.words) (drop 6 x.words), length-drop 6 x.words) in
+      let got : slice_get words i ≡ Some (get_or words i 0) = slice_get-get_or words i 0 few in
+      let value : get_or words i 0 ≡ slice_index x.words (6 + i) = get_or-take (depth_in x.words) (drop 6 x.words) i 0 (omega (arith, h, depth_is_read)) ∙ get_or-drop 6 x.words i 0 in
+      sym (ap (λ (xs : List Ref). unwrap_or (slice_get xs i) d) stack_words
+      ∙ ap (λ o. unwrap_or o d) (slice_get-map (ref_of w.heap.objects) words i ∙ ap (option_map (ref_of w.heap.objects)) (got ∙ ap (λ n. Some n) value)))

@@ -1,0 +1,64 @@
+-- What a write to the active context, or to another object, does to the state.
+use Rattle.std.proofs.Common.{◌≡◌, ℕ, Bool, true, false, refl, sym, ap, subst, ◌∙◌, Option, Some, None, unwrap_or, List, option_map, option_and_then}
+use Rattle.std.specs.Prelude.{◌≤◌}
+use Rattle.cs_word.specs.declared.Oop.{Oop}
+use Rattle.cs_heap.specs.Object.{Memory, Object, birth_of, object_at, used}
+use Rattle.cs_classes.specs.Meaning.{kept_of, ref_of}
+use Rattle.cs_classes.specs.Sound.{IsWhole}
+use Rattle.cs_classes.proofs.Heaps.{is_object-object_at}
+use Rattle.cs_classes.proofs.Refs.{ref_of-object}
+use Rattle.cs_classes.proofs.Writes.{Does}
+use Rattle.cs_model.specs.Ref.{Ref}
+use Rattle.cs_model.specs.Ref as ref
+use Rattle.cs_model.specs.Obj.{Context, Ctx, edit_context, lies_in}
+use Rattle.cs_model.specs.State as state
+use Rattle.cs_model.specs.State.{Kept}
+use Rattle.cs_model.specs.Read.{IsRunning, active_birth, active_context, method_of, pc_of}
+use Rattle.cs_model.specs.Operation.{edit_active, edit_found, edit_object}
+use Rattle.cs_acts.specs.Ready.{IsReady}
+use Rattle.cs_acts.proofs.Running.{running-edit}
+use Rattle.cs_plain.specs.declared.PlainWorld.{PlainWorld}
+use Rattle.cs_plain.specs.View.{active_in, birth_at, stored_of, view_of}
+use Rattle.cs_plain.proofs.Active.{Active, sound_world}
+
+-- the world with other objects in its heap
+abbrev pub with_objects : PlainWorld → List Object → PlainWorld
+with_objects w us = record w { heap = record w.heap { objects = us } }
+
+-- the births at all addresses stay
+abbrev pub SameBirths : List Object → List Object → Type 0
+SameBirths os us = (a : Oop) → birth_at us a ≡ birth_at os a
+
+-- an edit of the active context by its reference
+edit_object-active : (k : Kept) (g : Context → Context) → IsRunning k → edit_object k (ref.Obj (active_birth k)) (edit_context g) ≡ edit_active k g
+edit_object-active k g running = ap (λ o. edit_found (edit_context g) (active_birth k) o k) running.found
+
+-- the active context was written: the state is edited, and the world is ready
+pub record Written (w v : PlainWorld) (g : Context → Context) : Type 0 where
+  pub view : view_of v ≡ edit_active (view_of w) g
+  pub ready : IsReady (stored_of v) (view_of v)
+
+active-same : (os us : List Object) (active : Option Oop) → SameBirths os us → active_in us active ≡ active_in os active
+active-same os us None same = refl
+active-same os us (Some a) same = same a
+
+pub written : (w : PlainWorld) (a : Oop) (x : Object) (us : List Object) (g : Context → Context) (pc : ℕ)
+    → IsReady (stored_of w) (view_of w) → Active w a x
+    → Does w.heap.objects us w.classes w.roots (λ k. edit_object k (ref_of w.heap.objects a.0) (edit_context g))
+    → SameBirths w.heap.objects us → used us ≡ used w.heap.objects
+    → (g (active_context (view_of w))).pc ≡ Some pc → (g (active_context (view_of w))).method ≡ (active_context (view_of w)).method
+    → lies_in (method_of (view_of w)) pc ≡ true
+    → Written w (with_objects w us) g
+written w a x us g pc ready active does same words at method lies =
+    let os = w.heap.objects in
+    let name : ref_of os a.0 ≡ ref.Obj (active_birth (view_of w)) = ref_of-object os a.0 (is_object-object_at os a.0 x active.there) ∙ ap (λ b. ref.Obj b) (sym active.birth) in
+    let view : view_of (with_objects w us) ≡ edit_active (view_of w) g =
+        ap (kept_of us w.classes w.roots) (active-same os us w.active same) ∙ does.kept (active_in os w.active)
+        ∙ ap (λ r. edit_object (view_of w) r (edit_context g)) name ∙ edit_object-active (view_of w) g ready.running in
+    record {
+      view = view;
+      ready = record {
+        sound = sound_world (with_objects w us) does.whole (subst (λ n. n ≤ w.heap.limit) (sym words) ready.sound.holds.within) ready.sound.holds.most;
+        running = subst IsRunning (sym view) (running-edit (view_of w) g pc ready.running at method lies);
+      };
+    }

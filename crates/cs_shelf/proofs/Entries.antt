@@ -1,0 +1,86 @@
+-- The entries of a shelf in memory: one is given a content.
+use Rattle.std.proofs.Common.{◌≡◌, ◌≢◌, ℕ, ◌<◌, List, [], ◌∷◌, Option, Some, None, Bool, true, false, cond, find, length, map, zero, suc, get_or, slice_set, ap, sym, ◌∙◌, refl, arith, slice_get, option_and_then, option_map}
+use Rattle.std.specs.Prelude.{IfSome}
+use Rattle.std.specs.Str.{bytes_eq}
+use Rattle.std.proofs.lemmas.Slice.Eq.{bytes_eq-Decides}
+use Rattle.std.proofs.lemmas.Bool.{false_from_ne_true}
+use Rattle.std.proofs.lemmas.List.{length-map}
+use Rattle.std.proofs.lemmas.Option.{get_or_from_slice_get, slice_get_within, slice_get-map}
+use Rattle.cs_shelf.specs.Memory.{EntryView, NamesDiffer, content_of, names_of, new_entry, put_at}
+
+-- a new shelf has the names that it was given
+pub names_of-new : (room : ℕ) (names : List (List ℕ)) → names_of (map (new_entry room) names) ≡ names
+names_of-new room [] = refl
+names_of-new room (x ∷ xs) = ap (λ (ys : List (List ℕ)). x ∷ ys) (names_of-new room xs)
+
+-- names stay
+pub names_of-put_at : (es : List EntryView) (k : ℕ) (bytes : List ℕ) → names_of (put_at es k bytes) ≡ names_of es
+names_of-put_at [] k bytes = refl
+names_of-put_at (e ∷ es) zero bytes = refl
+names_of-put_at (e ∷ es) (suc k) bytes = ap (λ (ys : List (List ℕ)). e.name ∷ ys) (names_of-put_at es k bytes)
+
+-- the code's write at an index
+set-put_at : (es : List EntryView) (k : ℕ) (bytes : List ℕ) (d e : EntryView) → k < length es
+    → e ≡ record (get_or es k d) { content = Some bytes } → slice_set es k e ≡ put_at es k bytes
+set-put_at [] k bytes d e h is = absurd (omega arith)
+set-put_at (x ∷ xs) zero bytes d e h is = ap (λ (y : EntryView). y ∷ xs) is
+set-put_at (x ∷ xs) (suc k) bytes d e h is = ap (λ (ys : List EntryView). x ∷ ys) (set-put_at xs k bytes d e (omega arith) is)
+
+-- the test of names, where they are one and where they differ
+same_name : (a b : List ℕ) → a ≡ b → bytes_eq a b ≡ true
+same_name a b h = (bytes_eq-Decides a b).1 h
+
+other_name : (a b : List ℕ) → (a ≡ b → ⊥) → bytes_eq a b ≡ false
+other_name a b h = false_from_ne_true (bytes_eq a b) (λ t. h ((bytes_eq-Decides a b).0 t))
+
+-- the name that was given a content holds it
+content_of-put_at : (es : List EntryView) (k : ℕ) (bytes : List ℕ) (e : EntryView) → NamesDiffer (names_of es)
+    → slice_get es k ≡ Some e → content_of (put_at es k bytes) e.name ≡ Some bytes
+content_of-put_at [] k bytes e differ is = cc
+content_of-put_at (x ∷ xs) zero bytes e differ is =
+    let test : bytes_eq x.name e.name ≡ true = same_name x.name e.name (cc) in rw test
+content_of-put_at (x ∷ xs) (suc k) bytes e differ is =
+    let named : get_or (names_of xs) k x.name ≡ e.name =
+    get_or_from_slice_get (names_of xs) k e.name x.name (slice_get-map (λ (y : EntryView). y.name) xs k ∙ ap (option_map (λ (y : EntryView). y.name)) is) in
+    let within : k < length xs = slice_get_within xs k e is in
+    let test : bytes_eq x.name e.name ≡ false =
+    other_name x.name e.name (λ h. differ 0 (suc k) x.name (omega arith) (simp length-map (omega arith)) (h ∙ sym named)) in
+    rw test (content_of-put_at xs k bytes e (λ i j d h l. differ (suc i) (suc j) d (omega arith) (omega arith)) is)
+
+-- and each other name what it held
+content_of-put_at_other : (es : List EntryView) (k : ℕ) (bytes : List ℕ) (e : EntryView) → slice_get es k ≡ Some e
+    → (other : List ℕ) → (other ≡ e.name → ⊥) → content_of (put_at es k bytes) other ≡ content_of es other
+content_of-put_at_other [] k bytes e is other differs = refl
+content_of-put_at_other (x ∷ xs) zero bytes e is other differs =
+    let test : bytes_eq x.name other ≡ false = other_name x.name other (λ h. differs (cc)) in rw test
+content_of-put_at_other (x ∷ xs) (suc k) bytes e is other differs =
+    let content : Option EntryView → Option (List ℕ) = λ o. option_and_then (λ (y : EntryView). y.content) o in
+    let found : Bool → Type 0 =
+    λ b. content (cond b (Some x) (find (λ (y : EntryView). bytes_eq y.name other) (put_at xs k bytes)))
+    ≡ content (cond b (Some x) (find (λ (y : EntryView). bytes_eq y.name other) xs)) in
+    elim (bytes_eq x.name other) as found [ true ↦ refl | false ↦ content_of-put_at_other xs k bytes e is other differs ]
+
+-- a fact of what an option has
+if_some : {X : Type 0} (o : Option X) (P : X → Type 0) → ((x : X) → o ≡ Some x → P x) → IfSome o P
+if_some None P h = tt
+if_some (Some x) P h = h x refl
+
+-- both as the clauses of the code say them, of the entries that the write left
+pub holds_after : (was is : List EntryView) (k : ℕ) (bytes : List ℕ) → is ≡ put_at was k bytes → NamesDiffer (names_of was)
+    → IfSome (slice_get was k) (λ e. content_of is e.name ≡ Some bytes)
+holds_after was is k bytes put differ =
+    let Holds : EntryView → Type 0 = λ e. content_of is e.name ≡ Some bytes in
+    if_some (slice_get was k) Holds (λ e at. rw put (content_of-put_at was k bytes e differ at))
+
+pub others_after : (was is : List EntryView) (k : ℕ) (bytes : List ℕ) → is ≡ put_at was k bytes
+    → IfSome (slice_get was k) (λ e. (other : List ℕ) → other ≢ e.name → content_of is other ≡ content_of was other)
+others_after was is k bytes put =
+    let Others : EntryView → Type 0 = λ e. (other : List ℕ) → other ≢ e.name → content_of is other ≡ content_of was other in
+    if_some (slice_get was k) Others (λ e at other differs. rw put (content_of-put_at_other was k bytes e at other differs))
+
+-- the write of the code, from what was read at the index
+pub written : (es : List EntryView) (k : ℕ) (bytes : List ℕ) (was is : EntryView) → k < length es
+    → was ≡ get_or es k was → is ≡ record was { content = Some bytes } → slice_set es k is ≡ put_at es k bytes
+written es k bytes was is within read put =
+    let holding : EntryView → EntryView = λ e. record e { content = Some bytes } in
+    set-put_at es k bytes was is within (put ∙ ap holding read)

@@ -1,0 +1,31 @@
+-- Reads that go on where the last one ended.
+use Rattle.std.proofs.Common.{◌≡◌, ℕ, ◌+◌, ◌<◌, ◌≤◌, List, ◌++◌, take, drop, Option, Some, None, ap, sym, ◌∙◌, length, append_assoc, subst}
+use Rattle.std.specs.Prelude.{IfSome, ◌↔◌}
+use Rattle.std.proofs.lemmas.List.{take-append-drop, drop-drop, drop_all, append-nil}
+
+-- what was read begins the content, and the rest stands behind the first `at` bytes
+abbrev pub Begins : Option (List ℕ) → List ℕ → ℕ → Type 0
+Begins told read at = IfSome told (λ bytes. bytes ≡ read ++ drop at bytes)
+
+-- one read more, of a shelf that still tells the same
+pub begins_more : (told now : Option (List ℕ)) (read piece after : List ℕ) (at n end : ℕ) → Begins told read at
+    → now ≡ told → IfSome now (λ bytes. piece ≡ take n (drop at bytes)) → after ≡ read ++ piece → end ≡ at + n
+    → Begins told after end
+begins_more None now read piece after at n end begins same gives e f = tt
+begins_more (Some bytes) now read piece after at n end begins same gives e f =
+    let P : Option (List ℕ) → Type 0 = λ o. IfSome o (λ c. piece ≡ take n (drop at c)) in
+    let first : piece ≡ take n (drop at bytes) = subst P same gives in
+    let split : drop at bytes ≡ piece ++ drop (at + n) bytes =
+    sym (take-append-drop n (drop at bytes)) ∙ ap (λ (xs : List ℕ). xs ++ drop n (drop at bytes)) (sym first)
+    ∙ ap (λ (xs : List ℕ). piece ++ xs) (drop-drop n at bytes) in
+    rw (e, f) (begins ∙ ap (λ (xs : List ℕ). read ++ xs) split ∙ sym (append_assoc read piece (drop (at + n) bytes)))
+
+-- a read gave nothing
+pub begins_all : (told now : Option (List ℕ)) (read : List ℕ) (at n room : ℕ) → Begins told read at
+    → now ≡ told → IfSome now (λ bytes. 0 < room → ((n ≡ 0) ↔ (length bytes ≤ at))) → 0 < room → n ≡ 0
+    → IfSome told (λ bytes. read ≡ bytes)
+begins_all None now read at n room begins same ends some none = tt
+begins_all (Some bytes) now read at n room begins same ends some none =
+    let P : Option (List ℕ) → Type 0 = λ o. IfSome o (λ c. 0 < room → ((n ≡ 0) ↔ (length c ≤ at))) in
+    let past : length bytes ≤ at = (subst P same ends some).0 none in
+    sym (begins ∙ ap (λ (xs : List ℕ). read ++ xs) (drop_all at bytes past) ∙ append-nil read)
