@@ -3,3 +3,4 @@ pub mod Methods
 pub mod Firsts
 pub mod Running
 pub mod Sizes
+pub mod Lookups
