@@ -3,3 +3,5 @@ pub mod Methods
 pub mod Firsts
 pub mod Running
 pub mod Sizes
+pub mod Named
+pub mod Ahead

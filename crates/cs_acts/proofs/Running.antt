@@ -1,9 +1,9 @@
 -- A context that is active stays so where it is edited, and where another object is written.
-use Rattle.std.proofs.Common.{◌≡◌, ◌≢◌, ℕ, Bool, true, false, refl, sym, ap, subst, ◌∙◌, Option, Some, None, IsSome, is_some, unwrap_or, ◌⊎◌, inl, inr, rules, arith}
+use Rattle.std.proofs.Common.{◌≡◌, ◌≢◌, ℕ, true, false, refl, sym, ap, subst, ◌∙◌, Some, unwrap_or, inl, inr}
 use Rattle.std.proofs.lemmas.Bool.Decides.{eqb_tells}
 use Rattle.cs_model.specs.Ref.{Ref, Small, Char}
 use Rattle.cs_model.specs.Ref as ref
-use Rattle.cs_model.specs.Obj.{Obj, Context, Ptr, Raw, Method, Ctx, is_context, context_in, lies_in}
+use Rattle.cs_model.specs.Obj.{Obj, Context, Ctx, is_context, context_in, lies_in}
 use Rattle.cs_model.specs.State.{Kept, object_at, object_of, put}
 use Rattle.cs_model.specs.Read.{IsRunning, active_birth, active_context, blank, method_of, pc_of}
 use Rattle.cs_model.specs.Operation.{edit_active, put_active}
@@ -50,9 +50,9 @@ pub running-put : (k : Kept) (i : ℕ) (old new : Obj) → IsRunning k → objec
 unfolding active_context method_of put
 running-put k i old new running there other lies =
     let apart : active_birth k ≢ i = λ e.
-        let is : Some (Ctx (active_context k)) ≡ Some old = sym running.found ∙ ap (object_at k) e ∙ there in
-        let also : is_context (Ctx (active_context k)) ≡ is_context old = ap (λ o. is_context (unwrap_or o (Ctx blank))) is in
-        absurd (cc) in
+    let is : Some (Ctx (active_context k)) ≡ Some old = sym running.found ∙ ap (object_at k) e ∙ there in
+    let also : is_context (Ctx (active_context k)) ≡ is_context old = ap (λ o. is_context (unwrap_or o (Ctx blank))) is in
+    absurd (cc) in
     let stays : object_at (put k i new) (active_birth k) ≡ object_at k (active_birth k) = object_at-put_other k i (active_birth k) new apart in
     let context : active_context (put k i new) ≡ active_context k = ap (λ o. unwrap_or (context_in o) blank) stays in
     let pc_is : pc_of (put k i new) ≡ pc_of k = ap (λ c. unwrap_or c.pc 0) context in

@@ -57,6 +57,7 @@ context_of-stack refer hash ws i v h = along (6 + i) (omega arith) ∙ by_six (�
   where
     along : (n : ℕ) → n ≡ suc (suc (suc (suc (suc (suc i))))) → context_of refer hash (set ws n v) ≡ context_of refer hash (set ws (suc (suc (suc (suc (suc (suc i)))))) v)
     along n e = ap (λ (k : ℕ). context_of refer hash (set ws k v)) e
+
     go : (a b c d e f : ℕ) (rest : List ℕ) → context_of refer hash (set (a ∷ b ∷ c ∷ d ∷ e ∷ f ∷ rest) (suc (suc (suc (suc (suc (suc i)))))) v) ≡ stored i (refer v) (context_of refer hash (a ∷ b ∷ c ∷ d ∷ e ∷ f ∷ rest))
     go a b c d e f rest =
         let depth : ℕ = unwrap_or (count_of c) 0 in
@@ -91,9 +92,9 @@ unfolding context_of
 context_of-lower refer hash ws v d h e l =
     context_of-stackp refer hash ws v h
     ∙ ap (λ (xs : List Ref). with_stack xs (context_of refer hash ws))
-      (ap (λ (o : Option ℕ). map refer (take (unwrap_or o 0) (drop 6 ws))) e
-      ∙ ap (map refer) (sym (take_take d (depth_in ws) (drop 6 ws) (omega (arith, l, length-map (take (depth_in ws) (drop 6 ws)) refer))))
-      ∙ sym (take-map refer d (take (depth_in ws) (drop 6 ws))))
+    (ap (λ (o : Option ℕ). map refer (take (unwrap_or o 0) (drop 6 ws))) e
+    ∙ ap (map refer) (sym (take_take d (depth_in ws) (drop 6 ws) (omega (arith, l, length-map (take (depth_in ws) (drop 6 ws)) refer))))
+    ∙ sym (take-map refer d (take (depth_in ws) (drop 6 ws))))
 
 -- a stackp that is one higher: the word that was next is the top
 pub context_of-higher : (refer : ℕ → Ref) (hash : ℕ) (ws : List ℕ) (v : ℕ) → 6 ≤ length ws → depth_in ws < length ws - 6 → count_of v ≡ Some (depth_in ws + 1)
@@ -103,10 +104,10 @@ context_of-higher refer hash ws v h l e =
     let within : depth_in ws < length (drop 6 ws) = omega (arith, l, length-drop 6 ws) in
     context_of-stackp refer hash ws v h
     ∙ ap (λ (xs : List Ref). with_stack xs (context_of refer hash ws))
-      (ap (λ (o : Option ℕ). map refer (take (unwrap_or o 0) (drop 6 ws))) e
-      ∙ ap (map refer) (take_more (drop 6 ws) (depth_in ws) 0 within)
-      ∙ map-append refer (take (depth_in ws) (drop 6 ws)) (get_or (drop 6 ws) (depth_in ws) 0 ∷ [])
-      ∙ ap (λ (w : ℕ). map refer (take (depth_in ws) (drop 6 ws)) ++ refer w ∷ []) (get_or-drop 6 ws (depth_in ws) 0))
+    (ap (λ (o : Option ℕ). map refer (take (unwrap_or o 0) (drop 6 ws))) e
+    ∙ ap (map refer) (take_more (drop 6 ws) (depth_in ws) 0 within)
+    ∙ map-append refer (take (depth_in ws) (drop 6 ws)) (get_or (drop 6 ws) (depth_in ws) 0 ∷ [])
+    ∙ ap (λ (w : ℕ). map refer (take (depth_in ws) (drop 6 ws)) ++ refer w ∷ []) (get_or-drop 6 ws (depth_in ws) 0))
 
 -- a word behind the stack means nothing
 pub context_of-behind : (refer : ℕ → Ref) (hash : ℕ) (ws : List ℕ) (i v : ℕ) → 6 ≤ length ws → length (context_of refer hash ws).stack ≤ i → context_of refer hash (set ws (6 + i) v) ≡ context_of refer hash ws

@@ -161,6 +161,7 @@ obj_of-hash refer x h = go (sort_of x)
   where
     y : Object
     y = record x { hash = h }
+
     go : Sort x → obj_of refer y ≡ with_hash h (obj_of refer x)
     go (AContext c) = obj_of-context refer y c ∙ sym (ap (with_hash h) (obj_of-context refer x c))
     go (Pointers o p) = obj_of-pointers refer y o p ∙ sym (ap (with_hash h) (obj_of-pointers refer x o p))

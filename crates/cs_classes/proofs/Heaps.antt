@@ -73,6 +73,7 @@ with_object-twice os a f g edit =
     twice k [] = refl
     twice zero (x ∷ xs) = refl
     twice (suc k) (x ∷ xs) = ap (λ (ys : List Object). x ∷ ys) (twice k xs)
+
     go : (o : Option ℕ) → option_map_or (λ (k : ℕ). at_index k g (option_map_or (λ (j : ℕ). at_index j f os) o os)) o (option_map_or (λ (j : ℕ). at_index j f os) o os)
         ≡ option_map_or (λ (k : ℕ). at_index k (λ x. g (f x)) os) o os
     go None = refl
@@ -93,6 +94,7 @@ birth_at-with_object os a j f edit = go (index_of os a)
     at zero (suc j) (x ∷ xs) = refl
     at (suc k) zero (x ∷ xs) = refl
     at (suc k) (suc j) (x ∷ xs) = at k j xs
+
     go : (o : Option ℕ) → option_map_or (λ (y : Object). y.birth) (slice_get (option_map_or (λ (k : ℕ). at_index k f os) o os) j) 0 ≡ option_map_or (λ (y : Object). y.birth) (slice_get os j) 0
     go None = refl
     go (Some k) = at k j os

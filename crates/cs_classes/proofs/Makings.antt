@@ -76,8 +76,10 @@ module _ {os : List Object} {table : FinMap nat_cmp ℕ} {roots : Roots} (w : Is
     where
       y : Object
       y = new_object class format slots roots.next_birth
+
       words : y.words ≡ replicate slots base
       words = rw p refl
+
       sound : IsSoundObject (os ++ y ∷ []) y
       sound = record {
         shape = subst (λ (n : ℕ). IsTrue (format_allows format n)) (sym (length-replicate slots (new_slot format))) shape;
@@ -85,6 +87,7 @@ module _ {os : List Object} {table : FinMap nat_cmp ℕ} {roots : Roots} (w : Is
         context = λ c. absurd (false≢true (sym other ∙ c));
         method = λ m. absurd (false≢true (sym (not_pointers format m) ∙ p));
       }
+
       means : obj_of (ref_of (os ++ y ∷ [])) y ≡ Ptr class format 0 (replicate slots (ref.Obj (birth_at os 0)))
       means = obj_of-pointers (ref_of (os ++ y ∷ [])) y other p ∙ ap (Ptr class format 0) (ap (map (ref_of (os ++ y ∷ []))) words ∙ nils y slots)
 
@@ -103,10 +106,13 @@ module _ {os : List Object} {table : FinMap nat_cmp ℕ} {roots : Roots} (w : Is
     where
       y : Object
       y = new_object class format slots roots.next_birth
+
       words : y.words ≡ replicate slots 0
       words = rw p refl
+
       none : references_in y ≡ []
       none = rw (p, m) refl
+
       sound : IsSoundObject (os ++ y ∷ []) y
       sound = record {
         shape = subst (λ (n : ℕ). IsTrue (format_allows format n)) (sym (length-replicate slots (new_slot format))) shape;
@@ -114,10 +120,12 @@ module _ {os : List Object} {table : FinMap nat_cmp ℕ} {roots : Roots} (w : Is
         context = λ c. absurd (false≢true (sym other ∙ c));
         method = λ n. absurd (false≢true (sym m ∙ n));
       }
+
       bytes : used_bytes format (replicate slots 0) ≡ replicate (4 * slots - unused_bytes format) 0
       bytes = ap (λ (n : ℕ). take (4 * n - unused_bytes format) (bytes_of (replicate slots 0))) (length-replicate slots 0)
           ∙ ap (take (4 * slots - unused_bytes format)) (zero_bytes slots)
           ∙ take-replicate (4 * slots - unused_bytes format) (4 * slots) 0 (omega arith)
+
       means : obj_of (ref_of (os ++ y ∷ [])) y ≡ Raw class format 0 (replicate (4 * slots - unused_bytes format) 0)
       means = obj_of-bytes (ref_of (os ++ y ∷ [])) y other p m ∙ ap (Raw class format 0) (ap (used_bytes format) words ∙ bytes)
 
@@ -135,10 +143,11 @@ module _ {os : List Object} {table : FinMap nat_cmp ℕ} {roots : Roots} (w : Is
         context = λ c. absurd (false≢true (sym other ∙ c));
         method = λ _. sound_method;
       }
+
       means : obj_of (ref_of (os ++ y ∷ [])) y ≡ Method y.class y.format y.hash (header_in y.words) (map (ref_of os) (literals_in y.words)) (used_bytes y.format (code_in y.words))
       means = obj_of-method (ref_of (os ++ y ∷ [])) y other (not_pointers y.format m) m
           ∙ ap (λ (ls : List Ref). Method y.class y.format y.hash (header_in y.words) ls (used_bytes y.format (code_in y.words)))
-            (map_alike (is_reference os) (ref_of (os ++ y ∷ [])) (ref_of os) (ref_of-push os y) (literals_in y.words) all)
+          (map_alike (is_reference os) (ref_of (os ++ y ∷ [])) (ref_of os) (ref_of-push os y) (literals_in y.words) all)
 
   -- a context: its fields are nil and its stack is empty
   new_context_of : (refer : ℕ → Ref) (m : ℕ) → context_of refer 0 (replicate (suc (suc (suc (suc (suc (suc m)))))) base) ≡ new_context (refer base) m
@@ -154,20 +163,28 @@ module _ {os : List Object} {table : FinMap nat_cmp ℕ} {roots : Roots} (w : Is
     where
       y : Object
       y = new_object 36 3 (6 + size) roots.next_birth
+
       long : length y.words ≡ 6 + size
       long = length-replicate (6 + size) base
+
       word : (i : ℕ) → i < 6 → slice_index y.words i ≡ base
       word i l = get_or-replicate (6 + size) i base 0 (omega (arith, l))
+
       depth : depth_in y.words ≡ 0
       depth = ap (λ (v : ℕ). unwrap_or (count_of v) 0) (word 2 (omega arith))
+
       nil : nil_of (os ++ y ∷ []) ≡ base
       nil = nil_of-push os y (omega (arith, w.first)) ∙ w.nil
+
       is_nil : (i : ℕ) → i < 6 → IsTrue (slice_index y.words i == nil_of (os ++ y ∷ []) || is_some (count_of (slice_index y.words i)))
       is_nil i l = or_left (slice_index y.words i == nil_of (os ++ y ∷ [])) (is_some (count_of (slice_index y.words i))) (eq-eqb (slice_index y.words i) (nil_of (os ++ y ∷ [])) (word i l ∙ sym nil))
+
       shape : (n : ℕ) → (n == 16 || n == 56) ≡ true → ((6 + n) == 22 || (6 + n) == 62) ≡ true
       shape n h = grind (arith, nat_tests)
+
       allowed : (n : ℕ) → IsTrue (format_allows 3 n)
       allowed n = refl
+
       sound : IsSoundObject (os ++ y ∷ []) y
       sound = record {
         shape = allowed (length y.words);
@@ -181,6 +198,7 @@ module _ {os : List Object} {table : FinMap nat_cmp ℕ} {roots : Roots} (w : Is
         };
         method = λ m. absurd (false≢true m);
       }
+
       means : obj_of (ref_of (os ++ y ∷ [])) y ≡ Ctx (new_context (ref.Obj (birth_at os 0)) size)
       means =
           let refer : ℕ → Ref = ref_of (os ++ y ∷ []) in

@@ -86,6 +86,7 @@ find_changed f g (y ∷ os) (suc k) x q apart h keeps =
   where
     rest : Option Obj
     rest = find nat_cmp q (entries_by f os)
+
     swapped : (q ≡ y.birth) ⊎ (q ≡ y.birth → ⊥) → cond (eq_by_cmp nat_cmp q y.birth) (Some (f y)) (cond (eq_by_cmp nat_cmp q x.birth) (Some (f (g x))) rest)
         ≡ cond (eq_by_cmp nat_cmp q x.birth) (Some (f (g x))) (cond (eq_by_cmp nat_cmp q y.birth) (Some (f y)) rest)
     swapped (inl e) =
@@ -149,6 +150,7 @@ objects_of-with_object os a x f edit apart there = same_map nat_cmp_total nat_cm
   where
     means : Object → Obj
     means = obj_of (ref_of os)
+
     alike : (q : ℕ) → get {R = nat_cmp} (from_entries (entries_by (obj_of (ref_of (with_object os a f))) (with_object os a f))) q
         ≡ get {R = nat_cmp} (insert (from_entries (entries_by (obj_of (ref_of os)) os)) x.birth (obj_of (ref_of os) (f x))) q
     alike q =

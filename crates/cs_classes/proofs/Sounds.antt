@@ -73,11 +73,11 @@ sound-with_object os a x f edit sound there new =
     let list = with_object-stands os a x s.0 f s.1 in
     record {
       apart = λ j k y z p q e.
-        let u = element_before os s.0 j y (subst (λ (ys : List Object). slice_get ys j ≡ Some y) list p) in
-        let v = element_before os s.0 k z (subst (λ (ys : List Object). slice_get ys k ≡ Some z) list q) in
-        sound.apart j k u.0 v.0 u.1.0 v.1.0 (u.1.1 ∙ e ∙ sym v.1.1);
+          let u = element_before os s.0 j y (subst (λ (ys : List Object). slice_get ys j ≡ Some y) list p) in
+          let v = element_before os s.0 k z (subst (λ (ys : List Object). slice_get ys k ≡ Some z) list q) in
+          sound.apart j k u.0 v.0 u.1.0 v.1.0 (u.1.1 ∙ e ∙ sym v.1.1);
       each = λ k y h. along os (with_object os a f) (is_reference-with_object os a f edit) (nil_of-with_object os a f edit) y
-        (element_sound s.0 s.1.element k y (subst (λ (ys : List Object). slice_get ys k ≡ Some y) list h));
+          (element_sound s.0 s.1.element k y (subst (λ (ys : List Object). slice_get ys k ≡ Some y) list h));
     }
   where
     element_before : (xs : List Object) (k j : ℕ) (y : Object) → slice_get (at_index k f xs) j ≡ Some y → (z : Object) × ((slice_get xs j ≡ Some z) × (z.birth ≡ y.birth))
@@ -86,9 +86,11 @@ sound-with_object os a x f edit sound there new =
         changed : (o : Option Object) → slice_get xs j ≡ o → option_map f o ≡ Some y → (z : Object) × ((slice_get xs j ≡ Some z) × (z.birth ≡ y.birth))
         changed None e g = absurd (cc)
         changed (Some z) e g = let is : f z ≡ y = cc in (z, (e, sym (edit.birth z) ∙ ap (λ (u : Object). u.birth) is))
+
         go : (k ≡ j) ⊎ (k ≡ j → ⊥) → (z : Object) × ((slice_get xs j ≡ Some z) × (z.birth ≡ y.birth))
         go (inl e) = changed (slice_get xs j) refl (sym (slice_get-at_index_same j f xs) ∙ ap (λ (n : ℕ). slice_get (at_index n f xs) j) (sym e) ∙ h)
         go (inr other) = (y, (sym (slice_get-at_index_other k j f xs other) ∙ h, refl))
+
     element_sound : (k : ℕ) → slice_get os k ≡ Some x → (j : ℕ) (y : Object) → slice_get (at_index k f os) j ≡ Some y → IsSoundObject os y
     element_sound k here j y h = go (cases_eq k j)
       where
@@ -126,6 +128,7 @@ sound-push os y sound fresh new = record {
     apart j k u v (inl p) (inr q) e = absurd (fresh j u p (e ∙ ap (λ (z : Object). z.birth) (sym q.1)))
     apart j k u v (inr p) (inl q) e = absurd (fresh k v q (sym e ∙ ap (λ (z : Object). z.birth) (sym p.1)))
     apart j k u v (inr p) (inr q) e = p.0 ∙ sym q.0
+
     each : (k : ℕ) (x : Object) → (slice_get os k ≡ Some x) ⊎ ((k ≡ length os) × (y ≡ x)) → IsSoundObject (os ++ y ∷ []) x
     each k x (inl h) = more os y (omega (arith, slice_get_within os k x h)) x (sound.each k x h)
     each k x (inr h) = subst (IsSoundObject (os ++ y ∷ [])) h.1 new

@@ -60,9 +60,9 @@ filled_set es i o h = same_map nat_cmp_total nat_cmp-IsAntisymmetric _ _ alike
   where
     alike : (q : ℕ) → get (from_entries {R = nat_cmp} (filled 0 (set es i (Some o)))) q ≡ get {R = nat_cmp} (insert (from_entries (filled 0 es)) i o.0) q
     alike q = get-filled (set es i (Some o)) q ∙ elim (cases_eq q i) as (λ _. option_map (λ (p : Oop). p.0) (get_or (set es i (Some o)) q None) ≡ cond (eq_by_cmp nat_cmp q i) (Some o.0) (get (from_entries {R = nat_cmp} (filled 0 es)) q)) [
-        | inl e ↦ same e
-        | inr other ↦ rw (ties_other q i other, get_or-set_other es i q (Some o) None other) (sym (get-filled es q))
-      ] ∙ sym (get-insert nat_cmp_total (from_entries (filled 0 es)) i o.0 q)
+      | inl e ↦ same e
+      | inr other ↦ rw (ties_other q i other, get_or-set_other es i q (Some o) None other) (sym (get-filled es q))
+    ] ∙ sym (get-insert nat_cmp_total (from_entries (filled 0 es)) i o.0 q)
       where
         same : q ≡ i → option_map (λ (p : Oop). p.0) (get_or (set es i (Some o)) q None) ≡ cond (eq_by_cmp nat_cmp q i) (Some o.0) (get (from_entries {R = nat_cmp} (filled 0 es)) q)
         same e = rw e (rw (ties_same i, get_or-set_same es i (Some o) None h) refl)

@@ -53,6 +53,7 @@ classes_of-insert os table index a = same_map nat_cmp_total nat_cmp-IsAntisymmet
     moved : (b : Bool) (o : Option ℕ) → option_map (birth_of os) (cond b (Some a) o) ≡ cond b (Some (birth_of os a)) (option_map (birth_of os) o)
     moved true o = refl
     moved false o = refl
+
     alike : (q : ℕ) → get {R = nat_cmp} (classes_of os (insert table index a)) q ≡ get {R = nat_cmp} (insert (classes_of os table) index (birth_of os a)) q
     alike q =
         get-classes_of os (insert table index a) q ∙ ap (option_map (birth_of os)) (get-insert nat_cmp_total table index a q)
@@ -65,6 +66,7 @@ classes_of-alike os us table same = same_map nat_cmp_total nat_cmp-IsAntisymmetr
     go : (q : ℕ) (o : Option ℕ) → get table q ≡ o → option_map (birth_of us) o ≡ option_map (birth_of os) o
     go q None e = refl
     go q (Some a) e = ap Some (same q a e)
+
     alike : (q : ℕ) → get {R = nat_cmp} (classes_of us table) q ≡ get {R = nat_cmp} (classes_of os table) q
     alike q = get-classes_of us table q ∙ go q (get table q) refl ∙ sym (get-classes_of os table q)
 
@@ -86,6 +88,7 @@ whole-set_entry os table roots index a w h = record {
     entered : (b : Bool) (o : Option ℕ) {p : Option ℕ} → p ≡ cond b (Some a) o → is_some o ≡ true → is_some p ≡ true
     entered true o e s = ap is_some e
     entered false o e s = ap is_some e ∙ s
+
     there : (i b : ℕ) (t : Bool) → get (insert table index a) i ≡ cond t (Some a) (get table i) → get (insert table index a) i ≡ Some b → is_object os b ≡ true
     there i b true e f = let is : a ≡ b = cc in subst (λ (n : ℕ). is_object os n ≡ true) is h
     there i b false e f = w.classes i b (sym e ∙ f)
@@ -101,7 +104,7 @@ kept_of-with_object os table roots active a x f g edit sound there means =
     let birth : birth_of os a ≡ x.birth = birth_of-object_at os a x there in
     let found : get (objects_of os) (birth_of os a) ≡ Some (obj_of (ref_of os) x) = get-objects_of os a sound (is_object-object_at os a x there) ∙ ap (option_map (obj_of (ref_of os))) there in
     let objects : objects_of (with_object os a f) ≡ insert (objects_of os) (birth_of os a) (g (obj_of (ref_of os) x)) =
-        objects_of-with_object os a x f edit sound.apart there ∙ ap₂ (insert (objects_of os)) (sym birth) means in
+    objects_of-with_object os a x f edit sound.apart there ∙ ap₂ (insert (objects_of os)) (sym birth) means in
     let classes = classes_of-alike os (with_object os a f) table (λ index b e. birth_of-with_object os a b f edit) in
     let changed : kept_of (with_object os a f) table roots active ≡ put k (birth_of os a) (g (obj_of (ref_of os) x)) = λ i. record {
       objects = objects i;
@@ -144,6 +147,7 @@ whole-with_object os table roots a x f edit w there new =
         changed (Some z) e g =
             let is : f z ≡ y = cc in
             (z, (e, (sym (edit.birth z) ∙ ap (λ (u : Object). u.birth) is, sym (edit.class z) ∙ ap (λ (u : Object). u.class) is)))
+
         go : (k ≡ j) ⊎ (k ≡ j → ⊥) → (z : Object) × ((slice_get os j ≡ Some z) × ((z.birth ≡ y.birth) × (z.class ≡ y.class)))
         go (inl e) = changed (slice_get os j) refl (sym (slice_get-at_index_same j f os) ∙ ap (λ (n : ℕ). slice_get (at_index n f os) j) (sym e) ∙ h)
         go (inr other) = (y, (sym (slice_get-at_index_other k j f os other) ∙ h, (refl, refl)))
@@ -176,7 +180,7 @@ kept_of-push os table roots active y w next =
     let new : Obj = obj_of (ref_of (os ++ y ∷ [])) y in
     let fresh : IsFresh os y.birth = λ j x h e. next_is_fresh os table roots w j x h (e ∙ next) in
     let objects : objects_of (os ++ y ∷ []) ≡ insert (objects_of os) roots.next_birth new =
-        objects_of-push os y fresh (λ j x h. obj_of-push os y x (w.heap.each j x h)) ∙ ap (λ (b : ℕ). insert (objects_of os) b new) next in
+    objects_of-push os y fresh (λ j x h. obj_of-push os y x (w.heap.each j x h)) ∙ ap (λ (b : ℕ). insert (objects_of os) b new) next in
     let classes = classes_of-alike os (os ++ y ∷ []) table (λ index b e. birth_of-push os y b (w.classes index b e)) in
     let nil = births_push os y 0 (omega (arith, w.first)) in
     let false_ = births_push os y 1 (omega (arith, w.first)) in
@@ -212,6 +216,7 @@ whole-push os table roots y w next class new = record {
     births : (k : ℕ) (x : Object) → (slice_get os k ≡ Some x) ⊎ ((k ≡ length os) × (y ≡ x)) → x.birth < roots.next_birth + 1
     births k x (inl h) = omega (arith, w.births k x h)
     births k x (inr h) = omega (arith, next, ap (λ (z : Object). z.birth) h.1)
+
     indices : (k : ℕ) (x : Object) → (slice_get os k ≡ Some x) ⊎ ((k ≡ length os) × (y ≡ x)) → is_some (get table x.class) ≡ true
     indices k x (inl h) = w.indices k x h
     indices k x (inr h) = subst (λ (z : Object). is_some (get table z.class) ≡ true) h.1 class
@@ -242,11 +247,12 @@ obj_of-held os table roots active x sound s = go (sort_of x)
   where
     held : Obj → Type 0
     held = NamesHeld (kept_of os table roots active)
+
     go : Sort x → NamesHeld (kept_of os table roots active) (obj_of (ref_of os) x)
     go (AContext c) =
         let whole = whole_context os x s c in
         let word : (i : ℕ) → i < 6 → IsHeld (kept_of os table roots active) (ref_of os (get_or x.words i 0)) =
-            λ i l. ref_of-held os table roots active (get_or x.words i 0) sound (whole.references i 0 (omega (arith, l, whole.fields))) in
+        λ i l. ref_of-held os table roots active (get_or x.words i 0) sound (whole.references i 0 (omega (arith, l, whole.fields))) in
         subst held (sym (obj_of-context (ref_of os) x c)) (record {
           sender = word 0 (omega arith);
           method = word 3 (omega arith);
@@ -284,6 +290,7 @@ kept_of-roots os table roots active w running = record {
   where
     object_held : (a : ℕ) → is_object os a ≡ true → IsHeld (kept_of os table roots active) (ref.Obj (birth_of os a))
     object_held a h = let x = object_there os a h in ap is_some (get-objects_of os a w.heap h ∙ ap (option_map (obj_of (ref_of os))) x.1)
+
     class_held : (index i : ℕ) (o : Option ℕ) → get table index ≡ o → option_map (birth_of os) o ≡ Some i → IsHeld (kept_of os table roots active) (ref.Obj i)
     class_held index i None e h = absurd (cc)
     class_held index i (Some a) e h = let is : birth_of os a ≡ i = cc in subst (λ (n : ℕ). IsHeld (kept_of os table roots active) (ref.Obj n)) is (object_held a (w.classes index a e))

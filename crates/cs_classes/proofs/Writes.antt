@@ -89,7 +89,7 @@ module _ {os : List Object} {table : FinMap nat_cmp ℕ} {roots : Roots} {a : �
       let n : ℕ = 4 * (1 + literal_count (header_in x.words)) + i in
       let v : ℕ = heap.with_byte_in (slice_index x.words (n / 4)) (n % 4) b in
       let done = does-edit (set_word (n / 4) v) (operation.with_byte i b) (set_word-IsEdit (n / 4) v) (sound-set_code os x (n / 4) v sound_object m (omega arith))
-          (obj_of-set_code (ref_of os) x i b (method_other os x sound_object m) m f) in
+      (obj_of-set_code (ref_of os) x i b (method_other os x sound_object m) m f) in
       subst (λ (w : ℕ). Does os (with_slot os a (n / 4) (heap.with_byte_in w (n % 4) b)) table roots (λ k. edit_object k (ref_of os a) (operation.with_byte i b))) (sym (slot_is (n / 4))) done
 
   -- ---- raw bytes
@@ -100,7 +100,7 @@ module _ {os : List Object} {table : FinMap nat_cmp ℕ} {roots : Roots} {a : �
   does-set_byte i b other p m f =
       let v : ℕ = heap.with_byte_in (slice_index x.words (i / 4)) (i % 4) b in
       let done = does-edit (set_word (i / 4) v) (operation.with_byte i b) (set_word-IsEdit (i / 4) v) (sound-set_bytes os x (i / 4) v sound_object other p m)
-          (obj_of-set_byte (ref_of os) x i b other p m f) in
+      (obj_of-set_byte (ref_of os) x i b other p m f) in
       subst (λ (w : ℕ). Does os (with_slot os a (i / 4) (heap.with_byte_in w (i % 4) b)) table roots (λ k. edit_object k (ref_of os a) (operation.with_byte i b))) (sym (slot_is (i / 4))) done
 
   -- ---- hashes
@@ -185,9 +185,9 @@ module _ {os : List Object} {table : FinMap nat_cmp ℕ} {roots : Roots} {a : �
         let first_sound = sound-set_context os x (6 + d) v sound_object c (plain (6 + d) v (λ e. omega (arith, e)) (λ e. omega (arith, e)) r) in
         let both : Object → Object = λ (y : Object). set_word 2 w (set_word (6 + d) v y) in
         let done = does-edit both (edit_context (pushed (ref_of os v)))
-            (record { slots = λ (y : Object). length-set (set y.words (6 + d) v) 2 w ∙ length-set y.words (6 + d) v; birth = λ (y : Object). refl; class = λ (y : Object). refl })
-            (sound-set_context os first 2 w first_sound c (stackp_write first (d + 1) (length-set x.words (6 + d) v) l))
-            (obj_of-edit_context (ref_of os) x (both x) (pushed (ref_of os v)) c c
-            (context_of-push (ref_of os) x.hash x.words v w fields room (count_of-small (d + 1) (small_depth os x (d + 1) sound_object c l)))) in
+        (record { slots = λ (y : Object). length-set (set y.words (6 + d) v) 2 w ∙ length-set y.words (6 + d) v; birth = λ (y : Object). refl; class = λ (y : Object). refl })
+        (sound-set_context os first 2 w first_sound c (stackp_write first (d + 1) (length-set x.words (6 + d) v) l))
+        (obj_of-edit_context (ref_of os) x (both x) (pushed (ref_of os v)) c c
+        (context_of-push (ref_of os) x.hash x.words v w fields room (count_of-small (d + 1) (small_depth os x (d + 1) sound_object c l)))) in
         subst (λ (us : List Object). Does os us table roots (λ k. edit_object k (ref_of os a) (edit_context (pushed (ref_of os v)))))
         (sym (with_object-twice os a (set_word (6 + d) v) (set_word 2 w) (set_word-IsEdit (6 + d) v))) done
