@@ -1,10 +1,10 @@
 -- What a context means when one of its words is written.
-use Rattle.std.proofs.Common.{◌≡◌, ℕ, zero, suc, ◌+◌, ◌-◌, ◌<◌, ◌≤◌, Bool, true, false, List, [], ◌∷◌, ◌++◌, length, map, take, drop, Option, Some, None, refl, ap, ap₂, subst, sym, ◌∙◌, arith, get_or, set}
+use Rattle.std.proofs.Common.{◌≡◌, ℕ, zero, suc, ◌+◌, ◌-◌, ◌<◌, ◌≤◌, true, List, [], ◌∷◌, ◌++◌, length, map, take, drop, Option, Some, refl, ap, ap₂, sym, ◌∙◌, arith, get_or, set}
 use Rattle.std.specs.Prelude.{slice_index, unwrap_or}
 use Rattle.std.proofs.lemmas.List.{get_or-drop, get_or-set_other, get_or-set_same, length-drop, length-map, length-set, length-take, map-append, map-set, set_past, take-map, take_more}
-use Rattle.cs_heap.specs.Object.{Object, set_word}
+use Rattle.cs_heap.specs.Object.{Object}
 use Rattle.cs_model.specs.Ref.{Ref}
-use Rattle.cs_model.specs.Obj.{edit_context, Context, Ctx, Obj, popped, pushed, stored, with_pc, with_stack}
+use Rattle.cs_model.specs.Obj.{edit_context, Context, Ctx, pushed, stored, with_pc, with_stack}
 use Rattle.cs_classes.specs.Meaning.{context_of, count_of, depth_in, is_context, obj_of}
 use Rattle.cs_classes.proofs.Edits.{take_set}
 use Rattle.cs_classes.proofs.Sorts.{obj_of-context}

@@ -1,6 +1,6 @@
 -- What a new object is, and what it adds to the kept parts: the laws for the crates above.
-use Rattle.std.proofs.Common.{◌≡◌, ℕ, zero, suc, ◌+◌, ◌-◌, ◌*◌, ◌<◌, ◌≤◌, Bool, true, false, List, [], ◌∷◌, ◌++◌, length, map, take, drop, replicate, Option, Some, None, is_some, refl, ap, ap₂, subst, sym, ◌∙◌, arith, get_or}
-use Rattle.std.specs.Prelude.{slice_get, slice_index, unwrap_or, ◌==◌, ◌||◌, IsTrue, IsSome}
+use Rattle.std.proofs.Common.{◌≡◌, ℕ, zero, suc, ◌+◌, ◌-◌, ◌*◌, ◌<◌, true, false, List, [], ◌∷◌, ◌++◌, length, map, take, replicate, Option, Some, None, is_some, refl, ap, ap₂, subst, sym, ◌∙◌, arith, get_or}
+use Rattle.std.specs.Prelude.{slice_index, unwrap_or, ◌==◌, ◌||◌, IsTrue}
 use Rattle.std.specs.List.{AllPass}
 use Rattle.std.specs.Option.{option_map_or}
 use Rattle.std.specs.Ordering.{nat_cmp}
@@ -9,19 +9,18 @@ use Rattle.std.proofs.lemmas.Bool.{eq-eqb, false≢true, or_left}
 use Rattle.std.proofs.lemmas.Bool.Decides.{nat_tests}
 use Rattle.std.proofs.lemmas.List.{get_or-replicate, length-replicate, take-replicate}
 use Rattle.cs_heap.specs.Format.{format_allows, is_method, is_pointers}
-use Rattle.cs_heap.specs.Object.{Object, address_of, base, birth_of, byte_in, is_object, new_object, new_slot, object_at}
-use Rattle.cs_heap.proofs.Laws.{address_of-below, index_of-address, is_object-old, object_at-address}
+use Rattle.cs_heap.specs.Object.{Object, address_of, base, is_object, new_object, new_slot}
+use Rattle.cs_heap.proofs.Laws.{address_of-below, index_of-address, object_at-address}
 use Rattle.cs_model.specs.Ref.{Ref}
 use Rattle.cs_model.specs.Ref as ref
 use Rattle.cs_model.specs.Obj.{Ctx, Method, Obj, Ptr, Raw}
-use Rattle.cs_model.specs.State.{IsHeld, Kept, RestHeld}
+use Rattle.cs_model.specs.State.{Kept}
 use Rattle.cs_model.specs.Operation.{add_of, new_pointers}
 use Rattle.cs_model.specs.Operation as operation
 use Rattle.cs_model.specs.Instance.{new_context}
 use Rattle.cs_classes.specs.declared.Roots.{Roots}
-use Rattle.cs_classes.specs.Meaning.{birth_at, bytes_of, classes_of, code_in, context_of, count_of, depth_in, header_in, is_context, kept_of, literals_in, obj_of, objects_of, ref_of, unused_bytes, used_bytes}
-use Rattle.cs_classes.specs.Sound.{IsSoundContext, IsSoundMethod, IsSoundObject, IsWhole, is_reference, nil_of, references_in}
-use Rattle.cs_classes.proofs.Heaps.{is_object-object_at}
+use Rattle.cs_classes.specs.Meaning.{birth_at, bytes_of, code_in, context_of, count_of, depth_in, header_in, is_context, kept_of, literals_in, obj_of, ref_of, unused_bytes, used_bytes}
+use Rattle.cs_classes.specs.Sound.{IsSoundMethod, IsSoundObject, IsWhole, is_reference, nil_of, references_in}
 use Rattle.cs_classes.proofs.Refs.{is_reference-object, is_reference-push, nil_of-push, ref_of-object, ref_of-push}
 use Rattle.cs_classes.proofs.Sorts.{map_alike, not_pointers, obj_of-bytes, obj_of-context, obj_of-method, obj_of-pointers, references-method, references-pointers}
 use Rattle.cs_classes.proofs.Wholes.{after_birth, kept_of-push, whole-push}

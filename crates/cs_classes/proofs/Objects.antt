@@ -1,18 +1,18 @@
 -- The objects of a heap by their births: what is at a birth, and what becomes of them when an object changes or comes.
-use Rattle.std.proofs.Common.{◌≡◌, ℕ, zero, suc, ◌+◌, ◌<◌, Bool, true, false, cond, List, [], ◌∷◌, ◌++◌, length, map, Option, Some, None, option_map, refl, ap, subst, sym, ◌∙◌, arith, ◌⊎◌, inl, inr, ap₂}
+use Rattle.std.proofs.Common.{◌≡◌, ℕ, zero, suc, Bool, true, false, cond, List, [], ◌∷◌, ◌++◌, map, Option, Some, None, option_map, refl, ap, sym, ◌∙◌, arith, ◌⊎◌, inl, inr, ap₂}
 use Rattle.std.specs.Prelude.{slice_get}
 use Rattle.std.specs.Ordering.{nat_cmp, eq_by_cmp}
 use Rattle.std.specs.Cmp.{nat_cmp_total}
-use Rattle.std.specs.FinMap.{FinMap, find, from_entries, from_entries_push, get, get-from_entries, get-insert, insert, nat_cmp-IsAntisymmetric, same_map}
+use Rattle.std.specs.FinMap.{find, from_entries, from_entries_push, get, get-from_entries, get-insert, insert, nat_cmp-IsAntisymmetric, same_map}
 use Rattle.std.proofs.lemmas.Bool.{cases_eq}
 use Rattle.std.proofs.lemmas.List.{map-append}
 use Rattle.cs_heap.specs.Object.{Object, at_index, birth_of, is_object, object_at, with_object}
 use Rattle.cs_model.specs.Ref.{Ref}
 use Rattle.cs_model.specs.Obj.{Obj}
 use Rattle.cs_classes.specs.Meaning.{meaning_at, obj_of, objects_of, ref_of}
-use Rattle.cs_classes.specs.Sound.{IsSound, IsSoundObject}
-use Rattle.cs_classes.proofs.Heaps.{IsEdit, Stands, birth_of-object_at, is_object-object_at, object_there, slice_get-push, stands, with_object-stands}
-use Rattle.cs_classes.proofs.Refs.{ref_of-push, ref_of-with_object}
+use Rattle.cs_classes.specs.Sound.{IsSound}
+use Rattle.cs_classes.proofs.Heaps.{IsEdit, birth_of-object_at, is_object-object_at, object_there, stands, with_object-stands}
+use Rattle.cs_classes.proofs.Refs.{ref_of-with_object}
 use Rattle.cs_classes.proofs.Tables.{ties_other, ties_same}
 
 -- no two objects have one birth

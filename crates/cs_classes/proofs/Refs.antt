@@ -1,9 +1,8 @@
 -- What words refer to: that it stays when objects change or come, and that one word alone refers to each thing.
-use Rattle.std.proofs.Common.{◌≡◌, ℕ, ℤ, pos, zero, suc, ◌+◌, ◌*◌, ◌%◌, ◌^◌, ◌<◌, Bool, true, false, List, [], ◌∷◌, ◌++◌, length, map, Option, Some, None, refl, ap, subst, sym, ◌∙◌, arith, eqb}
-use Rattle.std.specs.Prelude.{slice_get, unwrap_or, sum_by, ◌==◌}
-use Rattle.std.specs.Ordering.{int_eq}
+use Rattle.std.proofs.Common.{◌≡◌, ℕ, ℤ, pos, ◌^◌, ◌<◌, Bool, true, false, List, [], ◌∷◌, ◌++◌, length, Some, refl, ap, sym, ◌∙◌, arith, eqb}
+use Rattle.std.specs.Prelude.{unwrap_or, ◌==◌}
 use Rattle.std.proofs.lemmas.Bool.{eq-eqb, eqb-true, ne_eqb, false≢true}
-use Rattle.std.proofs.lemmas.Bool.Decides.{nat_tests, Decides-int_eq}
+use Rattle.std.proofs.lemmas.Bool.Decides.{Decides-int_eq}
 use Rattle.std.proofs.lemmas.Int.{ints}
 use Rattle.cs_word.specs.declared.Kind.{Kind}
 use Rattle.cs_word.specs.declared.Kind.TheVariants as kind
@@ -11,7 +10,7 @@ use Rattle.cs_word.specs.Word.{IsSmall, character_word, kind_of, small_word}
 use Rattle.cs_word.proofs.Words.{kind_of-character_word, kind_of-injective, kind_of-object, kind_of-small_word}
 use Rattle.cs_heap.specs.Object.{Object, address_among, base, birth_of, is_object, with_object}
 use Rattle.cs_heap.proofs.Laws.{index_of-injective, is_object-old, is_object-with_object, object_placed, slot_counts-with_object}
-use Rattle.cs_model.specs.Ref.{Ref, same_ref}
+use Rattle.cs_model.specs.Ref.{Ref, index_of, same_ref}
 use Rattle.cs_model.specs.Ref as ref
 use Rattle.cs_classes.specs.Meaning.{count_of, count_of_kind, ref_of, ref_of_kind}
 use Rattle.cs_classes.specs.Sound.{IsSound, is_reference, is_reference_kind, nil_of}
@@ -49,6 +48,17 @@ small_natural n h = (omega (arith, ints), omega (arith, ints))
 pub count_of-small : (n : ℕ) → n < 2 ^ 30 → count_of (small_word (pos n)) ≡ Some n
 unfolding count_of
 count_of-small n h = ap count_of_kind (kind_of-small_word (pos n) (small_natural n h))
+
+-- a count is the same as a word and as a reference
+pub index_of-ref_of : (os : List Object) (w : ℕ) → is_reference os w ≡ true → index_of (ref_of os w) ≡ count_of w
+unfolding ref_of is_reference count_of
+index_of-ref_of os w h = at (kind_of w) h
+  where
+    at : (k : Kind) → is_reference_kind os k ≡ true → index_of (ref_of_kind os k) ≡ count_of_kind k
+    at (kind.Small z) h = refl
+    at (kind.Character c) h = refl
+    at (kind.Object a) h = refl
+    at (kind.Link b) h = absurd (false≢true h)
 
 -- ---- when an object changes
 

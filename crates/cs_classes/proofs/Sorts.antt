@@ -1,13 +1,11 @@
 -- What an object of the heap is as an object of the model: one of four sorts by its class and format.
-use Rattle.std.proofs.Common.{◌≡◌, ℕ, zero, suc, ◌+◌, ◌<◌, ◌≤◌, Bool, true, false, cond, List, [], ◌∷◌, length, map, take, drop, Option, Some, None, refl, ap, sym, ◌∙◌, arith, get_or, ap₂, subst}
-use Rattle.std.specs.Prelude.{slice_index}
+use Rattle.std.proofs.Common.{◌≡◌, ℕ, zero, suc, ◌<◌, ◌≤◌, Bool, true, false, List, [], ◌∷◌, length, map, take, drop, refl, ap, sym, ◌∙◌, arith, get_or, ap₂, subst}
 use Rattle.std.specs.List.{AllPass}
-use Rattle.std.proofs.lemmas.Bool.{leb-true, le-ltb}
 use Rattle.std.proofs.lemmas.Bool.Decides.{nat_tests}
 use Rattle.cs_heap.specs.Format.{is_method, is_pointers}
 use Rattle.cs_heap.specs.Object.{Object}
 use Rattle.cs_model.specs.Ref.{Ref}
-use Rattle.cs_model.specs.Obj.{Context, Ctx, Method, Obj, Ptr, Raw}
+use Rattle.cs_model.specs.Obj.{Context, Ctx, Method, Ptr, Raw}
 use Rattle.cs_classes.specs.Meaning.{code_in, context_of, depth_in, header_in, is_context, literals_in, method_of, obj_of, used_bytes}
 use Rattle.cs_classes.specs.Sound.{references_in}
 

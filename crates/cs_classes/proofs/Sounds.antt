@@ -1,19 +1,19 @@
 -- A heap stays sound when an object changes in a sound way, or a sound one comes.
-use Rattle.std.proofs.Common.{◌≡◌, ℕ, zero, suc, ◌+◌, ◌-◌, ◌*◌, ◌/◌, ◌<◌, ◌≤◌, Bool, true, false, cond, List, [], ◌∷◌, ◌++◌, length, map, take, drop, Option, Some, None, option_map, refl, ap, subst, sym, ◌∙◌, arith, get_or, set, ◌⊎◌, inl, inr}
-use Rattle.std.specs.Prelude.{slice_get, slice_index, unwrap_or, ◌||◌, ◌==◌, is_some, IsTrue, if◌then◌else◌, nat_lt}
+use Rattle.std.proofs.Common.{◌≡◌, ℕ, ◌-◌, ◌<◌, ◌≤◌, Bool, true, false, List, [], ◌∷◌, ◌++◌, length, Option, Some, None, option_map, refl, ap, subst, sym, ◌∙◌, arith, get_or, set, ◌⊎◌, inl, inr}
+use Rattle.std.specs.Prelude.{slice_get, slice_index, unwrap_or, ◌||◌, ◌==◌, is_some, IsTrue}
 use Rattle.std.specs.List.{AllPass}
-use Rattle.std.proofs.lemmas.Bool.{cases_eq, eqb-true, false≢true, or_from}
+use Rattle.std.proofs.lemmas.Bool.{cases_eq, false≢true}
 use Rattle.std.proofs.lemmas.Bool.Decides.{nat_tests}
 use Rattle.std.proofs.lemmas.List.{get_or-set_other, get_or-set_same, length-set}
 use Rattle.std.proofs.lemmas.List.Elements.{All-set}
 use Rattle.std.proofs.lemmas.Option.{slice_get_within}
 use Rattle.cs_heap.specs.Format.{is_method, is_pointers, format_allows}
-use Rattle.cs_heap.specs.Object.{Object, at_index, birth_of, is_object, object_at, set_word, with_object}
+use Rattle.cs_heap.specs.Object.{Object, at_index, object_at, set_word, with_object}
 use Rattle.cs_model.specs.Obj.{is_header, literal_count}
 use Rattle.cs_classes.specs.Meaning.{count_of, depth_in, header_in, is_context, literals_in}
-use Rattle.cs_classes.specs.Sound.{IsSound, IsSoundContext, IsSoundMethod, IsSoundObject, is_reference, nil_of, references_in}
+use Rattle.cs_classes.specs.Sound.{IsSound, IsSoundObject, is_reference, nil_of, references_in}
 use Rattle.cs_classes.proofs.Heaps.{IsEdit, slice_get-at_index_other, slice_get-at_index_same, slice_get-push, stands, with_object-stands}
-use Rattle.cs_classes.proofs.Objects.{AreApart, IsFresh}
+use Rattle.cs_classes.proofs.Objects.{IsFresh}
 use Rattle.cs_classes.proofs.Refs.{is_reference-push, is_reference-with_object, nil_of-push, nil_of-with_object}
 use Rattle.cs_classes.proofs.Edits.{literals_in-set, literals_in-set_code}
 use Rattle.cs_classes.proofs.Sorts.{not_pointers, references-method, references-pointers}

@@ -1,33 +1,33 @@
 -- The kept parts that a heap, its class table and its roots stand for, when an object changes or comes, and when a class
 -- enters the table.
-use Rattle.std.proofs.Common.{◌≡◌, ℕ, zero, suc, ◌+◌, ◌<◌, ◌≤◌, Bool, true, false, cond, List, [], ◌∷◌, ◌++◌, length, map, take, drop, Option, Some, None, option_map, is_some, refl, ap, ap₂, subst, sym, ◌∙◌, arith, get_or, ◌⊎◌, inl, inr}
-use Rattle.std.specs.Prelude.{slice_get, unwrap_or}
+use Rattle.std.proofs.Common.{◌≡◌, ℕ, zero, suc, ◌+◌, ◌<◌, Bool, true, false, cond, List, [], ◌∷◌, ◌++◌, length, map, take, drop, Option, Some, None, option_map, is_some, refl, ap, ap₂, subst, sym, ◌∙◌, arith, get_or, ◌⊎◌, inl, inr}
+use Rattle.std.specs.Prelude.{slice_get}
 use Rattle.std.specs.Option.{option_map_or}
 use Rattle.std.specs.Ordering.{nat_cmp, eq_by_cmp}
 use Rattle.std.specs.Cmp.{nat_cmp_total}
-use Rattle.std.specs.FinMap.{FinMap, entries, find, from_entries, get, get-entries, get-from_entries, get-insert, insert, nat_cmp-IsAntisymmetric, same_map}
+use Rattle.std.specs.FinMap.{FinMap, entries, find, get, get-entries, get-from_entries, get-insert, insert, nat_cmp-IsAntisymmetric, same_map}
 use Rattle.std.specs.List.{AllByRecursion, AllPass}
 use Rattle.cs_word.specs.declared.Kind.{Kind}
 use Rattle.cs_word.specs.declared.Kind.TheVariants as kind
 use Rattle.cs_word.specs.Word.{kind_of}
 use Rattle.std.proofs.lemmas.Bool.{cases_eq}
 use Rattle.std.proofs.lemmas.List.{length-append}
-use Rattle.cs_heap.specs.Object.{Object, at_index, base, birth_of, is_object, object_at, with_object}
+use Rattle.cs_heap.specs.Object.{Object, at_index, birth_of, is_object, object_at, with_object}
 use Rattle.cs_heap.proofs.Laws.{is_object-old, is_object-with_object, length-with_object}
 use Rattle.cs_model.specs.Ref.{Ref}
 use Rattle.cs_model.specs.Ref as ref
-use Rattle.cs_model.specs.Obj.{Ctx, Method, Obj, Ptr}
+use Rattle.cs_model.specs.Obj.{Obj}
 use Rattle.cs_model.specs.State.{IsHeld, Kept, NamesHeld, RestHeld, put, with_rest}
 use Rattle.cs_model.specs.Operation.{add_of, edit_found, edit_object}
-use Rattle.cs_model.specs.Instance.{with_class}
+use Rattle.cs_model.specs.Instance.{with_class, with_last_hash}
 use Rattle.cs_classes.specs.declared.Roots.{Roots}
-use Rattle.cs_classes.specs.Meaning.{birth_at, classes_of, context_of, depth_in, is_context, kept_of, literals_in, meaning_at, obj_of, objects_of, ref_of, ref_of_kind}
-use Rattle.cs_classes.specs.Sound.{IsSound, IsSoundObject, IsWhole, is_reference, is_reference_kind, nil_of, references_in}
+use Rattle.cs_classes.specs.Meaning.{birth_at, classes_of, context_of, depth_in, kept_of, literals_in, obj_of, objects_of, ref_of, ref_of_kind}
+use Rattle.cs_classes.specs.Sound.{IsSound, IsSoundObject, IsWhole, is_reference, is_reference_kind}
 use Rattle.cs_classes.proofs.Heaps.{object_there, element_within, IsEdit, birth_at-with_object, birth_of-object_at, birth_of-push, birth_of-with_object, is_object-object_at, slice_get-at_index_other, slice_get-at_index_same, slice_get-push, stands, with_object-stands}
-use Rattle.cs_classes.proofs.Objects.{AreApart, Comes, IsFresh, get-objects_of, get-objects_of-element, objects_of-comes, objects_of-push, objects_of-with_object}
-use Rattle.cs_classes.proofs.Refs.{is_reference-push, nil_of-push, nil_of-with_object, ref_of-push}
+use Rattle.cs_classes.proofs.Objects.{IsFresh, get-objects_of, get-objects_of-element, objects_of-comes, objects_of-push, objects_of-with_object}
+use Rattle.cs_classes.proofs.Refs.{nil_of-push, nil_of-with_object, ref_of-push}
 use Rattle.cs_classes.proofs.Sorts.{AContext, AMethod, Bytes, Pointers, Sort, obj_of-alike, obj_of-bytes, obj_of-context, obj_of-method, obj_of-pointers, pass_drop, pass_take, references-method, references-pointers, sort_of}
-use Rattle.cs_classes.proofs.Sounds.{sound-push, sound-with_object, sound_at, whole_context}
+use Rattle.cs_classes.proofs.Sounds.{sound-push, sound-with_object, whole_context}
 
 -- ---- the class table
 
@@ -294,3 +294,26 @@ kept_of-roots os table roots active w running = record {
     class_held : (index i : ℕ) (o : Option ℕ) → get table index ≡ o → option_map (birth_of os) o ≡ Some i → IsHeld (kept_of os table roots active) (ref.Obj i)
     class_held index i None e h = absurd (cc)
     class_held index i (Some a) e h = let is : birth_of os a ≡ i = cc in subst (λ (n : ℕ). IsHeld (kept_of os table roots active) (ref.Obj n)) is (object_held a (w.classes index a e))
+
+-- what is there is below the next birth
+pub kept_of-below : (os : List Object) (table : FinMap nat_cmp ℕ) (roots : Roots) (i : ℕ) (o : Obj) → IsWhole os table roots → get (objects_of os) i ≡ Some o → i < roots.next_birth
+kept_of-below os table roots i o w h =
+    let from = objects_of-comes os i o w.heap.apart h in
+    subst (λ (b : ℕ). b < roots.next_birth) from.birth (w.births from.place from.object from.element)
+
+-- ---- another hash is the last one that was given
+
+pub whole-last_hash : (os : List Object) (table : FinMap nat_cmp ℕ) (roots : Roots) (hash : ℕ) → IsWhole os table roots → IsWhole os table (record roots { last_hash = hash })
+whole-last_hash os table roots hash w = record {
+  heap = w.heap;
+  first = w.first;
+  nil = w.nil;
+  births = w.births;
+  indices = w.indices;
+  classes = w.classes;
+  special = w.special;
+}
+
+pub kept_of-last_hash : (os : List Object) (table : FinMap nat_cmp ℕ) (roots : Roots) (active : Option ℕ) (hash : ℕ)
+    → kept_of os table (record roots { last_hash = hash }) active ≡ with_rest (with_last_hash hash (kept_of os table roots active).rest) (kept_of os table roots active)
+kept_of-last_hash os table roots active hash = refl

@@ -2,22 +2,20 @@
 --
 -- The premises are what the code knows of the object x at an address a: that it stands there, its sort, and that a word
 -- that is stored is a reference. Each law says that the heap is whole again, and what its kept parts are.
-use Rattle.std.proofs.Common.{◌≡◌, ℕ, pos, ◌+◌, ◌-◌, ◌*◌, ◌/◌, ◌%◌, ◌^◌, ◌<◌, ◌≤◌, Bool, true, false, List, length, take, set, Option, Some, None, refl, ap, ap₂, subst, sym, ◌∙◌, arith, get_or}
+use Rattle.std.proofs.Common.{◌≡◌, ℕ, pos, ◌+◌, ◌-◌, ◌*◌, ◌/◌, ◌%◌, ◌^◌, ◌<◌, ◌≤◌, true, false, List, length, take, set, Option, Some, refl, ap, subst, sym, ◌∙◌, arith, map, drop}
 use Rattle.std.specs.Prelude.{slice_index, unwrap_or, is_some, ◌==◌, ◌||◌, IsTrue}
 use Rattle.std.specs.Option.{option_map_or}
 use Rattle.std.specs.Ordering.{nat_cmp}
 use Rattle.std.specs.FinMap.{FinMap}
 use Rattle.std.proofs.lemmas.Bool.{or_right}
 use Rattle.std.proofs.lemmas.Bool.Decides.{nat_tests}
-use Rattle.std.proofs.lemmas.List.{get_or-set_other, length-set}
+use Rattle.std.proofs.lemmas.List.{length-set}
 use Rattle.cs_word.specs.Word.{small_word}
 use Rattle.cs_heap.specs.Format.{is_method, is_pointers}
 use Rattle.cs_heap.specs.Object.{Object, birth_of, object_at, set_word, slot_of, with_byte, with_hash, with_object, with_slot}
 use Rattle.cs_heap.specs.Object as heap
 use Rattle.cs_model.specs.Ref.{Ref}
-use Rattle.cs_model.specs.Ref as ref
-use Rattle.cs_model.specs.Obj.{edit_context, Context, Obj, literal_count, popped, pushed, stored, with_pc, with_stack}
-use Rattle.cs_model.specs.Obj as model
+use Rattle.cs_model.specs.Obj.{Context, Obj, edit_context, literal_count, popped, pushed, stored, with_pc, with_stack}
 use Rattle.cs_model.specs.State.{Kept}
 use Rattle.cs_model.specs.Operation.{edit_object, store_byte_of, store_of}
 use Rattle.cs_model.specs.Operation as operation
@@ -27,7 +25,7 @@ use Rattle.cs_classes.specs.Sound.{IsSoundObject, IsWhole, is_reference, nil_of}
 use Rattle.cs_classes.proofs.Heaps.{IsEdit, is_object-object_at, set_word-IsEdit, with_object-twice}
 use Rattle.cs_classes.proofs.Refs.{count_of-small, is_reference-small, ref_of-object, small_natural}
 use Rattle.cs_classes.proofs.Edits.{obj_of-hash, obj_of-set_byte, obj_of-set_code, obj_of-set_literal, obj_of-set_word}
-use Rattle.cs_classes.proofs.Contexts.{context_of-closure, context_of-higher, context_of-lower, context_of-method, context_of-pc, context_of-push, context_of-receiver, context_of-sender, context_of-stack, depth_is, obj_of-edit_context}
+use Rattle.cs_classes.proofs.Contexts.{context_of-closure, context_of-lower, context_of-method, context_of-pc, context_of-push, context_of-receiver, context_of-sender, context_of-stack, context_of-stackp, depth_is, obj_of-edit_context}
 use Rattle.cs_classes.proofs.Sounds.{IsContextWrite, method_other, sound-hash, sound-set_bytes, sound-set_code, sound-set_context, sound-set_literal, sound-set_slot, sound_at, whole_context}
 use Rattle.cs_classes.proofs.Wholes.{kept_of-with_object, whole-with_object}
 
@@ -173,6 +171,14 @@ module _ {os : List Object} {table : FinMap nat_cmp ℕ} {roots : Roots} {a : �
         context_edit 2 (small_word (pos d)) (popped n) (stackp_write x d refl l)
         (context_of-lower (ref_of os) x.hash x.words (small_word (pos d)) d fields (count_of-small d (small_depth os x d sound_object c l)) (omega (arith, deep))
         ∙ ap (λ (m : ℕ). with_stack (take (m - n) old.stack) old) (sym deep))
+
+    -- the stack is so deep: what stands in its words
+    pub does-set_stackp : (d : ℕ) → d ≤ length x.words - 6
+        → Does os (with_slot os a 2 (small_word (pos d))) table roots (λ k. edit_object k (ref_of os a) (edit_context (with_stack (map (ref_of os) (take d (drop 6 x.words))))))
+    does-set_stackp d l =
+        context_edit 2 (small_word (pos d)) (with_stack (map (ref_of os) (take d (drop 6 x.words)))) (stackp_write x d refl l)
+        (context_of-stackp (ref_of os) x.hash x.words (small_word (pos d)) fields
+        ∙ ap (λ (o : Option ℕ). with_stack (map (ref_of os) (take (unwrap_or o 0) (drop 6 x.words))) (context_of (ref_of os) x.hash x.words)) (count_of-small d (small_depth os x d sound_object c l)))
 
     -- a value is pushed: first it, and then stackp
     pub does-push : (v : ℕ) → depth_in x.words < length x.words - 6 → is_reference os v ≡ true

@@ -1,5 +1,5 @@
 -- When a heap means something: what holds of its objects, its class table and its roots between any two operations.
-use Rattle.std.specs.Prelude.{◌≡◌, ℕ, ◌+◌, ◌-◌, ◌<◌, ◌≤◌, ◌==◌, ◌||◌, Bool, true, false, IsTrue, nat_le, nat_lt, if◌then◌else◌, List, [], length, slice_index, slice_get, Option, Some, None, is_some, unwrap_or}
+use Rattle.std.specs.Prelude.{◌≡◌, ℕ, ◌+◌, ◌-◌, ◌<◌, ◌≤◌, ◌==◌, ◌||◌, Bool, true, false, IsTrue, nat_lt, if◌then◌else◌, List, [], length, slice_index, slice_get, Some, is_some, unwrap_or}
 use Rattle.std.specs.List.{AllPass}
 use Rattle.std.specs.Ordering.{nat_cmp}
 use Rattle.std.specs.FinMap.{FinMap, get}

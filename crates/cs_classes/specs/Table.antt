@@ -1,5 +1,5 @@
 -- The class table as its entries.
-use Rattle.std.specs.Prelude.{ℕ, suc, ◌+◌, List, [], ◌∷◌, Option, Some, None}
+use Rattle.std.specs.Prelude.{ℕ, suc, List, [], ◌∷◌, Option, Some, None}
 use Rattle.cs_word.specs.declared.Oop.{Oop}
 
 -- the entries that aren't empty, each with its index, counted from i
