@@ -4,3 +4,5 @@ pub mod Firsts
 pub mod Running
 pub mod Sizes
 pub mod Lookups
+pub mod Named
+pub mod Ahead
