@@ -141,5 +141,5 @@ decode_at bytes at =
     let code = slice_index bytes at in
     if nat_le (at + len_of code) (length bytes)
     then option_map (λ op. record { op = op; len = len_of code })
-        (op_of code (slice_index bytes (at + 1)) (slice_index bytes (at + 2)) (slice_index bytes (at + 3)))
+    (op_of code (slice_index bytes (at + 1)) (slice_index bytes (at + 2)) (slice_index bytes (at + 3)))
     else None
