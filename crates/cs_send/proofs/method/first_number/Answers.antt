@@ -1,0 +1,1 @@
+use Rattle.cs_send.proofs.method.first_number.Goals as goal
