@@ -91,12 +91,12 @@ number_listed byte first end bs long at = go bs long at
         let fits : nat_le (first + 3) end ≡ true = enough (length (a ∷ b ∷ c ∷ bs)) e (omega arith) in
         rw (fits, here, second, third) refl
 
-pub number_read : (os : List Object) (o : Option Obj) (w first end : ℕ) → IsMethodAt os o w → first ≡ 4 * (literal_count (obj.header_in o) + 1) → end ≡ 4 * slot_count_of os w - unused_bytes (format_of os w)
-    → number_between os w first end ≡ number_in (obj.bytecodes_in o)
-number_read os o w first end m begins ends =
+pub number_read : (os : List Object) (o : Option Obj) (w first end : ℕ) (number : Option ℕ) → IsMethodAt os o w → first ≡ 4 * (literal_count (obj.header_in o) + 1) → end ≡ 4 * slot_count_of os w - unused_bytes (format_of os w)
+    → number ≡ number_between os w first end → number ≡ number_in (obj.bytecodes_in o)
+number_read os o w first end number m begins ends is =
     let header : obj.header_in o ≡ header_in m.object.words = ap obj.header_in m.means in
     let from : first ≡ 4 * (literal_count (header_in m.object.words) + 1) = begins ∙ ap (λ n. 4 * (literal_count n + 1)) header in
     let codes : List ℕ = used_bytes m.object.format (code_in m.object.words) in
-    number_listed (byte_of os w) first end codes (omega (arith, from, ends, end_is os o w m))
+    is ∙ number_listed (byte_of os w) first end codes (omega (arith, from, ends, end_is os o w m))
     (λ j less. code_byte os o w m j less ∙ ap (λ n. byte_of os w (n + j)) (sym from))
     ∙ sym (ap (λ p. number_in (obj.bytecodes_in p)) m.means)
