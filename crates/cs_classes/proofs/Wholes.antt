@@ -13,6 +13,7 @@ use Rattle.cs_word.specs.Word.{kind_of}
 use Rattle.std.proofs.lemmas.Bool.{cases_eq}
 use Rattle.std.proofs.lemmas.List.{length-append}
 use Rattle.cs_heap.specs.Object.{Object, at_index, birth_of, is_object, object_at, with_object}
+use Rattle.std.proofs.lemmas.List.Elements.{All-drop, All-take}
 use Rattle.cs_heap.proofs.Laws.{is_object-old, is_object-with_object, length-with_object}
 use Rattle.cs_model.specs.Ref.{Ref}
 use Rattle.cs_model.specs.Ref as ref
@@ -26,7 +27,7 @@ use Rattle.cs_classes.specs.Sound.{IsSound, IsSoundObject, IsWhole, is_reference
 use Rattle.cs_classes.proofs.Heaps.{object_there, element_within, IsEdit, birth_at-with_object, birth_of-object_at, birth_of-push, birth_of-with_object, is_object-object_at, slice_get-at_index_other, slice_get-at_index_same, slice_get-push, stands, with_object-stands}
 use Rattle.cs_classes.proofs.Objects.{IsFresh, get-objects_of, get-objects_of-element, objects_of-comes, objects_of-push, objects_of-with_object}
 use Rattle.cs_classes.proofs.Refs.{nil_of-push, nil_of-with_object, ref_of-push}
-use Rattle.cs_classes.proofs.Sorts.{AContext, AMethod, Bytes, Pointers, Sort, obj_of-alike, obj_of-bytes, obj_of-context, obj_of-method, obj_of-pointers, pass_drop, pass_take, references-method, references-pointers, sort_of}
+use Rattle.cs_classes.proofs.Sorts.{AContext, AMethod, Bytes, Pointers, Sort, obj_of-alike, obj_of-bytes, obj_of-context, obj_of-method, obj_of-pointers, references-method, references-pointers, sort_of}
 use Rattle.cs_classes.proofs.Sounds.{sound-push, sound-with_object, whole_context}
 
 -- ---- the class table
@@ -258,7 +259,7 @@ obj_of-held os table roots active x sound s = go (sort_of x)
           method = word 3 (omega arith);
           closure = word 4 (omega arith);
           receiver = word 5 (omega arith);
-          stack = all_held os table roots active sound (take (depth_in x.words) (drop 6 x.words)) (pass_take (is_reference os) (depth_in x.words) (drop 6 x.words) (pass_drop (is_reference os) 6 x.words whole.references));
+          stack = all_held os table roots active sound (take (depth_in x.words) (drop 6 x.words)) (All-take (λ (v : ℕ). is_reference os v ≡ true) (depth_in x.words) (drop 6 x.words) (All-drop (λ (v : ℕ). is_reference os v ≡ true) 6 x.words whole.references));
         })
     go (Pointers o p) = subst held (sym (obj_of-pointers (ref_of os) x o p))
         (all_held os table roots active sound x.words (subst (AllPass (is_reference os)) (references-pointers x p) s.references))
