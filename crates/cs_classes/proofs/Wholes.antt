@@ -18,6 +18,7 @@ use Rattle.cs_heap.proofs.Laws.{is_object-old, is_object-with_object, length-wit
 use Rattle.cs_model.specs.Ref.{Ref}
 use Rattle.cs_model.specs.Ref as ref
 use Rattle.cs_model.specs.Obj.{Obj}
+use Rattle.cs_model.specs.Keeps.{Keeps}
 use Rattle.cs_model.specs.State.{IsHeld, Kept, NamesHeld, RestHeld, put, with_rest}
 use Rattle.cs_model.specs.Operation.{add_of, edit_found, edit_object}
 use Rattle.cs_model.specs.Instance.{with_class, with_last_hash}
@@ -318,3 +319,14 @@ whole-last_hash os table roots hash w = record {
 pub kept_of-last_hash : (os : List Object) (table : FinMap nat_cmp ℕ) (roots : Roots) (active : Option ℕ) (hash : ℕ)
     → kept_of os table (record roots { last_hash = hash }) active ≡ with_rest (with_last_hash hash (kept_of os table roots active).rest) (kept_of os table roots active)
 kept_of-last_hash os table roots active hash = refl
+
+-- so the kept parts keep themselves
+pub kept_of-keeps : (os : List Object) (table : FinMap nat_cmp ℕ) (roots : Roots) (active : Option ℕ) → IsWhole os table roots
+    → ((i : ℕ) → active ≡ Some i → IsHeld (kept_of os table roots active) (ref.Obj i)) → Keeps (kept_of os table roots active) (kept_of os table roots active)
+kept_of-keeps os table roots active w running = record {
+  same = λ i o h. h;
+  whole = λ i o h e. h;
+  closed = λ i o h. kept_of-closed os table roots active i o w.heap h;
+  roots = kept_of-roots os table roots active w running;
+  rest = refl;
+}
