@@ -1,0 +1,4 @@
+pub mod HasForm
+mod Places
+pub mod Assembled
+mod Table

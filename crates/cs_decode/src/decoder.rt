@@ -1,7 +1,8 @@
 //! From bytes to instructions.
 
-ghost use Rattle.std.specs.Prelude.{◌≡◌, ℕ, ◌+◌, ◌<◌, ◌≤◌, ◌^◌, Some, None, IfOk, OnErr, slice_index};
+ghost use Rattle.std.specs.Prelude.{◌≡◌, ◌<◌, ◌≤◌, Some, None, IfOk, OnErr, slice_index};
 ghost use Rattle.cs_model.specs.Decode.{len_of, variable, constant, return_of, extended_push, extended_store, extended_pop, double_extended, array, extended, jump, send, op_of, decode_at};
+ghost use Rattle.cs_model.specs.Assemble.{IsInstr};
 
 use cs_model::{Instr, Op};
 
@@ -14,6 +15,7 @@ pub struct BadCode;
 #[tactic(auto, unfolding(cs_model::specs::Decode::decode_at))]
 pub fn decode(bytes: &[u8], at: u32) -> Result<Instr, BadCode>
     ensures instruction { IfOk result (λ i. decode_at bytes.now at ≡ Some i) }
+    ensures is_instr { IfOk result IsInstr }
     ensures none { OnErr result (decode_at bytes.now at ≡ None) }
 {
     let at = at as usize;
@@ -115,22 +117,18 @@ fn return_of(code: u8) -> Op
 fn extended(code: u8, b: u8, c: u8, d: u8) -> Option<Op>
     ensures { result ≡ extended code b c d }
 {
+    let (kind, index) = (b >> 6, b & 63);
+    let (args, lit) = (b >> 5, b & 31);
     Some(match code {
-        128 => extended_push(b >> 6, b & 63),
-        129 => return extended_store(b >> 6, b & 63),
-        130 => return extended_pop(b >> 6, b & 63),
-        131 => Op::Send {
-            lit: b & 31,
-            args: b >> 5,
-        },
+        128 => extended_push(kind, index),
+        129 => return extended_store(kind, index),
+        130 => return extended_pop(kind, index),
+        131 => Op::Send { lit, args },
         132 => double_extended(b >> 5, b & 31, c),
-        133 => Op::SendSuper {
-            lit: b & 31,
-            args: b >> 5,
-        },
+        133 => Op::SendSuper { lit, args },
         134 => Op::Send {
-            lit: b & 63,
-            args: b >> 6,
+            lit: index,
+            args: kind,
         },
         135 => Op::Pop,
         136 => Op::Dup,

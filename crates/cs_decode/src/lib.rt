@@ -2,6 +2,13 @@
 //! words.
 #![tactic(auto)]
 
+mod assembler;
 mod decoder;
+mod forms;
 
+pub use assembler::{assemble, name};
 pub use decoder::{BadCode, decode};
+pub use forms::is_instr;
+
+#[cfg(test)]
+mod tests;

@@ -1,11 +1,13 @@
 -- The laws of the object memory, for the crates above: what is read after a write and after an allocation, and how the
--- addresses lie.
-use Rattle.std.proofs.Common.{◌≡◌, ◌≢◌, ◌⊎◌, inl, inr, ℕ, zero, suc, ◌+◌, ◌*◌, ◌/◌, ◌%◌, ◌<◌, ◌≤◌, Bool, true, false, List, [], ◌∷◌, ◌++◌, length, get_or, Option, Some, None, option_map, option_and_then, is_some, refl, ap, sym, ◌∙◌, arith, get_or-set_same, get_or-set_other, length-append}
+-- addresses lie. A function over a heap often needs no proof file where it names the ruleset at the end of this file:
+-- #[tactic(auto, using(cs_heap::proofs::Laws::heap_laws))].
+use Rattle.std.proofs.Common.{◌≡◌, ◌≢◌, ◌⊎◌, inl, inr, ℕ, zero, suc, ◌+◌, ◌*◌, ◌/◌, ◌%◌, ◌<◌, ◌≤◌, Bool, true, false, List, [], ◌∷◌, ◌++◌, length, get_or, map, Option, Some, None, option_map, option_and_then, is_some, refl, ap, sym, ◌∙◌, arith, eqb, get_or-set_same, get_or-set_other, length-append}
 use Rattle.std.proofs.lemmas.List.{length-replicate, length-set}
+use Rattle.std.proofs.lemmas.Bool.Decides.{nat_tests}
 use Rattle.std.specs.Prelude.{slice_get, slice_set, sum_by}
 use Rattle.std.specs.Option.{option_map_or}
-use Rattle.cs_heap.specs.Object.{Object, address_among, address_of, at_index, base, byte_in, byte_of, field_of, hash_of, header_address, index_among, index_of, is_object, new_object, new_slot, next_address, next_of, object_at, set_word, size, slot_count_of, slot_counts, slot_of, units, used, with_byte, with_byte_in, with_hash, with_object, with_slot}
-use Rattle.cs_heap.proofs.Places.{Found, address_past, found_by_address, found_by_index, has_index, index_split, next_of-found, object_at-found, used-append, used-cons, used-push}
+use Rattle.cs_heap.specs.Object.{Object, address_among, address_of, at_index, base, birth_of, class_of, format_of, byte_in, byte_of, field_of, hash_of, header_address, index_among, index_of, is_object, new_object, new_slot, next_address, next_of, object_at, set_word, size, slot_count_of, slot_counts, slot_of, units, used, with_byte, with_byte_in, with_hash, with_object, with_slot}
+use Rattle.cs_heap.proofs.Places.{Found, address_past, found_by_address, found_by_index, has_index, index_split, next_of-found, object_at-found, split_by_index, used-append, used-cons, used-push}
 
 -- ---- addresses and indices
 
@@ -81,23 +83,48 @@ object_placed xs a h =
     used_even [] = refl
     used_even (x ∷ xs) = omega (arith, used-cons x xs, used_even xs)
 
+-- objects stand in the order of their addresses
+pub address_of-rising : (xs : List Object) (j k a b : ℕ) → address_of xs j ≡ Some a → address_of xs k ≡ Some b → j < k → a < b
+unfolding address_among
+address_of-rising xs j k a b h i less = go xs base j k h i less
+  where
+    above : (xs : List Object) (at k b : ℕ) → address_among (slot_counts xs) at k ≡ Some b → at ≤ b
+    above xs at k b h = let s = split_by_index xs at b k h in omega (arith, s.place)
+
+    go : (xs : List Object) (at j k : ℕ) → address_among (slot_counts xs) at j ≡ Some a → address_among (slot_counts xs) at k ≡ Some b → j < k → a < b
+    go [] at j k h i less = absurd (cc)
+    go (x ∷ xs) at j zero h i less = absurd (omega (arith, less))
+    go (x ∷ xs) at zero (suc k) h i less =
+        let here : header_address at (length x.words) ≡ a = cc in
+        let there : at + 8 * units (length x.words) ≤ b = above xs (at + 8 * units (length x.words)) k b i in
+        omega (arith, here, there)
+    go (x ∷ xs) at (suc j) (suc k) h i less = go xs (at + 8 * units (length x.words)) j k h i (omega (arith, less))
+
 -- ---- an object that keeps its number of slots is changed
 
 abbrev pub KeepsCount : (Object → Object) → Type 0
 KeepsCount f = (x : Object) → length (f x).words ≡ length x.words
 
-slot_counts-at_index : (k : ℕ) (f : Object → Object) (xs : List Object) → KeepsCount f → slot_counts (at_index k f xs) ≡ slot_counts xs
+map-at_index : {Y : Type 0} (g : Object → Y) (k : ℕ) (f : Object → Object) (xs : List Object) → ((x : Object) → g (f x) ≡ g x) → map g (at_index k f xs) ≡ map g xs
 unfolding at_index
-slot_counts-at_index k f [] h = refl
-slot_counts-at_index zero f (x ∷ xs) h = ap (λ (n : ℕ). n ∷ slot_counts xs) (h x)
-slot_counts-at_index (suc k) f (x ∷ xs) h = ap (λ (ns : List ℕ). length x.words ∷ ns) (slot_counts-at_index k f xs h)
+map-at_index g k f [] h = refl
+map-at_index g zero f (x ∷ xs) h = ap (λ y. y ∷ map g xs) (h x)
+map-at_index g (suc k) f (x ∷ xs) h = ap (λ ys. g x ∷ ys) (map-at_index g k f xs h)
+
+-- what the change leaves alone, of all objects at once, as their births or their slot counts
+pub map-with_object : {Y : Type 0} (g : Object → Y) (xs : List Object) (a : ℕ) (f : Object → Object) → ((x : Object) → g (f x) ≡ g x) → map g (with_object xs a f) ≡ map g xs
+map-with_object g xs a f h = go (index_of xs a)
+  where
+    go : (o : Option ℕ) → map g (option_map_or (λ k. at_index k f xs) o xs) ≡ map g xs
+    go None = refl
+    go (Some k) = map-at_index g k f xs h
 
 pub slot_counts-with_object : (xs : List Object) (a : ℕ) (f : Object → Object) → KeepsCount f → slot_counts (with_object xs a f) ≡ slot_counts xs
-slot_counts-with_object xs a f h = go (index_of xs a)
-  where
-    go : (o : Option ℕ) → slot_counts (option_map_or (λ k. at_index k f xs) o xs) ≡ slot_counts xs
-    go None = refl
-    go (Some k) = slot_counts-at_index k f xs h
+slot_counts-with_object xs a f h = map-with_object (λ (x : Object). length x.words) xs a f h
+
+-- the change is one at the object's index
+pub with_object-index : (xs : List Object) (a k : ℕ) (f : Object → Object) → index_of xs a ≡ Some k → with_object xs a f ≡ at_index k f xs
+with_object-index xs a k f h = ap (λ (o : Option ℕ). option_map_or (λ (j : ℕ). at_index j f xs) o xs) h
 
 pub length-with_object : (xs : List Object) (a : ℕ) (f : Object → Object) → length (with_object xs a f) ≡ length xs
 unfolding at_index
@@ -127,13 +154,13 @@ address_of-with_object xs a k f h = ap (λ (ns : List ℕ). address_among ns bas
 pub next_address-with_object : (xs : List Object) (a slots : ℕ) (f : Object → Object) → KeepsCount f → next_address (with_object xs a f) slots ≡ next_address xs slots
 next_address-with_object xs a slots f h = ap (λ (n : ℕ). header_address (base + 4 * n) slots) (used-with_object xs a f h)
 
-slice_get-at_index_same : (k : ℕ) (f : Object → Object) (xs : List Object) → slice_get (at_index k f xs) k ≡ option_map f (slice_get xs k)
+pub slice_get-at_index_same : (k : ℕ) (f : Object → Object) (xs : List Object) → slice_get (at_index k f xs) k ≡ option_map f (slice_get xs k)
 unfolding at_index
 slice_get-at_index_same k f [] = refl
 slice_get-at_index_same zero f (x ∷ xs) = refl
 slice_get-at_index_same (suc k) f (x ∷ xs) = slice_get-at_index_same k f xs
 
-slice_get-at_index_other : (k j : ℕ) (f : Object → Object) (xs : List Object) → k ≢ j → slice_get (at_index k f xs) j ≡ slice_get xs j
+pub slice_get-at_index_other : (k j : ℕ) (f : Object → Object) (xs : List Object) → k ≢ j → slice_get (at_index k f xs) j ≡ slice_get xs j
 unfolding at_index
 slice_get-at_index_other k j f [] h = refl
 slice_get-at_index_other zero zero f (x ∷ xs) h = absurd (h refl)
@@ -206,6 +233,18 @@ used-with_slot xs a i v = used-with_object xs a (set_word i v) (set_word_keeps i
 pub field_of-with_slot : (g : Object → ℕ) (xs : List Object) (a i v b : ℕ) → ((x : Object) → g (set_word i v x) ≡ g x) → field_of g (with_slot xs a i v) b ≡ field_of g xs b
 field_of-with_slot g xs a i v b same = field_of-with_object_kept g xs a b (set_word i v) (set_word_keeps i v) same
 
+pub class_of-with_slot : (xs : List Object) (a i v b : ℕ) → class_of (with_slot xs a i v) b ≡ class_of xs b
+class_of-with_slot xs a i v b = field_of-with_slot (λ (x : Object). x.class) xs a i v b (λ x. refl)
+
+pub format_of-with_slot : (xs : List Object) (a i v b : ℕ) → format_of (with_slot xs a i v) b ≡ format_of xs b
+format_of-with_slot xs a i v b = field_of-with_slot (λ (x : Object). x.format) xs a i v b (λ x. refl)
+
+pub hash_of-with_slot : (xs : List Object) (a i v b : ℕ) → hash_of (with_slot xs a i v) b ≡ hash_of xs b
+hash_of-with_slot xs a i v b = field_of-with_slot (λ (x : Object). x.hash) xs a i v b (λ x. refl)
+
+pub birth_of-with_slot : (xs : List Object) (a i v b : ℕ) → birth_of (with_slot xs a i v) b ≡ birth_of xs b
+birth_of-with_slot xs a i v b = field_of-with_slot (λ (x : Object). x.birth) xs a i v b (λ x. refl)
+
 pub slot_count_of-with_slot : (xs : List Object) (a i v b : ℕ) → slot_count_of (with_slot xs a i v) b ≡ slot_count_of xs b
 slot_count_of-with_slot xs a i v b = field_of-with_slot (λ (x : Object). length x.words) xs a i v b (set_word_keeps i v)
 
@@ -244,6 +283,21 @@ used-with_hash xs a hash = used-with_object xs a (give_hash hash) (λ x. refl)
 -- all but the hash stays
 pub field_of-with_hash : (g : Object → ℕ) (xs : List Object) (a hash b : ℕ) → ((x : Object) → g (give_hash hash x) ≡ g x) → field_of g (with_hash xs a hash) b ≡ field_of g xs b
 field_of-with_hash g xs a hash b same = field_of-with_object_kept g xs a b (give_hash hash) (λ x. refl) same
+
+pub class_of-with_hash : (xs : List Object) (a hash b : ℕ) → class_of (with_hash xs a hash) b ≡ class_of xs b
+class_of-with_hash xs a hash b = field_of-with_hash (λ (x : Object). x.class) xs a hash b (λ x. refl)
+
+pub format_of-with_hash : (xs : List Object) (a hash b : ℕ) → format_of (with_hash xs a hash) b ≡ format_of xs b
+format_of-with_hash xs a hash b = field_of-with_hash (λ (x : Object). x.format) xs a hash b (λ x. refl)
+
+pub birth_of-with_hash : (xs : List Object) (a hash b : ℕ) → birth_of (with_hash xs a hash) b ≡ birth_of xs b
+birth_of-with_hash xs a hash b = field_of-with_hash (λ (x : Object). x.birth) xs a hash b (λ x. refl)
+
+pub slot_count_of-with_hash : (xs : List Object) (a hash b : ℕ) → slot_count_of (with_hash xs a hash) b ≡ slot_count_of xs b
+slot_count_of-with_hash xs a hash b = field_of-with_hash (λ (x : Object). length x.words) xs a hash b (λ x. refl)
+
+pub slot_of-with_hash : (xs : List Object) (a hash b i : ℕ) → slot_of (with_hash xs a hash) b i ≡ slot_of xs b i
+slot_of-with_hash xs a hash b i = field_of-with_hash (λ (x : Object). get_or x.words i 0) xs a hash b (λ x. refl)
 
 pub hash_of-with_hash_same : (xs : List Object) (a hash : ℕ) → is_object xs a ≡ true → hash_of (with_hash xs a hash) a ≡ hash
 hash_of-with_hash_same xs a hash h = let f = has_index xs a h in
@@ -288,6 +342,26 @@ byte_of-with_byte_same xs a i b h small =
     ap (λ (w : ℕ). byte_in w (i % 4)) (slot_of-with_slot_same xs a (i / 4) (with_byte_in (slot_of xs a (i / 4)) (i % 4) b) (omega (arith, h)))
     ∙ byte_in-with_byte_in_same (slot_of xs a (i / 4)) (i % 4) b (omega arith) small
 
+pub byte_of-with_byte_other_byte : (xs : List Object) (a i b j : ℕ) → i < 4 * slot_count_of xs a → b < 256 → j ≢ i → byte_of (with_byte xs a i b) a j ≡ byte_of xs a j
+byte_of-with_byte_other_byte xs a i b j h small other = go (eqb (j / 4) (i / 4)) refl
+  where
+    v : ℕ
+    v = with_byte_in (slot_of xs a (i / 4)) (i % 4) b
+
+    go : (t : Bool) → eqb (j / 4) (i / 4) ≡ t → byte_of (with_byte xs a i b) a j ≡ byte_of xs a j
+    go true e =
+        let same : j / 4 ≡ i / 4 = grind (arith, nat_tests) in
+        let apart : j % 4 ≢ i % 4 = λ f. other (omega (arith, same, f)) in
+        ap (λ (w : ℕ). byte_in w (j % 4)) (ap (slot_of (with_byte xs a i b) a) same ∙ slot_of-with_slot_same xs a (i / 4) v (omega (arith, h)))
+        ∙ byte_in-with_byte_in_other (slot_of xs a (i / 4)) (i % 4) (j % 4) b (omega arith) (omega arith) apart small
+        ∙ ap (λ (k : ℕ). byte_in (slot_of xs a k) (j % 4)) (sym same)
+    go false e =
+        let apart : j / 4 ≢ i / 4 = λ f. differ (j / 4) (i / 4) e f in
+        ap (λ (w : ℕ). byte_in w (j % 4)) (slot_of-with_slot_other_slot xs a (i / 4) v a (j / 4) apart)
+      where
+        differ : (m n : ℕ) → eqb m n ≡ false → m ≡ n → ⊥
+        differ m n e f = let t : eqb m n ≡ true = grind (arith, nat_tests) in let no : ⊥ = cc in no
+
 pub byte_of-with_byte_other_object : (xs : List Object) (a i b c j : ℕ) → a ≢ c → byte_of (with_byte xs a i b) c j ≡ byte_of xs c j
 byte_of-with_byte_other_object xs a i b c j other =
     ap (λ (w : ℕ). byte_in w (j % 4)) (slot_of-with_slot_other_object xs a (i / 4) (with_byte_in (slot_of xs a (i / 4)) (i % 4) b) c (j / 4) other)
@@ -329,6 +403,15 @@ with_object-new xs y a f h = ap (λ (o : Option ℕ). option_map_or (λ k. at_in
     last : (xs : List Object) → at_index (length xs) f (xs ++ y ∷ []) ≡ xs ++ f y ∷ []
     last [] = refl
     last (x ∷ xs) = ap (λ (zs : List Object). x ∷ zs) (last xs)
+
+pub with_slot-new : (xs : List Object) (y : Object) (a i v : ℕ) → a ≡ next_address xs (length y.words) → with_slot (pushed xs y) a i v ≡ pushed xs (set_word i v y)
+with_slot-new xs y a i v h = with_object-new xs y a (set_word i v) h
+
+pub next_address-set_word : (xs : List Object) (y : Object) (a i v : ℕ) → a ≡ next_address xs (length y.words) → a ≡ next_address xs (length (set_word i v y).words)
+next_address-set_word xs y a i v h = h ∙ ap (next_address xs) (sym (set_word_keeps i v y))
+
+pub with_hash-new : (xs : List Object) (y : Object) (a hash : ℕ) → a ≡ next_address xs (length y.words) → with_hash (pushed xs y) a hash ≡ pushed xs (give_hash hash y)
+with_hash-new xs y a hash h = with_object-new xs y a (give_hash hash) h
 
 -- before, nothing was there
 pub no_object-next : (xs : List Object) (slots : ℕ) → is_object xs (next_address xs slots) ≡ false
@@ -398,3 +481,6 @@ is_object-pushed xs y a h =
 
 pub used-pushed : (xs : List Object) (y : Object) → used (pushed xs y) ≡ used xs + size (length y.words)
 used-pushed xs y = used-push xs y
+
+-- what the tactics may use of a heap after a call
+pub ruleset heap_laws = (is_object-with_slot, class_of-with_slot, format_of-with_slot, hash_of-with_slot, birth_of-with_slot, slot_count_of-with_slot, slot_of-with_slot_same, slot_of-with_slot_other_slot, slot_of-with_slot_other_object, used-with_slot, is_object-with_hash, class_of-with_hash, format_of-with_hash, birth_of-with_hash, slot_count_of-with_hash, slot_of-with_hash, hash_of-with_hash_same, hash_of-with_hash_other, used-with_hash, next_address-new, next_address-set_word, is_object-new, field_of-new, with_slot-new, with_hash-new, is_object-old, field_of-old)

@@ -1,7 +1,7 @@
 -- How the heap keeps its objects: all their words in one row as 32-bit Spur lays them out, and beside it, for each unit
 -- of 8 bytes, the birth of the object whose header it is and a mark that says that there is one.
 use Rattle.std.specs.Prelude.{◌≡◌, ℕ, zero, suc, ◌+◌, ◌*◌, ◌/◌, ◌%◌, ◌-◌, ◌^◌, ◌<◌, ◌≤◌, ◌==◌, ◌&&◌, IsTrue, List, [], ◌∷◌, ◌++◌, Option, Some, None}
-use Rattle.std.specs.Prelude.{if◌then◌else◌, nat_le, min, length, slice_index, take, drop, replicate, flat_map, vec_capacity}
+use Rattle.std.specs.Prelude.{if◌then◌else◌, nat_le, min, length, slice_index, slice_set, take, drop, replicate, flat_map, vec_capacity}
 use Rattle.std.specs.List.{AllByRecursion}
 use Rattle.std.specs.Option.{option_map_or}
 use Rattle.cs_heap.specs.Format.{format_allows}
@@ -62,6 +62,11 @@ marks_of x = marked 0 1 (length x.words)
 -- the header in words i and i + 1
 abbrev pub header_in : List ℕ → ℕ → Header
 header_in words i = header_of (slice_index words i + slice_index words (i + 1) * 2 ^ 32)
+
+-- the words with this header in a unit
+abbrev pub with_header : List ℕ → ℕ → Header → List ℕ
+with_header words unit header =
+    slice_set (slice_set words (2 * unit) (header_bits header % 2 ^ 32)) (2 * unit + 1) (header_bits header / 2 ^ 32)
 
 -- the slot count of the object whose first word is the first of these
 abbrev pub first_count : List ℕ → ℕ

@@ -1,12 +1,13 @@
 //! The object memory: the objects of an image as 32-bit Spur lays them out, each with its birth.
 //!
-//! A word has 4 bytes and a unit 8. Each object has a header of one unit and behind it its slots, rounded up to whole
-//! units and to one at least. From 255 slots on one more unit stands before the header and holds the count. The first
-//! word of the first object is at 65,536, and the first word of each other one is right behind the object before it. The
-//! address of an object is that of its header.
+//! A word has 4 bytes and a unit 8. Each object has a header of one unit and behind it its slots,
+//! rounded up to whole units and to one at least. From 255 slots on one more unit stands before the
+//! header and holds the count. The first word of the first object is at 65,536, and the first word
+//! of each other one is right behind the object before it. The address of an object is that of its
+//! header.
 //!
-//! The heap is seen as a list of objects in this order. Objects are added at its end and never move or go away. A birth
-//! is a number that whoever makes an object gives to it, to know it by for ever.
+//! Objects are added at the end, and never move or go away. A birth is a number of this machine's
+//! own, which whoever makes an object gives to it; Spur has none.
 #![tactic(auto)]
 
 mod rows;
@@ -27,7 +28,10 @@ pub const BASE: u32 = 65536;
 
 /// The object memory.
 ///
-/// It is seen as `limit`, the words that its objects may take, and `objects`, the list of them.
+/// It is seen as `limit`, the words that its objects may take, and `objects`, the list of them in
+/// the order of their addresses, each with class, flags, format, hash, birth and words. A call that
+/// takes an object has the condition that it is one of this heap, which `is_object` tests, and one
+/// that takes an index that it is in range, by `slot_count`.
 #[derive(Drop)]
 pub struct Heap {
     /// All objects' words, one object right behind another.
@@ -55,8 +59,8 @@ impl Model for Heap {
 #[derive(Clone, Copy, PartialEq, Eq, Debug)]
 pub struct HeapFull;
 
-/// The words of 4 bytes that an object of so many slots takes: 2 for its header, 2 more from 255 slots on, and its slots
-/// rounded up to an even count of 2 at least.
+/// The words of 4 bytes that an object of so many slots takes: 2 for its header, 2 more from 255
+/// slots on, and its slots rounded up to an even count of 2 at least.
 pub fn size(slots: u32) -> u64
     ensures { result ≡ size_of slots }
 {
@@ -65,9 +69,9 @@ pub fn size(slots: u32) -> u64
 
 /// Whether an object of this format may have so many slots, as 32-bit Spur numbers the formats.
 ///
-/// These are 0 without slots, 1 to 5 with pointers, 9 with pairs of slots, 10 with units of 32 bits, 12 and 13 with units
-/// of 16, 16 to 19 with bytes, and 24 to 27 for methods. The formats 13, 17 to 19 and 25 to 27 say that units of the last
-/// slot are unused, so they need one.
+/// These are 0 without slots, 1 to 5 with pointers, 9 with pairs of slots, 10 with units of 32
+/// bits, 12 and 13 with units of 16, 16 to 19 with bytes, and 24 to 27 for methods. The formats 13,
+/// 17 to 19 and 25 to 27 say that units of the last slot are unused, so they need one.
 pub fn format_allows(format: u8, slots: u32) -> bool
     ensures { result ≡ format_allows format slots }
 {
@@ -83,7 +87,8 @@ pub fn format_allows(format: u8, slots: u32) -> bool
 impl Heap {
     ghost use Rattle.cs_heap.specs.Layout.{header_seen};
 
-    /// An empty heap whose objects may take `limit_words` words. It reserves all memory that it will ever use.
+    /// An empty heap whose objects may take `limit_words` words. It reserves all memory that it
+    /// will ever use.
     pub fn new(alloc: Global, limit_words: u32) -> Result<Heap, AllocError>
         requires least { 4096 ≤ limit_words }
         requires most { limit_words ≤ 67108864 }
@@ -102,8 +107,10 @@ impl Heap {
         })
     }
 
-    /// Adds an object at the end, without flags and with hash 0. Where its format has pointers, each slot holds the
-    /// address of the first object, which an image has nil at; else each holds 0.
+    /// Adds an object at the end, without flags and with hash 0. Where its format has pointers,
+    /// each slot holds the address of the first object, which is nil in an image; else each is 0.
+    /// `HeapFull` comes exactly where the objects would take more words than the limit, and then
+    /// the heap is as it was.
     pub fn allocate(
         &mut self,
         class: u32,
@@ -202,7 +209,8 @@ impl Heap {
     /// How many slots of 4 bytes the object has.
     pub fn slot_count(&self, o: Oop) -> u32
         requires { IsTrue (is_object self.now.objects o.0) }
-        ensures { result ≡ slot_count_of self.now.objects o.0 }
+        ensures value { result ≡ slot_count_of self.now.objects o.0 }
+        ensures most { result ≤ 67108864 }
     {
         rows::slot_count_at(&self.words, rows::unit_of(o))
     }
@@ -240,7 +248,7 @@ impl Heap {
         rows::byte_in(self.slot(o, i / 4).0, i % 4)
     }
 
-    /// Stores `v` in slot `i`, counted from 0.
+    /// Stores `v` in slot `i`, counted from 0, and changes nothing else.
     pub fn set_slot(&mut self, o: Oop, i: u32, v: Oop)
         requires { i < slot_count_of self.old.objects o.0 }
         ensures { self.new ≡ record self.old { objects = with_slot self.old.objects o.0 i v.0 } }
@@ -248,7 +256,7 @@ impl Heap {
         self.words[rows::slot_place(o, i)] = v.0;
     }
 
-    /// Stores `b` in byte `i`, counted as `byte` counts.
+    /// Stores `b` in byte `i`, counted as `byte` counts, and changes nothing else.
     pub fn set_byte(&mut self, o: Oop, i: u32, b: u8)
         requires { i < 4 * slot_count_of self.old.objects o.0 }
         ensures { self.new ≡ record self.old { objects = with_byte self.old.objects o.0 i b } }
@@ -257,7 +265,7 @@ impl Heap {
         self.set_slot(o, i / 4, Oop(word));
     }
 
-    /// Gives the object the identity hash `h`.
+    /// Gives the object the identity hash `h`, of 22 bits, and changes nothing else.
     pub fn set_hash(&mut self, o: Oop, h: u32)
         requires object { IsTrue (is_object self.old.objects o.0) }
         requires below { h < 2 ^ 22 }

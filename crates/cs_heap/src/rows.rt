@@ -1,11 +1,12 @@
-//! The words, births and marks of the heap: how one object is added to them and found in them again.
+//! The words, births and marks of the heap: how one object is added to them and found in them
+//! again.
 #![tactic(auto)]
 
-ghost use Rattle.std.specs.Prelude.{◌≡◌, ℕ, ◌+◌, ◌*◌, ◌-◌, ◌/◌, ◌%◌, ◌<◌, ◌≤◌, ◌^◌, ◌==◌, ◌++◌, Some, None, if◌then◌else◌, nat_le, option_map, length, replicate, slice_index, slice_set, vec_len, vec_capacity};
+ghost use Rattle.std.specs.Prelude.{◌≡◌, ℕ, ◌+◌, ◌*◌, ◌-◌, ◌/◌, ◌%◌, ◌<◌, ◌≤◌, ◌^◌, ◌++◌, option_map, length, replicate, vec_len, vec_capacity};
 ghost use Rattle.cs_word.specs.Header.{header_bits, IsWritable};
 ghost use Rattle.cs_heap.specs.Object.{body_units as body_units_of, byte_in as byte_of_word, new_slot as new_slot_of};
 ghost use Rattle.cs_heap.specs.Object.{size, units, units_before as units_before_of, with_byte_in as word_with_byte};
-ghost use Rattle.cs_heap.specs.Layout.{address_from, count_in, header_in, marked, overflow, row, unit_in};
+ghost use Rattle.cs_heap.specs.Layout.{address_from, count_in, header_in, marked, overflow, row, unit_in, with_header};
 
 use crate::BASE;
 use cs_word::{Header, Oop};
@@ -76,16 +77,26 @@ pub(crate) fn header_at(words: &[u32], unit: usize) -> Header
     Header::read((u64::from(high) << 32) + u64::from(low))
 }
 
+/// The two words of a header, the lower half first.
+fn header_words(header: Header) -> (u32, u32)
+    requires { IsWritable header }
+    ensures low { result.0 ≡ header_bits header % 2 ^ 32 }
+    ensures high { result.1 ≡ header_bits header / 2 ^ 32 }
+{
+    let bits = header.write();
+    ((bits & 0xffff_ffff) as u32, (bits >> 32) as u32)
+}
+
 /// Writes a header to a unit.
 pub(crate) fn set_header(words: &mut Vec<u32>, unit: usize, header: Header)
     requires unit { 2 * unit + 1 < vec_len words.old }
     requires header { IsWritable header }
-    ensures items { words.new.items ≡ slice_set (slice_set words.old.items (2 * unit) (header_bits header % 2 ^ 32)) (2 * unit + 1) (header_bits header / 2 ^ 32) }
+    ensures items { words.new.items ≡ with_header words.old.items unit header }
     ensures capacity { vec_capacity words.old ≤ vec_capacity words.new }
 {
-    let bits = header.write();
-    words[2 * unit] = (bits % 4294967296) as u32;
-    words[2 * unit + 1] = (bits >> 32) as u32;
+    let (low, high) = header_words(header);
+    words[2 * unit] = low;
+    words[2 * unit + 1] = high;
 }
 
 /// The slot count of the object whose header is in a unit.
@@ -136,7 +147,7 @@ fn push_overflow(words: &mut Vec<u32>, slots: u32)
     ensures len { vec_len words.new ≡ vec_len words.old + 2 * units_before_of slots }
     ensures capacity { vec_capacity words.old ≤ vec_capacity words.new }
 {
-    if slots >= 255 {
+    if units_before(slots) > 0 {
         fill(words, 1, slots);
         fill(words, 1, 255 << 24);
     }
@@ -149,10 +160,10 @@ pub(crate) fn push_object(words: &mut Vec<u32>, header: Header, slots: u32, valu
     ensures items { words.new.items ≡ words.old.items ++ row (header_bits header) (replicate slots value) }
     ensures capacity { vec_capacity words.old ≤ vec_capacity words.new }
 {
-    let bits = header.write();
+    let (low, high) = header_words(header);
     push_overflow(words, slots);
-    fill(words, 1, (bits % 4294967296) as u32);
-    fill(words, 1, (bits >> 32) as u32);
+    fill(words, 1, low);
+    fill(words, 1, high);
     fill(words, slots as usize, value);
     fill(words, 2 * body_units(slots) as usize - slots as usize, 0);
 }

@@ -1,10 +1,9 @@
 -- One lemma for each way in which definitions are composed: what is composed of what is alike is alike.
-use Rattle.std.proofs.Common.{◌≡◌, ℕ, Bool, true, false, refl, sym, ap, subst, ◌∙◌, Option, Some, None, if◌then◌else◌}
+use Rattle.std.proofs.Common.{ℕ, Bool, true, false, refl, sym, ap, Option, if◌then◌else◌}
 use Rattle.cs_model.specs.declared.stop.Stop.{Stop}
-use Rattle.cs_model.specs.Ref.{Ref}
-use Rattle.cs_model.specs.State.{Kept, IsHeld}
-use Rattle.cs_model.specs.Keeps.{Keeps, Grows}
-use Rattle.cs_model.specs.Alike.{Alike, EndHeld, IsHeldIf}
+use Rattle.cs_model.specs.State.{Kept}
+use Rattle.cs_model.specs.Keeps.{Keeps}
+use Rattle.cs_model.specs.Alike.{Alike, EndHeld}
 use Rattle.cs_model.specs.End.{End, Out, Count, out, done, stop, plus, counting, made, made_context, looked, given, is_done, and_then}
 use Rattle.cs_model.specs.End as ends
 use Rattle.cs_model.proofs.Same.{Same, same, SameOption, none, some, Any, is, value, same_by}
@@ -65,3 +64,6 @@ if_alike (same false h) s t = t
 pub and_then_alike : {v : Kept} {a b : Out} (f g : Kept → Out) → Alike v a b → ((t u : Kept) → Moved v t u → Alike t (f t) (g u)) → Alike v (and_then a f) (and_then b g)
 unfolding and_then
 and_then_alike {v} {a} {b} f g h next = if_alike (value is_done (end_same h)) (counting_alike (count_same h) (behind (left h) (next a.state b.state (left h)))) h
+
+pub fail_alike : {v m : Kept} → Keeps v m → Alike v (out ends.Fail v) (out ends.Fail m)
+fail_alike k = out_alike k (same ends.Fail tt)

@@ -1,20 +1,16 @@
 -- Contexts as image code sees them, and their fields, are alike.
-use Rattle.std.proofs.Common.{◌≡◌, ℕ, ◌+◌, ◌-◌, ◌==◌, ◌&&◌, ◌||◌, not, pos, Bool, true, false, refl, sym, ap, subst, Option, Some, None, IsSome, is_some, List, [], ◌∷◌, ◌++◌, length, take, replicate, nat_lt, nat_le, if◌then◌else◌}
-use Rattle.std.specs.Prelude.{slice_get, slice_set}
+use Rattle.std.proofs.Common.{◌≡◌, ℕ, ◌-◌, ◌==◌, ◌&&◌, ◌||◌, not, pos, Bool, true, false, subst, Option, Some, None, is_some, length, take, replicate, nat_lt, if◌then◌else◌}
 use Rattle.cs_model.specs.Ref.{Ref, Small, Char, index_of}
 use Rattle.cs_model.specs.Ref as ref
-use Rattle.cs_model.specs.Obj.{Obj, Context, Ptr, Raw, Method, Ctx, is_context, context_fields, with_pc, with_stack, stored, edit_context, is_method, lies_in}
-use Rattle.cs_model.specs.State.{Kept, object_at, object_of, is_nil, IsHeld, ContextHeld, NamesHeld}
+use Rattle.cs_model.specs.Obj.{Obj, Context, Ptr, Raw, Method, Ctx, is_context, context_fields, edit_context, is_method}
+use Rattle.cs_model.specs.State.{Kept, IsHeld, ContextHeld, NamesHeld}
 use Rattle.cs_model.specs.Operation.{nil_of}
 use Rattle.cs_model.specs.Context.{pc_value, context_get, is_context_ref, has_class_index, closure_class, lies_if_live, lies_if_index, at_most, accepts, of_depth, to_depth, with_field, context_put}
 use Rattle.cs_model.specs.Keeps.{Keeps}
-use Rattle.cs_model.proofs.Same.{Same, same, SameOption, none, some, Any, is, of, value, of_option, two, or_same, if_same, if_option, all-append, all-take, all-replicate, all-slice_set}
+use Rattle.cs_model.proofs.Same.{some_same, option_is, Same, same, SameOption, Any, is, of, value, of_option, two, if_same, if_option, all-append, all-take, all-replicate, all-slice_set}
 use Rattle.cs_model.proofs.Keeping.{Moved, IsEdit, edit_found_moved}
-use Rattle.cs_model.proofs.Reading.{AllHeld, rest_same, nil_same, is_nil_same, object_of_same, context_in_same, context_sender, context_method, context_closure, context_receiver, context_stack, slice_same}
+use Rattle.cs_model.proofs.Reading.{rest_same, nil_same, is_nil_same, object_of_same, context_in_same, context_sender, context_method, context_closure, context_receiver, context_stack, slice_same}
 use Rattle.cs_model.proofs.Operating.{stack_held}
-
-pub some_same : {A : Type 0} {P : A → Type 0} {x y : A} → Same P x y → SameOption P (Some x) (Some y)
-some_same (same x h) = some x h
 
 pc_value_same : {v m : Kept} {c d : Context} → Keeps v m → Same (ContextHeld v) c d → Same (IsHeld v) (pc_value (nil_of v) c.pc) (pc_value (nil_of m) d.pc)
 pc_value_same {v} {m} k (same c h) = choose c.pc where
@@ -50,10 +46,7 @@ accepts_same k (same b a) s i t =
     (if_same (is (i == 2)) (two (λ c x. not b && at_most c.size (index_of x)) s t)
     (if_same (is (i == 3)) (two (λ o c. not b && is_method o && lies_if_live o c.pc) (option_is (object_of_same k t)) s)
     (if_same (is (i == 4)) (and_same (is (not b)) (or_else_same (is_nil_same k t) (of_option (has_class_index closure_class) (object_of_same k t))))
-    (value (λ c. i == 5 || nat_lt (i - context_fields) (length c.stack)) s))))) where
-  option_is : {A : Type 0} {P : A → Type 0} {o p : Option A} → SameOption P o p → Same Any o p
-  option_is none = same None tt
-  option_is (some x h) = same (Some x) tt
+    (value (λ c. i == 5 || nat_lt (i - context_fields) (length c.stack)) s)))))
 
 -- the context with a field written names what v has
 of_depth_held : (v : Kept) (nil : Ref) → IsHeld v nil → (n : Option ℕ) (c : Context) → ContextHeld v c → ContextHeld v (to_depth nil n c)
@@ -95,4 +88,4 @@ pub context_put_moved : {v m : Kept} {b c : ℕ} {x y : Ref} → Keeps v m → S
 unfolding context_put with_field
 context_put_moved {v} {m} k s i (same x g) =
     edit_found_moved k (edit_context_edit v (of (λ f. (c : Context) → ContextHeld v c → ContextHeld v (f c)) (λ r. with_field (record v { rest = r }) i x) (rest_same k)
-      (λ r e. with_field_held v (record v { rest = r }) i x (subst (λ q. IsHeld v (ref.Obj q.nil)) e k.roots.nil) g))) s
+    (λ r e. with_field_held v (record v { rest = r }) i x (subst (λ q. IsHeld v (ref.Obj q.nil)) e k.roots.nil) g))) s

@@ -1,5 +1,5 @@
 -- What a state keeps, it keeps after the same write to both.
-use Rattle.std.proofs.Common.{◌≡◌, ◌≢◌, ℕ, Bool, true, false, refl, sym, ap, subst, ◌∙◌, Option, Some, None, IsSome, is_some, List, [], ◌∷◌, ◌⊎◌, inl, inr}
+use Rattle.std.proofs.Common.{◌≡◌, ℕ, Bool, true, false, refl, sym, ap, subst, ◌∙◌, Option, Some, None, IsSome, List, [], ◌∷◌, inl, inr, if◌then◌else◌}
 use Rattle.std.specs.List.{AllByRecursion}
 use Rattle.std.specs.FinMap.{get}
 use Rattle.cs_model.specs.Ref.{Ref, Small, Char}
@@ -9,7 +9,7 @@ use Rattle.cs_model.specs.State.{Kept, Rest, object_at, put, with_rest, IsHeld, 
 use Rattle.cs_model.specs.Keeps.{Keeps, Grows}
 use Rattle.cs_model.specs.Operation.{edit_found}
 use Rattle.cs_model.proofs.Objects.{object_at-put_same, object_at-put_other, rest-put, at_put, held-put}
-use Rattle.cs_model.proofs.Same.{Same, same, SameOption, none, some, Any, some_by}
+use Rattle.cs_model.proofs.Same.{Same, same, Any}
 
 -- ---- what is held stays held
 
@@ -107,6 +107,7 @@ Keeps-put_right {v} {m} k i o lacks context = record {
 } where
   none_some : (p : Obj) → None ≡ Some p → ⊥
   none_some p e = cc
+
   false_true : false ≡ true → ⊥
   false_true e = cc
 
@@ -143,7 +144,7 @@ pub record IsEdit (v : Kept) (f : Obj → Obj) : Type 0 where
   pub context : (o : Obj) → is_context o ≡ true → is_context (f o) ≡ true
   pub held : (o : Obj) → NamesHeld v o → NamesHeld v (f o)
 
-kept_context : {v m : Kept} → Keeps v m → (i : ℕ) (o : Obj) → object_at v i ≡ None → object_at m i ≡ Some o → is_context o ≡ true
+pub kept_context : {v m : Kept} → Keeps v m → (i : ℕ) (o : Obj) → object_at v i ≡ None → object_at m i ≡ Some o → is_context o ≡ true
 kept_context {v} k i o lacks has = elim (is_context o) as (λ b. is_context o ≡ b → b ≡ true) [ true ↦ λ e. refl | false ↦ λ e. absurd (none_some (sym lacks ∙ k.whole i o has e)) ] refl where
   none_some : None ≡ Some o → ⊥
   none_some e = cc
@@ -160,3 +161,7 @@ edit_found_case {v} {m} k f edit i (Some o) (Some p) e g =
 -- the same change of the object at a birth, whether or not v has it
 pub edit_found_moved : {v m : Kept} {f g : Obj → Obj} {i j : ℕ} → Keeps v m → Same (IsEdit v) f g → Same Any i j → Moved v (edit_found f i (object_at v i) v) (edit_found g j (object_at m j) m)
 edit_found_moved {v} {m} k (same f edit) (same i a) = edit_found_case k f edit i (object_at v i) (object_at m i) refl refl
+
+pub choose_moved : {v a b c d : Kept} {x y : Bool} → Same Any x y → Moved v a b → Moved v c d → Moved v (if x then a else c) (if y then b else d)
+choose_moved (same true a) s t = s
+choose_moved (same false a) s t = t

@@ -1,20 +1,18 @@
 -- Making instances, and giving indices and hashes, are alike.
-use Rattle.std.proofs.Common.{◌≡◌, ℕ, zero, suc, ◌+◌, ◌-◌, ◌*◌, ◌/◌, ◌%◌, ◌==◌, ◌&&◌, ◌||◌, not, Bool, true, false, refl, sym, ap, subst, ◌∙◌, Option, Some, None, IsSome, is_some, List, [], ◌∷◌, length, replicate, option_and_then, nat_lt, nat_le, if◌then◌else◌, inl, inr, rules, arith}
-use Rattle.std.specs.Prelude.{slice_get}
-use Rattle.std.specs.Ordering.{nat_cmp}
-use Rattle.std.specs.FinMap.{get, insert, gets, FinMap}
+use Rattle.std.proofs.Common.{◌≡◌, ℕ, ◌+◌, ◌*◌, ◌/◌, ◌%◌, ◌==◌, Bool, true, false, refl, ap, subst, ◌∙◌, Option, Some, None, is_some, replicate, nat_lt, if◌then◌else◌, inl, inr, rules, arith}
+use Rattle.std.specs.FinMap.{gets}
 use Rattle.std.proofs.lemmas.Bool.Decides.{eqb_tells}
 use Rattle.cs_model.specs.Ref.{Ref, Small, Char, birth_of, index_of}
 use Rattle.cs_model.specs.Ref as ref
-use Rattle.cs_model.specs.Obj.{Obj, Context, Ptr, Raw, Method, Ctx, hash_in, context_class, words_of}
-use Rattle.cs_model.specs.State.{Kept, Rest, object_at, object_of, slots_of, with_rest, IsHeld, ContextHeld, NamesHeld, RestHeld}
+use Rattle.cs_model.specs.Obj.{Obj, Ptr, Ctx, hash_in, context_class, words_of}
+use Rattle.cs_model.specs.State.{Kept, object_at, with_rest, IsHeld, NamesHeld, RestHeld}
 use Rattle.cs_model.proofs.Objects.{rest-put}
 use Rattle.cs_model.specs.Operation.{edit_found, add_of, next_ref, nil_of, edit_object, with_hash}
 use Rattle.cs_model.specs.Instance.{Index, IndexAt, NoIndex, NoneFree, index_of_object, index_by_hash, class_index_for, with_class, enter_class, take_index, Made, New, NotInstantiable, TableFull, is_instance_index, is_instance_shape, new_context, new_instance, new_raw, pointer_format, unit_bytes, make_with, make_shaped, shape_of, instantiate, Hashed, Hash, NotAClass, NoneLeft, hashed, behavior_hash, next_hash, with_last_hash, hash_or_zero, hash_of, hash_given}
-use Rattle.cs_model.specs.Keeps.{Keeps, Grows}
-use Rattle.cs_model.proofs.Same.{Same, same, SameOption, none, some, Any, is, of, value, of_option, two, and_then_same, if_same, if_option, all-replicate}
-use Rattle.cs_model.proofs.Keeping.{Moved, moved, unmoved, NamesHeld-grows}
-use Rattle.cs_model.proofs.Reading.{AllHeld, Has, up, rest_same, nil_same, object_at_same, object_of_same, slots_of_same, slice_same}
+use Rattle.cs_model.specs.Keeps.{Keeps}
+use Rattle.cs_model.proofs.Same.{any_option, Same, same, SameOption, none, some, Any, is, of, value, of_option, two, and_then_same, all-replicate}
+use Rattle.cs_model.proofs.Keeping.{choose_moved, Moved, moved, unmoved, NamesHeld-grows}
+use Rattle.cs_model.proofs.Reading.{Has, up, rest_same, nil_same, object_at_same, object_of_same, slots_of_same, slice_same}
 use Rattle.cs_model.proofs.Operating.{edit_object_moved, with_hash_edit, change_moved, roots_with, add_moved, next_held, next_ref_same}
 
 -- ---- indices
@@ -57,7 +55,7 @@ take_index_moved {v} k s index =
 
 -- both make the same, or neither makes anything, for the same reason
 pub data SameMade (v : Kept) : Made → Made → Type 0 where
-  made : {t u : Kept} (x y : Ref) (words : ℕ) → Moved v t u → Same (IsHeld t) x y → SameMade v (New t x words) (New u y words)
+  makes : {t u : Kept} (x y : Ref) (words : ℕ) → Moved v t u → Same (IsHeld t) x y → SameMade v (New t x words) (New u y words)
   refused : SameMade v NotInstantiable NotInstantiable
   full : SameMade v TableFull TableFull
 
@@ -69,10 +67,10 @@ pub new_instance_same : {v m : Kept} → Keeps v m → (index format fields size
 unfolding new_instance
 new_instance_same {v} k index format fields size =
     choose_object (index == context_class)
-      (of (NamesHeld v) (λ nil. Ctx (new_context nil size)) (nil_same k) (λ nil h. record { sender = h; method = h; closure = h; receiver = h; stack = tt }))
+    (of (NamesHeld v) (λ nil. Ctx (new_context nil size)) (nil_same k) (λ nil h. record { sender = h; method = h; closure = h; receiver = h; stack = tt }))
     (choose_object (nat_lt format 6)
-      (of (NamesHeld v) (λ nil. Ptr index (pointer_format format) 0 (replicate (fields + size) nil)) (nil_same k) (λ nil h. all-replicate (IsHeld v) (fields + size) nil h))
-      (same (new_raw index format (size * unit_bytes format)) tt))
+    (of (NamesHeld v) (λ nil. Ptr index (pointer_format format) 0 (replicate (fields + size) nil)) (nil_same k) (λ nil h. all-replicate (IsHeld v) (fields + size) nil h))
+    (same (new_raw index format (size * unit_bytes format)) tt))
 
 -- a new object behind a move
 pub add_behind : {v t u : Kept} {o p : Obj} → Moved v t u → Same (NamesHeld v) o p → Moved v (add_of t o) (add_of u p)
@@ -96,7 +94,7 @@ take_index_next k x index = enter_class_next (edit_object k x (with_hash index))
 
 pub new_made : {v m t u : Kept} {o p : Obj} → Keeps v m → Moved v t u → t.rest.next ≡ v.rest.next → Same (NamesHeld v) o p → SameMade v (New (add_of t o) (next_ref v) (words_of o)) (New (add_of u p) (next_ref m) (words_of p))
 new_made {t = t} k a e (same o h) =
-    made _ _ (words_of o) (add_behind a (same o h)) (next_ref_same (add_of t o) k (subst (λ n. Has (add_of t o) n) e (next_held t o)))
+    makes _ _ (words_of o) (add_behind a (same o h)) (next_ref_same (add_of t o) k (subst (λ n. Has (add_of t o) n) e (next_held t o)))
 
 choose_made : {v : Kept} {a b c d : Made} → (x : Bool) → SameMade v a b → SameMade v c d → SameMade v (if x then a else c) (if x then b else d)
 choose_made true s t = s
@@ -107,16 +105,12 @@ make_with_same k s shape size (same NoIndex a) = refused
 make_with_same k s shape size (same NoneFree a) = full
 make_with_same {v} {m} {x} k s shape size (same (IndexAt index) a) =
     choose_made (is_instance_index index size)
-      (new_made k (take_index_moved k s index) (take_index_next v x index) (new_instance_same k index (shape / 65536) (shape % 65536) size))
-      refused
+    (new_made k (take_index_moved k s index) (take_index_next v x index) (new_instance_same k index (shape / 65536) (shape % 65536) size))
+    refused
 
 make_shaped_same : {v m : Kept} {x y : Ref} {o p : Option ℕ} → Keeps v m → Same (IsHeld v) x y → (size : ℕ) → SameOption Any o p → SameMade v (make_shaped v x size o) (make_shaped m y size p)
 make_shaped_same k s size none = refused
 make_shaped_same k s size (some shape a) = choose_made (is_instance_shape (shape / 65536) (shape % 65536) size) (make_with_same k s shape size (class_index_for_same k s)) refused
-
-pub any_option : {A : Type 0} (o : Option A) → SameOption Any o o
-any_option None = none
-any_option (Some x) = some x tt
 
 pub shape_of_same : {v m : Kept} {x y : Ref} → Keeps v m → Same (IsHeld v) x y → SameOption Any (shape_of v x) (shape_of m y)
 shape_of_same k s = and_then_same (slots_of_same k 3 s) (λ slots h. and_then_same (slice_same 2 (same slots h)) (λ z g. any_option (index_of z)))
@@ -128,14 +122,14 @@ instantiate_same k s size = make_shaped_same k s size (shape_of_same k s)
 -- ---- the index alone
 
 pub data SameHashed (v : Kept) : Hashed → Hashed → Type 0 where
-  hash : {t u : Kept} (index : ℕ) → Moved v t u → SameHashed v (Hash t index) (Hash u index)
+  hashes : {t u : Kept} (index : ℕ) → Moved v t u → SameHashed v (Hash t index) (Hash u index)
   no_class : SameHashed v NotAClass NotAClass
   none_left : SameHashed v NoneLeft NoneLeft
 
 hashed_same : {v m : Kept} {x y : Ref} {i j : Index} → Keeps v m → Same (IsHeld v) x y → Same Any i j → SameHashed v (hashed v x i) (hashed m y j)
 hashed_same k s (same NoIndex a) = no_class
 hashed_same k s (same NoneFree a) = none_left
-hashed_same k s (same (IndexAt index) a) = hash index (take_index_moved k s index)
+hashed_same k s (same (IndexAt index) a) = hashes index (take_index_moved k s index)
 
 choose_hashed : {v : Kept} {a b c d : Hashed} {x y : Bool} → Same Any x y → SameHashed v a b → SameHashed v c d → SameHashed v (if x then a else c) (if y then b else d)
 choose_hashed (same true a) s t = s
@@ -151,14 +145,10 @@ pub hash_of_same : {v m : Kept} {x y : Ref} → Keeps v m → Same (IsHeld v) x 
 unfolding hash_of
 hash_of_same k s = two (λ r n. if n == 0 then next_hash r.last_hash else n) (rest_same k) (of_option hash_or_zero (object_of_same k s))
 
-choose_moved : {v a b c d : Kept} {x y : Bool} → Same Any x y → Moved v a b → Moved v c d → Moved v (if x then a else c) (if y then b else d)
-choose_moved (same true a) s t = s
-choose_moved (same false a) s t = t
-
 pub hash_given_moved : {v m : Kept} {x y : Ref} → Keeps v m → Same (IsHeld v) x y → Moved v (hash_given v x) (hash_given m y)
 unfolding hash_given
 hash_given_moved {v} k s =
     choose_moved (of_option (λ o. hash_or_zero o == 0) (object_of_same k s))
-      (let a = edit_object_moved k s (with_hash_edit v (value (λ r. next_hash r.last_hash) (rest_same k))) in
-      change_moved (λ r. with_last_hash (next_hash r.last_hash) r) k a (roots_with (with_last_hash (next_hash v.rest.last_hash) v.rest) a.grows k.roots refl refl refl refl refl (λ i e. a.grows.held i (k.roots.active i e))))
-      (unmoved k)
+    (let a = edit_object_moved k s (with_hash_edit v (value (λ r. next_hash r.last_hash) (rest_same k))) in
+    change_moved (λ r. with_last_hash (next_hash r.last_hash) r) k a (roots_with (with_last_hash (next_hash v.rest.last_hash) v.rest) a.grows k.roots refl refl refl refl refl (λ i e. a.grows.held i (k.roots.active i e))))
+    (unmoved k)

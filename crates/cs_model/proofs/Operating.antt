@@ -1,19 +1,18 @@
 -- The operations leave a state and one that it keeps so that the first still keeps the second, and has all that it had.
-use Rattle.std.proofs.Common.{◌≡◌, ◌≢◌, ℕ, ◌+◌, ◌-◌, pos, Bool, true, false, refl, sym, ap, subst, ◌∙◌, Option, Some, None, IsSome, is_some, List, [], ◌∷◌, ◌++◌, length, take, drop, replicate, unwrap_or, option_and_then, option_map, nat_lt, nat_le, if◌then◌else◌}
-use Rattle.std.specs.Prelude.{slice_get, slice_set}
+use Rattle.std.proofs.Common.{◌≡◌, ℕ, ◌+◌, ◌-◌, Bool, true, refl, sym, ap, subst, ◌∙◌, Option, Some, None, is_some, List, [], ◌∷◌, ◌++◌, length, take, drop, replicate, unwrap_or}
 use Rattle.std.specs.List.{AllByRecursion}
 use Rattle.std.specs.FinMap.{get}
 use Rattle.cs_model.specs.Ref.{Ref, Small, Char, birth_of}
 use Rattle.cs_model.specs.Ref as ref
-use Rattle.cs_model.specs.Obj.{Obj, Context, Ptr, Raw, Method, Ctx, is_context, dead, with_pc, with_stack, pushed, popped, stored, edit_context, literals_in, header_in, first_pc, temporary_count, context_size}
-use Rattle.cs_model.specs.State.{Kept, Rest, object_at, object_of, put, with_rest, IsHeld, ContextHeld, NamesHeld, RestHeld}
-use Rattle.cs_model.specs.Read.{active_birth, active_context}
-use Rattle.cs_model.specs.Operation.{put_active, set_pc_of, push_of, drop_of, set_stack_of, edit_object, with_slot, with_byte, with_hash, store_of, store_byte_of, with_next, add_of, next_ref, nil_of, activate, enter_with, last_values, receiver_below, entry_pc, method_context, enter_of, dead_object, kill_of, resume_of, suspend_of, leave_of, kill_all, cut_to_of, new_pointers}
+use Rattle.cs_model.specs.Obj.{Obj, Context, Ptr, Raw, Method, Ctx, is_context, with_pc, with_stack, pushed, popped, stored, header_in, temporary_count, context_size}
+use Rattle.cs_model.specs.State.{Kept, Rest, put, with_rest, IsHeld, ContextHeld, NamesHeld, RestHeld}
+use Rattle.cs_model.specs.Read.{active_context}
+use Rattle.cs_model.specs.Operation.{put_active, set_pc_of, push_of, drop_of, set_stack_of, edit_object, with_slot, with_byte, with_hash, store_of, store_byte_of, with_next, add_of, next_ref, activate, enter_with, last_values, receiver_below, entry_pc, method_context, enter_of, dead_object, kill_of, resume_of, suspend_of, leave_of, kill_all, cut_to_of, new_pointers}
 use Rattle.cs_model.specs.Keeps.{Keeps, Grows}
 use Rattle.cs_model.proofs.Objects.{object_at-put_same}
-use Rattle.cs_model.proofs.Same.{Same, same, SameOption, none, some, Any, is, of, value, of_option, two, or_same, holds, all-append, all-take, all-drop, all-replicate, all-slice_set}
-use Rattle.cs_model.proofs.Keeping.{Moved, unmoved, moved, put_moved, rest_moved, IsEdit, edit_found_moved, ContextHeld-grows, grows-trans, all-grows, IsHeld-grows}
-use Rattle.cs_model.proofs.Reading.{AllHeld, Has, up, up_birth, rest_same, nil_same, next_same, object_of_same, active_birth_same, active_ref_same, active_context_same, literals_in_same, slice_same, context_sender, context_stack}
+use Rattle.cs_model.proofs.Same.{Same, same, Any, is, of, value, of_option, or_same, all-append, all-take, all-drop, all-replicate, all-slice_set}
+use Rattle.cs_model.proofs.Keeping.{Moved, unmoved, moved, put_moved, rest_moved, IsEdit, edit_found_moved, ContextHeld-grows, grows-trans}
+use Rattle.cs_model.proofs.Reading.{AllHeld, Has, up, up_birth, rest_same, nil_same, next_same, object_of_same, active_birth_same, active_ref_same, active_context_same, slice_same, context_sender, context_stack}
 
 -- ---- the active context
 
@@ -30,7 +29,7 @@ pub set_pc_moved : {v m : Kept} {pc qc : ℕ} → Keeps v m → Same Any pc qc �
 unfolding set_pc_of
 set_pc_moved {v} k (same pc a) =
     put_active_moved k (of (ContextHeld v) (with_pc (Some pc)) (active_context_same k)
-      (λ c h. record { sender = h.sender; method = h.method; closure = h.closure; receiver = h.receiver; stack = h.stack }))
+    (λ c h. record { sender = h.sender; method = h.method; closure = h.closure; receiver = h.receiver; stack = h.stack }))
 
 -- another stack
 pub stack_held : {v : Kept} (c : Context) (xs : List Ref) → ContextHeld v c → AllByRecursion (IsHeld v) xs → ContextHeld v (with_stack xs c)
@@ -178,15 +177,15 @@ enter_with_moved {v} {m} f g k args s =
     let d = drop_moved k (args + 1) in
     let p = put_moved d.keeps (next_same k) (ctx_same (up_context d.grows s)) in
     change_moved (λ r. activate (Some r.next) (with_next (r.next + 1) r)) k (moved d p)
-      (roots_with (activate (Some v.rest.next) (with_next (v.rest.next + 1) v.rest)) (grows-trans d.grows p.grows) k.roots refl refl refl refl refl
-        (λ i e. subst (λ j. Has (put (drop_of v (args + 1)) v.rest.next (Ctx (f (active_context v)))) j) (cc) (ap is_some (object_at-put_same (drop_of v (args + 1)) v.rest.next (Ctx (f (active_context v)))))))
+    (roots_with (activate (Some v.rest.next) (with_next (v.rest.next + 1) v.rest)) (grows-trans d.grows p.grows) k.roots refl refl refl refl refl
+    (λ i e. subst (λ j. Has (put (drop_of v (args + 1)) v.rest.next (Ctx (f (active_context v)))) j) (cc) (ap is_some (object_at-put_same (drop_of v (args + 1)) v.rest.next (Ctx (f (active_context v)))))))
 
 pub method_context_same : {v m : Kept} {x y : Ref} {c d : Context} → Keeps v m → (args : ℕ) (skip : Bool) → Same (IsHeld v) x y → Same (ContextHeld v) c d → Same (ContextHeld v) (method_context v x args skip c) (method_context m y args skip d)
 method_context_same k args skip s t =
     context_same k (is 0) (active_ref_same k) (of_option (λ o. Some (entry_pc o skip)) (object_of_same k s)) s (nil_same k)
-      (receiver_below_same k args (nil_same k) (context_stack t))
-      (append_same (last_values_same args (context_stack t)) (replicate_same k (of_option (λ o. temporary_count (header_in o) - args) (object_of_same k s)) (nil_same k)))
-      (of_option (λ o. context_size (header_in o)) (object_of_same k s))
+    (receiver_below_same k args (nil_same k) (context_stack t))
+    (append_same (last_values_same args (context_stack t)) (replicate_same k (of_option (λ o. temporary_count (header_in o) - args) (object_of_same k s)) (nil_same k)))
+    (of_option (λ o. context_size (header_in o)) (object_of_same k s))
 
 pub enter_moved : {v m : Kept} {x y : Ref} → Keeps v m → Same (IsHeld v) x y → (args : ℕ) (skip : Bool) → Moved v (enter_of v x args skip) (enter_of m y args skip)
 unfolding enter_of

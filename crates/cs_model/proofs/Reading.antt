@@ -1,21 +1,24 @@
 -- What is read of a state is the same in a state that it keeps, and what a read names is held.
-use Rattle.std.proofs.Common.{◌≡◌, ◌≢◌, ℕ, ◌+◌, ◌-◌, pos, Bool, true, false, refl, sym, ap, subst, ◌∙◌, Option, Some, None, IsSome, is_some, List, [], ◌∷◌, length, unwrap_or, option_and_then, option_map, nat_lt, nat_le, if◌then◌else◌}
+use Rattle.std.proofs.Common.{◌≡◌, ℕ, ◌+◌, ◌-◌, Bool, true, false, refl, sym, ap, subst, ◌∙◌, Option, Some, None, IsSome, List, [], length, unwrap_or, option_map, nat_lt, nat_le, if◌then◌else◌}
 use Rattle.std.specs.Prelude.{slice_get}
 use Rattle.std.specs.List.{AllByRecursion}
 use Rattle.std.specs.FinMap.{get}
 use Rattle.cs_model.specs.Ref.{Ref, Small, Char, birth_of, same_ref}
 use Rattle.cs_model.specs.Ref as ref
-use Rattle.cs_model.specs.Obj.{Obj, Context, Ptr, Raw, Method, Ctx, is_context, slots_in, context_in, literals_in, bytecodes_in, at_least, header_in}
-use Rattle.cs_model.specs.State.{Kept, Rest, object_at, object_of, slots_of, special_at, scheduler_of, active_process, is_nil, IsHeld, ContextHeld, NamesHeld, RestHeld}
+use Rattle.cs_model.specs.Obj.{Obj, Context, Ptr, Raw, Method, Ctx, slots_in, context_in, literals_in, bytecodes_in, at_least}
+use Rattle.cs_model.specs.State.{Kept, object_at, object_of, slots_of, special_at, scheduler_of, active_process, is_nil, IsHeld, ContextHeld, NamesHeld}
 use Rattle.cs_model.specs.Read.{index_of_class, class_index_of, class_of, blank, active_birth, active_context, stack_of, depth_of, size_of, pc_of, receiver_of, method_of, literals_of, bytecodes_of, from_top}
-use Rattle.cs_model.specs.Operation.{nil_of, next_ref}
+use Rattle.cs_model.specs.Operation.{nil_of}
 use Rattle.cs_model.specs.Number.{boolean}
 use Rattle.cs_model.specs.Keeps.{Keeps, Grows}
-use Rattle.cs_model.proofs.Same.{Same, same, SameOption, none, some, Any, same_by, some_by, of, value, of_option, two, and_then_same, or_same, at_index, holds}
-use Rattle.cs_model.proofs.Keeping.{IsHeld-grows, all-grows, Keeps-itself}
+use Rattle.cs_model.proofs.Same.{Same, same, SameOption, none, some, Any, same_by, some_by, of, value, of_option, two, and_then_same, or_same, at_index}
+use Rattle.cs_model.proofs.Keeping.{IsHeld-grows, all-grows}
 
 pub record AllHeld (v : Kept) (xs : List Ref) : Type 0 where
   pub all : AllByRecursion (IsHeld v) xs
+
+pub listed : (v : Kept) (xs : List Ref) → AllByRecursion (IsHeld v) xs → Same (AllHeld v) xs xs
+listed v xs h = same xs (record { all = h })
 
 -- an object is at the birth
 abbrev pub Has : Kept → ℕ → Type 0
@@ -200,4 +203,4 @@ bytecodes_same k = of_option bytecodes_in (method_same k)
 pub from_top_same : {v : Kept} {xs ys : List Ref} → (n : ℕ) → Same (AllHeld v) xs ys → SameOption (IsHeld v) (from_top n xs) (from_top n ys)
 from_top_same {v} n (same xs h) =
     elim (nat_lt n (length xs)) as (λ b. SameOption (IsHeld v) (if b then slice_get xs (length xs - (n + 1)) else None) (if b then slice_get xs (length xs - (n + 1)) else None))
-      [ true ↦ at_index (IsHeld v) xs _ h.all | false ↦ none ]
+    [ true ↦ at_index (IsHeld v) xs _ h.all | false ↦ none ]

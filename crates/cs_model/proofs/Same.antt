@@ -1,5 +1,5 @@
 -- Pairs of equal values of which something holds: what is read of a state and of one that it keeps.
-use Rattle.std.proofs.Common.{◌≡◌, ℕ, zero, suc, ◌-◌, refl, sym, ap, subst, ◌∙◌, Bool, true, false, Option, Some, None, IsSome, is_some, List, [], ◌∷◌, ◌++◌, length, take, drop, replicate, unwrap_or, option_map, option_and_then, if◌then◌else◌}
+use Rattle.std.proofs.Common.{◌≡◌, ℕ, zero, suc, refl, sym, subst, Bool, true, false, Option, Some, None, List, [], ◌∷◌, ◌++◌, take, drop, replicate, unwrap_or, option_map, option_and_then, if◌then◌else◌}
 use Rattle.std.specs.Prelude.{slice_get, slice_set}
 use Rattle.std.specs.List.{AllByRecursion}
 
@@ -25,6 +25,10 @@ holds (same x p) = p
 pub option_equal : {A : Type 0} {P : A → Type 0} {o p : Option A} → SameOption P o p → p ≡ o
 option_equal none = refl
 option_equal (some x p) = refl
+
+pub option_holds : {A : Type 0} {P : A → Type 0} {o p : Option A} → SameOption P o p → (x : A) → o ≡ Some x → P x
+option_holds none x e = absurd (cc)
+option_holds {P = P} (some y p) x e = subst P (cc) p
 
 -- from an equation
 pub same_by : {A : Type 0} (P : A → Type 0) (x y : A) → y ≡ x → P x → Same P x y
@@ -93,7 +97,6 @@ at_index P [] i h = none
 at_index P (x ∷ xs) zero h = some x h.0
 at_index P (x ∷ xs) (suc i) h = at_index P xs i h.1
 
-
 -- choices
 
 pub if_same : {A : Type 0} {P : A → Type 0} {b c : Bool} {x y z w : A} → Same Any b c → Same P x y → Same P z w → Same P (if b then x else z) (if c then y else w)
@@ -103,3 +106,20 @@ if_same (same false a) s t = t
 pub if_option : {A : Type 0} {P : A → Type 0} {b c : Bool} {o p q r : Option A} → Same Any b c → SameOption P o p → SameOption P q r → SameOption P (if b then o else q) (if c then p else r)
 if_option (same true a) s t = s
 if_option (same false a) s t = t
+
+-- without what is known of them
+
+pub plain : {A : Type 0} {P : Option A → Type 0} {o p : Option A} → Same P o p → SameOption Any o p
+plain (same None h) = none
+plain (same (Some x) h) = some x tt
+
+pub any_option : {A : Type 0} (o : Option A) → SameOption Any o o
+any_option None = none
+any_option (Some x) = some x tt
+
+pub option_is : {A : Type 0} {P : A → Type 0} {o p : Option A} → SameOption P o p → Same Any o p
+option_is none = same None tt
+option_is (some x h) = same (Some x) tt
+
+pub some_same : {A : Type 0} {P : A → Type 0} {x y : A} → Same P x y → SameOption P (Some x) (Some y)
+some_same (same x h) = some x h

@@ -1,5 +1,5 @@
 -- Arithmetic on SmallIntegers, as the integer primitives of the Blue Book give it.
-use Rattle.std.specs.Prelude.{ℕ, ℤ, pos, negsuc, neg_ℤ, ◌*ℤ◌, ◌^◌, Option, Some, None, nat_lt, zero, suc, if◌then◌else◌}
+use Rattle.std.specs.Prelude.{ℤ, pos, negsuc, neg_ℤ, ◌*ℤ◌, ◌^◌, Option, Some, None, nat_lt, zero, suc, if◌then◌else◌}
 use Rattle.std.specs.Int.RustNames.{int_div}
 use Rattle.std.specs.Int.{int_div_euclid, int_rem_euclid}
 

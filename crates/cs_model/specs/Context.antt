@@ -1,10 +1,9 @@
 -- Contexts as image code sees them: fields 0 sender, 1 pc, 2 stackp, 3 method, 4 closure, 5 receiver, and then the values
 -- of the stack. Nothing lies beyond stackp.
-use Rattle.std.specs.Prelude.{◌≡◌, ℕ, pos, ◌+◌, ◌-◌, ◌==◌, ◌&&◌, ◌||◌, not, Bool, true, false, nat_lt, nat_le, if◌then◌else◌, List, ◌++◌, length, take, replicate, Option, Some, None, is_some, slice_get}
+use Rattle.std.specs.Prelude.{◌≡◌, ℕ, pos, ◌-◌, ◌==◌, ◌&&◌, ◌||◌, not, Bool, true, false, nat_lt, nat_le, if◌then◌else◌, List, ◌++◌, length, take, replicate, Option, Some, None, is_some, slice_get}
 use Rattle.cs_model.specs.Ref.{Ref, Small, index_of}
-use Rattle.cs_model.specs.Ref as ref
-use Rattle.cs_model.specs.Obj.{Obj, Context, Ptr, Raw, Method, Ctx, class_index_in, context_fields, context_in, is_method, lies_in, with_pc, with_stack, stored, edit_context}
-use Rattle.cs_model.specs.State.{Kept, object_at, object_of, is_nil, put}
+use Rattle.cs_model.specs.Obj.{Obj, Context, class_index_in, context_fields, context_in, is_method, lies_in, with_pc, with_stack, stored, edit_context}
+use Rattle.cs_model.specs.State.{Kept, object_at, object_of, is_nil}
 use Rattle.cs_model.specs.Operation.{edit_found, nil_of}
 
 abbrev pub pc_value : Ref → Option ℕ → Ref

@@ -1,5 +1,5 @@
 -- The V3PlusClosures bytecodes: which instruction stands at a place.
-use Rattle.std.specs.Prelude.{ℕ, ◌+◌, ◌-◌, ◌*◌, ◌/◌, ◌%◌, ◌==◌, ℤ, pos, negsuc, ◌+ℤ◌, ◌-ℤ◌, ◌*ℤ◌, nat_lt, nat_le, if◌then◌else◌, List, length, Option, Some, None, option_map, slice_index}
+use Rattle.std.specs.Prelude.{ℕ, ◌+◌, ◌-◌, ◌*◌, ◌/◌, ◌%◌, ◌==◌, pos, ◌+ℤ◌, ◌-ℤ◌, ◌*ℤ◌, nat_lt, nat_le, if◌then◌else◌, List, length, Option, Some, None, option_map, slice_index}
 use Rattle.cs_model.specs.declared.instruction.Instr.{Instr}
 use Rattle.cs_model.specs.declared.instruction.Op.{Op}
 use Rattle.cs_model.specs.declared.instruction.Op.TheVariants.{PushRcvr, PushTemp, PushLit, PushLitVar, PopRcvr, PopTemp, PopLitVar, StoreRcvr, StoreTemp, StoreLitVar, PushSelf, PushTrue, PushFalse, PushNil, PushInt, ReturnSelf, ReturnTrue, ReturnFalse, ReturnNil, ReturnTop, BlockReturn, Send, SendSuper, Pop, Dup, ThisContext, NewArray, PopArray, Prim, PushVec, StoreVec, PopVec, Closure, Jump, JumpTrue, JumpFalse, Special, Common}
@@ -141,5 +141,5 @@ decode_at bytes at =
     let code = slice_index bytes at in
     if nat_le (at + len_of code) (length bytes)
     then option_map (λ op. record { op = op; len = len_of code })
-        (op_of code (slice_index bytes (at + 1)) (slice_index bytes (at + 2)) (slice_index bytes (at + 3)))
+    (op_of code (slice_index bytes (at + 1)) (slice_index bytes (at + 2)) (slice_index bytes (at + 3)))
     else None

@@ -1,12 +1,11 @@
 -- The events that are due before a bytecode.
-use Rattle.std.specs.Prelude.{ℕ, ℤ, ◌+◌, ◌-◌, ◌||◌, Bool, true, false, not, int_lt, nat_lt, nat_le, if◌then◌else◌, List, [], ◌∷◌, ◌++◌, length, Option, Some, None, is_some, option_and_then, slice_get}
+use Rattle.std.specs.Prelude.{ℕ, ℤ, ◌+◌, ◌-◌, ◌||◌, Bool, false, int_lt, nat_lt, nat_le, if◌then◌else◌, List, [], ◌∷◌, ◌++◌, Option, Some, None, option_and_then, slice_get}
 use Rattle.cs_model.specs.declared.event.Event.{Event}
 use Rattle.cs_model.specs.declared.event.EventKind.{EventKind}
 use Rattle.cs_model.specs.declared.event.EventKind.TheVariants as kind
 use Rattle.cs_model.specs.Ref.{Ref}
 use Rattle.cs_model.specs.Obj.{slots_in}
 use Rattle.cs_model.specs.State.{Kept, Run, State, Timer, object_of, special_at, is_nil, active_process}
-use Rattle.cs_model.specs.Operation.{suspend_of}
 use Rattle.cs_model.specs.Process.{signal}
 use Rattle.cs_model.specs.PrimProcess.{is_semaphore}
 use Rattle.cs_model.specs.PrimRun.{with_timer}

@@ -1,7 +1,7 @@
 -- Elements: the indexed slots of a pointer object behind its named fields, the units of raw bytes, the bytes of a method.
-use Rattle.std.specs.Prelude.{ℕ, zero, suc, ℤ, pos, ◌+◌, ◌-◌, ◌*◌, ◌/◌, ◌%◌, ◌^◌, ◌==◌, ◌&&◌, ◌||◌, Bool, true, false, nat_lt, nat_le, if◌then◌else◌, List, [], ◌∷◌, ◌++◌, length, take, drop, Option, Some, None, is_some, option_map, option_and_then, slice_get, unwrap_or}
+use Rattle.std.specs.Prelude.{ℕ, zero, suc, ℤ, pos, ◌+◌, ◌-◌, ◌*◌, ◌/◌, ◌%◌, ◌^◌, ◌&&◌, nat_lt, nat_le, if◌then◌else◌, List, [], ◌∷◌, length, take, drop, Option, Some, None, option_map, option_and_then, slice_get, unwrap_or}
 use Rattle.cs_model.specs.Ref.{Ref, Small, small_of, index_of, natural_of}
-use Rattle.cs_model.specs.Obj.{Obj, Context, Ptr, Raw, Method, Ctx, first_pc, slots_in}
+use Rattle.cs_model.specs.Obj.{Obj, Ptr, Raw, Method, Ctx, first_pc}
 use Rattle.cs_model.specs.State.{Kept, object_of, slots_of}
 use Rattle.cs_model.specs.Read.{class_of}
 use Rattle.cs_model.specs.Arithmetic.{if_small, floor_rem}

@@ -1,10 +1,10 @@
 -- Entering blocks (methods are entered by an operation alone).
-use Rattle.std.specs.Prelude.{ℕ, ℤ, pos, ◌+◌, ◌-◌, ◌==◌, ◌&&◌, Bool, true, false, nat_le, if◌then◌else◌, List, [], ◌++◌, length, drop, Option, Some, None, is_some, option_and_then, slice_get, unwrap_or}
+use Rattle.std.specs.Prelude.{ℕ, ◌+◌, ◌==◌, ◌&&◌, Bool, false, nat_le, if◌then◌else◌, List, [], ◌++◌, length, drop, Option, Some, None, is_some, slice_get, unwrap_or}
 use Rattle.cs_model.specs.Ref.{Ref, Small, same_ref, index_of}
 use Rattle.cs_model.specs.Ref as ref
-use Rattle.cs_model.specs.Obj.{Obj, Context, Ptr, Raw, Method, Ctx, context_in, is_method, lies_in, header_in, context_size, words_of_slots, context_fields}
+use Rattle.cs_model.specs.Obj.{Obj, Context, Ptr, Raw, Method, Ctx, context_in, is_method, header_in, context_size, words_of_slots, context_fields}
 use Rattle.cs_model.specs.State.{Kept, object_of}
-use Rattle.cs_model.specs.Read.{active_birth, active_context, stack_of}
+use Rattle.cs_model.specs.Read.{active_birth}
 use Rattle.cs_model.specs.Operation.{nil_of, enter_with, last_values}
 use Rattle.cs_model.specs.Context.{closure_class, lies_if_index}
 use Rattle.cs_model.specs.declared.stop.Stop.TheVariants as why
@@ -81,5 +81,5 @@ context_words size = words_of_slots (context_fields + size)
 unfoldable pub enter_block_out : Kept → Ref → ℕ → Out
 enter_block_out k closure args =
     if nat_le (args + length (copied_values k closure)) (block_size k closure) then
-      made_context (context_words (block_size k closure)) (out ends.Entered (enter_block_of k closure args))
+    made_context (context_words (block_size k closure)) (out ends.Entered (enter_block_of k closure args))
     else stop why.StackOver k

@@ -1,12 +1,12 @@
 -- What each instruction does (V3PlusClosures; Blue Book, part four). The pc has been moved past it.
-use Rattle.std.specs.Prelude.{ℕ, ◌+◌, ◌-◌, ◌*◌, ◌<◌, ℤ, pos, negsuc, ◌+ℤ◌, ◌==◌, ◌&&◌, Bool, true, false, nat_lt, nat_le, if◌then◌else◌, List, [], ◌∷◌, ◌++◌, length, Option, Some, None, option_and_then, slice_get, unwrap_or}
+use Rattle.std.specs.Prelude.{ℕ, ◌+◌, ◌-◌, ◌*◌, ℤ, pos, negsuc, ◌+ℤ◌, ◌==◌, Bool, true, false, nat_lt, nat_le, if◌then◌else◌, List, ◌∷◌, length, Option, Some, None, option_and_then, slice_get, unwrap_or}
 use Rattle.cs_model.specs.declared.stop.Stop.TheVariants as why
 use Rattle.cs_model.specs.declared.instruction.Op.{Op}
 use Rattle.cs_model.specs.declared.instruction.Op.TheVariants as op
 use Rattle.cs_model.specs.Ref.{Ref, Small, same_ref, small_of, index_of}
 use Rattle.cs_model.specs.Ref as ref
-use Rattle.cs_model.specs.Obj.{Obj, Context, Ptr, Raw, Method, Ctx, slots_in, context_in, lies_in, words_of, words_of_slots}
-use Rattle.cs_model.specs.State.{Kept, object_at, object_of, slots_of, special_at, is_nil}
+use Rattle.cs_model.specs.Obj.{Obj, Context, Ptr, Raw, Method, Ctx, slots_in, lies_in, words_of_slots}
+use Rattle.cs_model.specs.State.{Kept, object_of, slots_of, special_at, is_nil}
 use Rattle.cs_model.specs.Read.{active_birth, active_context, stack_of, depth_of, size_of, pc_of, receiver_of, method_of, literals_of, from_top, class_of}
 use Rattle.cs_model.specs.Operation.{set_pc_of, push_of, drop_of, pop_of, set_stack_of, store_of, add_of, next_ref, nil_of, last_values, edit_object}
 use Rattle.cs_model.specs.Context.{context_get, accepts, context_put, closure_class}
@@ -57,7 +57,7 @@ is_active k x = same_ref x (ref.Obj (active_birth k))
 abbrev pub store_in_context : Kept → ℕ → Ref → Context → Out
 store_in_context k i v c =
     if nat_lt i (6 + length c.stack) then
-      (if accepts k (is_active k (receiver_of k)) c i v then done (context_put k (birth_or_zero (receiver_of k)) i v) else stop why.BadStore k)
+    (if accepts k (is_active k (receiver_of k)) c i v then done (context_put k (birth_or_zero (receiver_of k)) i v) else stop why.BadStore k)
     else stop why.BadField k
 
 abbrev pub store_field : Kept → ℕ → Ref → Option Obj → Out
@@ -249,7 +249,7 @@ new_array_out k n = with_array k n (λ t array. push_out t array)
 unfoldable pub pop_array_out : Kept → ℕ → Out
 pop_array_out k n =
     if nat_le n (depth_of k) then
-      with_array k n (λ t array. push_out (drop_of (fill_of t array (last_values n (stack_of k))) n) array)
+    with_array k n (λ t array. push_out (drop_of (fill_of t array (last_values n (stack_of k))) n) array)
     else stop why.StackUnder k
 
 -- ---- closures
@@ -263,8 +263,8 @@ unfoldable pub closure_out : Kept → ℕ → ℕ → ℕ → Out
 closure_out k copied args size =
     given (pc_after k (pos size)) (stop why.BadCode k) (λ pc.
     if nat_le copied (depth_of k) then
-      looked (made (words_of_slots (3 + copied))
-        (and_then (push_out (drop_of (add_of k (new_closure k copied args)) copied) (next_ref k)) (λ t. done (set_pc_of t pc))))
+    looked (made (words_of_slots (3 + copied))
+    (and_then (push_out (drop_of (add_of k (new_closure k copied args)) copied) (next_ref k)) (λ t. done (set_pc_of t pc))))
     else stop why.StackUnder k)
 
 -- ---- the table

@@ -1,11 +1,11 @@
 -- Making instances. A class has its superclass in slot 0, its method dictionary in slot 1, and in slot 2 the number
 -- format * 65536 + fields of its instances. Its identity hash is its index in the class table, as in Spur.
-use Rattle.std.specs.Prelude.{ℕ, zero, suc, ◌+◌, ◌-◌, ◌*◌, ◌/◌, ◌%◌, ◌==◌, ◌&&◌, ◌||◌, not, Bool, true, false, nat_le, nat_lt, if◌then◌else◌, List, [], length, replicate, Option, Some, None, is_some, option_and_then, slice_get}
+use Rattle.std.specs.Prelude.{ℕ, zero, suc, ◌+◌, ◌-◌, ◌*◌, ◌/◌, ◌%◌, ◌==◌, ◌&&◌, ◌||◌, not, Bool, false, nat_lt, if◌then◌else◌, [], replicate, Option, Some, None, is_some, option_and_then, slice_get}
 use Rattle.std.specs.FinMap.{FinMap, get, insert}
 use Rattle.std.specs.Ordering.{nat_cmp}
 use Rattle.cs_model.specs.Ref.{Ref, Small, Char, birth_of, index_of}
 use Rattle.cs_model.specs.Ref as ref
-use Rattle.cs_model.specs.Obj.{Obj, Context, Ptr, Raw, Method, Ctx, hash_in, context_class, words_of}
+use Rattle.cs_model.specs.Obj.{Obj, Context, Ptr, Raw, Ctx, hash_in, context_class, words_of}
 use Rattle.cs_model.specs.State.{Kept, Rest, with_rest, object_at, object_of, slots_of}
 use Rattle.cs_model.specs.Operation.{add_of, next_ref, nil_of, edit_object, with_hash}
 
@@ -112,8 +112,8 @@ make_with k class shape size NoIndex = NotInstantiable
 make_with k class shape size NoneFree = TableFull
 make_with k class shape size (IndexAt index) =
     if is_instance_index index size then
-      New (add_of (take_index k class index) (new_instance (nil_of k) index (shape / 65536) (shape % 65536) size)) (next_ref k)
-        (words_of (new_instance (nil_of k) index (shape / 65536) (shape % 65536) size))
+    New (add_of (take_index k class index) (new_instance (nil_of k) index (shape / 65536) (shape % 65536) size)) (next_ref k)
+    (words_of (new_instance (nil_of k) index (shape / 65536) (shape % 65536) size))
     else NotInstantiable
 
 abbrev pub make_shaped : Kept → Ref → ℕ → Option ℕ → Made
@@ -165,5 +165,5 @@ hash_of k x = if hash_or_zero (object_of k x) == 0 then next_hash k.rest.last_ha
 unfoldable pub hash_given : Kept → Ref → Kept
 hash_given k x =
     if hash_or_zero (object_of k x) == 0 then
-      with_rest (with_last_hash (next_hash k.rest.last_hash) k.rest) (edit_object k x (with_hash (next_hash k.rest.last_hash)))
+    with_rest (with_last_hash (next_hash k.rest.last_hash) k.rest) (edit_object k x (with_hash (next_hash k.rest.last_hash)))
     else k

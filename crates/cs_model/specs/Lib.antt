@@ -3,6 +3,10 @@ pub mod Obj
 pub mod State
 pub mod Keeps
 pub mod Read
+pub mod Words
+pub mod ImageFile
+pub mod ImageFault
+pub mod Image
 pub mod End
 pub mod Operation
 pub mod Context
@@ -29,6 +33,7 @@ pub mod Due
 pub mod Step
 pub mod Report
 pub mod Decode
+pub mod Assemble
 pub mod Built
 pub mod Line
 pub mod Alike

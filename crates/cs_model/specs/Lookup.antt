@@ -1,7 +1,7 @@
 -- Method lookup (Blue Book, part four: a class and its superclasses are searched, each by its method dictionary).
-use Rattle.std.specs.Prelude.{ℕ, zero, suc, pos, Bool, true, false, if◌then◌else◌, List, [], ◌∷◌, drop, Option, Some, None, is_some, option_and_then, slice_get, unwrap_or}
+use Rattle.std.specs.Prelude.{ℕ, zero, suc, pos, if◌then◌else◌, List, [], ◌∷◌, drop, Option, Some, None, is_some, option_and_then, slice_get, unwrap_or}
 use Rattle.cs_model.specs.Ref.{Ref, Small, same_ref}
-use Rattle.cs_model.specs.Obj.{Obj, is_method, slots_in}
+use Rattle.cs_model.specs.Obj.{is_method, slots_in}
 use Rattle.cs_model.specs.State.{Kept, object_of, slots_of}
 
 -- what a search finds: a method; nothing; or more classes than it goes through

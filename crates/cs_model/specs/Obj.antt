@@ -1,5 +1,5 @@
 -- Objects, and contexts among them (Blue Book, part four: a context is an object like others).
-use Rattle.std.specs.Prelude.{◌≡◌, ℕ, ◌+◌, ◌*◌, ◌/◌, ◌-◌, ◌%◌, ◌^◌, ◌==◌, ◌&&◌, Bool, true, false, nat_le, nat_lt, max, if◌then◌else◌, List, [], ◌∷◌, ◌++◌, length, take, Option, Some, None, slice_get, slice_set, ◌≡◌}
+use Rattle.std.specs.Prelude.{ℕ, ◌+◌, ◌*◌, ◌/◌, ◌-◌, ◌%◌, ◌^◌, ◌==◌, ◌&&◌, Bool, true, false, nat_le, nat_lt, max, if◌then◌else◌, List, [], ◌∷◌, ◌++◌, length, take, Option, Some, None, slice_set}
 use Rattle.cs_model.specs.Ref.{Ref}
 use Rattle.cs_model.specs.Ref as ref
 
@@ -192,4 +192,3 @@ header_in (Some (Ctx c)) = 0
 abbrev pub at_least : ℕ → Option (List Ref) → Option (List Ref)
 at_least n None = None
 at_least n (Some slots) = if nat_le n (length slots) then Some slots else None
-

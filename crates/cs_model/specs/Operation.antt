@@ -1,10 +1,9 @@
 -- The operations on the kept parts from which instructions, sends, returns and primitives are composed. Each is total:
 -- where its condition fails it leaves something that no definition uses.
-use Rattle.std.specs.Prelude.{ℕ, ◌+◌, ◌-◌, Bool, false, true, List, [], ◌∷◌, ◌++◌, length, take, drop, replicate, Option, Some, None, slice_get, slice_set, unwrap_or, option_and_then, if◌then◌else◌}
-use Rattle.std.specs.FinMap.{insert}
+use Rattle.std.specs.Prelude.{ℕ, ◌+◌, ◌-◌, Bool, List, [], ◌∷◌, ◌++◌, length, drop, replicate, Option, Some, None, slice_get, slice_set, unwrap_or, if◌then◌else◌}
 use Rattle.cs_model.specs.Ref.{Ref, birth_of}
 use Rattle.cs_model.specs.Ref as ref
-use Rattle.cs_model.specs.Obj.{Obj, Context, Ptr, Raw, Method, Ctx, first_pc, argument_count, temporary_count, context_size, context_in, literals_in, header_in, dead, with_pc, with_stack, pushed, popped, stored}
+use Rattle.cs_model.specs.Obj.{Obj, Context, Ptr, Raw, Method, Ctx, first_pc, temporary_count, context_size, literals_in, header_in, dead, with_pc, pushed, popped, stored}
 use Rattle.cs_model.specs.State.{Kept, Rest, put, with_rest, object_at, object_of}
 use Rattle.cs_model.specs.Read.{active_birth, active_context}
 

@@ -1,5 +1,5 @@
 -- Primitives on SmallIntegers, 1 to 17. Those on floats and large integers, 21 to 37 and 40 to 59, fail.
-use Rattle.std.specs.Prelude.{ℕ, Option, option_and_then}
+use Rattle.std.specs.Prelude.{ℕ, option_and_then}
 use Rattle.cs_model.specs.State.{Kept}
 use Rattle.cs_model.specs.Exec.{small_operands}
 use Rattle.cs_model.specs.Number.{number_result}

@@ -1,12 +1,11 @@
 -- Primitives on objects (Blue Book, part four: array and stream, storage management; the numbers are this machine's own).
-use Rattle.std.specs.Prelude.{ℕ, zero, suc, ℤ, pos, negsuc, ◌+◌, ◌-◌, ◌*◌, ◌/◌, ◌%◌, ◌==◌, ◌&&◌, ◌||◌, not, Bool, true, false, nat_lt, nat_le, if◌then◌else◌, List, [], ◌∷◌, length, replicate, Option, Some, None, is_some, option_map, option_and_then, slice_get, unwrap_or}
+use Rattle.std.specs.Prelude.{ℕ, zero, suc, pos, negsuc, ◌+◌, ◌-◌, ◌/◌, ◌%◌, ◌==◌, ◌&&◌, ◌||◌, not, Bool, true, false, nat_lt, nat_le, if◌then◌else◌, List, [], ◌∷◌, length, replicate, Option, Some, None, is_some, option_map, option_and_then, slice_get, unwrap_or}
 use Rattle.std.specs.FinMap.{get}
-use Rattle.cs_model.specs.declared.stop.Stop.TheVariants as why
 use Rattle.cs_model.specs.Ref.{Ref, Small, Char, birth_of, index_of, same_ref}
 use Rattle.cs_model.specs.Ref as ref
-use Rattle.cs_model.specs.Obj.{Obj, Context, Ptr, Raw, Method, Ctx, class_index_in, context_class, context_fields, hash_in, is_context, is_header, literal_count, slots_in, context_in, words_of}
+use Rattle.cs_model.specs.Obj.{Obj, Context, Ptr, Raw, Method, Ctx, class_index_in, context_class, hash_in, is_context, is_header, literal_count, words_of}
 use Rattle.cs_model.specs.State.{Kept, object_at, object_of, slots_of, special_at}
-use Rattle.cs_model.specs.Read.{class_of, active_birth, depth_of}
+use Rattle.cs_model.specs.Read.{class_of}
 use Rattle.cs_model.specs.Operation.{store_of, store_byte_of, add_of, next_ref, nil_of}
 use Rattle.cs_model.specs.Context.{context_get, accepts, context_put}
 use Rattle.cs_model.specs.Number.{boolean}
@@ -14,8 +13,7 @@ use Rattle.cs_model.specs.Instance.{Made, New, NotInstantiable, TableFull, insta
 use Rattle.cs_model.specs.Element.{Range, range_of, place_of, element_at, with_element, copy_elements}
 use Rattle.cs_model.specs.Exec.{fill_of, is_active, small_operands}
 use Rattle.cs_model.specs.PrimAnswer.{fail, answer, answer_if, receiver, argument, with_count}
-use Rattle.cs_model.specs.End.{Out, out, stop, given, made, looked}
-use Rattle.cs_model.specs.End as ends
+use Rattle.cs_model.specs.End.{Out, stop, given, made, looked}
 
 -- ---- 60 to 64: elements
 
@@ -71,8 +69,8 @@ byte_code (ref.Obj i) = None
 unfoldable pub char_at_put_prim : Kept → ℕ → Out
 char_at_put_prim k args = with_count k 2 args
     (if is_bytes k (receiver k 2) then
-      answer_in (option_and_then (λ place. option_map (λ b. store_byte_of k (receiver k 2) place b) (byte_code (argument k 2 1))) (place_of k (receiver k 2) (argument k 2 0)))
-        k 2 (argument k 2 1)
+    answer_in (option_and_then (λ place. option_map (λ b. store_byte_of k (receiver k 2) place b) (byte_code (argument k 2 1))) (place_of k (receiver k 2) (argument k 2 0)))
+    k 2 (argument k 2 1)
     else fail k)
 
 -- ---- 68, 69: literals of a method; 1 is the header
@@ -218,7 +216,7 @@ make_method k class count header NoIndex = fail k
 make_method k class count header NoneFree = fail k
 make_method k class count header (IndexAt index) =
     if is_method_index index then
-      made (words_of (method_of k index count header)) (answer (add_of (take_index k class index) (method_of k index count header)) 2 (next_ref k))
+    made (words_of (method_of k index count header)) (answer (add_of (take_index k class index) (method_of k index count header)) 2 (next_ref k))
     else fail k
 
 abbrev pub is_method_shape : Option ℕ → Bool
@@ -230,7 +228,7 @@ new_method_prim k args = with_count k 2 args
     (given (index_of (argument k 2 0)) (fail k) (λ count.
     given (index_of (argument k 2 1)) (fail k) (λ header.
     if is_method_shape (shape_of k (receiver k 2)) && is_header header then
-      make_method k (receiver k 2) count header (class_index_for k (receiver k 2))
+    make_method k (receiver k 2) count header (class_index_for k (receiver k 2))
     else fail k)))
 
 -- ---- 105: copying elements

@@ -1,14 +1,13 @@
 -- Primitives on processes and semaphores (Blue Book, part four: process primitives). A primitive answers first and switches
 -- afterwards, in the same step.
-use Rattle.std.specs.Prelude.{ℕ, ◌==◌, ◌&&◌, not, Bool, true, false, if◌then◌else◌, List, Option, Some, None, is_some, option_and_then, slice_get}
+use Rattle.std.specs.Prelude.{ℕ, ◌&&◌, Bool, false, if◌then◌else◌, Option, Some, None}
 use Rattle.cs_model.specs.declared.stop.Stop.TheVariants as why
 use Rattle.cs_model.specs.Ref.{Ref, same_ref}
-use Rattle.cs_model.specs.Obj.{context_in}
-use Rattle.cs_model.specs.State.{Kept, object_of, slots_of, special_at, is_nil, active_process}
+use Rattle.cs_model.specs.State.{Kept, special_at, is_nil, active_process}
 use Rattle.cs_model.specs.Read.{class_of}
 use Rattle.cs_model.specs.Operation.{nil_of}
 use Rattle.cs_model.specs.Return.{context_birth, is_live}
-use Rattle.cs_model.specs.Process.{process_slots, suspended_context, my_list, slot_or_none, list_slots, first_link, signal, wait, resume, suspend, suspend_active, suspend_other, give_way}
+use Rattle.cs_model.specs.Process.{process_slots, suspended_context, my_list, slot_or_none, signal, wait, resume, suspend_active, suspend_other, give_way}
 use Rattle.cs_model.specs.PrimAnswer.{fail, answer, receiver, with_count}
 use Rattle.cs_model.specs.End.{Out, out, stop, done, given, is_done, counting}
 use Rattle.cs_model.specs.End as ends
@@ -48,8 +47,8 @@ is_suspended k (Some context) (Some list) = is_nil k list && is_live_at k (conte
 unfoldable pub resume_prim : Kept → ℕ → Out
 resume_prim k args = with_count k 0 args
     (if is_suspended k (slot_or_none k process_slots suspended_context (receiver k 0)) (slot_or_none k process_slots my_list (receiver k 0)) then
-      given (active_process k) (stop why.BadSpecial k) (λ running.
-      if same_ref running (receiver k 0) then fail k else answered (resume (answer k 0 (receiver k 0)).state (receiver k 0)))
+    given (active_process k) (stop why.BadSpecial k) (λ running.
+    if same_ref running (receiver k 0) then fail k else answered (resume (answer k 0 (receiver k 0)).state (receiver k 0)))
     else fail k)
 
 -- the active process answers nil and stops; another one answers the list that it leaves

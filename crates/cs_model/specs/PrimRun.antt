@@ -1,7 +1,6 @@
 -- Primitives on the run: snapshots, the end, the clock, the timer, output and input. They see the whole state.
-use Rattle.std.specs.Prelude.{ℕ, ℤ, pos, ◌+◌, ◌==◌, ◌&&◌, ◌||◌, not, Bool, true, false, int_lt, nat_lt, if◌then◌else◌, List, [], ◌∷◌, ◌++◌, Option, Some, None, is_some, option_and_then}
+use Rattle.std.specs.Prelude.{ℕ, ℤ, ◌==◌, ◌||◌, true, false, int_lt, nat_lt, if◌then◌else◌, List, [], ◌∷◌, ◌++◌, Option, Some, None}
 use Rattle.cs_model.specs.Ref.{Ref, Small, small_of, index_of}
-use Rattle.cs_model.specs.Obj.{Obj}
 use Rattle.cs_model.specs.State.{Kept, Run, State, Timer, object_of, is_nil, active_process}
 use Rattle.cs_model.specs.Operation.{store_of, nil_of}
 use Rattle.cs_model.specs.Number.{boolean}
@@ -46,8 +45,11 @@ with_end e o = record o { end = e }
 unfoldable pub snapshot_prim : State → ℕ → Result
 snapshot_prim s args = counted s 0 args
     (if s.run.snapping then
-      record { out = with_end ends.Snapshot (answer (forgotten s.kept) 0 (boolean s.kept false)); run = s.run;
-        snapshot = Some (settle_kept (answer s.kept 0 (boolean s.kept true)).state) }
+    record {
+      out = with_end ends.Snapshot (answer (forgotten s.kept) 0 (boolean s.kept false));
+      run = s.run;
+      snapshot = Some (settle_kept (answer s.kept 0 (boolean s.kept true)).state);
+    }
     else fails s)
 
 -- ---- 113: the run ends, and the receiver is answered
@@ -74,7 +76,7 @@ unfoldable pub timer_prim : State → ℕ → Result
 timer_prim s args = counted s 2 args
     (given (small_of (argument s.kept 2 1)) (fails s) (λ moment.
     if is_nil s.kept (argument s.kept 2 0) || is_semaphore s.kept (argument s.kept 2 0) then
-      arm s (answer s.kept 2 (receiver s.kept 2)).state (argument s.kept 2 0) moment
+    arm s (answer s.kept 2 (receiver s.kept 2)).state (argument s.kept 2 0) moment
     else fails s))
 
 -- ---- 900: output; 901: input

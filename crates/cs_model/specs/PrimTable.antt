@@ -1,5 +1,5 @@
 -- The table of primitives. A number that isn't listed fails.
-use Rattle.std.specs.Prelude.{ℕ, ◌==◌, ◌&&◌, ◌||◌, Bool, nat_lt, nat_le, if◌then◌else◌, Option, Some, None}
+use Rattle.std.specs.Prelude.{ℕ, ◌==◌, ◌&&◌, ◌||◌, Bool, nat_lt, nat_le, if◌then◌else◌}
 use Rattle.cs_model.specs.State.{Kept, State}
 use Rattle.cs_model.specs.Send.{perform, perform_with_arguments, execute_method}
 use Rattle.cs_model.specs.PrimAnswer.{fail, with_count}
@@ -8,7 +8,7 @@ use Rattle.cs_model.specs.PrimObject.{at_prim, at_put_prim, size_prim, char_at_p
 use Rattle.cs_model.specs.PrimContext.{stack_at_prim, stack_at_put_prim, stackp_prim}
 use Rattle.cs_model.specs.PrimUnwind.{evaluate_prim, evaluate_array_prim, unwind_mark_prim, end_between_prim, handler_mark_prim}
 use Rattle.cs_model.specs.PrimProcess.{signal_prim, wait_prim, resume_prim, suspend_prim, yield_prim}
-use Rattle.cs_model.specs.PrimRun.{Result, result, fails, snapshot_prim, quit_prim, clock_prim, timer_prim, write_prim, read_prim}
+use Rattle.cs_model.specs.PrimRun.{Result, result, snapshot_prim, quit_prim, clock_prim, timer_prim, write_prim, read_prim}
 use Rattle.cs_model.specs.End.{Out}
 
 abbrev pub object_prim : ℕ → ℕ → Kept → Out

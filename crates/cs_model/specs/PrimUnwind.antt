@@ -1,18 +1,17 @@
 -- Primitives that evaluate closures, and those that look along senders for marks.
-use Rattle.std.specs.Prelude.{ℕ, zero, suc, ◌+◌, ◌-◌, ◌==◌, ◌&&◌, ◌||◌, not, Bool, true, false, nat_lt, nat_le, if◌then◌else◌, List, [], ◌∷◌, length, Option, Some, None, is_some, option_and_then}
+use Rattle.std.specs.Prelude.{ℕ, zero, suc, ◌==◌, ◌||◌, Bool, false, if◌then◌else◌, List, [], length, Option, Some, None, is_some}
 use Rattle.cs_model.specs.declared.stop.Stop.TheVariants as why
 use Rattle.cs_model.specs.Ref.{Ref, birth_of}
 use Rattle.cs_model.specs.Ref as ref
-use Rattle.cs_model.specs.Obj.{Obj, Context, context_in, edit_context}
+use Rattle.cs_model.specs.Obj.{Context, context_in, edit_context}
 use Rattle.cs_model.specs.State.{Kept, object_at, object_of, is_nil}
 use Rattle.cs_model.specs.Read.{active_birth}
 use Rattle.cs_model.specs.Operation.{nil_of, edit_found, kill_all}
 use Rattle.cs_model.specs.Enter.{can_evaluate, enter_block_out}
 use Rattle.cs_model.specs.Send.{elements_fitting, spread_of}
-use Rattle.cs_model.specs.Return.{Search, Met, Ended, TooLong, senders_to, sender_birth, search_senders, links, context_birth, is_among, is_marked, first_marked, unwind_mark, handler_mark}
+use Rattle.cs_model.specs.Return.{Search, Met, Ended, TooLong, senders_to, sender_birth, links, context_birth, is_among, is_marked, unwind_mark, handler_mark}
 use Rattle.cs_model.specs.PrimAnswer.{fail, answer, receiver, argument, with_count}
-use Rattle.cs_model.specs.End.{Out, out, stop, given, looked}
-use Rattle.cs_model.specs.End as ends
+use Rattle.cs_model.specs.End.{Out, stop, given, looked}
 
 -- ---- 201 to 205, 221 and 222 evaluate a closure with 0 to 4, 0 and 1 arguments; 206 with an Array of them
 

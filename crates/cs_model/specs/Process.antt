@@ -6,12 +6,12 @@
 -- where they are needed. Nothing keeps apart what these names stand for: a list may be the scheduler itself. So each
 -- definition reads the active process once, before anything is written; it keeps its context, then the links change, and then
 -- the other process starts.
-use Rattle.std.specs.Prelude.{ℕ, zero, suc, ℤ, pos, negsuc, ◌+◌, ◌-◌, ◌+ℤ◌, ◌-ℤ◌, ◌==◌, ◌&&◌, not, Bool, true, false, int_lt, nat_lt, nat_le, if◌then◌else◌, List, [], ◌∷◌, length, Option, Some, None, is_some, option_and_then, slice_get, unwrap_or}
+use Rattle.std.specs.Prelude.{ℕ, zero, suc, ℤ, pos, ◌+ℤ◌, ◌-ℤ◌, Bool, false, int_lt, if◌then◌else◌, List, [], ◌∷◌, Option, Some, None, is_some, option_and_then, slice_get, unwrap_or}
 use Rattle.cs_model.specs.declared.stop.Stop.TheVariants as why
 use Rattle.cs_model.specs.Ref.{Ref, Small, Char, birth_of, same_ref, small_of, index_of}
 use Rattle.cs_model.specs.Ref as ref
-use Rattle.cs_model.specs.Obj.{Obj, Context, context_in, slots_in}
-use Rattle.cs_model.specs.State.{Kept, object_at, object_of, slots_of, is_nil, scheduler_of, active_process}
+use Rattle.cs_model.specs.Obj.{slots_in}
+use Rattle.cs_model.specs.State.{Kept, object_of, slots_of, is_nil, scheduler_of, active_process}
 use Rattle.cs_model.specs.Read.{active_birth}
 use Rattle.cs_model.specs.Operation.{store_of, resume_of, suspend_of, nil_of}
 use Rattle.cs_model.specs.Return.{context_birth, is_live}
@@ -82,7 +82,7 @@ if_list k list = if is_some (slots_of k list_slots list) then Some list else Non
 unfoldable pub list_of_process : Kept → Ref → Ref → Option Ref
 list_of_process k scheduler p =
     option_and_then (λ lists. option_and_then (λ list. if_list k list)
-      (list_at lists (option_and_then (λ x. index_of x) (slot_or_none k process_slots priority p))))
+    (list_at lists (option_and_then (λ x. index_of x) (slot_or_none k process_slots priority p))))
     (lists_of k scheduler)
 
 abbrev pub with_list_of : Kept → Ref → (Ref → Out) → Out
@@ -197,11 +197,11 @@ preempt k running p =
 unfoldable pub resume : Kept → Ref → Out
 resume k p =
     if is_some (slots_of k process_slots p) then
-      with_active_process k (λ running.
-      if is_nil k running then start k p else
-      with_priority k p (λ mine.
-      with_priority k running (λ its.
-      if int_lt its mine then preempt k running p else with_list_of k p (λ list. add_last k list p))))
+    with_active_process k (λ running.
+    if is_nil k running then start k p else
+    with_priority k p (λ mine.
+    with_priority k running (λ its.
+    if int_lt its mine then preempt k running p else with_list_of k p (λ list. add_last k list p))))
     else stop why.BadProcess k
 
 -- one more excess signal, if that is still a SmallInteger
@@ -222,7 +222,7 @@ abbrev pub wait_behind : Kept → Ref → Out
 wait_behind k semaphore =
     with_active_process k (λ running.
     if is_some (slots_of k process_slots running) then
-      looked (and_then (add_last (stop_running k running) semaphore running) (λ t. start_next t))
+    looked (and_then (add_last (stop_running k running) semaphore running) (λ t. start_next t))
     else stop why.BadProcess k)
 
 -- an excess signal is taken, or the process waits
@@ -253,7 +253,7 @@ find_link zero k p before (Some link) = if is_nil k link then NotThere else TooF
 find_link (suc n) k p before (Some link) =
     if is_nil k link then NotThere else
     if is_some (slots_of k process_slots link) then
-      (if same_ref link p then At before else find_link n k p (Some link) (slot_or_none k process_slots next_link link))
+    (if same_ref link p then At before else find_link n k p (Some link) (slot_or_none k process_slots next_link link))
     else NoProcess
 
 -- a process that isn't active leaves its list

@@ -1,5 +1,5 @@
 -- What is read of a state: objects by reference, special objects, the active context and its method.
-use Rattle.std.specs.Prelude.{◌≡◌, ℕ, ℤ, pos, ◌+◌, ◌-◌, ◌*◌, Bool, true, false, ◌&&◌, nat_le, nat_lt, if◌then◌else◌, List, [], ◌∷◌, length, Option, Some, None, unwrap_or, is_some, option_map, option_and_then, slice_get}
+use Rattle.std.specs.Prelude.{◌≡◌, ℕ, pos, ◌+◌, ◌-◌, true, nat_lt, if◌then◌else◌, List, [], length, Option, Some, None, unwrap_or, option_map, slice_get}
 use Rattle.std.specs.FinMap.{get}
 use Rattle.cs_model.specs.Ref.{Ref, Small, Char}
 use Rattle.cs_model.specs.Ref as ref

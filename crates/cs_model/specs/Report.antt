@@ -1,12 +1,10 @@
 -- The report of a run: one line feed and one line.
-use Rattle.std.specs.Prelude.{ℕ, if◌then◌else◌, List, ◌++◌, Option, Some, None, option_map, option_and_then, codes, decimal}
+use Rattle.std.specs.Prelude.{ℕ, if◌then◌else◌, List, ◌++◌, Option, Some, None, codes, decimal}
 use Rattle.cs_model.specs.declared.stop.Stop.{Stop}
 use Rattle.cs_model.specs.declared.stop.Stop.TheVariants as why
 use Rattle.cs_model.specs.Ref.{Ref, birth_of}
-use Rattle.cs_model.specs.Obj.{context_in}
-use Rattle.cs_model.specs.State.{Kept, State, is_nil, active_process, object_at}
-use Rattle.cs_model.specs.Read.{active_birth, active_context}
-use Rattle.cs_model.specs.Due.{is_idle}
+use Rattle.cs_model.specs.State.{Kept, State, is_nil, active_process}
+use Rattle.cs_model.specs.Read.{active_context}
 use Rattle.cs_model.specs.Step.{Ending, Steps, Quit, Idle, Stopped}
 
 abbrev pub reason_text : Stop → List ℕ

@@ -1,13 +1,13 @@
 -- Returns: to the sender, from a block to the sender of its home, past marks and into the dead (Blue Book, part four: return
 -- bytecodes; unwinding in this machine's own order).
-use Rattle.std.specs.Prelude.{ℕ, zero, suc, ◌==◌, ◌&&◌, Bool, true, false, nat_lt, if◌then◌else◌, List, [], ◌∷◌, ◌++◌, length, not, Option, Some, None, is_some, option_and_then, slice_get, unwrap_or}
+use Rattle.std.specs.Prelude.{ℕ, zero, suc, ◌==◌, ◌&&◌, Bool, false, nat_lt, if◌then◌else◌, List, [], ◌∷◌, ◌++◌, length, not, Option, Some, None, is_some, option_and_then, slice_get}
 use Rattle.std.specs.List.{list_any}
 use Rattle.cs_model.specs.declared.stop.Stop.TheVariants as why
 use Rattle.cs_model.specs.Ref.{Ref, Small, Char, birth_of, same_ref}
 use Rattle.cs_model.specs.Ref as ref
-use Rattle.cs_model.specs.Obj.{Obj, Context, Ptr, Raw, Method, Ctx, slots_in, context_in, bytecodes_in, header_in, primitive_number}
+use Rattle.cs_model.specs.Obj.{Obj, Context, slots_in, context_in, bytecodes_in, header_in, primitive_number}
 use Rattle.cs_model.specs.State.{Kept, object_at, object_of, is_nil}
-use Rattle.cs_model.specs.Read.{active_birth, active_context}
+use Rattle.cs_model.specs.Read.{active_birth}
 use Rattle.cs_model.specs.Operation.{cut_to_of}
 use Rattle.cs_model.specs.Exec.{push_out}
 use Rattle.cs_model.specs.End.{Out, out, stop, done, given, looked, and_then}
@@ -145,7 +145,7 @@ abbrev pub arrive : Kept → Ref → List ℕ → Option ℕ → Out
 arrive k value dying None = cannot_return_out k value
 arrive k value dying (Some target) =
     if is_live k target && not (is_among target dying) then
-      (if has_room (context_in (object_at k target)) then done (cut_to_of k dying target value) else stop why.StackOver k)
+    (if has_room (context_in (object_at k target)) then done (cut_to_of k dying target value) else stop why.StackOver k)
     else cannot_return_out k value
 
 -- to the sender of the active context, which dies

@@ -1,12 +1,11 @@
 -- Sends: lookup, the primitive of a method, its activation, and doesNotUnderstand: (Blue Book, part four: message sending).
-use Rattle.std.specs.Prelude.{ℕ, pos, ◌+◌, ◌-◌, ◌==◌, ◌&&◌, ◌||◌, not, Bool, true, false, nat_lt, nat_le, if◌then◌else◌, List, [], ◌∷◌, ◌++◌, length, take, drop, Option, Some, None, is_some, option_and_then, slice_get, unwrap_or}
+use Rattle.std.specs.Prelude.{ℕ, ◌+◌, ◌-◌, ◌==◌, ◌&&◌, Bool, false, nat_lt, nat_le, if◌then◌else◌, List, [], ◌∷◌, ◌++◌, length, take, Option, Some, None, option_and_then, slice_get, unwrap_or}
 use Rattle.cs_model.specs.declared.stop.Stop.TheVariants as why
-use Rattle.cs_model.specs.Ref.{Ref, Small}
-use Rattle.cs_model.specs.Ref as ref
-use Rattle.cs_model.specs.Obj.{Obj, Context, Ptr, Raw, Method, Ctx, slots_in, header_in, bytecodes_in, primitive_number, argument_count, context_size, with_stack, is_method}
+use Rattle.cs_model.specs.Ref.{Ref}
+use Rattle.cs_model.specs.Obj.{Obj, Ptr, Raw, Method, Ctx, header_in, bytecodes_in, primitive_number, argument_count, context_size, with_stack, is_method}
 use Rattle.cs_model.specs.State.{Kept, object_of, slots_of, special_at}
-use Rattle.cs_model.specs.Read.{active_context, stack_of, depth_of, size_of, from_top, class_of}
-use Rattle.cs_model.specs.Operation.{push_of, drop_of, enter_of, edit_active, nil_of, last_values, receiver_below, store_of}
+use Rattle.cs_model.specs.Read.{stack_of, depth_of, size_of, from_top, class_of}
+use Rattle.cs_model.specs.Operation.{drop_of, enter_of, edit_active, nil_of, last_values, receiver_below}
 use Rattle.cs_model.specs.Lookup.{Sought, lookup}
 use Rattle.cs_model.specs.Lookup as sought
 use Rattle.cs_model.specs.Instance.{Made, New, NotInstantiable, TableFull, instantiate}
@@ -37,7 +36,7 @@ offer k method args (Some number) = out (ends.Primitive method number) k
 unfoldable pub invoke : Kept → Ref → ℕ → Out
 invoke k method args =
     if argument_count (header_in (object_of k method)) == args then
-      offer k method args (primitive_number (header_in (object_of k method)) (bytecodes_in (object_of k method)))
+    offer k method args (primitive_number (header_in (object_of k method)) (bytecodes_in (object_of k method)))
     else stop why.BadArgs k
 
 -- ---- what isn't understood

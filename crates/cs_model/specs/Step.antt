@@ -1,5 +1,5 @@
 -- One step of the machine: the events that are due, and one bytecode with all that it leads to. A run is a number of steps.
-use Rattle.std.specs.Prelude.{ℕ, zero, suc, ◌+◌, ◌-◌, ◌==◌, ◌&&◌, Bool, true, false, not, nat_lt, if◌then◌else◌, List, [], ◌∷◌, ◌++◌, Option, Some, None, is_some}
+use Rattle.std.specs.Prelude.{ℕ, zero, suc, ◌+◌, ◌-◌, ◌&&◌, Bool, true, false, not, nat_lt, if◌then◌else◌, List, [], ◌∷◌, ◌++◌, Option, Some, None, is_some}
 use Rattle.cs_model.specs.declared.stop.Stop.{Stop}
 use Rattle.cs_model.specs.declared.stop.Stop.TheVariants as why
 use Rattle.cs_model.specs.declared.instruction.Instr.{Instr}
@@ -142,8 +142,8 @@ do_return r k value local = returned r (back k value local)
 abbrev pub followed : Run → Out → Result
 followed r o =
     given (message_in o.end)
-      (given (return_in o.end) (result o r) (λ p. counting o.count (do_return r o.state p.0 p.1)))
-      (λ m. counting o.count (do_send r o.state m.selector m.args m.above))
+    (given (return_in o.end) (result o r) (λ p. counting o.count (do_return r o.state p.0 p.1)))
+    (λ m. counting o.count (do_send r o.state m.selector m.args m.above))
 
 -- the instruction at the active pc
 unfoldable pub instruction_at : Kept → Option Instr

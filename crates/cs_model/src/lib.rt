@@ -5,6 +5,7 @@
 
 mod event;
 mod instruction;
+pub mod laws;
 mod stop;
 
 pub use event::{Event, EventKind};

@@ -1,3 +1,6 @@
 mod Active
-mod Written
 mod Slots
+mod Edits
+mod Written
+mod Writing
+mod Storing

@@ -15,50 +15,53 @@ use Rattle.cs_model.specs.State as state
 use Rattle.cs_model.specs.State.{Kept}
 use Rattle.cs_model.specs.Read.{IsRunning, active_birth, active_context, method_of, pc_of}
 use Rattle.cs_model.specs.Operation.{edit_active, edit_found, edit_object}
+use Rattle.cs_acts.specs.Names.{KeepsNames}
 use Rattle.cs_acts.specs.Ready.{IsReady}
 use Rattle.cs_acts.proofs.Running.{running-edit}
 use Rattle.cs_plain.specs.declared.PlainWorld.{PlainWorld}
 use Rattle.cs_plain.specs.View.{active_in, birth_at, stored_of, view_of}
 use Rattle.cs_plain.proofs.Active.{Active, sound_world}
+use Rattle.cs_plain.proofs.Edits.{Edited}
 
 -- the world with other objects in its heap
 abbrev pub with_objects : PlainWorld → List Object → PlainWorld
 with_objects w us = record w { heap = record w.heap { objects = us } }
 
--- the births at all addresses stay
-abbrev pub SameBirths : List Object → List Object → Type 0
-SameBirths os us = (a : Oop) → birth_at us a ≡ birth_at os a
-
 -- an edit of the active context by its reference
 edit_object-active : (k : Kept) (g : Context → Context) → IsRunning k → edit_object k (ref.Obj (active_birth k)) (edit_context g) ≡ edit_active k g
 edit_object-active k g running = ap (λ o. edit_found (edit_context g) (active_birth k) o k) running.found
 
--- the active context was written: the state is edited, and the world is ready
+-- the active context was written: the state is edited, the world is ready, and words mean what they meant
 pub record Written (w v : PlainWorld) (g : Context → Context) : Type 0 where
   pub view : view_of v ≡ edit_active (view_of w) g
   pub ready : IsReady (stored_of v) (view_of v)
+  pub names : KeepsNames (stored_of w) (stored_of v)
 
-active-same : (os us : List Object) (active : Option Oop) → SameBirths os us → active_in us active ≡ active_in os active
+pub keeps_names : (w : PlainWorld) (us : List Object) → Edited w.heap.objects us → KeepsNames (stored_of w) (stored_of (with_objects w us))
+keeps_names w us same = λ o named. record { sound = ap (λ p. p o.0) same.sound ∙ named; is = ap (λ r. r o.0) same.refers }
+
+pub active-same : (os us : List Object) (active : Option Oop) → Edited os us → active_in us active ≡ active_in os active
 active-same os us None same = refl
-active-same os us (Some a) same = same a
+active-same os us (Some a) same = same.births a
 
 pub written : (w : PlainWorld) (a : Oop) (x : Object) (us : List Object) (g : Context → Context) (pc : ℕ)
     → IsReady (stored_of w) (view_of w) → Active w a x
     → Does w.heap.objects us w.classes w.roots (λ k. edit_object k (ref_of w.heap.objects a.0) (edit_context g))
-    → SameBirths w.heap.objects us → used us ≡ used w.heap.objects
+    → Edited w.heap.objects us
     → (g (active_context (view_of w))).pc ≡ Some pc → (g (active_context (view_of w))).method ≡ (active_context (view_of w)).method
     → lies_in (method_of (view_of w)) pc ≡ true
     → Written w (with_objects w us) g
-written w a x us g pc ready active does same words at method lies =
+written w a x us g pc ready active does same at method lies =
     let os = w.heap.objects in
     let name : ref_of os a.0 ≡ ref.Obj (active_birth (view_of w)) = ref_of-object os a.0 (is_object-object_at os a.0 x active.there) ∙ ap (λ b. ref.Obj b) (sym active.birth) in
     let view : view_of (with_objects w us) ≡ edit_active (view_of w) g =
-        ap (kept_of us w.classes w.roots) (active-same os us w.active same) ∙ does.kept (active_in os w.active)
-        ∙ ap (λ r. edit_object (view_of w) r (edit_context g)) name ∙ edit_object-active (view_of w) g ready.running in
+    ap (kept_of us w.classes w.roots) (active-same os us w.active same) ∙ does.kept (active_in os w.active)
+    ∙ ap (λ r. edit_object (view_of w) r (edit_context g)) name ∙ edit_object-active (view_of w) g ready.running in
     record {
       view = view;
       ready = record {
-        sound = sound_world (with_objects w us) does.whole (subst (λ n. n ≤ w.heap.limit) (sym words) ready.sound.holds.within) ready.sound.holds.most;
+        sound = sound_world (with_objects w us) does.whole (subst (λ n. n ≤ w.heap.limit) (sym same.words) ready.sound.holds.within) ready.sound.holds.most;
         running = subst IsRunning (sym view) (running-edit (view_of w) g pc ready.running at method lies);
       };
+      names = keeps_names w us same;
     }

@@ -1,0 +1,11 @@
+pub mod Words
+pub mod Stacks
+pub mod Pages
+pub mod Ends
+pub mod Calls
+pub mod Walks
+pub mod Empties
+pub mod Builds
+pub mod PageLaws
+pub mod Values
+pub mod Links

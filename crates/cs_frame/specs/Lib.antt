@@ -1,0 +1,4 @@
+pub mod Frame
+pub mod Page
+pub mod Layout
+pub mod Written

@@ -1,0 +1,66 @@
+use Rattle.std.proofs.Common.{◌≡◌, ℕ, Bool, false, Option, Some, None, Result, Ok, Err, Vec, Global, length, ap, sym, subst, ◌∙◌, arith}
+use Rattle.std.specs.Prelude.{⊤}
+use Rattle.std.specs.Option.{option_or}
+use Rattle.cs_image.specs.Loading.{addresses_of}
+use Rattle.std.proofs.lemmas.Result.{err_from_is_err_and}
+use Rattle.cs_classes.specs.declared.Loaded.{Loaded}
+use Rattle.cs_model.specs.ImageFile.{File, cut_of, file_of, special_address, visible, words_in}
+use Rattle.cs_model.specs.ImageFault.{ImageFault, bad_object, is_over, is_bad_births}
+use Rattle.cs_model.specs.ImageFault as fault
+use Rattle.cs_model.specs.Image.{at_word, fault_of, when}
+use Rattle.cs_image.specs.Answer.{HasBirthSection, header_fault, objects_fault}
+use Rattle.cs_image.proofs.Faults.{fault_of-parts, told_as, after_header, after_objects, after_room, no_fault}
+use Rattle.cs_image.proofs.load.Goals as goal
+
+pub returns-in_err-check_header-clause-fault : goal.returns-in_err-check_header-clause-fault
+returns-in_err-check_header-clause-fault c =
+    let p = err_from_is_err_and c.from_residual.result c.from_residual.ensures.1 in
+    told_as {X = Unit {0}} (HasBirthSection c.args.bytes.now) (λ _. ⊤) (λ _. ⊤) (fault_of c.args.bytes.now c.args.limit_words) (header_fault c.args.bytes.now) _
+    c.in_err-check_header.field-0.0 p.0 c.from_residual.result (fault_of-parts c.args.bytes.now c.args.limit_words) c.in_err-check_header.ensures p.1 p.2
+
+pub returns-in_err-file-clause-fault : goal.returns-in_err-file-clause-fault
+returns-in_err-file-clause-fault c =
+    let p = err_from_is_err_and c.from_residual-in_err-file.result c.from_residual-in_err-file.ensures.1 in
+    told_as (HasBirthSection c.args.bytes.now) (λ file. file ≡ file_of c.args.bytes.now) (λ _. ⊤) (fault_of c.args.bytes.now c.args.limit_words)
+    (at_word fault.BadObject (bad_object (cut_of (words_in c.args.bytes.now)))) _
+    c.in_err-file.field-0.0 p.0 c.from_residual-in_err-file.result (after_header c.args.bytes.now c.args.limit_words c.in_ok-check_header.ensures.0) c.in_err-file.ensures p.1 p.2
+
+pub returns-in_err-addresses-clause-fault : goal.returns-in_err-addresses-clause-fault
+returns-in_err-addresses-clause-fault c =
+    let p = err_from_is_err_and c.from_residual-in_err-addresses.result c.from_residual-in_err-addresses.ensures.1 in
+    let same : c.in_ok-file.file ≡ file_of c.args.bytes.now = c.in_ok-file.ensures.1 in
+    told_as {X = Vec ℕ Global} (HasBirthSection c.args.bytes.now) (λ v. v.items ≡ addresses_of c.in_ok-file.file.objects 0) (λ _. ⊤) (fault_of c.args.bytes.now c.args.limit_words)
+    (when (is_over c.in_ok-file.file c.args.limit_words) fault.OverLimit) _
+    c.in_err-addresses.field-0.0 p.0 c.from_residual-in_err-addresses.result
+    (after_objects c.args.bytes.now c.args.limit_words c.in_ok-check_header.ensures.0 c.in_ok-file.ensures.0
+      ∙ ap (λ (f : File). option_or (when (is_over f c.args.limit_words) fault.OverLimit)
+        (option_or (objects_fault (file_of c.args.bytes.now) (special_address c.args.bytes.now))
+        (option_or (when (is_bad_births c.args.bytes.now (length (visible (file_of c.args.bytes.now)))) fault.BadBirths) None))) (sym same))
+    c.in_err-addresses.ensures p.1 p.2
+
+room : (f g : File) (limit : ℕ) → f ≡ g → when (is_over f limit) fault.OverLimit ≡ None → when (is_over g limit) fault.OverLimit ≡ None
+room f g limit same h = ap (λ (x : File). when (is_over x limit) fault.OverLimit) (sym same) ∙ h
+
+pub returns-in_err-check_objects-clause-fault : goal.returns-in_err-check_objects-clause-fault
+returns-in_err-check_objects-clause-fault c =
+    let p = err_from_is_err_and c.from_residual-in_err-check_objects.result c.from_residual-in_err-check_objects.ensures.1 in
+    let same : c.in_ok-file.file ≡ file_of c.args.bytes.now = c.in_ok-file.ensures.1 in
+    told_as {X = Unit {0}} (HasBirthSection c.args.bytes.now) (λ _. ⊤) (λ _. ⊤) (fault_of c.args.bytes.now c.args.limit_words)
+    (objects_fault c.in_ok-file.file c.u32_at.result) _
+    c.in_err-check_objects.field-0.0 p.0 c.from_residual-in_err-check_objects.result
+    (after_room c.args.bytes.now c.args.limit_words c.in_ok-check_header.ensures.0 c.in_ok-file.ensures.0
+        (room c.in_ok-file.file (file_of c.args.bytes.now) c.args.limit_words same c.in_ok-addresses.ensures.0)
+      ∙ ap (λ (f : File). option_or (objects_fault f (special_address c.args.bytes.now))
+        (option_or (when (is_bad_births c.args.bytes.now (length (visible (file_of c.args.bytes.now)))) fault.BadBirths) None)) (sym same)
+      ∙ ap (λ (special : ℕ). option_or (objects_fault c.in_ok-file.file special)
+        (option_or (when (is_bad_births c.args.bytes.now (length (visible (file_of c.args.bytes.now)))) fault.BadBirths) None)) (sym c.u32_at.ensures))
+    c.in_err-check_objects.ensures p.1 p.2
+
+pub returns-clause-fault : goal.returns-clause-fault
+returns-clause-fault c =
+    let same : c.in_ok-file.file ≡ file_of c.args.bytes.now = c.in_ok-file.ensures.1 in
+    (no_fault c.args.bytes.now c.args.limit_words c.in_ok-check_header.ensures.0 c.in_ok-file.ensures.0
+      (room c.in_ok-file.file (file_of c.args.bytes.now) c.args.limit_words same c.in_ok-addresses.ensures.0)
+      (ap (λ (f : File). objects_fault f (special_address c.args.bytes.now)) (sym same)
+        ∙ ap (λ (special : ℕ). objects_fault c.in_ok-file.file special) (sym c.u32_at.ensures) ∙ c.in_ok-check_objects.ensures.0)
+      (sym c.goes_on.ensures ∙ c.if-goes_on.false), tt)

@@ -1,0 +1,7 @@
+use Rattle.std.proofs.Common.{◌≡◌, [], ◌∷◌, ◌++◌}
+use Rattle.cs_image.specs.Heap.{seen}
+use Rattle.cs_image.proofs.Storing.{begun}
+use Rattle.cs_image.proofs.memory.load_object.Given as goal
+
+abbrev pub invariant-loop-i : goal.invariant-loop-i
+invariant-loop-i l = l.heap ≡ record l.fn.heap { objects = l.fn.heap.objects ++ begun l.file l.birth (seen l.o) l.i ∷ [] }

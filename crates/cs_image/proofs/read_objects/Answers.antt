@@ -1,0 +1,16 @@
+use Rattle.std.proofs.Common.{◌≡◌, ℕ, ◌+◌, ◌*◌, ◌/◌, ◌≤◌, List, length, ap, ◌∙◌, arith}
+use Rattle.cs_model.specs.ImageFile.{heap_size}
+use Rattle.cs_image.proofs.Faults.{IsHeader, header_is, heap_is, length-words_in}
+use Rattle.cs_image.proofs.read_objects.Goals as goal
+
+pub cut-requires-clause-size : goal.cut-requires-clause-size
+cut-requires-clause-size c =
+    let long : length c.in_ok-words.words.items ≡ heap_size c.args.bytes.now / 4 = ap length c.in_ok-words.ensures ∙ length-words_in c.args.bytes.now in
+    let heap = heap_is c.args.bytes.now c.requires.header c.requires.births in
+    omega (arith, long, heap)
+
+pub cut-requires-clause-fits : goal.cut-requires-clause-fits
+cut-requires-clause-fits c =
+    let long : length c.in_ok-words.words.items ≡ heap_size c.args.bytes.now / 4 = ap length c.in_ok-words.ensures ∙ length-words_in c.args.bytes.now in
+    let fits = (header_is c.args.bytes.now c.requires.header).fits in
+    omega (arith, long, fits, c.u32_at.ensures)

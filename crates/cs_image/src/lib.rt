@@ -1,0 +1,97 @@
+//! Loading an image: from the bytes of a file to its objects in memory.
+//!
+//! An image file has a header of 64 bytes and behind it the heap: objects as 32-bit Spur lays them out, one right behind
+//! another, with the addresses that they had where the file was written. The loader cuts the heap into its objects, checks
+//! all that the machine relies on, and lays the visible objects out anew. What a file describes, and each of its faults, is
+//! defined in the crate `cs_model`, in `specs/ImageFile.antt`, `specs/ImageFault.antt` and `specs/Image.antt`.
+#![tactic(auto)]
+
+mod check;
+mod context;
+mod cut;
+mod error;
+mod file;
+mod header;
+mod memory;
+mod reference;
+mod roots;
+mod shape;
+mod table;
+
+pub use error::ImageError;
+
+ghost use Rattle.std.specs.Prelude.{◌≡◌, ℕ, ◌≤◌, false, length, slice_get, take, Some, None, IfOk, ⊤};
+ghost use Rattle.cs_model.specs.ImageFile.{file_of, has_births, visible, words_in, cut_of, special_address, last_hash_in};
+ghost use Rattle.cs_model.specs.ImageFault as fault;
+ghost use Rattle.cs_model.specs.ImageFault.{bad_object, is_over, table_size};
+ghost use Rattle.cs_model.specs.Image.{at_word, fault_of};
+ghost use Rattle.cs_image.specs.Answer.{HasBirthSection, Tells, Told, header_fault};
+ghost use Rattle.cs_image.specs.Loading.{addresses_of, classes_at, loaded_from, translated};
+
+use check::{check_header, check_objects};
+use cs_classes::Loaded;
+use file::FileHeap;
+use header::{goes_on, heap_words, u32_at};
+use memory::{addresses, load_classes, load_objects, load_roots};
+use std::alloc::{AllocError, Global};
+
+/// The objects of a file whose header has no fault, and that has no birth section.
+#[tactic(auto, unfolding(cs_model::specs::ImageFile::file_of))]
+fn read_objects(alloc: Global, bytes: &[u8]) -> Result<FileHeap, ImageError>
+    requires header { header_fault bytes.now ≡ None }
+    requires births { has_births bytes.now ≡ false }
+    ensures { Tells (at_word fault.BadObject (bad_object (cut_of (words_in bytes.now)))) (λ file. file ≡ file_of bytes.now) result }
+{
+    let words = heap_words(alloc, bytes)?;
+    cut::cut(alloc, u32_at(bytes, 12), words)
+}
+
+/// A file without faults in memory.
+fn build(alloc: Global, bytes: &[u8], file: &FileHeap, addresses: &[u32], limit_words: u32) -> Result<Loaded, AllocError>
+    requires least { 4096 ≤ limit_words }
+    requires most { limit_words ≤ 67108864 }
+    requires long { 64 ≤ length bytes.now }
+    requires addresses { addresses.now ≡ addresses_of file.now.objects 0 }
+    requires room { is_over file.now limit_words ≡ false }
+    ensures limit { IfOk result (λ l. l.heap.limit ≡ limit_words) }
+    ensures objects { IfOk result (λ l. l.heap.objects ≡ loaded_from file.now 0 (visible file.now)) }
+    ensures classes { IfOk result (λ l. l.classes ≡ classes_at file.now table_size) }
+    ensures special { IfOk result (λ l. l.roots.special.0 ≡ translated file.now (special_address bytes.now)) }
+    ensures hash { IfOk result (λ l. l.roots.last_hash ≡ last_hash_in bytes.now) }
+    ensures next { IfOk result (λ l. l.roots.next_birth ≡ length (visible file.now)) }
+    ensures header { IfOk result (λ l. l.roots.header ≡ take 64 bytes.now) }
+{
+    let (heap, next_birth) = load_objects(alloc, file, addresses, limit_words)?;
+    let classes = load_classes(alloc, file, addresses)?;
+    let roots = load_roots(bytes, file, addresses, next_birth);
+    Ok(Loaded {
+        heap,
+        classes,
+        roots,
+    })
+}
+
+/// Loads the image in these bytes into a heap of `limit_words` words of 4 bytes, from 4,096 to 67,108,864.
+///
+/// The objects come in the order of the file, with their places in it, counted from 0, as births. Objects of class index 0
+/// are skipped, and those of class index 16, the class table and its pages, are hidden and aren't loaded. Weak objects are
+/// read as ones with named and indexed fields, and ephemerons as ones with named fields. No context is active yet.
+///
+/// An error says what the first fault is (see `ImageError`). A file with a birth section isn't read yet: it is
+/// `HasBirths`, once its header has no fault.
+pub fn load(alloc: Global, bytes: &[u8], limit_words: u32) -> Result<Loaded, ImageError>
+    requires least { 4096 ≤ limit_words }
+    requires most { limit_words ≤ 67108864 }
+    ensures fault { Told (HasBirthSection bytes.now) (fault_of bytes.now limit_words) (λ _. ⊤) result }
+    ensures limit { IfOk result (λ l. l.heap.limit ≡ limit_words) }
+{
+    check_header(bytes)?;
+    if goes_on(bytes) {
+        return Err(ImageError::HasBirths);
+    }
+    let file = read_objects(alloc, bytes)?;
+    let addresses = addresses(alloc, &file, limit_words)?;
+    check_objects(&file, u32_at(bytes, 16))?;
+    let loaded = build(alloc, bytes, &file, &addresses, limit_words)?;
+    Ok(loaded)
+}

@@ -1,0 +1,52 @@
+-- The laws of whole states, in plain words.
+use Rattle.std.proofs.Common.{ℕ, Bool, Option}
+use Rattle.cs_model.specs.Ref.{Ref}
+use Rattle.cs_model.specs.State.{Kept, Run, State, IsHeld}
+use Rattle.cs_model.specs.PrimTable.{prim}
+use Rattle.cs_model.specs.Due.{due}
+use Rattle.cs_model.specs.Step.{try_primitive, do_send, do_return, bytecode, step, run}
+use Rattle.cs_model.specs.Built.{built_step, built_run}
+use Rattle.cs_model.specs.Keeps.{Keeps, TimerHeld, KeepsState}
+use Rattle.cs_model.specs.Alike.{AlikeResult, AlikeHappened, AlikeStep, AlikeRan, IsHeldIf}
+use Rattle.cs_model.proofs.Same.{Same, same}
+use Rattle.cs_model.proofs.Tables.{prim_alike}
+use Rattle.cs_model.proofs.Happening.{run_same, due_alike}
+use Rattle.cs_model.proofs.Stepping.{above_held, try_primitive_alike, do_send_alike, do_return_alike, bytecode_of_state, step_alike, run_alike}
+use Rattle.cs_model.proofs.Building.{built_step_alike, built_run_alike}
+
+pub prim-alike : (s t : State) (number args : ℕ) → KeepsState s t → AlikeResult s.kept (prim number args s) (prim number args t)
+prim-alike s t number args k = with_run k.kept (run_same k) where
+  with_run : {v m : Kept} {r q : Run} → Keeps v m → Same (TimerHeld v) r q → AlikeResult v (prim number args (record { kept = v; run = r })) (prim number args (record { kept = m; run = q }))
+  with_run k (same r timer) = prim_alike k r timer number args
+
+pub try_primitive-alike : (s t : State) (x : Ref) (number : ℕ) → KeepsState s t → IsHeld s.kept x → AlikeResult s.kept (try_primitive s x number) (try_primitive t x number)
+try_primitive-alike s t x number k h = with_run k.kept (run_same k) h where
+  with_run : {v m : Kept} {r q : Run} → Keeps v m → Same (TimerHeld v) r q → IsHeld v x → AlikeResult v (try_primitive (record { kept = v; run = r }) x number) (try_primitive (record { kept = m; run = q }) x number)
+  with_run k (same r timer) h = try_primitive_alike k r timer (same x h) number
+
+pub do_send-alike : (v m : Kept) (r : Run) (x : Ref) (args : ℕ) (above : Option Ref) → Keeps v m → TimerHeld v r → IsHeld v x → IsHeldIf v above → AlikeResult v (do_send r v x args above) (do_send r m x args above)
+do_send-alike v m r x args above k timer h g = do_send_alike k r timer (same x h) args (above_held k above g)
+
+pub do_return-alike : (v m : Kept) (r : Run) (x : Ref) (local : Bool) → Keeps v m → TimerHeld v r → IsHeld v x → AlikeResult v (do_return r v x local) (do_return r m x local)
+do_return-alike v m r x local k timer h = do_return_alike k r timer (same x h) local
+
+pub due-alike : (s t : State) → KeepsState s t → AlikeHappened s.kept (due s) (due t)
+due-alike s t k = due_alike k.kept (run_same k)
+
+pub bytecode-alike : (s t : State) → KeepsState s t → AlikeResult s.kept (bytecode s) (bytecode t)
+bytecode-alike s t k = bytecode_of_state k
+
+pub step-alike : (s t : State) → KeepsState s t → AlikeStep s.kept (step s) (step t)
+step-alike s t k = step_alike k
+
+pub run-alike : (n : ℕ) (s t : State) → KeepsState s t → AlikeRan s.kept (run n s) (run n t)
+run-alike n s t k = run_alike n k
+
+pub built_step-alike : (s t : State) → KeepsState s t → AlikeStep s.kept (built_step s) (built_step t)
+built_step-alike s t k = built_step_alike k
+
+pub built_run-alike : (n : ℕ) (s t : State) → KeepsState s t → AlikeRan s.kept (built_run n s) (built_run n t)
+built_run-alike n s t k = built_run_alike n k
+
+-- keeping survives each of these
+pub ruleset states_alike = (prim-alike, try_primitive-alike, do_send-alike, do_return-alike, due-alike, bytecode-alike, step-alike, run-alike, built_step-alike, built_run-alike)

@@ -1,0 +1,119 @@
+-- The writes of a world, each as its operation on every state that the world keeps.
+use Rattle.std.proofs.Common.{◌≡◌, ℕ, pos, ◌+◌, ◌-◌, ◌<◌, ◌≤◌, ◌^◌, Bool, true, false, refl, sym, ap, subst, ◌∙◌, Option, Some, None, unwrap_or, List, length, arith}
+use Rattle.std.specs.Prelude.{◌==◌, ◌||◌, is_some}
+use Rattle.cs_word.specs.declared.Oop.{Oop}
+use Rattle.cs_word.specs.Word.{small_word}
+use Rattle.cs_heap.specs.Object.{Memory, Object, object_at, set_word, with_object, with_slot}
+use Rattle.cs_classes.specs.Meaning.{count_of, depth_in, ref_of}
+use Rattle.cs_classes.specs.Sound.{IsWhole, is_reference, nil_of}
+use Rattle.cs_classes.proofs.Heaps.{set_word-IsEdit, with_object-twice}
+use Rattle.cs_classes.proofs.Refs.{count_of-small, is_reference-small, small_natural}
+use Rattle.cs_classes.proofs.Wholes.{ref_of-held}
+use Rattle.cs_classes.proofs.Writes.{Does, Holds, does-pop, does-push, does-set_pc, does-set_stack}
+use Rattle.cs_model.specs.Ref.{Ref}
+use Rattle.cs_model.specs.Obj.{Context, edit_context, lies_in, popped, pushed, stored, with_pc}
+use Rattle.cs_model.specs.State.{IsHeld, Kept}
+use Rattle.cs_model.specs.Keeps.{Keeps}
+use Rattle.cs_model.specs.Read.{active_context, depth_of, method_of, pc_of, size_of}
+use Rattle.cs_model.specs.Operation.{drop_of, edit_active, edit_object, push_of, set_pc_of, set_stack_of}
+use Rattle.cs_model.proofs.Same.{Same, is, same}
+use Rattle.cs_model.proofs.Operating.{drop_moved, push_moved, set_pc_moved, set_stack_moved}
+use Rattle.cs_acts.specs.Names.{IsNamed, KeepsNames, name_of}
+use Rattle.cs_acts.specs.Ready.{IsReady}
+use Rattle.cs_plain.specs.declared.PlainWorld.{PlainWorld}
+use Rattle.cs_plain.specs.View.{stored_of, view_of, active_in}
+use Rattle.cs_plain.proofs.Active.{Active}
+use Rattle.cs_plain.proofs.Edits.{Edited, edited}
+use Rattle.cs_plain.proofs.Slots.{depth_is_read, depth_within, size_is_read}
+use Rattle.cs_plain.proofs.Written.{Written, with_objects, written}
+
+-- the operation on every state that is kept; then the world is ready, and words mean what they meant
+pub record Writes (w v : PlainWorld) (op : Kept → Kept) : Type 0 where
+  pub state : (m : Kept) → Keeps (view_of w) m → Keeps (view_of v) (op m)
+  pub ready : IsReady (stored_of v) (view_of v)
+  pub names : KeepsNames (stored_of w) (stored_of v)
+
+-- the same where the heap is told by an equation
+pub along : (w : PlainWorld) (h : Memory) (us : List Object) (op : Kept → Kept) → h ≡ record w.heap { objects = us } → Writes w (with_objects w us) op → Writes w (record w { heap = h }) op
+along w h us op e done = subst (λ g. Writes w (record w { heap = g }) op) (sym e) done
+
+-- the heap behind two stores into one object
+pub twice : (h g k : Memory) (a i v j w z : ℕ) → g ≡ record h { objects = with_slot h.objects a i v } → k ≡ record g { objects = with_slot g.objects a j w } → w ≡ z
+    → k ≡ record h { objects = with_slot (with_slot h.objects a i v) a j z }
+twice h g k a i v j w z first second word =
+    let store : ℕ → Memory → Memory = λ n m. record m { objects = with_slot m.objects a j n } in
+    second ∙ ap (store w) first ∙ ap (λ n. store n (record h { objects = with_slot h.objects a i v })) word
+
+pub held_by : (w : PlainWorld) (o : Oop) → IsReady (stored_of w) (view_of w) → IsNamed (stored_of w) o → Same (IsHeld (view_of w)) (name_of (stored_of w) o) (name_of (stored_of w) o)
+held_by w o ready named = same (name_of (stored_of w) o) (ref_of-held w.heap.objects w.classes w.roots (active_in w.heap.objects w.active) o.0 ready.sound.holds.whole.heap named)
+
+module _ {w : PlainWorld} {a : Oop} {x : Object} (ready : IsReady (stored_of w) (view_of w)) (active : Active w a x) where
+  known : Holds w.heap.objects w.classes w.roots a.0 x
+  known = record { whole = ready.sound.holds.whole; there = active.there }
+
+  slot_edited : (i v : ℕ) → Edited w.heap.objects (with_slot w.heap.objects a.0 i v)
+  slot_edited i v = edited w.heap.objects a.0 x (set_word i v) (set_word-IsEdit i v) active.there
+
+  pub writes-set_pc : (pc : ℕ) → pc < 2 ^ 30 → lies_in (method_of (view_of w)) pc ≡ true
+      → Writes w (with_objects w (with_slot w.heap.objects a.0 1 (small_word (pos pc)))) (λ m. set_pc_of m pc)
+  unfolding set_pc_of
+  writes-set_pc pc small lies =
+      let count : count_of (small_word (pos pc)) ≡ Some pc = count_of-small pc small in
+      let does = does-set_pc known active.context (small_word (pos pc)) (is_reference-small w.heap.objects (pos pc) (small_natural pc small))
+      (or_right (small_word (pos pc) == nil_of w.heap.objects) (is_some (count_of (small_word (pos pc)))) (ap is_some count)) in
+      let done = written w a x _ (with_pc (count_of (small_word (pos pc)))) pc ready active does (slot_edited 1 (small_word (pos pc))) count refl lies in
+      record {
+        state = λ m k. subst (λ v. Keeps v (set_pc_of m pc)) (sym (done.view ∙ ap (λ p. edit_active (view_of w) (with_pc p)) count)) (set_pc_moved k (is pc)).keeps;
+        ready = done.ready;
+        names = done.names;
+      }
+    where
+      or_right : (b c : Bool) → c ≡ true → (b || c) ≡ true
+      or_right true c h = refl
+      or_right false c h = h
+
+  pub writes-set_stack : (i : ℕ) (v : Oop) → IsNamed (stored_of w) v
+      → Writes w (with_objects w (with_slot w.heap.objects a.0 (6 + i) v.0)) (λ m. set_stack_of m i (name_of (stored_of w) v))
+  unfolding set_stack_of
+  writes-set_stack i v named =
+      let done = written w a x _ (stored i (name_of (stored_of w) v)) (pc_of (view_of w)) ready active (does-set_stack known active.context i v.0 named) (slot_edited (6 + i) v.0)
+      ready.running.live refl ready.running.method in
+      record {
+        state = λ m k. subst (λ u. Keeps u (set_stack_of m i (name_of (stored_of w) v))) (sym done.view) (set_stack_moved k i (held_by w v ready named)).keeps;
+        ready = done.ready;
+        names = done.names;
+      }
+
+  pub writes-push : (v : Oop) (d : ℕ) → d ≡ depth_of (view_of w) → depth_of (view_of w) < size_of (view_of w) → IsNamed (stored_of w) v
+      → Writes w (with_objects w (with_slot (with_slot w.heap.objects a.0 (6 + d) v.0) a.0 2 (small_word (pos (d + 1))))) (λ m. push_of m (name_of (stored_of w) v))
+  unfolding push_of
+  writes-push v d deep room named =
+      let os = w.heap.objects in
+      let depth : depth_in x.words ≡ d = depth_is_read ready active ∙ sym deep in
+      let fits : depth_in x.words < length x.words - 6 = omega (arith, room, depth_is_read ready active, size_is_read ready active) in
+      let does = subst (λ n. Does os (with_slot (with_slot os a.0 (6 + n) v.0) a.0 2 (small_word (pos (n + 1)))) w.classes w.roots (λ k. edit_object k (ref_of os a.0) (edit_context (pushed (ref_of os v.0))))) depth (does-push known active.context v.0 fits named) in
+      let twice = with_object-twice os a.0 (set_word (6 + d) v.0) (set_word 2 (small_word (pos (d + 1)))) (set_word-IsEdit (6 + d) v.0) in
+      let edit = edited os a.0 x (λ y. set_word 2 (small_word (pos (d + 1))) (set_word (6 + d) v.0 y)) (record {
+        slots = λ y. (set_word-IsEdit 2 (small_word (pos (d + 1)))).slots (set_word (6 + d) v.0 y) ∙ (set_word-IsEdit (6 + d) v.0).slots y;
+        birth = λ y. refl;
+        class = λ y. refl;
+      }) active.there in
+      let done = written w a x _ (pushed (name_of (stored_of w) v)) (pc_of (view_of w)) ready active does (subst (Edited os) (sym twice) edit) ready.running.live refl ready.running.method in
+      record {
+        state = λ m k. subst (λ u. Keeps u (push_of m (name_of (stored_of w) v))) (sym done.view) (push_moved k (held_by w v ready named)).keeps;
+        ready = done.ready;
+        names = done.names;
+      }
+
+  pub writes-pop : (d : ℕ) → d ≡ depth_of (view_of w) → Writes w (with_objects w (with_slot w.heap.objects a.0 2 (small_word (pos (d - 1))))) (λ m. drop_of m 1)
+  unfolding drop_of
+  writes-pop d deep =
+      let os = w.heap.objects in
+      let depth : depth_in x.words ≡ d = depth_is_read ready active ∙ sym deep in
+      let does = subst (λ n. Does os (with_slot os a.0 2 (small_word (pos (n - 1)))) w.classes w.roots (λ k. edit_object k (ref_of os a.0) (edit_context (popped 1)))) depth (does-pop known active.context 1) in
+      let done = written w a x _ (popped 1) (pc_of (view_of w)) ready active does (slot_edited 2 (small_word (pos (d - 1)))) ready.running.live refl ready.running.method in
+      record {
+        state = λ m k. subst (λ u. Keeps u (drop_of m 1)) (sym done.view) (drop_moved k 1).keeps;
+        ready = done.ready;
+        names = done.names;
+      }
