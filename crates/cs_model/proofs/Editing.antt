@@ -22,7 +22,7 @@ insert_twice m i a b = same_map nat_cmp_total nat_cmp-IsAntisymmetric _ _ (λ q.
     ∙ later_stays (eq_by_cmp nat_cmp q i) a b (get (insert m i a) q) (get m q) (get-insert nat_cmp_total m i a q)
     ∙ sym (get-insert nat_cmp_total m i b q))
 
-active_context-put : (k : Kept) (c : Context) → active_context (put_active k c) ≡ c
+pub active_context-put : (k : Kept) (c : Context) → active_context (put_active k c) ≡ c
 unfolding active_context put
 active_context-put k c = ap (λ o. unwrap_or (context_in o) blank) (object_at-put_same k (active_birth k) (Ctx c))
 
