@@ -2,6 +2,8 @@
 #![tactic(auto)]
 
 mod primitive;
+mod run;
 mod scheduler;
+mod step;
 
-pub use scheduler::{Shape, shape_of};
+pub use run::{Place, Ran, RunEnd, run};
