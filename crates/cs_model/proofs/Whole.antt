@@ -1,15 +1,20 @@
 -- The laws of whole states, in plain words.
-use Rattle.std.proofs.Common.{ℕ, Bool, Option}
+use Rattle.std.proofs.Common.{◌≡◌, ◌∙◌, ℕ, Bool, refl, sym, ap, Option, List}
+use Rattle.cs_model.specs.declared.event.Event.{Event}
 use Rattle.cs_model.specs.Ref.{Ref}
-use Rattle.cs_model.specs.State.{Kept, Run, State, IsHeld}
+use Rattle.cs_model.specs.State.{Kept, Run, State, IsHeld, IsValid}
 use Rattle.cs_model.specs.PrimTable.{prim}
 use Rattle.cs_model.specs.Due.{due}
-use Rattle.cs_model.specs.Step.{try_primitive, do_send, do_return, bytecode, step, run}
+use Rattle.cs_model.specs.Step.{Ending, try_primitive, do_send, do_return, bytecode, step, run}
 use Rattle.cs_model.specs.Built.{built_step, built_run}
+use Rattle.cs_model.specs.Report.{line_of, place_of, report_of}
+use Rattle.cs_model.specs.Settle.{opened}
 use Rattle.cs_model.specs.Keeps.{Keeps, TimerHeld, KeepsState}
 use Rattle.cs_model.specs.Alike.{AlikeResult, AlikeHappened, AlikeStep, AlikeRan, IsHeldIf}
 use Rattle.cs_model.proofs.Same.{Same, same}
+use Rattle.cs_model.proofs.Agreeing.{place_of-kept}
 use Rattle.cs_model.proofs.Tables.{prim_alike}
+use Rattle.cs_model.proofs.Running.{open_moved, timer_off}
 use Rattle.cs_model.proofs.Happening.{run_same, due_alike}
 use Rattle.cs_model.proofs.Stepping.{above_held, try_primitive_alike, do_send_alike, do_return_alike, bytecode_of_state, step_alike, run_alike}
 use Rattle.cs_model.proofs.Building.{built_step_alike, built_run_alike}
@@ -48,5 +53,21 @@ built_step-alike s t k = built_step_alike k
 pub built_run-alike : (n : ℕ) (s t : State) → KeepsState s t → AlikeRan s.kept (built_run n s) (built_run n t)
 built_run-alike n s t k = built_run_alike n k
 
+pub opened-keeps : (v m : Kept) (events : List Event) (snapping : Bool) → Keeps v m → KeepsState (opened v events snapping) (opened m events snapping)
+unfolding opened
+opened-keeps v m events snapping k = record { kept = (open_moved k).keeps; run = refl; timer = timer_off refl }
+
+pub report_of-kept : (s t : State) (e : Ending) → KeepsState s t → report_of t e ≡ report_of s e
+unfolding report_of
+report_of-kept s t e k = ap (λ r. line_of e r.steps (place_of t.kept)) (sym k.run) ∙ ap (line_of e s.run.steps) (place_of-kept s.kept t.kept k.kept)
+
+-- a valid state is closed
+pub valid-keeps : (s : State) → IsValid s → KeepsState s s
+valid-keeps s valid = record {
+  kept = record { same = λ i o h. h; whole = λ i o h not_context. h; closed = valid.held; roots = valid.roots; rest = refl };
+  run = refl;
+  timer = record { semaphore = valid.timer };
+}
+
 -- keeping survives each of these
-pub ruleset states_alike = (prim-alike, try_primitive-alike, do_send-alike, do_return-alike, due-alike, bytecode-alike, step-alike, run-alike, built_step-alike, built_run-alike)
+pub ruleset states_alike = (prim-alike, try_primitive-alike, do_send-alike, do_return-alike, due-alike, bytecode-alike, step-alike, run-alike, built_step-alike, built_run-alike, opened-keeps)

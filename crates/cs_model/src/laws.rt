@@ -9,11 +9,12 @@
 //! is the law. A state is closed where it keeps itself, which is where all that it names is there.
 ghost use Rattle.std.specs.Prelude.{◌≡◌, ℕ, ℤ, Bool, Option, Some, List, IsSome};
 ghost use Rattle.std.specs.List.{AllByRecursion};
+ghost use Rattle.cs_model.specs.declared.event.Event.{Event};
 ghost use Rattle.cs_model.specs.declared.instruction.Op.{Op};
 ghost use Rattle.cs_model.specs.Ref.{Ref};
 ghost use Rattle.cs_model.specs.Obj.{Obj, Context};
-ghost use Rattle.cs_model.specs.State.{Kept, Run, State, IsHeld, ContextHeld, NamesHeld, object_at, object_of, put, slots_of, special_at, scheduler_of, active_process};
-ghost use Rattle.cs_model.specs.Read.{class_of, active_context, method_of, literals_of, bytecodes_of};
+ghost use Rattle.cs_model.specs.State.{Kept, Run, State, IsHeld, IsValid, ContextHeld, NamesHeld, object_at, object_of, put, slots_of, special_at, scheduler_of, active_process};
+ghost use Rattle.cs_model.specs.Read.{IsRunning, class_of, active_context, method_of, literals_of, bytecodes_of};
 ghost use Rattle.cs_model.specs.Keeps.{Keeps, Grows, TimerHeld, KeepsState};
 ghost use Rattle.cs_model.specs.Alike.{Alike, AlikeResult, AlikeHappened, AlikeStep, AlikeRan, AlikeMade, AlikeHashed, IsHeldIf, KeepsIf, AllKeep, SoughtHeld};
 ghost use Rattle.cs_model.specs.Operation.{set_pc_of, push_of, drop_of, set_stack_of, store_of, store_byte_of, add_of, enter_of, kill_of, resume_of, suspend_of, leave_of, cut_to_of};
@@ -27,9 +28,10 @@ ghost use Rattle.cs_model.specs.Return.{senders_to, home, back, local_out, nonlo
 ghost use Rattle.cs_model.specs.Process.{add_last, start, start_next, resume, signal, wait, suspend, give_way};
 ghost use Rattle.cs_model.specs.PrimAnswer.{answer};
 ghost use Rattle.cs_model.specs.PrimTable.{kept_prim, prim};
-ghost use Rattle.cs_model.specs.Settle.{settle_kept, open_kept};
+ghost use Rattle.cs_model.specs.Settle.{settle_kept, open_kept, opened};
 ghost use Rattle.cs_model.specs.Due.{signal_external, is_idle, due};
-ghost use Rattle.cs_model.specs.Step.{instruction_at, try_primitive, do_send, do_return, bytecode, step, run};
+ghost use Rattle.cs_model.specs.Step.{Ending, instruction_at, try_primitive, do_send, do_return, bytecode, step, run};
+ghost use Rattle.cs_model.specs.Report.{place_of, report_of};
 ghost use Rattle.cs_model.specs.Built.{built_step, built_run};
 
 /// An object that is put at a birth is there, and nothing else changes.
@@ -43,6 +45,11 @@ pub fn a_write_stands()
 pub fn keeping_is_transitive()
     ensures itself { (v m : Kept) → Keeps v m → Keeps v v }
     ensures transitive { (u v m : Kept) → Keeps u v → Keeps v m → Keeps u m }
+{}
+
+/// A valid state keeps itself.
+pub fn a_valid_state_is_closed()
+    ensures { (s : State) → IsValid s → KeepsState s s }
 {}
 
 /// What is read of a state by references that it holds is the same in each state that it keeps.
@@ -67,6 +74,13 @@ pub fn keeping_agrees_in_reads()
     ensures home { (v m : Kept) (i : ℕ) → Keeps v m → IsSome (object_at v i) → home m i ≡ home v i }
     ensures is_idle { (v m : Kept) → Keeps v m → is_idle m ≡ is_idle v }
     ensures instruction_at { (v m : Kept) → Keeps v m → instruction_at m ≡ instruction_at v }
+    ensures running { (v m : Kept) → Keeps v m → IsRunning v → IsRunning m }
+{}
+
+/// The report of a run is the same for each state that is kept, and so is the place where the run stands.
+pub fn keeping_agrees_in_reports()
+    ensures place { (v m : Kept) → Keeps v m → place_of m ≡ place_of v }
+    ensures report { (s t : State) (e : Ending) → KeepsState s t → report_of t e ≡ report_of s e }
 {}
 
 /// What is read of a closed state is there. A state is closed where it keeps itself.
@@ -129,6 +143,11 @@ pub fn what_was_held_still_is()
     ensures hash_given { (v : Kept) (x : Ref) → Keeps v v → IsHeld v x → Grows v (hash_given v x) }
     ensures settle { (v : Kept) → Keeps v v → Grows v (settle_kept v) }
     ensures open { (v : Kept) → Keeps v v → Grows v (open_kept v) }
+{}
+
+/// A run begins alike.
+pub fn keeping_survives_opening()
+    ensures { (v m : Kept) (events : List Event) (snapping : Bool) → Keeps v m → KeepsState (opened v events snapping) (opened m events snapping) }
 {}
 
 /// Instances are made alike, and classes get the same index.
