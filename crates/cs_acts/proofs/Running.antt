@@ -50,9 +50,9 @@ pub running-put : (k : Kept) (i : ℕ) (old new : Obj) → IsRunning k → objec
 unfolding active_context method_of put
 running-put k i old new running there other lies =
     let apart : active_birth k ≢ i = λ e.
-        let is : Some (Ctx (active_context k)) ≡ Some old = sym running.found ∙ ap (object_at k) e ∙ there in
-        let also : is_context (Ctx (active_context k)) ≡ is_context old = ap (λ o. is_context (unwrap_or o (Ctx blank))) is in
-        absurd (cc) in
+    let is : Some (Ctx (active_context k)) ≡ Some old = sym running.found ∙ ap (object_at k) e ∙ there in
+    let also : is_context (Ctx (active_context k)) ≡ is_context old = ap (λ o. is_context (unwrap_or o (Ctx blank))) is in
+    absurd (cc) in
     let stays : object_at (put k i new) (active_birth k) ≡ object_at k (active_birth k) = object_at-put_other k i (active_birth k) new apart in
     let context : active_context (put k i new) ≡ active_context k = ap (λ o. unwrap_or (context_in o) blank) stays in
     let pc_is : pc_of (put k i new) ≡ pc_of k = ap (λ c. unwrap_or c.pc 0) context in

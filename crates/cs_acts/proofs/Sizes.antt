@@ -80,5 +80,5 @@ named-few os (kind.Link word) x h = absurd (cc)
 pub pc_small : (s : Store) (k : Kept) (o : Oop) (pc : ℕ) → Holds s k → IsNamed s o → lies_in (object_of k (name_of s o)) pc ≡ true → pc < 2 ^ 29
 pc_small s k o pc h named lies =
     let few = said-pc s.memory.objects (object_named s.memory.objects o.0) (object_of k (name_of s o)) pc (says s k o h named) lies
-        (λ x e. named-few s.memory.objects (kind_of o.0) x e) in
+    (λ x e. named-few s.memory.objects (kind_of o.0) x e) in
     omega (arith, few, h.within, h.most)

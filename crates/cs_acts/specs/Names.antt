@@ -1,5 +1,5 @@
 -- What the words that a world hands out and takes mean.
-use Rattle.std.specs.Prelude.{◌≡◌, ℕ, true, List, Option, Some, None}
+use Rattle.std.specs.Prelude.{◌≡◌, ℕ, true, List, Option, IfSome, option_map}
 use Rattle.std.specs.FinMap.{FinMap}
 use Rattle.std.specs.Ordering.{nat_cmp}
 use Rattle.cs_word.specs.declared.Oop.{Oop}
@@ -29,11 +29,9 @@ pub record Names (s : Store) (o : Oop) (x : Ref) : Type 0 where
   pub is : name_of s o ≡ x
 
 -- the same where there may be none
-abbrev pub NamesOption : Store → Option Oop → Option Ref → Type 0
-NamesOption s None None = Unit {0}
-NamesOption s None (Some x) = ⊥
-NamesOption s (Some o) None = ⊥
-NamesOption s (Some o) (Some x) = Names s o x
+pub record NamesOption (s : Store) (o : Option Oop) (x : Option Ref) : Type 0 where
+  pub sound : IfSome o (λ w. IsNamed s w)
+  pub is : option_map (λ w. name_of s w) o ≡ x
 
 -- what has a name keeps it
 abbrev pub KeepsNames : Store → Store → Type 0

@@ -5,6 +5,7 @@
 #![tactic(auto)]
 
 mod act;
+pub mod read;
 mod world;
 
 pub use act::Act;

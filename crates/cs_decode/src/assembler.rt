@@ -1,6 +1,6 @@
 //! From instructions to bytes, and to the assembler's words.
 
-ghost use Rattle.std.specs.Prelude.{◌≡◌, ℕ, ◌+◌, ◌*◌, ◌/◌, ◌<◌, ◌≤◌, ◌^◌, Some, length, IsTrue, ℤ, pos, negsuc, ◌≤ℤ◌, ◌<ℤ◌};
+ghost use Rattle.std.specs.Prelude.{◌≡◌, ◌+◌, ◌*◌, ◌/◌, ◌<◌, ◌≤◌, Some, length, IsTrue};
 ghost use Rattle.arrayvec.specs.ArrayVec.{array_vec_len};
 ghost use Rattle.cs_model.specs.Decode.{decode_at};
 ghost use Rattle.cs_model.specs.Assemble.{IsInstr, has_form, send_has_form, super_has_form, jump_has_form, jump_false_has_form, assembled, bytes_of, name_of, plain_code, plain_name, variable_bytes, send_bytes, super_bytes, with_number, jump_bytes, jump_false_bytes};

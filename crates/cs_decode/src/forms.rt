@@ -1,6 +1,6 @@
 //! Which instructions there are.
 
-ghost use Rattle.std.specs.Prelude.{◌≡◌, ℕ, IsTrue, ◌↔◌};
+ghost use Rattle.std.specs.Prelude.{◌≡◌, IsTrue, ◌↔◌};
 ghost use Rattle.cs_model.specs.Assemble.{IsInstr, has_form, fits_within, send_has_form, super_has_form, jump_has_form, jump_false_has_form};
 
 use cs_model::{Instr, Op};

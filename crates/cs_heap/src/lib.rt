@@ -209,7 +209,8 @@ impl Heap {
     /// How many slots of 4 bytes the object has.
     pub fn slot_count(&self, o: Oop) -> u32
         requires { IsTrue (is_object self.now.objects o.0) }
-        ensures { result ≡ slot_count_of self.now.objects o.0 }
+        ensures value { result ≡ slot_count_of self.now.objects o.0 }
+        ensures most { result ≤ 67108864 }
     {
         rows::slot_count_at(&self.words, rows::unit_of(o))
     }

@@ -37,6 +37,7 @@ active_is w a ready known = go (object_at w.heap.objects a.0) refl
   where
     at : active_in w.heap.objects w.active ≡ birth_at w.heap.objects a
     at = ap (active_in w.heap.objects) known
+
     is_active : (x : Object) (c : Bool) → is_context x ≡ c → object_at w.heap.objects a.0 ≡ Some x → Active w a x
     is_active x false o e = absurd (let no : ◌≡◌ {A = Option ℕ} None (Some (active_birth (view_of w))) =
         sym (at ∙ ap birth_in e ∙ ap (λ c. if c then Some x.birth else None) o) ∙ ready.running.known in cc)
@@ -47,6 +48,7 @@ active_is w a ready known = go (object_at w.heap.objects a.0) refl
         let same : Some (obj_of (ref_of w.heap.objects) x) ≡ Some (Ctx (active_context (view_of w))) = sym means ∙ ap (get (objects_of w.heap.objects)) (sym birth) ∙ ready.running.found in
         let is = context_is (ref_of w.heap.objects) x (active_context (view_of w)) (cc) in
         record { known = known; there = e; context = o; is = is.value; birth = birth ∙ sym (birth_of-object_at w.heap.objects a.0 x e) }
+
     go : (o : Option Object) → object_at w.heap.objects a.0 ≡ o → (x : Object) × Active w a x
     go None e = absurd (let no : ◌≡◌ {A = Option ℕ} None (Some (active_birth (view_of w))) = sym (at ∙ ap birth_in e) ∙ ready.running.known in cc)
     go (Some x) e = (x, is_active x (is_context x) refl e)
@@ -75,9 +77,11 @@ sound_world w whole within most = record {
     found : (a : Oop) (i : ℕ) (x : Object) (c : Bool) → object_at w.heap.objects a.0 ≡ Some x → ◌≡◌ {A = Option ℕ} (if c then Some x.birth else None) (Some i) → IsSome (get (objects_of w.heap.objects) i)
     found a i x false e h = absurd (cc)
     found a i x true e h = let is : x.birth ≡ i = cc in subst (λ n. IsSome (get (objects_of w.heap.objects) n)) is (ap is_some (meaning_there w a.0 x whole e))
+
     held_at : (a : Oop) (i : ℕ) (o : Option Object) → object_at w.heap.objects a.0 ≡ o → birth_in o ≡ Some i → IsSome (get (objects_of w.heap.objects) i)
     held_at a i None e h = absurd (cc)
     held_at a i (Some x) e h = found a i x (is_context x) e h
+
     held : (o : Option Oop) (i : ℕ) → active_in w.heap.objects o ≡ Some i → IsSome (get (objects_of w.heap.objects) i)
     held None i e = absurd (cc)
     held (Some a) i e = held_at a i (object_at w.heap.objects a.0) refl e

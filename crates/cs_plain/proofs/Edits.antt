@@ -27,6 +27,7 @@ edited os a x f edit there = record {
   where
     same : birth_in (Some (f x)) ≡ birth_in (Some x)
     same = λ i. if (edit.class x i == 36) then Some (edit.birth x i) else None
+
     births : (b : Oop) → birth_at (with_object os a f) b ≡ birth_at os b
     births b = elim (eqb_tells b.0 a) [
       | inl e ↦ ap (λ n. birth_in (object_at (with_object os a f) n)) e.1 ∙ ap birth_in (object_at-with_object_same os a f edit.slots ∙ ap (option_map f) there) ∙ same

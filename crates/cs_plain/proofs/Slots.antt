@@ -116,6 +116,7 @@ closure_within w a sound some = go (object_at w.heap.objects a.0) refl some
     is x true o e s =
         let whole = whole_context w.heap.objects x (sound_at w.heap.objects a.0 x sound.holds.whole.heap e) o in
         omega (arith, whole.fields, ap (λ (y : Option Object). option_map_or (λ (z : Object). length z.words) y 0) e)
+
     go : (y : Option Object) → object_at w.heap.objects a.0 ≡ y → IsSome (birth_in y) → 4 < slot_count_of w.heap.objects a.0
     go None e s = absurd (cc)
     go (Some x) e s = is x (is_context x) refl e s
@@ -134,6 +135,7 @@ closure_read w a v sound read = go (object_at w.heap.objects a.0) refl
           sound = ap (is_reference w.heap.objects) word ∙ All-get_or (λ (u : ℕ). is_reference w.heap.objects u ≡ true) x.words 4 0 (omega (arith, whole.fields)) whole.references;
           is = ap (ref_of w.heap.objects) word ∙ closure_of (ref_of w.heap.objects) x ∙ sym (ap (λ y. closure_in (nil_of (view_of w)) (context_in y)) means);
         }
+
     go : (y : Option Object) → object_at w.heap.objects a.0 ≡ y → IfSome (birth_in y) (λ birth. Names (stored_of w) v (closure_at (view_of w) birth))
     go None e = tt
     go (Some x) e = is x (is_context x) refl e

@@ -132,11 +132,11 @@ writes-store w o v i x ready named value s =
     let f : Obj → Obj = operation.with_slot i (name_of (stored_of w) v) in
     let old : Obj = obj_of (ref_of os) x in
     let view : view_of (with_objects w us) ≡ store_of (view_of w) (name_of (stored_of w) o) i (name_of (stored_of w) v) =
-        ap (kept_of us w.classes w.roots) (active-same os us w.active edit) ∙ does.kept (active_in os w.active) in
+    ap (kept_of us w.classes w.roots) (active-same os us w.active edit) ∙ does.kept (active_in os w.active) in
     let name : name_of (stored_of w) o ≡ ref.Obj x.birth = ref_of-object os o.0 (is_object-object_at os o.0 x s.there) ∙ ap (λ b. ref.Obj b) (birth_of-object_at os o.0 x s.there) in
     let found : state.object_at (view_of w) x.birth ≡ Some old = meaning_there w o.0 x ready.sound.holds.whole s.there in
     let put_is : store_of (view_of w) (name_of (stored_of w) o) i (name_of (stored_of w) v) ≡ put (view_of w) x.birth (f old) =
-        ap (λ r. edit_object (view_of w) r f) name ∙ ap (λ y. edit_found f x.birth y (view_of w)) found in
+    ap (λ r. edit_object (view_of w) r f) name ∙ ap (λ y. edit_found f x.birth y (view_of w)) found in
     let running = running-put (view_of w) x.birth old (f old) ready.running found (no_context (ref_of os) x s.other) s.lies in
     record {
       state = λ m k. subst (λ u. Keeps u (store_of m (name_of (stored_of w) o) i (name_of (stored_of w) v))) (sym view) (store_moved k (held_by w o ready named) i (held_by w v ready value)).keeps;

@@ -60,7 +60,7 @@ module _ {w : PlainWorld} {a : Oop} {x : Object} (ready : IsReady (stored_of w) 
   writes-set_pc pc small lies =
       let count : count_of (small_word (pos pc)) ≡ Some pc = count_of-small pc small in
       let does = does-set_pc known active.context (small_word (pos pc)) (is_reference-small w.heap.objects (pos pc) (small_natural pc small))
-          (or_right (small_word (pos pc) == nil_of w.heap.objects) (is_some (count_of (small_word (pos pc)))) (ap is_some count)) in
+      (or_right (small_word (pos pc) == nil_of w.heap.objects) (is_some (count_of (small_word (pos pc)))) (ap is_some count)) in
       let done = written w a x _ (with_pc (count_of (small_word (pos pc)))) pc ready active does (slot_edited 1 (small_word (pos pc))) count refl lies in
       record {
         state = λ m k. subst (λ v. Keeps v (set_pc_of m pc)) (sym (done.view ∙ ap (λ p. edit_active (view_of w) (with_pc p)) count)) (set_pc_moved k (is pc)).keeps;
@@ -77,7 +77,7 @@ module _ {w : PlainWorld} {a : Oop} {x : Object} (ready : IsReady (stored_of w) 
   unfolding set_stack_of
   writes-set_stack i v named =
       let done = written w a x _ (stored i (name_of (stored_of w) v)) (pc_of (view_of w)) ready active (does-set_stack known active.context i v.0 named) (slot_edited (6 + i) v.0)
-          ready.running.live refl ready.running.method in
+      ready.running.live refl ready.running.method in
       record {
         state = λ m k. subst (λ u. Keeps u (set_stack_of m i (name_of (stored_of w) v))) (sym done.view) (set_stack_moved k i (held_by w v ready named)).keeps;
         ready = done.ready;

@@ -55,8 +55,8 @@ written w a x us g pc ready active does same at method lies =
     let os = w.heap.objects in
     let name : ref_of os a.0 ≡ ref.Obj (active_birth (view_of w)) = ref_of-object os a.0 (is_object-object_at os a.0 x active.there) ∙ ap (λ b. ref.Obj b) (sym active.birth) in
     let view : view_of (with_objects w us) ≡ edit_active (view_of w) g =
-        ap (kept_of us w.classes w.roots) (active-same os us w.active same) ∙ does.kept (active_in os w.active)
-        ∙ ap (λ r. edit_object (view_of w) r (edit_context g)) name ∙ edit_object-active (view_of w) g ready.running in
+    ap (kept_of us w.classes w.roots) (active-same os us w.active same) ∙ does.kept (active_in os w.active)
+    ∙ ap (λ r. edit_object (view_of w) r (edit_context g)) name ∙ edit_object-active (view_of w) g ready.running in
     record {
       view = view;
       ready = record {

@@ -26,10 +26,15 @@ pub struct PlainWorld {
 
 /// The slots of a context, in the order of the Blue Book: sender, pc, stackp, method, closure, receiver, and then its stack.
 const PC: u32 = 1;
+
 const STACKP: u32 = 2;
+
 const METHOD: u32 = 3;
+
 const CLOSURE: u32 = 4;
+
 const RECEIVER: u32 = 5;
+
 const STACK: u32 = 6;
 
 /// The number itself, and 0 for a negative one.

@@ -1,8 +1,8 @@
 //! Arithmetic on SmallIntegers, which have 31 bits: exact, or `None`.
 
-ghost use Rattle.std.specs.Prelude.{◌≡◌, ℕ, ℤ, pos, ◌+ℤ◌, ◌-ℤ◌, ◌*ℤ◌, ◌<◌, ◌^◌};
+ghost use Rattle.std.specs.Prelude.{◌≡◌, ℤ, pos, ◌+ℤ◌, ◌-ℤ◌, ◌*ℤ◌, ◌^◌};
 ghost use Rattle.cs_word.specs.Word.{IsSmall};
-ghost use Rattle.cs_model.specs.Arithmetic.{if_small, quotient, floor_quotient, floor_remainder, shifted, floor_div, floor_rem};
+ghost use Rattle.cs_model.specs.Arithmetic.{if_small, quotient, floor_quotient, floor_remainder, shifted, floor_div};
 
 /// The sum, or `None` exactly where it isn't a SmallInteger.
 pub fn add(a: i32, b: i32) -> Option<i32>

@@ -1,6 +1,6 @@
 //! The header of an object.
 
-ghost use Rattle.std.specs.Prelude.{⊤, ◌≡◌, [], ◌∷◌, codes, ◌<◌, ◌^◌, ◌*◌, ℕ};
+ghost use Rattle.std.specs.Prelude.{⊤, ◌≡◌, [], ◌∷◌, codes, ◌<◌, ◌^◌};
 
 use bitflags::{Flag, Flags as _, bitflag_items};
 

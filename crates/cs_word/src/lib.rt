@@ -1,8 +1,8 @@
 //! Object words, SmallInteger arithmetic and object headers of 32-bit Spur.
 #![tactic(auto)]
 
-ghost use Rattle.std.specs.Prelude.{◌≡◌, ℕ, ℤ, ◌<◌, ◌^◌, ◌↔◌, IsSome, IfSome};
-ghost use Rattle.cs_word.specs.Word.{kind_of, word_of, small_value, small_word, character_word, IsSmall};
+ghost use Rattle.std.specs.Prelude.{◌≡◌, ◌<◌, ◌^◌, ◌↔◌, IsSome, IfSome};
+ghost use Rattle.cs_word.specs.Word.{kind_of, word_of, small_word, character_word, IsSmall};
 
 mod arithmetic;
 mod header;

@@ -1,0 +1,229 @@
+-- The active method as it lies in the heap.
+use Rattle.std.proofs.Common.{◌≡◌, ◌⊎◌, inl, inr, ℕ, zero, suc, ◌+◌, ◌-◌, ◌*◌, ◌/◌, ◌<◌, ◌≤◌, ◌%◌, ◌^◌, Bool, true, false, refl, sym, ap, ap₂, subst, ◌∙◌, arith, Option, Some, None, List, [], ◌∷◌, length, map, take, drop, get_or}
+use Rattle.std.specs.Prelude.{slice_get, slice_index, unwrap_or, option_map, ◌==◌, ◌&&◌, if◌then◌else◌, nat_lt, nat_le}
+use Rattle.std.specs.Option.{option_map_or}
+use Rattle.std.proofs.lemmas.Bool.Decides.{nat_tests}
+use Rattle.std.proofs.lemmas.List.{get_or-drop, get_or-take, length-drop, length-map, length-take}
+use Rattle.std.proofs.lemmas.Option.{slice_get-get_or, slice_get-map, slice_get_past}
+use Rattle.cs_word.specs.declared.Oop.{Oop}
+use Rattle.cs_word.specs.declared.Kind.{Kind}
+use Rattle.cs_word.specs.declared.Kind.TheVariants as kind
+use Rattle.cs_word.specs.Word.{kind_of, small_value}
+use Rattle.cs_heap.specs.Format.{is_method}
+use Rattle.cs_heap.specs.Object.{Memory, Object, byte_in, byte_of, field_of, format_of, is_object, object_at, slot_count_of, slot_of}
+use Rattle.cs_classes.specs.Meaning.{bytes_of, ref_of, obj_of, is_context, header_in, literals_in, used_bytes, code_in, count_of, unused_bytes}
+use Rattle.cs_classes.specs.Sound.{IsSoundMethod, IsSoundObject, is_reference, references_in}
+use Rattle.cs_classes.proofs.Heaps.{is_object-object_at}
+use Rattle.cs_classes.proofs.Sorts.{AContext, AMethod, Bytes, Pointers, Sort, sort_of, obj_of-pointers, obj_of-method, obj_of-bytes, references-method}
+use Rattle.cs_classes.proofs.Sounds.{sound_at}
+use Rattle.cs_model.specs.Ref.{Ref}
+use Rattle.cs_model.specs.Obj as obj
+use Rattle.cs_model.specs.Obj.{Obj, Context, Ptr, Raw, Method, Ctx, is_context_at, first_pc, lies_in, literal_count}
+use Rattle.cs_model.specs.State.{Kept, object_of}
+use Rattle.cs_model.specs.Read.{active_context, method_of, pc_of, literals_of}
+use Rattle.cs_acts.specs.Names.{Store, Names, IsNamed, NamesOption, name_of}
+use Rattle.cs_acts.specs.Ready.{Holds, IsReady}
+use Rattle.cs_acts.specs.Reading.{object_of_kind, object_named}
+use Rattle.cs_acts.proofs.Held.{Says, says}
+
+-- the object that a word names is at the address that the word is
+pub at_word : (os : List Object) (w : ℕ) (o : Option Object) (x : Object) → object_named os w ≡ o → o ≡ Some x → object_at os w ≡ Some x
+at_word os w o x e is = go (w % 2 == 1) (w % 4 == 2) (w % 8 == 0) (e ∙ is)
+  where
+    go : (a b c : Bool) → object_of_kind os (if a then kind.Small (small_value w) else (if b then kind.Character (w / 4) else (if c then kind.Object w else kind.Link w))) ≡ Some x → object_at os w ≡ Some x
+    go true b c h = absurd (cc)
+    go false true c h = absurd (cc)
+    go false false true h = h
+    go false false false h = absurd (cc)
+
+-- the object of the heap that a method of the state is
+pub record IsMethodAt (os : List Object) (o : Option Obj) (w : ℕ) : Type 0 where
+  pub object : Object
+  pub there : object_at os w ≡ Some object
+  pub sound : IsSoundObject os object
+  pub format : is_method object.format ≡ true
+  pub means : o ≡ Some (Method object.class object.format object.hash (header_in object.words) (map (ref_of os) (literals_in object.words)) (used_bytes object.format (code_in object.words)))
+
+-- only a method has a place where a pc lies
+no_context : (o : Option Obj) (pc : ℕ) → is_context_at o ≡ true → lies_in o pc ≡ true → ⊥
+no_context None pc h i = absurd (cc)
+no_context (Some (Ptr class format hash slots)) pc h i = absurd (cc)
+no_context (Some (Raw class format hash bytes)) pc h i = absurd (cc)
+no_context (Some (Method class format hash header literals bytecodes)) pc h i = absurd (cc)
+no_context (Some (Ctx c)) pc h i = absurd (cc)
+
+found_method : (os : List Object) (o : Option Obj) (w pc : ℕ) (x : Object) → object_at os w ≡ Some x → IsSoundObject os x → Says (ref_of os) (Some x) o → lies_in o pc ≡ true → IsMethodAt os o w
+found_method os o w pc x there sound said lies = go (sort_of x)
+  where
+    means : is_context x ≡ false → lies_in (Some (obj_of (ref_of os) x)) pc ≡ true
+    means other = subst (λ p. lies_in p pc ≡ true) (said.0 other) lies
+
+    go : Sort x → IsMethodAt os o w
+    go (AContext c) = absurd (no_context o pc (said.1 c) lies)
+    go (Pointers other p) = absurd (let l = subst (λ p. lies_in (Some p) pc ≡ true) (obj_of-pointers (ref_of os) x other p) (means other) in cc)
+    go (AMethod other b m) = record { object = x; there = there; sound = sound; format = m; means = said.0 other ∙ ap Some (obj_of-method (ref_of os) x other b m) }
+    go (Bytes other b m) = absurd (let l = subst (λ p. lies_in (Some p) pc ≡ true) (obj_of-bytes (ref_of os) x other b m) (means other) in cc)
+
+pub method_there : (s : Store) (k : Kept) (o : Oop) → IsReady s k → Names s o (active_context k).method → IsMethodAt s.memory.objects (method_of k) o.0
+unfolding method_of
+method_there s k o ready names =
+    let h = ready.sound.holds in
+    let lies : lies_in (object_of k (active_context k).method) (pc_of k) ≡ true = ready.running.method in
+    let said = subst (λ r. Says (ref_of s.memory.objects) (object_named s.memory.objects o.0) (object_of k r)) names.is (says s k o h names.sound) in
+    go (object_named s.memory.objects o.0) refl said lies
+  where
+    none : (q : Option Obj) → q ≡ None → lies_in q (pc_of k) ≡ true → ⊥
+    none q e l = let m = subst (λ p. lies_in p (pc_of k) ≡ true) e l in absurd (cc)
+
+    go : (p : Option Object) → object_named s.memory.objects o.0 ≡ p → Says (ref_of s.memory.objects) p (object_of k (active_context k).method) → lies_in (object_of k (active_context k).method) (pc_of k) ≡ true
+        → IsMethodAt s.memory.objects (object_of k (active_context k).method) o.0
+    go None e said l = absurd (none _ said l)
+    go (Some x) e said l =
+        let there = at_word s.memory.objects o.0 (Some x) x e refl in
+        found_method s.memory.objects _ o.0 (pc_of k) x there (sound_at s.memory.objects o.0 x ready.sound.holds.whole.heap there) said l
+
+-- ---- what is read of it
+
+module _ (os : List Object) (o : Option Obj) (w : ℕ) (m : IsMethodAt os o w) where
+  abbrev pub words : List ℕ
+  words = m.object.words
+
+  pub field_is : (g : Object → ℕ) → field_of g os w ≡ g m.object
+  field_is g = ap (λ (p : Option Object). option_map_or g p 0) m.there
+
+  pub is_there : is_object os w ≡ true
+  is_there = is_object-object_at os w m.object m.there
+
+  pub parts : IsSoundMethod m.object
+  parts = m.sound.method m.format
+
+  -- the literals and the header have slots
+  pub literals_fit : literal_count (header_in words) < length words
+  literals_fit = omega (arith, parts.literals)
+
+  pub slots_fit : literal_count (header_in words) < slot_count_of os w
+  slots_fit = omega (arith, literals_fit, field_is (λ x. length x.words))
+
+  pub header_is : unwrap_or (count_of (slot_of os w 0)) 0 ≡ header_in words
+  header_is = ap (λ n. unwrap_or (count_of n) 0) (field_is (λ x. slice_index x.words 0))
+
+  pub length-literals : length (literals_in words) ≡ literal_count (header_in words)
+  length-literals = omega (arith, literals_fit, length-take (literal_count (header_in words)) (drop 1 words), length-drop 1 words)
+
+  literal_word : (i : ℕ) → i < literal_count (header_in words) → slice_get (literals_in words) i ≡ Some (slot_of os w (i + 1))
+  literal_word i h =
+      slice_get-get_or (literals_in words) i 0 (omega (arith, h, length-literals))
+      ∙ ap Some (get_or-take (literal_count (header_in words)) (drop 1 words) i 0 h ∙ get_or-drop 1 words i 0 ∙ ap (λ n. get_or words n 0) (omega arith) ∙ sym (field_is (λ x. slice_index x.words (i + 1))))
+
+  pub literal_is : (i : ℕ) → i < literal_count (header_in words) → slice_get (map (ref_of os) (literals_in words)) i ≡ Some (ref_of os (slot_of os w (i + 1)))
+  literal_is i h = slice_get-map (ref_of os) (literals_in words) i ∙ ap (option_map (ref_of os)) (literal_word i h)
+
+  pub no_literal : (i : ℕ) → literal_count (header_in words) ≤ i → slice_get (map (ref_of os) (literals_in words)) i ≡ None
+  no_literal i h = slice_get_past (map (ref_of os) (literals_in words)) i (omega (arith, h, length-literals, length-map (literals_in words) (ref_of os)))
+
+  pub literal_named : (i : ℕ) → i < literal_count (header_in words) → is_reference os (slot_of os w (i + 1)) ≡ true
+  literal_named i h =
+      let all = subst (λ ls. (j d : ℕ) → j < length ls → is_reference os (get_or ls j d) ≡ true) (references-method m.object m.format) m.sound.references in
+      let word = slice_get-get_or (literals_in words) i 0 (omega (arith, h, length-literals)) in
+      let same : get_or (literals_in words) i 0 ≡ slot_of os w (i + 1) = let e = literal_word i h in cc in
+      subst (λ v. is_reference os v ≡ true) same (all i 0 (omega (arith, h, length-literals)))
+
+-- ---- and of the heap that the code reads
+
+pub active_method : (s : Store) (k : Kept) (h : Memory) (o : Oop) → h ≡ s.memory → IsReady s k → Names s o (active_context k).method → IsMethodAt h.objects (method_of k) o.0
+active_method s k h o e ready names = subst (λ m. IsMethodAt m.objects (method_of k) o.0) (sym e) (method_there s k o ready names)
+
+-- the count that the code reads
+pub count_read : (os : List Object) (k : Kept) (w n : ℕ) → IsMethodAt os (method_of k) w → n ≡ literal_count (unwrap_or (count_of (slot_of os w 0)) 0) → n ≡ length (literals_of k)
+count_read os k w n m e =
+    e ∙ ap literal_count (header_is os (method_of k) w m) ∙ sym (length-literals os (method_of k) w m)
+    ∙ sym (length-map (literals_in m.object.words) (ref_of os)) ∙ sym (ap (λ o. length (obj.literals_in o)) m.means)
+
+pub slots_below : (os : List Object) (k : Kept) (w i : ℕ) → IsMethodAt os (method_of k) w → i < length (literals_of k) → i + 1 < slot_count_of os w
+slots_below os k w i m h =
+    let n = count_read os k w (literal_count (unwrap_or (count_of (slot_of os w 0)) 0)) m refl in
+    omega (arith, h, n, ap literal_count (header_is os (method_of k) w m), slots_fit os (method_of k) w m)
+
+pub literal_names : (s : Store) (k : Kept) (w i : ℕ) (o : Oop) → IsMethodAt s.memory.objects (method_of k) w → i < length (literals_of k) → o.0 ≡ slot_of s.memory.objects w (i + 1)
+    → NamesOption s (Some o) (slice_get (literals_of k) i)
+literal_names s k w i o m h is =
+    let os = s.memory.objects in
+    let n = count_read os k w (literal_count (unwrap_or (count_of (slot_of os w 0)) 0)) m refl in
+    let less : i < literal_count (header_in m.object.words) = omega (arith, h, n, ap literal_count (header_is os (method_of k) w m)) in
+    record {
+      sound = subst (λ v. is_reference os v ≡ true) (sym is) (literal_named os (method_of k) w m i less);
+      is = ap (λ v. Some (ref_of os v)) is ∙ sym (ap (λ p. slice_get (obj.literals_in p) i) m.means ∙ literal_is os (method_of k) w m i less);
+    }
+
+pub no_literal_names : (s : Store) (k : Kept) (i : ℕ) → length (literals_of k) ≤ i → NamesOption s None (slice_get (literals_of k) i)
+no_literal_names s k i h = record { sound = tt; is = sym (slice_get_past (literals_of k) i h) }
+
+-- ---- bytes
+
+pub length-bytes_of : (ws : List ℕ) → length (bytes_of ws) ≡ 4 * length ws
+unfolding bytes_of
+length-bytes_of [] = refl
+length-bytes_of (w ∷ ws) = omega (arith, length-bytes_of ws)
+
+-- byte i is in word i / 4
+pub get_or-bytes_of : (ws : List ℕ) (i : ℕ) → i < 4 * length ws → get_or (bytes_of ws) i 0 ≡ byte_in (get_or ws (i / 4) 0) (i % 4)
+unfolding bytes_of
+get_or-bytes_of [] i h = absurd (omega (arith, h))
+get_or-bytes_of (w ∷ ws) zero h = refl
+get_or-bytes_of (w ∷ ws) (suc zero) h = refl
+get_or-bytes_of (w ∷ ws) (suc (suc zero)) h = refl
+get_or-bytes_of (w ∷ ws) (suc (suc (suc zero))) h = refl
+get_or-bytes_of (w ∷ ws) (suc (suc (suc (suc i)))) h =
+    get_or-bytes_of ws i (omega (arith, h)) ∙ ap (λ n. byte_in (get_or ws (i / 4) 0) n) rest ∙ ap (λ n. byte_in (get_or (w ∷ ws) n 0) ((suc (suc (suc (suc i)))) % 4)) word
+  where
+    word : suc (i / 4) ≡ suc (suc (suc (suc i))) / 4
+    word = omega arith
+
+    rest : i % 4 ≡ suc (suc (suc (suc i))) % 4
+    rest = omega arith
+
+module _ (os : List Object) (o : Option Obj) (w : ℕ) (m : IsMethodAt os o w) where
+  abbrev code : List ℕ
+  code = code_in (words os o w m)
+
+  length-code : 1 + literal_count (header_in m.object.words) + length code ≡ length m.object.words
+  length-code = omega (arith, literals_fit os o w m, length-drop (1 + literal_count (header_in m.object.words)) m.object.words)
+
+  -- the format says how many bytes at the end are unused: fewer than the bytecodes have
+  unused : unused_bytes m.object.format ≤ 4 * length code
+  unused = omega (arith, length-code, unused_few m.object.format m.format, needed (nat_lt 0 (unused_bytes m.object.format)) refl (parts os o w m).literals)
+    where
+      unused_few : (f : ℕ) → is_method f ≡ true → unused_bytes f < 4
+      unused_few f h = grind (arith, nat_tests)
+
+      none : (u : ℕ) → nat_lt 0 u ≡ false → u ≡ 0
+      none u e = grind (arith, nat_tests)
+
+      needed : (b : Bool) → nat_lt 0 (unused_bytes m.object.format) ≡ b → literal_count (header_in m.object.words) + (if b then 1 else 0) < length m.object.words
+          → (unused_bytes m.object.format ≡ 0) ⊎ (literal_count (header_in m.object.words) + 1 < length m.object.words)
+      needed true e h = inr h
+      needed false e h = inl (none (unused_bytes m.object.format) e)
+
+  pub length-bytecodes : length (used_bytes m.object.format code) ≡ 4 * length code - unused_bytes m.object.format
+  length-bytecodes = omega (arith, length-take (4 * length code - unused_bytes m.object.format) (bytes_of code), length-bytes_of code)
+
+  slots_are : slot_count_of os w ≡ length m.object.words
+  slots_are = field_is os o w m (λ x. length x.words)
+
+  pub format_is : is_method (format_of os w) ≡ true
+  format_is = ap is_method (field_is os o w m (λ x. x.format)) ∙ m.format
+
+  -- the byte behind the last bytecode, counted from the header on
+  pub end_is : 4 * (literal_count (header_in m.object.words) + 1) + length (used_bytes m.object.format code) ≡ 4 * slot_count_of os w - unused_bytes (format_of os w)
+  end_is =
+      let format : unused_bytes (format_of os w) ≡ unused_bytes m.object.format = ap unused_bytes (field_is os o w m (λ x. x.format)) in
+      omega (arith, length-bytecodes, length-code, unused, slots_are, format)
+
+-- where a pc lies, as the code reads it
+pub lies_read : (os : List Object) (k : Kept) (w n end pc : ℕ) → IsMethodAt os (method_of k) w → n ≡ literal_count (unwrap_or (count_of (slot_of os w 0)) 0) → end ≡ 4 * slot_count_of os w - unused_bytes (format_of os w)
+    → (nat_le (4 * (n + 1) + 1) pc && nat_le pc (end + 1)) ≡ lies_in (method_of k) pc
+lies_read os k w n end pc m count is =
+    let ls : List Ref = map (ref_of os) (literals_in m.object.words) in
+    let literals : n ≡ length ls = count ∙ ap literal_count (header_is os (method_of k) w m) ∙ sym (length-literals os (method_of k) w m) ∙ sym (length-map (literals_in m.object.words) (ref_of os)) in
+    let last : end + 1 ≡ first_pc ls + length (used_bytes m.object.format (code_in m.object.words)) = omega (arith, is, end_is os (method_of k) w m, literals, length-literals os (method_of k) w m, length-map (literals_in m.object.words) (ref_of os)) in
+    ap₂ (λ (a b : ℕ). nat_le (4 * (a + 1) + 1) pc && nat_le pc b) literals last ∙ sym (ap (λ p. lies_in p pc) m.means)

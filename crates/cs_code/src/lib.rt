@@ -1,0 +1,40 @@
+//! The instructions of the V3PlusClosures bytecodes, over any world.
+//!
+//! The pc has been moved past the instruction when it is done. Where it sends or returns, that is left to who asked for it.
+#![tactic(auto)]
+
+ghost use Rattle.cs_acts.specs.Ready.{IsReady};
+ghost use Rattle.cs_code.specs.Built.{built_exec};
+ghost use Rattle.cs_code.specs.Gives.{Gives};
+
+mod end;
+mod jumps;
+mod pushes;
+mod sends;
+
+use cs_acts::World;
+use cs_model::{Instr, Op, Stop};
+pub use end::CodeEnd;
+
+/// Does one instruction.
+#[tactic(auto, unfolding(crate::specs::Built::built_exec, cs_model::specs::Exec::exec))]
+pub fn exec<W: World>(i: &Instr, w: &mut W) -> CodeEnd
+    requires { IsReady (W.stored w.old) (W.view w.old) }
+    ensures { Gives (W.stored w.old) (W.stored w.new) (W.view w.new) result (built_exec i.now.op (W.view w.old)) }
+{
+    match i.op {
+        Op::PushTemp(k) => pushes::push_temporary(w, k),
+        Op::PushLit(k) => pushes::push_literal(w, k),
+        Op::PushSelf => pushes::push_receiver(w),
+        Op::PushTrue => pushes::push_boolean(w, true),
+        Op::PushFalse => pushes::push_boolean(w, false),
+        Op::PushNil => pushes::push_nil(w),
+        Op::PushInt(z) => pushes::push_small(w, z),
+        Op::Send { lit, args } => sends::send(w, lit, args),
+        Op::Pop => pushes::pop(w),
+        Op::Dup => pushes::dup(w),
+        Op::Prim { .. } => CodeEnd::Done,
+        Op::Jump(offset) => jumps::jump(w, i32::from(offset)),
+        _ => CodeEnd::Stop(Stop::NotBuilt),
+    }
+}

@@ -1,0 +1,130 @@
+//! Pushes of single values, and what is done to the top of the stack alone.
+ghost use Rattle.std.specs.Prelude.{◌≡◌};
+ghost use Rattle.cs_model.specs.Number.{boolean as boolean_of};
+ghost use Rattle.cs_model.specs.Operation.{nil_of};
+ghost use Rattle.cs_model.specs.Read.{receiver_of};
+ghost use Rattle.cs_model.specs.Ref.{Ref};
+ghost use Rattle.cs_model.specs.Ref as ref;
+ghost use Rattle.cs_model.specs.Exec.{push_out, push_temp_out, push_literal_out, pop_out, dup_out};
+ghost use Rattle.cs_acts.specs.Names.{IsNamed, Names, Store, name_of};
+ghost use Rattle.cs_acts.specs.Ready.{IsReady};
+ghost use Rattle.cs_code.specs.Gives.{Gives};
+
+use crate::CodeEnd;
+use cs_acts::World;
+use cs_acts::read::{boolean, from_top, literal, nil, temporary};
+use cs_model::Stop;
+use cs_word::Oop;
+
+/// Pushes a value, where there is room.
+#[tactic(auto, unfolding(cs_model::specs::Exec::push_out))]
+pub fn push<W: World>(w: &mut W, x: Oop) -> CodeEnd
+    requires ready { IsReady (W.stored w.old) (W.view w.old) }
+    requires named { IsNamed (W.stored w.old) x }
+    ensures { Gives (W.stored w.old) (W.stored w.new) (W.view w.new) result (push_out (W.view w.old) (name_of (W.stored w.old) x)) }
+{
+    if w.depth() < w.size() {
+        w.push(x);
+        CodeEnd::Done
+    } else {
+        CodeEnd::Stop(Stop::StackOver)
+    }
+}
+
+/// Pushes argument or temporary `i`.
+#[tactic(auto, unfolding(cs_model::specs::Exec::push_temp_out))]
+pub fn push_temporary<W: World>(w: &mut W, i: u8) -> CodeEnd
+    requires { IsReady (W.stored w.old) (W.view w.old) }
+    ensures { Gives (W.stored w.old) (W.stored w.new) (W.view w.new) result (push_temp_out (W.view w.old) i) }
+{
+    match temporary(w, u32::from(i)) {
+        Some(x) => push(w, x),
+        None => CodeEnd::Stop(Stop::BadField),
+    }
+}
+
+/// Pushes literal `i`.
+#[tactic(auto, unfolding(cs_model::specs::Exec::push_literal_out))]
+pub fn push_literal<W: World>(w: &mut W, i: u8) -> CodeEnd
+    requires { IsReady (W.stored w.old) (W.view w.old) }
+    ensures { Gives (W.stored w.old) (W.stored w.new) (W.view w.new) result (push_literal_out (W.view w.old) i) }
+{
+    match literal(w, u32::from(i)) {
+        Some(x) => push(w, x),
+        None => CodeEnd::Stop(Stop::BadLiteral),
+    }
+}
+
+/// Pushes the receiver.
+pub fn push_receiver<W: World>(w: &mut W) -> CodeEnd
+    requires { IsReady (W.stored w.old) (W.view w.old) }
+    ensures { Gives (W.stored w.old) (W.stored w.new) (W.view w.new) result (push_out (W.view w.old) (receiver_of (W.view w.old))) }
+{
+    let x = w.receiver();
+    push(w, x)
+}
+
+/// Pushes true or false.
+pub fn push_boolean<W: World>(w: &mut W, truth: bool) -> CodeEnd
+    requires { IsReady (W.stored w.old) (W.view w.old) }
+    ensures { Gives (W.stored w.old) (W.stored w.new) (W.view w.new) result (push_out (W.view w.old) (boolean_of (W.view w.old) truth)) }
+{
+    let x = boolean(w, truth);
+    push(w, x)
+}
+
+/// Pushes nil.
+pub fn push_nil<W: World>(w: &mut W) -> CodeEnd
+    requires { IsReady (W.stored w.old) (W.view w.old) }
+    ensures { Gives (W.stored w.old) (W.stored w.new) (W.view w.new) result (push_out (W.view w.old) (nil_of (W.view w.old))) }
+{
+    let x = nil(w);
+    push(w, x)
+}
+
+/// Pushes a SmallInteger.
+pub fn push_small<W: World>(w: &mut W, z: i8) -> CodeEnd
+    requires { IsReady (W.stored w.old) (W.view w.old) }
+    ensures { Gives (W.stored w.old) (W.stored w.new) (W.view w.new) result (push_out (W.view w.old) (ref.Small z)) }
+{
+    let x = small_word(z);
+    push(w, x)
+}
+
+/// The word of a small number.
+#[tactic(auto, unfolding(cs_classes::specs::Meaning::ref_of, cs_classes::specs::Sound::is_reference))]
+fn small_word(z: i8) -> Oop
+    ensures { (s : Store) → Names s result (ref.Small z) }
+{
+    let Some(word) = Oop::small(i32::from(z)) else {
+        unreachable!();
+    };
+    word
+}
+
+/// Drops the topmost value.
+#[tactic(auto, unfolding(cs_model::specs::Exec::pop_out))]
+pub fn pop<W: World>(w: &mut W) -> CodeEnd
+    requires { IsReady (W.stored w.old) (W.view w.old) }
+    ensures { Gives (W.stored w.old) (W.stored w.new) (W.view w.new) result (pop_out (W.view w.old)) }
+{
+    match from_top(w, 0) {
+        Some(_) => {
+            w.pop();
+            CodeEnd::Done
+        }
+        None => CodeEnd::Stop(Stop::StackUnder),
+    }
+}
+
+/// Pushes the topmost value once more.
+#[tactic(auto, unfolding(cs_model::specs::Exec::dup_out))]
+pub fn dup<W: World>(w: &mut W) -> CodeEnd
+    requires { IsReady (W.stored w.old) (W.view w.old) }
+    ensures { Gives (W.stored w.old) (W.stored w.new) (W.view w.new) result (dup_out (W.view w.old)) }
+{
+    match from_top(w, 0) {
+        Some(x) => push(w, x),
+        None => CodeEnd::Stop(Stop::StackUnder),
+    }
+}
