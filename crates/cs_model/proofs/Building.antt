@@ -14,7 +14,7 @@ use Rattle.cs_model.specs.Built.{is_built_number, answers, is_built_method, is_b
 use Rattle.cs_model.specs.Keeps.{Keeps, TimerHeld, KeepsState}
 use Rattle.cs_model.specs.Alike.{SoughtHeld, Alike, AlikeStep, AlikeRan}
 use Rattle.cs_model.proofs.Same.{Same, same, Any, is, of_option, value, two, if_same}
-use Rattle.cs_model.proofs.Reading.{object_of_same, depth_same, pc_same, literals_same, bytecodes_same, rest_same}
+use Rattle.cs_model.proofs.Reading.{held_if, object_of_same, depth_same, pc_same, literals_same, bytecodes_same, rest_same}
 use Rattle.cs_model.proofs.Operating.{set_pc_moved}
 use Rattle.cs_model.proofs.Fields.{and_same, or_else_same}
 use Rattle.cs_model.proofs.Combining.{end_same}
@@ -24,7 +24,7 @@ use Rattle.cs_model.proofs.Sending.{begins_at_same, look_from_same}
 use Rattle.cs_model.proofs.Running.{timer_up}
 use Rattle.cs_model.proofs.Tables.{prim_alike}
 use Rattle.cs_model.proofs.Happening.{is_idle_same, run_same}
-use Rattle.cs_model.proofs.Stepping.{MessageHeld, message_in_same, above_held, instruction_at_same, stops_alike, if_step, step_alike, run_by_alike}
+use Rattle.cs_model.proofs.Stepping.{MessageHeld, message_in_same, instruction_at_same, stops_alike, if_step, step_alike, run_by_alike}
 
 answers_same : {v m : Kept} {o p : Option ℕ} → Keeps v m → (r : Run) → TimerHeld v r → (args : ℕ) → Same Any o p → Same Any (answers (record { kept = v; run = r }) args o) (answers (record { kept = m; run = r }) args p)
 answers_same k r timer args (same None a) = is false
@@ -43,7 +43,7 @@ is_built_found_same k r timer args (same Loop h) = is true
 
 is_built_send_same : {v m : Kept} → Keeps v m → (r : Run) → TimerHeld v r → (p : Message) → MessageHeld v p → Same Any (is_built_send (record { kept = v; run = r }) p) (is_built_send (record { kept = m; run = r }) p)
 is_built_send_same k r timer p h =
-    if_same (value (nat_lt p.args) (depth_same k)) (is_built_found_same k r timer p.args (look_from_same k (is p.selector) (begins_at_same k p.args (above_held k p.above h.1)))) (is true)
+    if_same (value (nat_lt p.args) (depth_same k)) (is_built_found_same k r timer p.args (look_from_same k (is p.selector) (begins_at_same k p.args (held_if k p.above h.1)))) (is true)
 
 is_built_end_same : {v : Kept} {a b : Out} → (r : Run) → TimerHeld v r → Alike v a b → Same Any (is_built_end (record { kept = a.state; run = r }) a.end) (is_built_end (record { kept = b.state; run = r }) b.end)
 is_built_end_same {a = a} r timer h = given_same _ _ (message_in_same a.state (end_same h)) (is true) (λ p g. is_built_send_same h.keeps r (timer_up h.grows timer) p g)

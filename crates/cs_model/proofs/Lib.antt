@@ -26,3 +26,4 @@ pub mod Building
 pub mod Agreeing
 pub mod Surviving
 pub mod Whole
+pub mod Lasting

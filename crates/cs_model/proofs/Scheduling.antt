@@ -10,7 +10,7 @@ use Rattle.cs_model.specs.Keeps.{Keeps}
 use Rattle.cs_model.specs.Alike.{Alike, IsHeldIf}
 use Rattle.cs_model.proofs.Same.{Same, same, SameOption, none, some, Any, is, of_option, two, and_then_same, or_same, if_same, if_option, option_is, any_option, some_same}
 use Rattle.cs_model.proofs.Keeping.{Moved, moved, unmoved, choose_moved}
-use Rattle.cs_model.proofs.Reading.{AllHeld, Has, up, nil_same, is_nil_same, object_of_same, slots_in_same, slots_of_same, slice_same, scheduler_same, active_process_same, active_ref_same}
+use Rattle.cs_model.proofs.Reading.{held_if, AllHeld, Has, up, nil_same, is_nil_same, object_of_same, slots_in_same, slots_of_same, slice_same, scheduler_same, active_process_same, active_ref_same}
 use Rattle.cs_model.proofs.Operating.{store_moved, resume_moved, suspend_moved}
 use Rattle.cs_model.proofs.Combining.{fail_alike, done_alike, stop_alike, behind, looked_alike, given_alike, if_alike, and_then_alike}
 use Rattle.cs_model.proofs.Searching.{context_birth_same, is_live_same}
@@ -205,10 +205,6 @@ PlaceHeld v (At before) = IsHeldIf v before
 PlaceHeld v NotThere = Unit {0}
 PlaceHeld v NoProcess = Unit {0}
 PlaceHeld v TooFar = Unit {0}
-
-held_if : {v m : Kept} → Keeps v m → (o : Option Ref) → IsHeldIf v o → SameOption (IsHeld v) o o
-held_if k None h = none
-held_if k (Some x) h = some x h
 
 at_same : {v m : Kept} {o p : Option Ref} → Keeps v m → SameOption (IsHeld v) o p → Same (PlaceHeld v) (At o) (At p)
 at_same k none = same (At None) tt

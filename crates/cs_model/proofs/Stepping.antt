@@ -18,7 +18,7 @@ use Rattle.cs_model.specs.Keeps.{Keeps, Grows, TimerHeld, KeepsState}
 use Rattle.cs_model.specs.Alike.{Alike, EndHeld, IsHeldIf, AlikeResult, AlikeHappened, AlikeStep, AlikeRan, KeepsIf, AllKeep}
 use Rattle.cs_model.proofs.Same.{Same, same, SameOption, none, some, Any, is, value, of_option, two, same_by, plain}
 use Rattle.cs_model.proofs.Keeping.{Moved, unmoved, choose_moved, grows-trans}
-use Rattle.cs_model.proofs.Reading.{rest_same, is_nil_same, slots_of_same, special_at_same, scheduler_same, active_process_same, object_of_same, bytecodes_same, literals_same, pc_same}
+use Rattle.cs_model.proofs.Reading.{held_if, rest_same, is_nil_same, slots_of_same, special_at_same, scheduler_same, active_process_same, object_of_same, bytecodes_same, literals_same, pc_same}
 use Rattle.cs_model.proofs.Operating.{set_pc_moved, suspend_moved}
 use Rattle.cs_model.proofs.Combining.{behind, left, end_same, count_same, counting_alike, stop_alike}
 use Rattle.cs_model.proofs.Executing.{exec_alike}
@@ -134,16 +134,12 @@ do_return_alike k r timer s local = returned_alike r timer (back_alike k s local
 
 -- ---- the bytecode
 
-pub above_held : {v m : Kept} → Keeps v m → (o : Option Ref) → IsHeldIf v o → SameOption (IsHeld v) o o
-above_held k None h = none
-above_held k (Some x) h = some x h
-
 followed_alike : {v : Kept} {a b : Out} → (r : Run) → TimerHeld v r → Alike v a b → AlikeResult v (followed r a) (followed r b)
 followed_alike {a = a} r timer h =
     let later = timer_up h.grows timer in
     given_result _ _ (message_in_same a.state (end_same h))
     (given_result _ _ (return_in_same a.state (end_same h)) (result_alike h r timer) (λ p g. counting_result h (do_return_alike h.keeps r later (same p.0 g) p.1)))
-    (λ p g. counting_result h (do_send_alike h.keeps r later (same p.selector g.0) p.args (above_held h.keeps p.above g.1)))
+    (λ p g. counting_result h (do_send_alike h.keeps r later (same p.selector g.0) p.args (held_if h.keeps p.above g.1)))
 
 pub instruction_at_same : {v m : Kept} → Keeps v m → SameOption Any (instruction_at v) (instruction_at m)
 unfolding instruction_at

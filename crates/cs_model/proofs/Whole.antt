@@ -11,12 +11,13 @@ use Rattle.cs_model.specs.Report.{line_of, place_of, report_of}
 use Rattle.cs_model.specs.Settle.{opened}
 use Rattle.cs_model.specs.Keeps.{Keeps, TimerHeld, KeepsState}
 use Rattle.cs_model.specs.Alike.{AlikeResult, AlikeHappened, AlikeStep, AlikeRan, IsHeldIf}
+use Rattle.cs_model.proofs.Reading.{held_if}
 use Rattle.cs_model.proofs.Same.{Same, same}
 use Rattle.cs_model.proofs.Agreeing.{place_of-kept}
 use Rattle.cs_model.proofs.Tables.{prim_alike}
 use Rattle.cs_model.proofs.Running.{open_moved, timer_off}
 use Rattle.cs_model.proofs.Happening.{run_same, due_alike}
-use Rattle.cs_model.proofs.Stepping.{above_held, try_primitive_alike, do_send_alike, do_return_alike, bytecode_of_state, step_alike, run_alike}
+use Rattle.cs_model.proofs.Stepping.{try_primitive_alike, do_send_alike, do_return_alike, bytecode_of_state, step_alike, run_alike}
 use Rattle.cs_model.proofs.Building.{built_step_alike, built_run_alike}
 
 pub prim-alike : (s t : State) (number args : ℕ) → KeepsState s t → AlikeResult s.kept (prim number args s) (prim number args t)
@@ -30,7 +31,7 @@ try_primitive-alike s t x number k h = with_run k.kept (run_same k) h where
   with_run k (same r timer) h = try_primitive_alike k r timer (same x h) number
 
 pub do_send-alike : (v m : Kept) (r : Run) (x : Ref) (args : ℕ) (above : Option Ref) → Keeps v m → TimerHeld v r → IsHeld v x → IsHeldIf v above → AlikeResult v (do_send r v x args above) (do_send r m x args above)
-do_send-alike v m r x args above k timer h g = do_send_alike k r timer (same x h) args (above_held k above g)
+do_send-alike v m r x args above k timer h g = do_send_alike k r timer (same x h) args (held_if k above g)
 
 pub do_return-alike : (v m : Kept) (r : Run) (x : Ref) (local : Bool) → Keeps v m → TimerHeld v r → IsHeld v x → AlikeResult v (do_return r v x local) (do_return r m x local)
 do_return-alike v m r x local k timer h = do_return_alike k r timer (same x h) local
