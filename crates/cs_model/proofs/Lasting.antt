@@ -1,25 +1,20 @@
 -- What is held stays held over each operation.
-use Rattle.std.proofs.Common.{ℕ, ℤ, Bool, refl, Option, List}
+use Rattle.std.proofs.Common.{ℕ, Bool, Option, List}
 use Rattle.std.specs.List.{AllByRecursion}
-use Rattle.cs_model.specs.declared.instruction.Op.{Op}
 use Rattle.cs_model.specs.Ref.{Ref}
 use Rattle.cs_model.specs.Obj.{Obj, Context}
 use Rattle.cs_model.specs.State.{Kept, put, IsHeld, ContextHeld, NamesHeld}
 use Rattle.cs_model.specs.Operation.{put_active, set_pc_of, push_of, drop_of, set_stack_of, store_of, store_byte_of, add_of, enter_of, kill_of, kill_all, resume_of, suspend_of, leave_of, cut_to_of}
 use Rattle.cs_model.specs.Context.{context_put}
-use Rattle.cs_model.specs.Enter.{enter_block_of, enter_block_out}
-use Rattle.cs_model.specs.Instance.{instantiate, behavior_hash, take_index, hash_given, Made, Hashed}
-use Rattle.cs_model.specs.Exec.{push_out, fill_of, jump_out, send_selector_out, special_send_out, exec}
-use Rattle.cs_model.specs.Send.{enter_out, invoke, not_understood, send, perform, perform_with_arguments, execute_method, spread_of}
-use Rattle.cs_model.specs.Return.{call_with, cannot_return_out, unwind_out, local_out, nonlocal_out, back}
-use Rattle.cs_model.specs.Process.{add_last, take_out, start, stop_running, start_next, resume, signal, wait, suspend_active, suspend_other, suspend, give_way}
-use Rattle.cs_model.specs.PrimAnswer.{answer}
+use Rattle.cs_model.specs.Enter.{enter_block_of}
+use Rattle.cs_model.specs.Instance.{take_index, hash_given}
+use Rattle.cs_model.specs.Exec.{fill_of}
+use Rattle.cs_model.specs.Send.{spread_of}
+use Rattle.cs_model.specs.Process.{take_out, stop_running}
 use Rattle.cs_model.specs.Settle.{settle_kept, open_kept}
 use Rattle.cs_model.specs.PrimRun.{forgotten}
-use Rattle.cs_model.specs.PrimTable.{kept_prim}
-use Rattle.cs_model.specs.Due.{signal_external}
-use Rattle.cs_model.specs.Keeps.{Keeps, Grows}
-use Rattle.cs_model.specs.Alike.{Alike, IsHeldIf, AlikeMade, AlikeHashed}
+use Rattle.cs_model.specs.Keeps.{Keeps}
+use Rattle.cs_model.specs.Alike.{IsHeldIf}
 use Rattle.cs_model.proofs.Keeping.{IsHeld-grows}
 use Rattle.cs_model.proofs.Reading.{Has}
 use Rattle.cs_model.proofs.Surviving.{grows-put, grows-put_active, grows-set_pc, grows-push, grows-drop, grows-set_stack, grows-store, grows-store_byte, grows-add, grows-enter, grows-enter_block, grows-kill, grows-kill_all, grows-resume_at, grows-suspend_all, grows-leave, grows-cut_to, grows-context_put, grows-take_index, grows-hash_given, grows-fill, grows-spread, grows-stop_running, grows-take_out, grows-settle, grows-open, grows-forgotten}

@@ -27,3 +27,4 @@ pub mod Agreeing
 pub mod Surviving
 pub mod Whole
 pub mod Lasting
+pub mod Settling

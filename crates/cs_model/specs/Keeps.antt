@@ -11,6 +11,11 @@ pub record Keeps (v m : Kept) : Type 0 where
   pub roots : RestHeld v
   pub rest : v.rest ≡ m.rest
 
+-- the same objects at the same births, and the same rest
+pub record SameKept (a b : Kept) : Type 0 where
+  pub objects : (i : ℕ) → object_at a i ≡ object_at b i
+  pub rest : a.rest ≡ b.rest
+
 -- each birth that v has, t has: what was held still is
 pub record Grows (v t : Kept) : Type 0 where
   pub held : (i : ℕ) → IsSome (object_at v i) → IsSome (object_at t i)

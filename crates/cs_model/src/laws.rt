@@ -1,4 +1,4 @@
-//! Laws of keeping.
+//! Laws of keeping, and of settling a state and opening it again.
 //!
 //! One state keeps another where it lacks nothing of it but contexts that nothing in it names. A representation of the machine
 //! need not have the whole state of the model; it is enough that it keeps it. What is read of both is the same, the same done to
@@ -15,7 +15,7 @@ ghost use Rattle.cs_model.specs.Ref.{Ref};
 ghost use Rattle.cs_model.specs.Obj.{Obj, Context};
 ghost use Rattle.cs_model.specs.State.{Kept, Run, State, IsHeld, IsValid, ContextHeld, NamesHeld, object_at, object_of, put, slots_of, special_at, scheduler_of, active_process};
 ghost use Rattle.cs_model.specs.Read.{IsRunning, class_of, active_context, method_of, literals_of, bytecodes_of};
-ghost use Rattle.cs_model.specs.Keeps.{Keeps, Grows, TimerHeld, KeepsState};
+ghost use Rattle.cs_model.specs.Keeps.{Keeps, SameKept, Grows, TimerHeld, KeepsState};
 ghost use Rattle.cs_model.specs.Alike.{Alike, AlikeResult, AlikeHappened, AlikeStep, AlikeRan, AlikeMade, AlikeHashed, IsHeldIf, KeepsIf, AllKeep, SoughtHeld};
 ghost use Rattle.cs_model.specs.Operation.{set_pc_of, push_of, drop_of, set_stack_of, store_of, store_byte_of, add_of, enter_of, kill_of, resume_of, suspend_of, leave_of, cut_to_of};
 ghost use Rattle.cs_model.specs.Context.{context_get, accepts, context_put};
@@ -27,8 +27,9 @@ ghost use Rattle.cs_model.specs.Send.{enter_out, invoke, not_understood, send, p
 ghost use Rattle.cs_model.specs.Return.{senders_to, home, back, local_out, nonlocal_out, cannot_return_out, unwind_out};
 ghost use Rattle.cs_model.specs.Process.{add_last, start, start_next, resume, signal, wait, suspend, give_way};
 ghost use Rattle.cs_model.specs.PrimAnswer.{answer};
+ghost use Rattle.cs_model.specs.PrimRun.{forgotten};
 ghost use Rattle.cs_model.specs.PrimTable.{kept_prim, prim};
-ghost use Rattle.cs_model.specs.Settle.{settle_kept, open_kept, opened};
+ghost use Rattle.cs_model.specs.Settle.{settle_kept, open_kept, opened, settled, new_run};
 ghost use Rattle.cs_model.specs.Due.{signal_external, is_idle, due};
 ghost use Rattle.cs_model.specs.Step.{Ending, instruction_at, try_primitive, do_send, do_return, bytecode, step, run};
 ghost use Rattle.cs_model.specs.Report.{place_of, report_of};
@@ -148,6 +149,13 @@ pub fn what_was_held_still_is()
 /// A run begins alike.
 pub fn keeping_survives_opening()
     ensures { (v m : Kept) (events : List Event) (snapping : Bool) → Keeps v m → KeepsState (opened v events snapping) (opened m events snapping) }
+{}
+
+/// A valid state that is settled and opened again is as it was, but for the slot in which its active process keeps a context:
+/// that is nil, as it is while a process runs. The run begins anew.
+pub fn opening_undoes_settling()
+    ensures kept { (s : State) (events : List Event) (snapping : Bool) → IsValid s → SameKept (opened (settled s) events snapping).kept (forgotten s.kept) }
+    ensures run { (k : Kept) (events : List Event) (snapping : Bool) → (opened k events snapping).run ≡ new_run events snapping }
 {}
 
 /// Instances are made alike, and classes get the same index.
