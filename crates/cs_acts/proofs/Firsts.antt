@@ -1,19 +1,19 @@
 -- The first three objects of a heap are nil, false and true.
-use Rattle.std.proofs.Common.{◌≡◌, ℕ, ◌+◌, ◌<◌, ◌≤◌, Bool, true, false, refl, sym, ap, subst, ◌∙◌, arith, Option, Some, None, is_some, List, length, option_map}
-use Rattle.std.specs.Prelude.{slice_get, unwrap_or}
+use Rattle.std.proofs.Common.{◌≡◌, ℕ, ◌+◌, ◌<◌, ◌≤◌, true, false, refl, sym, ap, subst, ◌∙◌, arith, Option, Some, None, is_some, List, length}
+use Rattle.std.specs.Prelude.{unwrap_or}
 use Rattle.std.specs.Option.{option_map_or}
 use Rattle.cs_word.specs.declared.Oop.{Oop}
-use Rattle.cs_heap.specs.Object.{Memory, Object, address_of, base, birth_of, index_of, is_object, next_of}
+use Rattle.cs_heap.specs.Object.{Memory, Object, address_of, is_object, next_of}
 use Rattle.cs_heap.proofs.Laws.{address_of-below, index_of-address, next_of-address, object_at-address}
 use Rattle.cs_classes.specs.Meaning.{birth_at, ref_of}
-use Rattle.cs_classes.specs.Sound.{IsWhole, nil_of, is_reference}
+use Rattle.cs_classes.specs.Sound.{is_reference}
 use Rattle.cs_classes.proofs.Refs.{is_reference-object, ref_of-object}
 use Rattle.cs_model.specs.Ref.{Ref}
 use Rattle.cs_model.specs.Ref as ref
 use Rattle.cs_model.specs.State.{Kept, Rest}
 use Rattle.cs_model.specs.Number.{boolean}
 use Rattle.cs_model.specs.Operation as operation
-use Rattle.cs_acts.specs.Names.{Store, Names, IsNamed}
+use Rattle.cs_acts.specs.Names.{Store, Names}
 use Rattle.cs_acts.specs.Ready.{IsSound}
 
 -- the object of an index

@@ -1,20 +1,19 @@
 -- What the heap of a world says of its state.
-use Rattle.std.proofs.Common.{◌≡◌, ℕ, Bool, true, false, refl, sym, ap, subst, ◌∙◌, cond, Option, Some, None, IsSome, is_some, List, [], ◌∷◌, rules, arith, length, map, ◌⊎◌, inl, inr}
+use Rattle.std.proofs.Common.{◌≡◌, ℕ, Bool, true, false, refl, sym, ap, subst, ◌∙◌, Option, Some, None, List, length, map}
 use Rattle.std.proofs.lemmas.List.{length-map}
-use Rattle.std.specs.Prelude.{slice_get, nat_le, if◌then◌else◌, option_map, option_and_then}
+use Rattle.std.specs.Prelude.{nat_le, if◌then◌else◌, option_map}
 use Rattle.cs_word.specs.declared.Oop.{Oop}
 use Rattle.cs_word.specs.declared.Kind.{Kind}
 use Rattle.cs_word.specs.declared.Kind.TheVariants as kind
 use Rattle.cs_word.specs.Word.{kind_of}
 use Rattle.cs_heap.specs.Format.{is_pointers, is_method}
-use Rattle.cs_heap.specs.Object.{Object, object_at, birth_of, is_object, index_of}
-use Rattle.cs_classes.specs.Meaning.{ref_of, ref_of_kind, obj_of, is_context, method_of, used_bytes}
+use Rattle.cs_heap.specs.Object.{Object, object_at, birth_of, is_object}
+use Rattle.cs_classes.specs.Meaning.{ref_of, ref_of_kind, obj_of, is_context}
 use Rattle.cs_classes.specs.Sound.{is_reference, is_reference_kind}
-use Rattle.cs_classes.proofs.Heaps.{Stands, stands, birth_of-object_at, object_there}
+use Rattle.cs_classes.proofs.Heaps.{stands, birth_of-object_at, object_there}
 use Rattle.cs_classes.proofs.Sorts.{obj_of-pointers, obj_of-method, obj_of-bytes}
 use Rattle.cs_model.specs.Ref.{Ref}
-use Rattle.cs_model.specs.Ref as ref
-use Rattle.cs_model.specs.Obj.{Obj, Context, Ptr, Raw, Method, Ctx, is_context_at, slots_in, at_least}
+use Rattle.cs_model.specs.Obj.{Obj, Ptr, Raw, Method, Ctx, is_context_at, slots_in, at_least}
 use Rattle.cs_model.specs.State as state
 use Rattle.cs_model.specs.State.{Kept, object_of, slots_of}
 use Rattle.cs_acts.specs.Names.{Store, name_of, IsNamed}

@@ -1,18 +1,17 @@
 -- The active method as it lies in the heap.
-use Rattle.std.proofs.Common.{◌≡◌, ◌⊎◌, inl, inr, ℕ, zero, suc, ◌+◌, ◌-◌, ◌*◌, ◌/◌, ◌<◌, ◌≤◌, ◌%◌, ◌^◌, Bool, true, false, refl, sym, ap, ap₂, subst, ◌∙◌, arith, Option, Some, None, List, [], ◌∷◌, length, map, take, drop, get_or}
+use Rattle.std.proofs.Common.{◌≡◌, ◌⊎◌, inl, inr, ℕ, zero, suc, ◌+◌, ◌-◌, ◌*◌, ◌/◌, ◌<◌, ◌≤◌, ◌%◌, Bool, true, false, refl, sym, ap, ap₂, subst, ◌∙◌, arith, Option, Some, None, List, [], ◌∷◌, length, map, drop, get_or}
 use Rattle.std.specs.Prelude.{slice_get, slice_index, unwrap_or, option_map, ◌==◌, ◌&&◌, if◌then◌else◌, nat_lt, nat_le}
 use Rattle.std.specs.Option.{option_map_or}
 use Rattle.std.proofs.lemmas.Bool.Decides.{nat_tests}
-use Rattle.std.proofs.lemmas.List.{get_or-drop, get_or-take, length-drop, length-map, length-take}
+use Rattle.std.proofs.lemmas.List.{get_or-drop, get_or-take, get_or_past, length-drop, length-map, length-take}
 use Rattle.std.proofs.lemmas.Option.{slice_get-get_or, slice_get-map, slice_get_past}
 use Rattle.cs_word.specs.declared.Oop.{Oop}
-use Rattle.cs_word.specs.declared.Kind.{Kind}
 use Rattle.cs_word.specs.declared.Kind.TheVariants as kind
-use Rattle.cs_word.specs.Word.{kind_of, small_value}
+use Rattle.cs_word.specs.Word.{small_value}
 use Rattle.cs_heap.specs.Format.{is_method}
 use Rattle.cs_heap.specs.Object.{Memory, Object, byte_in, byte_of, field_of, format_of, is_object, object_at, slot_count_of, slot_of}
 use Rattle.cs_classes.specs.Meaning.{bytes_of, ref_of, obj_of, is_context, header_in, literals_in, used_bytes, code_in, count_of, unused_bytes}
-use Rattle.cs_classes.specs.Sound.{IsSoundMethod, IsSoundObject, is_reference, references_in}
+use Rattle.cs_classes.specs.Sound.{IsSoundMethod, IsSoundObject, is_reference}
 use Rattle.cs_classes.proofs.Heaps.{is_object-object_at}
 use Rattle.cs_classes.proofs.Sorts.{AContext, AMethod, Bytes, Pointers, Sort, sort_of, obj_of-pointers, obj_of-method, obj_of-bytes, references-method}
 use Rattle.cs_classes.proofs.Sounds.{sound_at}
@@ -20,10 +19,10 @@ use Rattle.cs_model.specs.Ref.{Ref}
 use Rattle.cs_model.specs.Obj as obj
 use Rattle.cs_model.specs.Obj.{Obj, Context, Ptr, Raw, Method, Ctx, is_context_at, first_pc, lies_in, literal_count}
 use Rattle.cs_model.specs.State.{Kept, object_of}
-use Rattle.cs_model.specs.Read.{active_context, method_of, pc_of, literals_of}
-use Rattle.cs_acts.specs.Names.{Store, Names, IsNamed, NamesOption, name_of}
-use Rattle.cs_acts.specs.Ready.{Holds, IsReady}
-use Rattle.cs_acts.specs.Reading.{object_of_kind, object_named}
+use Rattle.cs_model.specs.Read.{active_context, bytecodes_of, method_of, pc_of, literals_of}
+use Rattle.cs_acts.specs.Names.{Store, Names, NamesOption}
+use Rattle.cs_acts.specs.Ready.{IsReady}
+use Rattle.cs_acts.specs.Reading.{byte_before, object_of_kind, object_named}
 use Rattle.cs_acts.proofs.Held.{Says, says}
 
 -- the object that a word names is at the address that the word is
@@ -227,3 +226,86 @@ lies_read os k w n end pc m count is =
     let literals : n ≡ length ls = count ∙ ap literal_count (header_is os (method_of k) w m) ∙ sym (length-literals os (method_of k) w m) ∙ sym (length-map (literals_in m.object.words) (ref_of os)) in
     let last : end + 1 ≡ first_pc ls + length (used_bytes m.object.format (code_in m.object.words)) = omega (arith, is, end_is os (method_of k) w m, literals, length-literals os (method_of k) w m, length-map (literals_in m.object.words) (ref_of os)) in
     ap₂ (λ (a b : ℕ). nat_le (4 * (a + 1) + 1) pc && nat_le pc b) literals last ∙ sym (ap (λ p. lies_in p pc) m.means)
+
+-- ---- the bytecodes, as the code reads them
+
+module _ (os : List Object) (o : Option Obj) (w : ℕ) (m : IsMethodAt os o w) where
+  abbrev count : ℕ
+  count = literal_count (header_in m.object.words)
+
+  abbrev codes : List ℕ
+  codes = used_bytes m.object.format (code_in m.object.words)
+
+  first_is : first_pc (map (ref_of os) (literals_in m.object.words)) ≡ 4 * (count + 1) + 1
+  first_is = omega (arith, length-literals os o w m, length-map (literals_in m.object.words) (ref_of os))
+
+  code_byte : (j : ℕ) → j < length codes → get_or codes j 0 ≡ byte_of os w (4 * (count + 1) + j)
+  code_byte j h =
+      let within : j < 4 * length (code_in m.object.words) - unused_bytes m.object.format = omega (arith, h, length-bytecodes os o w m) in
+      get_or-take (4 * length (code_in m.object.words) - unused_bytes m.object.format) (bytes_of (code_in m.object.words)) j 0 within
+      ∙ get_or-bytes_of (code_in m.object.words) j (omega (arith, within))
+      ∙ ap (λ v. byte_in v (j % 4)) (get_or-drop (1 + count) m.object.words (j / 4) 0)
+      ∙ ap₂ (λ i r. byte_in (get_or m.object.words i 0) r) (word count j) (rest count j)
+      ∙ ap (λ v. byte_in v ((4 * (count + 1) + j) % 4)) (sym (field_is os o w m (λ x. slice_index x.words ((4 * (count + 1) + j) / 4))))
+    where
+      word : (n j : ℕ) → 1 + n + j / 4 ≡ (4 * (n + 1) + j) / 4
+      word n j = omega arith
+
+      rest : (n j : ℕ) → j % 4 ≡ (4 * (n + 1) + j) % 4
+      rest n j = omega arith
+
+between : (a b c : ℕ) → (nat_le a c && nat_le c b) ≡ true → (a ≤ c) × (c ≤ b)
+between a b c h = go (nat_le a c) (nat_le c b) refl refl h
+  where
+    go : (x y : Bool) → nat_le a c ≡ x → nat_le c b ≡ y → (x && y) ≡ true → (a ≤ c) × (c ≤ b)
+    go true true p q h = (grind (arith, nat_tests), grind (arith, nat_tests))
+    go true false p q h = absurd (cc)
+    go false y p q h = absurd (cc)
+
+-- where a pc that lies in the method is, and what is there
+pub record IsPlaceOf (os : List Object) (k : Kept) (w pc : ℕ) : Type 0 where
+  pub first : first_pc (literals_of k) ≤ pc
+  pub last : pc ≤ 4 * slot_count_of os w - unused_bytes (format_of os w) + 1
+  pub above : 5 ≤ first_pc (literals_of k)
+
+module _ (os : List Object) (k : Kept) (w : ℕ) (m : IsMethodAt os (method_of k) w) where
+  first_of : first_pc (literals_of k) ≡ 4 * (literal_count (header_in m.object.words) + 1) + 1
+  first_of = ap (λ o. first_pc (obj.literals_in o)) m.means ∙ first_is os (method_of k) w m
+
+  codes_of : bytecodes_of k ≡ used_bytes m.object.format (code_in m.object.words)
+  codes_of = ap obj.bytecodes_in m.means
+
+  pub end_of : first_pc (literals_of k) + length (bytecodes_of k) ≡ 4 * slot_count_of os w - unused_bytes (format_of os w) + 1
+  end_of = omega (arith, first_of, ap length codes_of, end_is os (method_of k) w m)
+
+  pub place_of : (pc : ℕ) → lies_in (method_of k) pc ≡ true → IsPlaceOf os k w pc
+  place_of pc h =
+      let l = between (first_pc (map (ref_of os) (literals_in m.object.words))) (first_pc (map (ref_of os) (literals_in m.object.words)) + length (used_bytes m.object.format (code_in m.object.words))) pc
+      (sym (ap (λ o. lies_in o pc) m.means) ∙ h) in
+      record {
+        first = omega (arith, l.0, first_of, first_is os (method_of k) w m);
+        last = omega (arith, l.1, end_is os (method_of k) w m, first_is os (method_of k) w m);
+        above = omega (arith, first_of);
+      }
+
+  pub byte_there : (pc : ℕ) → first_pc (literals_of k) ≤ pc → pc ≤ 4 * slot_count_of os w - unused_bytes (format_of os w) → slice_get (bytecodes_of k) (pc - first_pc (literals_of k)) ≡ Some (byte_of os w (pc - 1))
+  byte_there pc from to =
+      slice_get-get_or (bytecodes_of k) (pc - first_pc (literals_of k)) 0 (omega (arith, from, to, end_of))
+      ∙ ap Some (ap (λ bs. get_or bs (pc - first_pc (literals_of k)) 0) codes_of
+      ∙ code_byte os (method_of k) w m (pc - first_pc (literals_of k)) (omega (arith, from, to, end_of, ap length codes_of))
+      ∙ ap (byte_of os w) (omega (arith, from, first_of)))
+
+  pub byte_past : (pc : ℕ) → first_pc (literals_of k) ≤ pc → 4 * slot_count_of os w - unused_bytes (format_of os w) < pc → slice_get (bytecodes_of k) (pc - first_pc (literals_of k)) ≡ None
+  byte_past pc from past = slice_get_past (bytecodes_of k) (pc - first_pc (literals_of k)) (omega (arith, from, past, end_of))
+
+  -- byte i of the object, counted from the header, as it is before the end
+  pub byte_ahead : (i end at : ℕ) → end ≡ 4 * slot_count_of os w - unused_bytes (format_of os w) → first_pc (literals_of k) + at ≡ i + 1 → byte_before os w i end ≡ get_or (bytecodes_of k) at 0
+  byte_ahead i end at e place = go (nat_lt i end) refl
+    where
+      go : (b : Bool) → nat_lt i end ≡ b → (if b then byte_of os w i else 0) ≡ get_or (bytecodes_of k) at 0
+      go true h =
+          let less : i < end = grind (arith, nat_tests) in
+          sym (ap (λ bs. get_or bs at 0) codes_of ∙ code_byte os (method_of k) w m at (omega (arith, less, e, place, end_of, ap length codes_of)) ∙ ap (byte_of os w) (omega (arith, place, first_of)))
+      go false h =
+          let past : end ≤ i = grind (arith, nat_tests) in
+          sym (get_or_past (bytecodes_of k) at 0 (omega (arith, past, e, place, end_of)))

@@ -1,9 +1,9 @@
 -- A context that is active stays so where it is edited, and where another object is written.
-use Rattle.std.proofs.Common.{◌≡◌, ◌≢◌, ℕ, Bool, true, false, refl, sym, ap, subst, ◌∙◌, Option, Some, None, IsSome, is_some, unwrap_or, ◌⊎◌, inl, inr, rules, arith}
+use Rattle.std.proofs.Common.{◌≡◌, ◌≢◌, ℕ, true, false, refl, sym, ap, subst, ◌∙◌, Some, unwrap_or, inl, inr}
 use Rattle.std.proofs.lemmas.Bool.Decides.{eqb_tells}
 use Rattle.cs_model.specs.Ref.{Ref, Small, Char}
 use Rattle.cs_model.specs.Ref as ref
-use Rattle.cs_model.specs.Obj.{Obj, Context, Ptr, Raw, Method, Ctx, is_context, context_in, lies_in}
+use Rattle.cs_model.specs.Obj.{Obj, Context, Ctx, is_context, context_in, lies_in}
 use Rattle.cs_model.specs.State.{Kept, object_at, object_of, put}
 use Rattle.cs_model.specs.Read.{IsRunning, active_birth, active_context, blank, method_of, pc_of}
 use Rattle.cs_model.specs.Operation.{edit_active, put_active}

@@ -1,6 +1,6 @@
 -- How large slots and pcs can be in a heap of at most 2^26 words.
-use Rattle.std.proofs.Common.{◌≡◌, ℕ, ◌+◌, ◌*◌, ◌-◌, ◌<◌, ◌≤◌, ◌^◌, Bool, true, false, refl, sym, ap, subst, ◌∙◌, suc, zero, Option, Some, None, List, [], ◌∷◌, length, map, take, drop, length-take, length-drop, arith, rules}
-use Rattle.std.specs.Prelude.{slice_get, sum_by}
+use Rattle.std.proofs.Common.{◌≡◌, ℕ, ◌+◌, ◌*◌, ◌-◌, ◌<◌, ◌≤◌, ◌^◌, Bool, true, false, refl, sym, ap, subst, ◌∙◌, suc, zero, Option, Some, None, List, [], ◌∷◌, length, map, drop, length-take, length-drop, arith}
+use Rattle.std.specs.Prelude.{slice_get}
 use Rattle.std.proofs.lemmas.List.{length-map}
 use Rattle.std.proofs.lemmas.List.Sums.{sum_by-cons}
 use Rattle.std.proofs.lemmas.Bool.Decides.{nat_tests}
@@ -8,13 +8,12 @@ use Rattle.cs_word.specs.declared.Oop.{Oop}
 use Rattle.cs_word.specs.declared.Kind.{Kind}
 use Rattle.cs_word.specs.declared.Kind.TheVariants as kind
 use Rattle.cs_word.specs.Word.{kind_of}
-use Rattle.cs_heap.specs.Format.{is_method}
-use Rattle.cs_heap.specs.Object.{Object, object_at, size, slot_count_of, slot_counts, used}
+use Rattle.cs_heap.specs.Object.{Object, size, slot_counts, used}
 use Rattle.cs_classes.specs.Meaning.{bytes_of, code_in, header_in, is_context, literals_in, method_of, obj_of, ref_of, unused_bytes, used_bytes}
 use Rattle.cs_classes.proofs.Heaps.{stands}
-use Rattle.cs_classes.proofs.Sorts.{AContext, AMethod, Bytes, Pointers, Sort, obj_of-bytes, obj_of-context, obj_of-method, obj_of-pointers, sort_of}
+use Rattle.cs_classes.proofs.Sorts.{AContext, AMethod, Bytes, Pointers, Sort, obj_of-bytes, obj_of-method, obj_of-pointers, sort_of}
 use Rattle.cs_model.specs.Ref.{Ref}
-use Rattle.cs_model.specs.Obj.{Obj, Ctx, Method, Ptr, Raw, first_pc, is_context_at, lies_in, literal_count}
+use Rattle.cs_model.specs.Obj.{Obj, Ctx, Method, Ptr, Raw, is_context_at, lies_in, literal_count}
 use Rattle.cs_model.specs.State.{Kept, object_of}
 use Rattle.cs_acts.specs.Names.{IsNamed, Store, name_of}
 use Rattle.cs_acts.specs.Ready.{Holds}

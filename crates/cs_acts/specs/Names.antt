@@ -1,5 +1,5 @@
 -- What the words that a world hands out and takes mean.
-use Rattle.std.specs.Prelude.{◌≡◌, ℕ, true, List, Option, IfSome, option_map}
+use Rattle.std.specs.Prelude.{◌≡◌, ℕ, true, Option, IfSome, option_map}
 use Rattle.std.specs.FinMap.{FinMap}
 use Rattle.std.specs.Ordering.{nat_cmp}
 use Rattle.cs_word.specs.declared.Oop.{Oop}

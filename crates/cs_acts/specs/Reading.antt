@@ -1,10 +1,11 @@
 -- What is read of the heap by a word.
-use Rattle.std.specs.Prelude.{ℕ, Bool, if◌then◌else◌, nat_le, List, length, Option, Some, None}
+use Rattle.std.specs.Prelude.{ℕ, Bool, not, ◌==◌, ◌&&◌, if◌then◌else◌, nat_le, nat_lt, List, length, Option, Some, None}
 use Rattle.cs_word.specs.declared.Kind.{Kind}
 use Rattle.cs_word.specs.declared.Kind.TheVariants as kind
 use Rattle.cs_word.specs.Word.{kind_of}
-use Rattle.cs_heap.specs.Format.{is_pointers}
-use Rattle.cs_heap.specs.Object.{Object, object_at}
+use Rattle.cs_heap.specs.Format.{is_method, is_pointers}
+use Rattle.cs_heap.specs.Object.{Object, byte_of, class_of, format_of, is_object, object_at, slot_count_of}
+use Rattle.cs_model.specs.Obj.{context_class}
 use Rattle.cs_classes.specs.Meaning.{is_context}
 
 abbrev pub object_of_kind : List Object → Kind → Option Object
@@ -24,3 +25,29 @@ words_in n (Some x) = if is_context x then None else if is_pointers x.format the
 
 unfoldable pub pointer_words : List Object → ℕ → ℕ → Option (List ℕ)
 pointer_words objects n word = words_in n (object_named objects word)
+
+-- the same by what the heap tells of an address
+abbrev pub has_slots : List Object → ℕ → ℕ → Bool
+has_slots objects n word = is_object objects word && not (class_of objects word == context_class)
+    && is_pointers (format_of objects word) && nat_le n (slot_count_of objects word)
+
+-- a word is the address of a context, or of a method
+abbrev pub is_context_at : List Object → ℕ → Bool
+is_context_at objects word = is_object objects word && class_of objects word == context_class
+
+abbrev pub is_method_at : List Object → ℕ → Bool
+is_method_at objects word = is_object objects word && is_method (format_of objects word)
+
+abbrev pub class_index_of_kind : List Object → Kind → ℕ
+class_index_of_kind objects (kind.Small value) = 1
+class_index_of_kind objects (kind.Character code) = 2
+class_index_of_kind objects (kind.Object address) = class_of objects address
+class_index_of_kind objects (kind.Link word) = 0
+
+-- the class index of what a word names
+unfoldable pub class_index_of : List Object → ℕ → ℕ
+class_index_of objects word = class_index_of_kind objects (kind_of word)
+
+-- byte i of an object, where it is before the end; else 0
+abbrev pub byte_before : List Object → ℕ → ℕ → ℕ → ℕ
+byte_before objects address i end = if nat_lt i end then byte_of objects address i else 0

@@ -6,6 +6,7 @@
 
 mod act;
 pub mod read;
+mod words;
 mod world;
 
 pub use act::Act;

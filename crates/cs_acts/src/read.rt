@@ -1,37 +1,24 @@
 //! What code above a world reads of its state.
-ghost use Rattle.std.specs.Prelude.{◌≡◌, ◌<◌, ◌≤◌, ◌^◌, ◌+◌, ◌*◌, ◌-◌, Bool, ◌&&◌, IsSome, IsTrue, Some, length, nat_le, slice_get, unwrap_or, true, Option, option_map};
-ghost use Rattle.cs_heap.specs.Format.{is_method};
-ghost use Rattle.cs_heap.specs.Object.{format_of, is_object, next_of, slot_count_of, slot_of};
-ghost use Rattle.cs_classes.specs.Meaning.{count_of, unused_bytes};
+ghost use Rattle.std.specs.Prelude.{◌≡◌, ◌<◌, ◌^◌, ◌-◌, Bool, IsSome, IsTrue, Option, length, option_and_then, slice_get, is_some};
+ghost use Rattle.cs_model.specs.Context.{is_context_ref};
 ghost use Rattle.cs_model.specs.Number.{boolean};
-ghost use Rattle.cs_model.specs.Obj.{lies_in, literal_count};
+ghost use Rattle.cs_model.specs.Obj.{first_pc, is_method, lies_in, slots_in};
 ghost use Rattle.cs_model.specs.Operation.{nil_of};
-ghost use Rattle.cs_model.specs.Read.{depth_of, from_top, literals_of, method_of, stack_of};
-ghost use Rattle.cs_acts.specs.Names.{Names, NamesOption};
+ghost use Rattle.cs_model.specs.Read.{bytecodes_of, class_of, depth_of, from_top, literals_of, method_of, pc_of, stack_of};
+ghost use Rattle.cs_model.specs.Ref.{same_ref};
+ghost use Rattle.cs_model.specs.State.{active_process, object_of, scheduler_of, slots_of, special_at};
+ghost use Rattle.cs_model.specs.Step.{instruction_at};
+ghost use Rattle.cs_acts.specs.Names.{IsNamed, Names, NamesOption, name_of};
 ghost use Rattle.cs_acts.specs.Ready.{IsReady, IsSound};
 
 use crate::World;
-use cs_heap::{BASE, Heap};
-use cs_word::{Kind, Oop};
-
-/// How many literals a method's header says: its 15 low bits.
-fn count_of_literals(heap: &Heap, method: Oop) -> u32
-    requires { 0 < slot_count_of heap.now.objects method.0 }
-    ensures { result ≡ literal_count (unwrap_or (count_of (slot_of heap.now.objects method.0 0)) 0) }
-{
-    count(heap.slot(method, 0)) % (1 << 15)
-}
-
-/// The number that a word is, and 0 where it is no SmallInteger or a negative one.
-#[tactic(auto, unfolding(cs_classes::specs::Meaning::count_of))]
-fn count(word: Oop) -> u32
-    ensures { result ≡ unwrap_or (count_of word.0) 0 }
-{
-    match word.kind() {
-        Kind::Small(value) if value >= 0 => value as u32,
-        _ => 0,
-    }
-}
+use crate::words::{
+    self, behind, byte_before, byte_count, class_index, count_of_literals, is_between,
+};
+use cs_decode::decode;
+use cs_heap::BASE;
+use cs_model::Instr;
+use cs_word::Oop;
 
 /// How many literals the active method has.
 pub fn literal_count<W: World>(w: &W) -> u32
@@ -73,18 +60,6 @@ pub fn boolean<W: World>(w: &W, truth: bool) -> Oop
     if truth { behind(heap, no) } else { no }
 }
 
-/// The object behind another one that isn't the last.
-fn behind(heap: &Heap, o: Oop) -> Oop
-    requires object { IsTrue (is_object heap.now.objects o.0) }
-    requires more { IsSome (next_of heap.now.objects o.0) }
-    ensures { next_of heap.now.objects o.0 ≡ Some result.0 }
-{
-    let Some(next) = heap.next(o) else {
-        unreachable!();
-    };
-    next
-}
-
 /// Whether a pc lies in the active method: from its first bytecode to the one behind its last.
 pub fn lies<W: World>(w: &W, pc: u64) -> bool
     requires { IsReady (W.stored w.now) (W.view w.now) }
@@ -96,25 +71,6 @@ pub fn lies<W: World>(w: &W, pc: u64) -> bool
     let first = 4 * (count_of_literals(heap, method) + 1) + 1;
     let end = byte_count(heap, method) + 1;
     is_between(first, end, pc)
-}
-
-/// How many bytes a method has, its header and literals included.
-fn byte_count(heap: &Heap, method: Oop) -> u32
-    requires object { IsTrue (is_object heap.now.objects method.0) }
-    requires slots { 0 < slot_count_of heap.now.objects method.0 }
-    requires format { IsTrue (is_method (format_of heap.now.objects method.0)) }
-    ensures value { result ≡ 4 * slot_count_of heap.now.objects method.0 - unused_bytes (format_of heap.now.objects method.0) }
-    ensures below { result < 4294967295 }
-{
-    4 * heap.slot_count(method) - (u32::from(heap.format(method)) - 24)
-}
-
-/// Whether a pc is neither before the first nor behind the last.
-fn is_between(first: u32, last: u32, pc: u64) -> bool
-    ensures value { result ≡ (nat_le first pc && nat_le pc last) }
-    ensures below { IsTrue result → pc ≤ last }
-{
-    u64::from(first) <= pc && pc <= u64::from(last)
 }
 
 /// The `n`-th value from the top of the active stack, counted from 0; None exactly where the stack holds fewer.
@@ -141,5 +97,155 @@ pub fn temporary<W: World>(w: &W, i: u32) -> Option<Oop>
         Some(w.stack_at(i))
     } else {
         None
+    }
+}
+
+/// Whether two words name the same.
+pub fn same<W: World>(w: &W, a: Oop, b: Oop) -> bool
+    requires sound { IsSound (W.stored w.now) (W.view w.now) }
+    requires left { IsNamed (W.stored w.now) a }
+    requires right { IsNamed (W.stored w.now) b }
+    ensures { result ≡ same_ref (name_of (W.stored w.now) a) (name_of (W.stored w.now) b) }
+{
+    a == b
+}
+
+/// Slot `i` of a pointer object with at least `least` slots; None exactly where the word names none. A context isn't one.
+pub fn slot<W: World>(w: &W, o: Oop, least: u32, i: u32) -> Option<Oop>
+    requires sound { IsSound (W.stored w.now) (W.view w.now) }
+    requires named { IsNamed (W.stored w.now) o }
+    requires within { i < least }
+    ensures { NamesOption (W.stored w.now) result (option_and_then (λ slots. slice_get slots i) (slots_of (W.view w.now) least (name_of (W.stored w.now) o))) }
+{
+    let heap = w.heap();
+    if words::has_slots(heap, o, least) {
+        Some(heap.slot(o, i))
+    } else {
+        None
+    }
+}
+
+/// Slot `i` of a pointer object; None exactly where the word names none that has this slot. A context isn't one.
+pub fn slot_if_any<W: World>(w: &W, o: Oop, i: u32) -> Option<Oop>
+    requires sound { IsSound (W.stored w.now) (W.view w.now) }
+    requires named { IsNamed (W.stored w.now) o }
+    ensures { NamesOption (W.stored w.now) result (option_and_then (λ slots. slice_get slots i) (slots_in (object_of (W.view w.now) (name_of (W.stored w.now) o)))) }
+{
+    let heap = w.heap();
+    if words::has_slots(heap, o, 0) && i < heap.slot_count(o) {
+        Some(heap.slot(o, i))
+    } else {
+        None
+    }
+}
+
+/// Special object `i`, which is slot `i` of the special-object array; None exactly where it has no such slot.
+pub fn special<W: World>(w: &W, i: u32) -> Option<Oop>
+    requires { IsSound (W.stored w.now) (W.view w.now) }
+    ensures { NamesOption (W.stored w.now) result (special_at (W.view w.now) i) }
+{
+    slot_if_any(w, w.roots().special, i)
+}
+
+/// The class of what a word names, by the class table; None exactly where the table has none.
+pub fn class_of<W: World>(w: &W, o: Oop) -> Option<Oop>
+    requires sound { IsSound (W.stored w.now) (W.view w.now) }
+    requires named { IsNamed (W.stored w.now) o }
+    ensures { NamesOption (W.stored w.now) result (class_of (W.view w.now) (name_of (W.stored w.now) o)) }
+{
+    let index = class_index(w.heap(), o);
+    let classes = w.classes();
+    if index < classes.len() {
+        classes.entry(index)
+    } else {
+        None
+    }
+}
+
+/// Whether a word names a context.
+pub fn is_context<W: World>(w: &W, o: Oop) -> bool
+    requires sound { IsSound (W.stored w.now) (W.view w.now) }
+    requires named { IsNamed (W.stored w.now) o }
+    ensures { result ≡ is_context_ref (W.view w.now) (name_of (W.stored w.now) o) }
+{
+    words::is_context(w.heap(), o)
+}
+
+/// Whether a word names a method.
+pub fn is_method<W: World>(w: &W, o: Oop) -> bool
+    requires sound { IsSound (W.stored w.now) (W.view w.now) }
+    requires named { IsNamed (W.stored w.now) o }
+    ensures { result ≡ is_method (object_of (W.view w.now) (name_of (W.stored w.now) o)) }
+{
+    words::is_method(w.heap(), o)
+}
+
+/// The scheduler: slot 1 of special 3, where both have two slots.
+#[tactic(auto, unfolding(cs_model::specs::State::scheduler_of))]
+pub fn scheduler<W: World>(w: &W) -> Option<Oop>
+    requires { IsSound (W.stored w.now) (W.view w.now) }
+    ensures { NamesOption (W.stored w.now) result (scheduler_of (W.view w.now)) }
+{
+    match special(w, 3) {
+        Some(link) => slot(w, link, 2, 1),
+        None => None,
+    }
+}
+
+/// The active process: slot 1 of the scheduler, which is nil where none is active.
+#[tactic(auto, unfolding(cs_model::specs::State::active_process))]
+pub fn active_process<W: World>(w: &W) -> Option<Oop>
+    requires { IsSound (W.stored w.now) (W.view w.now) }
+    ensures { NamesOption (W.stored w.now) result (active_process (W.view w.now)) }
+{
+    match scheduler(w) {
+        Some(scheduler) => slot(w, scheduler, 2, 1),
+        None => None,
+    }
+}
+
+/// Whether a word names a pointer object with at least so many slots. A context isn't one.
+pub fn has_slots<W: World>(w: &W, o: Oop, least: u32) -> bool
+    requires sound { IsSound (W.stored w.now) (W.view w.now) }
+    requires named { IsNamed (W.stored w.now) o }
+    ensures { result ≡ is_some (slots_of (W.view w.now) least (name_of (W.stored w.now) o)) }
+{
+    words::has_slots(w.heap(), o, least)
+}
+
+/// The byte at the active pc; None exactly where that is at the end of the method.
+pub fn byte<W: World>(w: &W) -> Option<u8>
+    requires { IsReady (W.stored w.now) (W.view w.now) }
+    ensures { result ≡ slice_get (bytecodes_of (W.view w.now)) (pc_of (W.view w.now) - first_pc (literals_of (W.view w.now))) }
+{
+    let heap = w.heap();
+    let method = w.method();
+    let pc = w.pc();
+    if pc <= byte_count(heap, method) {
+        Some(heap.byte(method, pc - 1))
+    } else {
+        None
+    }
+}
+
+/// The instruction at the active pc; None exactly where the bytes there are none.
+pub fn instruction<W: World>(w: &W) -> Option<Instr>
+    requires { IsReady (W.stored w.now) (W.view w.now) }
+    ensures { result ≡ instruction_at (W.view w.now) }
+{
+    let heap = w.heap();
+    let method = w.method();
+    let at = w.pc() - 1;
+    let end = byte_count(heap, method);
+    let bytes = [
+        byte_before(heap, method, at, end),
+        byte_before(heap, method, at + 1, end),
+        byte_before(heap, method, at + 2, end),
+        byte_before(heap, method, at + 3, end),
+    ];
+    let count = (end - at).min(4);
+    match decode(&bytes[..count as usize], 0) {
+        Ok(instruction) => Some(instruction),
+        Err(_) => None,
     }
 }

@@ -7,7 +7,7 @@
 //! changes with each write. Every crate above stands on these.
 #![tactic(auto)]
 
-ghost use Rattle.std.specs.Prelude.{◌≡◌, ℕ, ◌<◌, IfOk, option_map};
+ghost use Rattle.std.specs.Prelude.{◌≡◌, ℕ, ◌<◌, ◌≤◌, IfOk, None, option_map};
 ghost use Rattle.std.specs.FinMap.{empty, get, insert};
 
 use cs_heap::Heap;
@@ -79,9 +79,10 @@ impl Classes {
 
     /// How many entries the table has, the empty ones included: always 16,384.
     pub fn len(&self) -> u32
-        ensures { result ≡ 16384 }
+        ensures value { result ≡ 16384 }
+        ensures beyond { (index : ℕ) → 16384 ≤ index → get self.now index ≡ None }
     {
-        ENTRIES
+        self.entries.len() as u32
     }
 
     /// The class of this index; None exactly where the entry is empty.

@@ -1,4 +1,4 @@
-use Rattle.std.proofs.Common.{arith, ◌+◌, ◌<◌, length}
+use Rattle.std.proofs.Common.{arith}
 use Rattle.cs_acts.proofs.Firsts.{IsNumber, number_object, next_number, has_next, nil_number, three, false_names, true_names}
 use Rattle.cs_acts.proofs.read.boolean.Goals as goal
 

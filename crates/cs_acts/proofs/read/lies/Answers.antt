@@ -1,5 +1,5 @@
-use Rattle.std.proofs.Common.{arith, ◌+◌, ◌<◌, ◌∙◌}
-use Rattle.cs_acts.proofs.Methods.{IsMethodAt, active_method, slots_fit, is_there, format_is, lies_read}
+use Rattle.std.proofs.Common.{arith, ◌∙◌}
+use Rattle.cs_acts.proofs.Methods.{active_method, slots_fit, is_there, format_is, lies_read}
 use Rattle.cs_model.specs.Read.{method_of}
 use Rattle.cs_acts.proofs.read.lies.Goals as goal
 

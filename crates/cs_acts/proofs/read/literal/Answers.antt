@@ -1,7 +1,7 @@
-use Rattle.std.proofs.Common.{arith, ◌+◌, ◌<◌, ◌≤◌, ap, ◌∙◌, length}
+use Rattle.std.proofs.Common.{arith, ◌+◌, ap, ◌∙◌}
 use Rattle.cs_heap.specs.Object.{slot_of}
 use Rattle.cs_acts.proofs.Methods.{active_method, count_read, slots_fit, slots_below, literal_names, no_literal_names, method_there}
-use Rattle.cs_model.specs.Read.{literals_of, method_of}
+use Rattle.cs_model.specs.Read.{method_of}
 use Rattle.cs_acts.proofs.read.literal.Goals as goal
 
 pub count_of_literals-requires : goal.count_of_literals-requires

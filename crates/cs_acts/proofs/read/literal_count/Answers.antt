@@ -1,4 +1,4 @@
-use Rattle.std.proofs.Common.{arith, ◌+◌, ◌<◌}
+use Rattle.std.proofs.Common.{arith}
 use Rattle.cs_acts.proofs.Methods.{active_method, count_read, slots_fit}
 use Rattle.cs_model.specs.Read.{method_of}
 use Rattle.cs_acts.proofs.read.literal_count.Goals as goal

@@ -1,0 +1,61 @@
+use Rattle.std.proofs.Common.{arith, subst, sym, ◌∙◌}
+use Rattle.cs_model.specs.Read.{method_of}
+use Rattle.cs_acts.proofs.Ahead.{instruction_read}
+use Rattle.cs_acts.proofs.Methods.{IsPlaceOf, active_method, format_is, is_there, place_of, slots_fit}
+use Rattle.cs_acts.proofs.read.instruction.Goals as goal
+
+pub byte_count-end-requires-clause-object : goal.byte_count-end-requires-clause-object
+byte_count-end-requires-clause-object g c =
+    let m = active_method (g.W.World.stored c.args.w.now) (g.W.World.view c.args.w.now) c.heap-heap.result.now c.method-method.result c.heap-heap.ensures c.requires c.method-method.ensures in
+    is_there c.heap-heap.result.now.objects (method_of (g.W.World.view c.args.w.now)) c.method-method.result.0 m
+
+pub byte_count-end-requires-clause-slots : goal.byte_count-end-requires-clause-slots
+byte_count-end-requires-clause-slots g c =
+    let m = active_method (g.W.World.stored c.args.w.now) (g.W.World.view c.args.w.now) c.heap-heap.result.now c.method-method.result c.heap-heap.ensures c.requires c.method-method.ensures in
+    omega (arith, slots_fit c.heap-heap.result.now.objects (method_of (g.W.World.view c.args.w.now)) c.method-method.result.0 m)
+
+pub byte_count-end-requires-clause-format : goal.byte_count-end-requires-clause-format
+byte_count-end-requires-clause-format g c =
+    let m = active_method (g.W.World.stored c.args.w.now) (g.W.World.view c.args.w.now) c.heap-heap.result.now c.method-method.result c.heap-heap.ensures c.requires c.method-method.ensures in
+    format_is c.heap-heap.result.now.objects (method_of (g.W.World.view c.args.w.now)) c.method-method.result.0 m
+
+pub overflow_add-at-2 : goal.overflow_add-at-2
+overflow_add-at-2 g c =
+    let k = g.W.World.view c.args.w.now in
+    let m = active_method (g.W.World.stored c.args.w.now) k c.heap-heap.result.now c.method-method.result c.heap-heap.ensures c.requires c.method-method.ensures in
+    let p = place_of c.heap-heap.result.now.objects k c.method-method.result.0 m _ c.requires.running.method in
+    omega (arith, p.last, c.pc-at.ensures, c.byte_count-end.ensures.value, c.byte_count-end.ensures.most)
+
+pub overflow_add-at-3 : goal.overflow_add-at-3
+overflow_add-at-3 g c =
+    let k = g.W.World.view c.args.w.now in
+    let m = active_method (g.W.World.stored c.args.w.now) k c.heap-heap.result.now c.method-method.result c.heap-heap.ensures c.requires c.method-method.ensures in
+    let p = place_of c.heap-heap.result.now.objects k c.method-method.result.0 m _ c.requires.running.method in
+    omega (arith, p.last, c.pc-at.ensures, c.byte_count-end.ensures.value, c.byte_count-end.ensures.most)
+
+pub overflow_sub-end : goal.overflow_sub-end
+overflow_sub-end g c =
+    let k = g.W.World.view c.args.w.now in
+    let m = active_method (g.W.World.stored c.args.w.now) k c.heap-heap.result.now c.method-method.result c.heap-heap.ensures c.requires c.method-method.ensures in
+    let p = place_of c.heap-heap.result.now.objects k c.method-method.result.0 m _ c.requires.running.method in
+    omega (arith, p.last, c.pc-at.ensures, c.byte_count-end.ensures.value)
+
+pub returns-in-Ok : goal.returns-in-Ok
+returns-in-Ok g c =
+    let k = g.W.World.view c.args.w.now in
+    let os = c.heap-heap.result.now.objects in
+    let m = active_method (g.W.World.stored c.args.w.now) k c.heap-heap.result.now c.method-method.result c.heap-heap.ensures c.requires c.method-method.ensures in
+    let p = subst (IsPlaceOf os k c.method-method.result.0) (sym c.pc-at.ensures) (place_of os k c.method-method.result.0 m _ c.requires.running.method) in
+    let read = instruction_read os k c.method-method.result.0 c.pc-at.result c.byte_count-end.result c.min-count.result _ _ _ _ m p c.pc-at.ensures c.byte_count-end.ensures.value c.min-count.ensures
+    c.byte_before.ensures c.byte_before-2.ensures c.byte_before-3.ensures c.byte_before-4.ensures in
+    sym c.in-Ok.ensures.instruction ∙ read
+
+pub returns-in-Err : goal.returns-in-Err
+returns-in-Err g c =
+    let k = g.W.World.view c.args.w.now in
+    let os = c.heap-heap.result.now.objects in
+    let m = active_method (g.W.World.stored c.args.w.now) k c.heap-heap.result.now c.method-method.result c.heap-heap.ensures c.requires c.method-method.ensures in
+    let p = subst (IsPlaceOf os k c.method-method.result.0) (sym c.pc-at.ensures) (place_of os k c.method-method.result.0 m _ c.requires.running.method) in
+    let read = instruction_read os k c.method-method.result.0 c.pc-at.result c.byte_count-end.result c.min-count.result _ _ _ _ m p c.pc-at.ensures c.byte_count-end.ensures.value c.min-count.ensures
+    c.byte_before.ensures c.byte_before-2.ensures c.byte_before-3.ensures c.byte_before-4.ensures in
+    sym c.in-Err.ensures.none ∙ read

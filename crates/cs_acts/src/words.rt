@@ -1,0 +1,113 @@
+//! What is read of the heap by its words alone.
+ghost use Rattle.std.specs.Prelude.{◌≡◌, ◌<◌, ◌≤◌, ◌+◌, ◌*◌, ◌-◌, ◌&&◌, IsSome, IsTrue, Some, nat_le, is_some, true, unwrap_or};
+ghost use Rattle.cs_heap.specs.Format.{is_method};
+ghost use Rattle.cs_heap.specs.Object.{format_of, is_object, next_of, slot_count_of, slot_of};
+ghost use Rattle.cs_classes.specs.Meaning.{count_of, unused_bytes};
+ghost use Rattle.cs_classes.specs.Sound.{is_reference};
+ghost use Rattle.cs_model.specs.Obj.{literal_count};
+ghost use Rattle.cs_acts.specs.Reading.{byte_before, class_index_of, has_slots, is_context_at, is_method_at};
+
+use cs_heap::Heap;
+use cs_word::{Kind, Oop};
+
+/// The class index of contexts.
+const CONTEXT: u32 = 36;
+
+/// The formats below this one have pointers in their slots.
+const POINTERS_END: u8 = 6;
+
+/// Whether a word is the address of a context.
+pub(crate) fn is_context(heap: &Heap, o: Oop) -> bool
+    ensures { result ≡ is_context_at heap.now.objects o.0 }
+{
+    heap.is_object(o) && heap.class_index(o) == CONTEXT
+}
+
+/// The class index of what a word names: 1 of a SmallInteger, 2 of a Character, and for an object that in its header.
+#[tactic(auto, unfolding(cs_classes::specs::Sound::is_reference, crate::specs::Reading::class_index_of))]
+pub(crate) fn class_index(heap: &Heap, o: Oop) -> u32
+    requires { is_reference heap.now.objects o.0 ≡ true }
+    ensures { result ≡ class_index_of heap.now.objects o.0 }
+{
+    match o.kind() {
+        Kind::Small(_) => 1,
+        Kind::Character(_) => 2,
+        Kind::Object(_) => heap.class_index(o),
+        Kind::Link(_) => 0,
+    }
+}
+
+/// Whether a word is the address of a method.
+pub(crate) fn is_method(heap: &Heap, o: Oop) -> bool
+    ensures { result ≡ is_method_at heap.now.objects o.0 }
+{
+    heap.is_object(o) && (24..28).contains(&heap.format(o))
+}
+
+/// Whether a word is the address of a pointer object, which no context is, with at least so many slots.
+pub(crate) fn has_slots(heap: &Heap, o: Oop, least: u32) -> bool
+    ensures { result ≡ has_slots heap.now.objects least o.0 }
+{
+    heap.is_object(o)
+        && heap.class_index(o) != CONTEXT
+        && heap.format(o) < POINTERS_END
+        && heap.slot_count(o) >= least
+}
+
+/// How many literals a method's header says: its 15 low bits.
+pub(crate) fn count_of_literals(heap: &Heap, method: Oop) -> u32
+    requires { 0 < slot_count_of heap.now.objects method.0 }
+    ensures { result ≡ literal_count (unwrap_or (count_of (slot_of heap.now.objects method.0 0)) 0) }
+{
+    count(heap.slot(method, 0)) % (1 << 15)
+}
+
+/// The number that a word is, and 0 where it is no SmallInteger or a negative one.
+#[tactic(auto, unfolding(cs_classes::specs::Meaning::count_of))]
+pub(crate) fn count(word: Oop) -> u32
+    ensures { result ≡ unwrap_or (count_of word.0) 0 }
+{
+    match word.kind() {
+        Kind::Small(value) if value >= 0 => value as u32,
+        _ => 0,
+    }
+}
+
+/// The object behind another one that isn't the last.
+pub(crate) fn behind(heap: &Heap, o: Oop) -> Oop
+    requires object { IsTrue (is_object heap.now.objects o.0) }
+    requires more { IsSome (next_of heap.now.objects o.0) }
+    ensures { next_of heap.now.objects o.0 ≡ Some result.0 }
+{
+    let Some(next) = heap.next(o) else {
+        unreachable!();
+    };
+    next
+}
+
+/// How many bytes a method has, its header and literals included.
+pub(crate) fn byte_count(heap: &Heap, method: Oop) -> u32
+    requires object { IsTrue (is_object heap.now.objects method.0) }
+    requires slots { 0 < slot_count_of heap.now.objects method.0 }
+    requires format { IsTrue (is_method (format_of heap.now.objects method.0)) }
+    ensures value { result ≡ 4 * slot_count_of heap.now.objects method.0 - unused_bytes (format_of heap.now.objects method.0) }
+    ensures most { result ≤ 268435456 }
+{
+    4 * heap.slot_count(method) - (u32::from(heap.format(method)) - 24)
+}
+
+/// Whether a pc is neither before the first nor behind the last.
+pub(crate) fn is_between(first: u32, last: u32, pc: u64) -> bool
+    ensures value { result ≡ (nat_le first pc && nat_le pc last) }
+    ensures below { IsTrue result → pc ≤ last }
+{
+    u64::from(first) <= pc && pc <= u64::from(last)
+}
+
+/// Byte `i` of an object, where it is before the end; else 0.
+pub(crate) fn byte_before(heap: &Heap, o: Oop, i: u32, end: u32) -> u8
+    requires { end ≤ 4 * slot_count_of heap.now.objects o.0 }
+    ensures { result ≡ byte_before heap.now.objects o.0 i end }
+{
+    if i < end { heap.byte(o, i) } else { 0 }
+}

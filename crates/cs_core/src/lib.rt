@@ -1,0 +1,6 @@
+//! The machine: one step, and a run of steps, over any world.
+#![tactic(auto)]
+
+mod scheduler;
+
+pub use scheduler::{Shape, shape_of};
