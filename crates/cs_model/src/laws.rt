@@ -42,10 +42,13 @@ pub fn a_write_stands()
     ensures rest { (k : Kept) (i : ℕ) (o : Obj) → (put k i o).rest ≡ k.rest }
 {}
 
-/// A state that keeps another one keeps itself, and all that this one keeps.
+/// A state that keeps another one keeps itself, and all that this one keeps. States with the same objects and the same rest stand
+/// for each other.
 pub fn keeping_is_transitive()
     ensures itself { (v m : Kept) → Keeps v m → Keeps v v }
     ensures transitive { (u v m : Kept) → Keeps u v → Keeps v m → Keeps u m }
+    ensures left { (u v m : Kept) → SameKept u v → Keeps v m → Keeps u m }
+    ensures right { (v m n : Kept) → Keeps v m → SameKept m n → Keeps v n }
 {}
 
 /// A valid state keeps itself.
