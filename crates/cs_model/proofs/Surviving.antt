@@ -31,7 +31,7 @@ use Rattle.cs_model.proofs.Entering.{enter_block_moved, enter_block_alike}
 use Rattle.cs_model.proofs.Executing.{push_alike, fill_moved, jump_alike, send_selector_alike, special_send_alike, exec_alike}
 use Rattle.cs_model.proofs.Sending.{enter_alike, invoke_alike, not_understood_alike, send_alike, perform_alike, perform_with_arguments_alike, execute_method_alike, spread_moved}
 use Rattle.cs_model.proofs.Returning.{call_with_alike, cannot_return_alike, unwind_alike, local_alike, nonlocal_alike, back_alike}
-use Rattle.cs_model.proofs.Scheduling.{add_last_alike, take_out_moved, start_alike, stop_running_moved, start_next_alike, resume_alike, signal_alike, wait_alike, suspend_active_alike, suspend_other_alike, suspend_alike, give_way_alike}
+use Rattle.cs_model.proofs.Scheduling.{add_last_alike, take_out_moved, start_alike, stop_running_moved, start_next_alike, resume_alike, signal_any, wait_alike, suspend_active_alike, suspend_other_alike, suspend_alike, give_way_alike}
 use Rattle.cs_model.proofs.Answering.{answer_alike}
 use Rattle.cs_model.proofs.Running.{settle_moved, open_moved, forgotten_moved}
 use Rattle.cs_model.proofs.Tables.{kept_prim_alike}
@@ -296,8 +296,8 @@ start_next-alike v m k = start_next_alike k
 pub resume-alike : (v m : Kept) (p : Ref) → Keeps v m → IsHeld v p → Alike v (resume v p) (resume m p)
 resume-alike v m p k h = resume_alike k (same p h)
 
-pub signal-alike : (v m : Kept) (x : Ref) → Keeps v m → IsHeld v x → Alike v (signal v x) (signal m x)
-signal-alike v m x k h = signal_alike k (same x h)
+pub signal-alike : (v m : Kept) (x : Ref) → Keeps v m → Alike v (signal v x) (signal m x)
+signal-alike v m x k = signal_any k x
 
 pub wait-alike : (v m : Kept) (x : Ref) → Keeps v m → IsHeld v x → Alike v (wait v x) (wait m x)
 wait-alike v m x k h = wait_alike k (same x h)

@@ -15,7 +15,7 @@ ghost use Rattle.cs_model.specs.Ref.{Ref};
 ghost use Rattle.cs_model.specs.Obj.{Obj, Context};
 ghost use Rattle.cs_model.specs.State.{Kept, Run, State, IsHeld, IsValid, ContextHeld, NamesHeld, object_at, object_of, put, slots_of, special_at, scheduler_of, active_process};
 ghost use Rattle.cs_model.specs.Read.{IsRunning, class_of, active_context, method_of, literals_of, bytecodes_of};
-ghost use Rattle.cs_model.specs.Keeps.{Keeps, SameKept, Grows, TimerHeld, KeepsState};
+ghost use Rattle.cs_model.specs.Keeps.{Keeps, SameKept, Grows, KeepsState};
 ghost use Rattle.cs_model.specs.Alike.{Alike, AlikeResult, AlikeHappened, AlikeStep, AlikeRan, AlikeMade, AlikeHashed, IsHeldIf, KeepsIf, AllKeep, SoughtHeld};
 ghost use Rattle.cs_model.specs.Operation.{set_pc_of, push_of, drop_of, set_stack_of, store_of, store_byte_of, add_of, enter_of, kill_of, resume_of, suspend_of, leave_of, cut_to_of};
 ghost use Rattle.cs_model.specs.Context.{context_get, accepts, context_put};
@@ -186,7 +186,7 @@ pub fn keeping_survives_a_send()
     ensures performed { (v m : Kept) (args : ℕ) → Keeps v m → Alike v (perform v args) (perform m args) }
     ensures with_arguments { (v m : Kept) → Keeps v m → Alike v (perform_with_arguments v) (perform_with_arguments m) }
     ensures executed { (v m : Kept) → Keeps v m → Alike v (execute_method v) (execute_method m) }
-    ensures whole { (v m : Kept) (r : Run) (x : Ref) (args : ℕ) (above : Option Ref) → Keeps v m → TimerHeld v r → IsHeld v x → IsHeldIf v above → AlikeResult v (do_send r v x args above) (do_send r m x args above) }
+    ensures whole { (v m : Kept) (r : Run) (x : Ref) (args : ℕ) (above : Option Ref) → Keeps v m → IsHeld v x → IsHeldIf v above → AlikeResult v (do_send r v x args above) (do_send r m x args above) }
 {}
 
 /// A return ends alike: to the sender, to the sender of the home, or to what is told of it.
@@ -196,7 +196,7 @@ pub fn keeping_survives_a_return()
     ensures nonlocal { (v m : Kept) (x : Ref) → Keeps v m → IsHeld v x → Alike v (nonlocal_out v x) (nonlocal_out m x) }
     ensures refused { (v m : Kept) (x : Ref) → Keeps v m → IsHeld v x → Alike v (cannot_return_out v x) (cannot_return_out m x) }
     ensures unwound { (v m : Kept) (x : Ref) (mark : ℕ) → Keeps v m → IsHeld v x → IsSome (object_at v mark) → Alike v (unwind_out v x mark) (unwind_out m x mark) }
-    ensures whole { (v m : Kept) (r : Run) (x : Ref) (local : Bool) → Keeps v m → TimerHeld v r → IsHeld v x → AlikeResult v (do_return r v x local) (do_return r m x local) }
+    ensures whole { (v m : Kept) (r : Run) (x : Ref) (local : Bool) → Keeps v m → IsHeld v x → AlikeResult v (do_return r v x local) (do_return r m x local) }
 {}
 
 /// Each operation on processes, semaphores and their lists ends alike.
@@ -205,7 +205,7 @@ pub fn keeping_survives_a_switch()
     ensures started { (v m : Kept) (p : Ref) → Keeps v m → IsHeld v p → Alike v (start v p) (start m p) }
     ensures next { (v m : Kept) → Keeps v m → Alike v (start_next v) (start_next m) }
     ensures resumed { (v m : Kept) (p : Ref) → Keeps v m → IsHeld v p → Alike v (resume v p) (resume m p) }
-    ensures signalled { (v m : Kept) (x : Ref) → Keeps v m → IsHeld v x → Alike v (signal v x) (signal m x) }
+    ensures signalled { (v m : Kept) (x : Ref) → Keeps v m → Alike v (signal v x) (signal m x) }
     ensures waited { (v m : Kept) (x : Ref) → Keeps v m → IsHeld v x → Alike v (wait v x) (wait m x) }
     ensures suspended { (v m : Kept) (p : Ref) → Keeps v m → IsHeld v p → Alike v (suspend v p) (suspend m p) }
     ensures yielded { (v m : Kept) → Keeps v m → Alike v (give_way v) (give_way m) }
