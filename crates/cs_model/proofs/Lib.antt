@@ -28,3 +28,4 @@ pub mod Surviving
 pub mod Whole
 pub mod Lasting
 pub mod Settling
+pub mod Editing

@@ -167,7 +167,7 @@ process_fault_same : {v m : Kept} {o p : Option Ref} → Keeps v m → SameOptio
 process_fault_same k none = is (Some why.BadSpecial)
 process_fault_same k (some p h) = choose_fault (is_nil_same k (is p)) (is None) (choose_fault (is_process_same k (same p h)) (is None) (is (Some why.BadProcess)))
 
-shape_fault_same : {v m : Kept} → Keeps v m → SameOption Any (shape_fault v) (shape_fault m)
+pub shape_fault_same : {v m : Kept} → Keeps v m → SameOption Any (shape_fault v) (shape_fault m)
 unfolding shape_fault
 shape_fault_same k = plain (process_fault_same k (active_process_same k))
 
