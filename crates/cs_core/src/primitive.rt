@@ -41,7 +41,7 @@ pub fn sum<W: World>(w: &W) -> Option<Oop> {
 }
 
 /// What primitive 900 writes.
-#[derive(Clone, Copy)]
+#[derive(Clone, Copy, PartialEq, Eq, Debug)]
 pub enum Piece {
     /// One byte.
     Byte(u8),
@@ -50,7 +50,7 @@ pub enum Piece {
 }
 
 /// What the argument is to be written as; None exactly where it is neither a byte object nor a byte.
-pub fn piece<W: World>(w: &W, argument: Oop) -> Option<Piece> {
+pub fn piece_of<W: World>(w: &W, argument: Oop) -> Option<Piece> {
     match argument.kind() {
         Kind::Small(value) => u8::try_from(value).ok().map(Piece::Byte),
         Kind::Object(_) if BYTES.contains(&w.heap().format(argument)) => Some(Piece::Bytes(argument)),

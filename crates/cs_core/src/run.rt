@@ -45,7 +45,7 @@ const NOWHERE: Place = Place {
 };
 
 /// Where the active context of a process stands.
-fn place<W: World>(w: &W, process: Oop) -> Place {
+fn place_of<W: World>(w: &W, process: Oop) -> Place {
     Place {
         process: Some(w.heap().birth(process)),
         context: Some(w.act_birth(w.active())),
@@ -60,7 +60,7 @@ pub fn run<W: World, K: Sink>(w: &mut W, n: u64, out: &mut K) -> Result<Ran, Fai
         return Ok(Ran { end, steps: 0, place: NOWHERE });
     };
     for steps in 0..n {
-        let before = place(w, process);
+        let before = place_of(w, process);
         match step(w, out) {
             StepEnd::Active(next) => process = next,
             StepEnd::Idle => {
@@ -71,5 +71,5 @@ pub fn run<W: World, K: Sink>(w: &mut W, n: u64, out: &mut K) -> Result<Ran, Fai
             StepEnd::WriteFault => return Err(Failed),
         }
     }
-    Ok(Ran { end: RunEnd::Steps, steps: n, place: place(w, process) })
+    Ok(Ran { end: RunEnd::Steps, steps: n, place: place_of(w, process) })
 }

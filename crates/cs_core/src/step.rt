@@ -7,7 +7,7 @@ use cs_send::{Found, resolve};
 use cs_shelf::Sink;
 use cs_word::Oop;
 
-use crate::primitive::{answer, piece, sum, write};
+use crate::primitive::{answer, piece_of, sum, write};
 use crate::scheduler::{Shape, shape_of};
 
 /// Births end so far below 2^62 that a step can't pass it.
@@ -81,7 +81,7 @@ fn answer_written<W: World, K: Sink>(w: &mut W, out: &mut K) -> StepEnd {
     let (Some(receiver), Some(argument)) = (from_top(w, 1), from_top(w, 0)) else {
         return StepEnd::Stopped(Stop::NotBuilt);
     };
-    let Some(piece) = piece(w, argument) else {
+    let Some(piece) = piece_of(w, argument) else {
         return StepEnd::Stopped(Stop::NotBuilt);
     };
     answer(w, receiver);
