@@ -4,7 +4,7 @@ use Rattle.std.proofs.lemmas.Bool.Decides.{eqb_tells}
 use Rattle.std.specs.FinMap.{insert}
 use Rattle.cs_model.specs.ImageFile.{File, is_nil}
 use Rattle.cs_model.specs.ImageFault.{all_below, entry_in, table_size}
-use Rattle.cs_image.specs.Loading.{classes_at, translated}
+use Rattle.cs_image.specs.Loading.{address_named, classes_at}
 
 pub table_size_is : table_size ≡ 16384
 unfolding table_size
@@ -24,7 +24,7 @@ all_below_fails (suc n) k p h e = elim (eqb_tells k n) as (λ _. (all_below n p 
     no_right true = refl
     no_right false = refl
 
-pub classes_at-filled : (f : File) (n : ℕ) → is_nil f (entry_in f n) ≡ false → classes_at f (n + 1) ≡ insert (classes_at f n) n (translated f (entry_in f n))
+pub classes_at-filled : (f : File) (n : ℕ) → is_nil f (entry_in f n) ≡ false → classes_at f (n + 1) ≡ insert (classes_at f n) n (address_named f (entry_in f n))
 classes_at-filled f n h = rw (add-one, h) refl
 
 pub classes_at-empty : (f : File) (n : ℕ) → is_nil f (entry_in f n) ≡ true → classes_at f (n + 1) ≡ classes_at f n

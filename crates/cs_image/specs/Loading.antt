@@ -63,4 +63,4 @@ loaded_from f birth (o ∷ objects) = loaded f birth o ∷ loaded_from f (birth 
 -- the addresses of the classes of the indices below n
 abbrev pub classes_at : File → ℕ → FinMap nat_cmp ℕ
 classes_at f zero = empty
-classes_at f (suc n) = if has_entry f n then insert (classes_at f n) n (translated f (entry_in f n)) else classes_at f n
+classes_at f (suc n) = if has_entry f n then insert (classes_at f n) n (address_named f (entry_in f n)) else classes_at f n

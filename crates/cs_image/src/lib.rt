@@ -26,7 +26,7 @@ ghost use Rattle.cs_model.specs.ImageFault as fault;
 ghost use Rattle.cs_model.specs.ImageFault.{bad_object, is_over, table_size};
 ghost use Rattle.cs_model.specs.Image.{at_word, fault_of};
 ghost use Rattle.cs_image.specs.Answer.{HasBirthSection, Tells, Told, header_fault};
-ghost use Rattle.cs_image.specs.Loading.{addresses_of, classes_at, loaded_from, translated};
+ghost use Rattle.cs_image.specs.Loading.{address_named, addresses_of, classes_at, loaded_from};
 
 use check::{check_header, check_objects};
 use cs_classes::Loaded;
@@ -56,7 +56,7 @@ fn build(alloc: Global, bytes: &[u8], file: &FileHeap, addresses: &[u32], limit_
     ensures limit { IfOk result (λ l. l.heap.limit ≡ limit_words) }
     ensures objects { IfOk result (λ l. l.heap.objects ≡ loaded_from file.now 0 (visible file.now)) }
     ensures classes { IfOk result (λ l. l.classes ≡ classes_at file.now table_size) }
-    ensures special { IfOk result (λ l. l.roots.special.0 ≡ translated file.now (special_address bytes.now)) }
+    ensures special { IfOk result (λ l. l.roots.special.0 ≡ address_named file.now (special_address bytes.now)) }
     ensures hash { IfOk result (λ l. l.roots.last_hash ≡ last_hash_in bytes.now) }
     ensures next { IfOk result (λ l. l.roots.next_birth ≡ length (visible file.now)) }
     ensures header { IfOk result (λ l. l.roots.header ≡ take 64 bytes.now) }

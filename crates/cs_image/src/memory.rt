@@ -11,6 +11,7 @@ ghost use Rattle.cs_image.specs.Answer.{Tells};
 ghost use Rattle.cs_image.specs.Heap.{seen};
 ghost use Rattle.cs_image.specs.Loading.{address_named, addresses_of, classes_at, loaded, loaded_from, loaded_word as loaded_word_of, refers, translated as translated_of};
 
+use crate::cut::word_at;
 use crate::error::ImageError;
 use crate::file::{FileHeap, FileObject};
 use crate::shape::{is_method, literal_count};
@@ -65,18 +66,27 @@ fn address_behind(used: u32, slots: u32) -> u32
     if slots < 255 { at } else { at + 8 }
 }
 
-/// The word of memory for a word of the file that may name an object.
+/// The address in memory of the object that a word of the file names, and 0 where it names none.
 #[tactic(auto, unfolding(crate::specs::Loading::address_named))]
+fn address(file: &FileHeap, addresses: &[u32], word: u32) -> u32
+    requires { addresses.now ≡ addresses_of file.now.objects 0 }
+    ensures { result ≡ address_named file.now word }
+{
+    match file.number_named(word) {
+        Some(number) => word_at(addresses, number),
+        None => 0,
+    }
+}
+
+/// The word of memory for a word of the file that may name an object.
 fn translated(file: &FileHeap, addresses: &[u32], word: u32) -> u32
     requires { addresses.now ≡ addresses_of file.now.objects 0 }
     ensures { result ≡ translated_of file.now word }
 {
-    if word % 4 != 0 {
-        return word;
-    }
-    match file.number_named(word) {
-        Some(number) => crate::cut::word_at(addresses, number),
-        None => 0,
+    if word % 4 == 0 {
+        address(file, addresses, word)
+    } else {
+        word
     }
 }
 
@@ -153,7 +163,7 @@ pub(crate) fn load_classes(alloc: Global, file: &FileHeap, addresses: &[u32]) ->
     for index in 0..ENTRIES {
         let word = entry(file, index);
         if !file.is_nil(word) {
-            classes.set_entry(index, Oop(translated(file, addresses, word)));
+            classes.set_entry(index, Oop(address(file, addresses, word)));
         }
     }
     Ok(classes)
@@ -163,7 +173,7 @@ pub(crate) fn load_classes(alloc: Global, file: &FileHeap, addresses: &[u32]) ->
 pub(crate) fn load_roots(bytes: &[u8], file: &FileHeap, addresses: &[u32], next_birth: u64) -> Roots
     requires long { 64 ≤ length bytes.now }
     requires addresses { addresses.now ≡ addresses_of file.now.objects 0 }
-    ensures special { result.special.0 ≡ translated_of file.now (special_address bytes.now) }
+    ensures special { result.special.0 ≡ address_named file.now (special_address bytes.now) }
     ensures hash { result.last_hash ≡ last_hash_in bytes.now }
     ensures next { result.next_birth ≡ next_birth }
     ensures header { result.header ≡ take 64 bytes.now }
@@ -171,7 +181,7 @@ pub(crate) fn load_roots(bytes: &[u8], file: &FileHeap, addresses: &[u32], next_
     let mut header = [0; 64];
     header.copy_from_slice(&bytes[..64]);
     Roots {
-        special: Oop(translated(file, addresses, u32_at(bytes, 16))),
+        special: Oop(address(file, addresses, u32_at(bytes, 16))),
         last_hash: u32_at(bytes, 20) % (1 << 22),
         next_birth,
         header,
