@@ -42,7 +42,7 @@ first_none p xs k h = ap (λ (ys : List FileObject). find p (filter is_visible y
 
 -- ---- lost words
 
-find-append : {X : Type 0} (p : X → Bool) (xs ys : List X) → find p (xs ++ ys) ≡ option_or (find p xs) (find p ys)
+pub find-append : {X : Type 0} (p : X → Bool) (xs ys : List X) → find p (xs ++ ys) ≡ option_or (find p xs) (find p ys)
 find-append p [] ys = refl
 find-append p (x ∷ xs) ys = go (p x) (find-append p xs ys)
   where

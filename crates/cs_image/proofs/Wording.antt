@@ -178,7 +178,7 @@ word_refers : (f : File) (format : ℕ) (words : List ℕ) (i : ℕ) → refers 
 unfolding loaded_word
 word_refers f format words i h = rw h refl
 
-word_stays : (f : File) (format : ℕ) (words : List ℕ) (i : ℕ) → refers format words i ≡ false → loaded_word f format words i ≡ get_or words i 0
+pub word_stays : (f : File) (format : ℕ) (words : List ℕ) (i : ℕ) → refers format words i ≡ false → loaded_word f format words i ≡ get_or words i 0
 unfolding loaded_word
 word_stays f format words i h = rw h refl
 
@@ -193,10 +193,10 @@ words_raw f format words p m = ext_get_or 0 (loaded_words f format words) words 
     get_loaded f format words i inside ∙ word_stays f format words i (rw (p, m) refl))
 
 -- a method keeps its header and its bytecodes, and its literals are translated
-record IsMethodOf (f : File) (format : ℕ) (words : List ℕ) : Type 0 where
-  pointers : is_pointer_format format ≡ false
-  method : is_method_format format ≡ true
-  fits : literal_count (header_in_words words) < length words
+pub record IsMethodOf (f : File) (format : ℕ) (words : List ℕ) : Type 0 where
+  pub pointers : is_pointer_format format ≡ false
+  pub method : is_method_format format ≡ true
+  pub fits : literal_count (header_in_words words) < length words
 
 method_refers : (f : File) (format : ℕ) (words : List ℕ) (i : ℕ) → IsMethodOf f format words → 1 ≤ i → i ≤ literal_count (header_in_words words) → refers format words i ≡ true
 method_refers f format words i m low high = go (is_pointer_format format) (is_method_format format) m.method (one i low) (upto i (literal_count (header_in_words words)) high)
@@ -216,7 +216,7 @@ method_head f format words p h = get_loaded f format words 0 h ∙ word_stays f 
     go true = rw p refl
     go false = rw p refl
 
-method_literals : (f : File) (format : ℕ) (words : List ℕ) → IsMethodOf f format words
+pub method_literals : (f : File) (format : ℕ) (words : List ℕ) → IsMethodOf f format words
     → take (literal_count (header_in_words words)) (drop 1 (loaded_words f format words)) ≡ map (translated f) (literals_in_words words)
 method_literals f format words m = ext_get_or 0 (take n (drop 1 (loaded_words f format words))) (map (translated f) (take n (drop 1 words)))
     (length-take-le n (drop 1 (loaded_words f format words)) fits_loaded ∙ sym (length-map (take n (drop 1 words)) (translated f) ∙ length-take-le n (drop 1 words) fits_words))
