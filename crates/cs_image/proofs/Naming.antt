@@ -115,7 +115,7 @@ number_below p (x ∷ xs) j e = go (p x) (number_of p xs) (number_below p xs) e
     go false (Some i) below e = let more : suc i ≡ j = cc in omega (arith, more, below i refl)
 
 -- its birth in memory is its place
-birth_is_place : (f : File) (os : List FileObject) (j : ℕ) → j < length os → option_map_or (λ x. x.birth) (slice_get (loaded_from f 0 os) j) 0 ≡ j
+pub birth_is_place : (f : File) (os : List FileObject) (j : ℕ) → j < length os → option_map_or (λ x. x.birth) (slice_get (loaded_from f 0 os) j) 0 ≡ j
 birth_is_place f os j h = ap (λ (o : Option Object). option_map_or (λ x. x.birth) o 0) (slice_get-loaded_from f 0 os j) ∙ go (slice_get os j) (slice_get-some os j h)
   where
     slice_get-some : (os : List FileObject) (j : ℕ) → j < length os → is_some (slice_get os j) ≡ true

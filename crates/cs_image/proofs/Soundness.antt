@@ -1,11 +1,16 @@
 -- What holds of each visible object of a file without faults.
-use Rattle.std.proofs.Common.{◌≡◌, ◌≢◌, ℕ, zero, suc, ◌+◌, ◌*◌, ◌%◌, ◌<◌, ◌≤◌, ◌==◌, ◌&&◌, ◌||◌, ltb, leb, Bool, true, false, cond, not, List, [], ◌∷◌, ◌++◌, length, map, filter, flat_map, get_or, Option, Some, None, refl, ap, sym, subst, ◌∙◌, arith, slice_get, slice_index, option_map}
+use Rattle.std.proofs.Common.{◌≡◌, ◌≢◌, ℕ, zero, suc, ◌+◌, ◌*◌, ◌%◌, ◌<◌, ◌≤◌, ◌==◌, ◌&&◌, ◌||◌, ◌⊎◌, inl, inr, ltb, leb, Bool, true, false, cond, not, List, [], ◌∷◌, ◌++◌, length, map, filter, flat_map, get_or, Option, Some, None, refl, ap, sym, subst, ◌∙◌, arith, slice_get, slice_index, option_map, option_and_then}
 use Rattle.std.specs.Option.{option_map_or, option_or}
 use Rattle.std.specs.List.{find, enumerate_from}
-use Rattle.std.proofs.lemmas.Bool.Decides.{nat_tests}
+use Rattle.std.proofs.lemmas.Bool.Decides.{nat_tests, eqb_tells}
 use Rattle.cs_model.specs.Obj.{context_class, literal_count, is_header}
 use Rattle.cs_model.specs.Words.{is_pointer_format, is_method_format, has_shape, header_in_words, literals_in_words, natural_in_word, unused_bytes}
 use Rattle.cs_model.specs.ImageFile.{FileObject, File, Cut, is_visible, visible, stands, file_of, cut_of, words_in, special_address}
+use Rattle.std.specs.List.{list_all}
+use Rattle.cs_model.specs.ImageFile.{is_hidden, is_nil, named, names}
+use Rattle.cs_model.specs.ImageFault.{begins_well, has_object, is_oddball, has_known_classes, is_page, page_words, is_sound_entry, entry_in, is_class, all_below, table_size, is_process, active_process_in, special_in, fields_of, fields_in}
+use Rattle.cs_image.proofs.Below.{table_size_is}
+use Rattle.cs_image.proofs.Naming.{Stands, stands_named}
 use Rattle.cs_model.specs.ImageFault.{ImageFault, bad_object, is_well_formed, is_method_body, is_bad_table, bad_ref, bad_class, bad_context, is_bad_roots, is_lost, references, has_entry, is_context, is_sound_context}
 use Rattle.cs_model.specs.ImageFault as fault
 use Rattle.cs_model.specs.Image.{at_word, when, first_of}
@@ -199,3 +204,133 @@ fine_at f special j o s e = record {
     methods p m = rw (p, m) refl
     room : (a b c : ℕ) → ltb (a + b) c ≡ true → a < c
     room a b c h = let less : a + b < c = grind (arith, nat_tests, h) in omega (arith, less)
+
+-- ---- the class table
+
+pub record Table (f : File) : Type 0 where
+  pub begins : begins_well f ≡ true
+  pub known : has_known_classes f ≡ true
+  pub entries : all_below table_size (is_sound_entry f) ≡ true
+
+pub table_parts : (f : File) → is_bad_table f ≡ false → Table f
+unfolding is_bad_table
+table_parts f h =
+    let all = not_false (begins_well f && list_all (is_page f) (page_words f) && has_known_classes f && all_below table_size (is_sound_entry f)) h in
+    let a = and_true (begins_well f && list_all (is_page f) (page_words f) && has_known_classes f) _ all in
+    let b = and_true (begins_well f && list_all (is_page f) (page_words f)) _ a.0 in
+    let c = and_true (begins_well f) _ b.0 in
+    record { begins = c.0; known = b.1; entries = a.1 }
+
+all_below_at : (n i : ℕ) (p : ℕ → Bool) → all_below n p ≡ true → i < n → p i ≡ true
+all_below_at zero i p all h = absurd (omega (arith, h))
+all_below_at (suc n) i p all h = elim (eqb_tells i n) [
+    | inl same ↦ ap p same.1 ∙ (and_true (all_below n p) (p n) all).1
+    | inr other ↦ all_below_at n i p (and_true (all_below n p) (p n) all).0 (omega (arith, h, other.1))
+  ]
+
+class_stands : (f : File) (i word : ℕ) → names f (is_class i) word ≡ true → Stands f word
+class_stands f i word h = go (named f word) refl h
+  where
+    go : (r : Option FileObject) → named f word ≡ r → option_map_or (is_class i) r false ≡ true → Stands f word
+    go None e h = absurd (cc)
+    go (Some x) e h =
+        let a = and_true (is_visible x && leb 1 x.format && leb x.format 5 && not (x.class == context_class) && leb 3 (length x.words)) _ h in
+        let b = and_true (is_visible x && leb 1 x.format && leb x.format 5 && not (x.class == context_class)) _ a.0 in
+        let c = and_true (is_visible x && leb 1 x.format && leb x.format 5) _ b.0 in
+        let d = and_true (is_visible x && leb 1 x.format) _ c.0 in
+        let g = and_true (is_visible x) _ d.0 in
+        stands_named f word x e g.0
+
+or_third : (a b c : Bool) → (a || b || c) ≡ true → a ≡ false → b ≡ false → c ≡ true
+or_third true b c h x y = absurd (cc)
+or_third false true c h x y = absurd (cc)
+or_third false false c h x y = h
+
+other_entry : (f : File) (i : ℕ) → Table f → i < table_size → (i == 3) ≡ false → is_nil f (entry_in f i) ≡ false → Stands f (entry_in f i)
+other_entry f i t h three filled =
+    class_stands f i (entry_in f i) (or_third (i == 3) (is_nil f (entry_in f i)) _ (all_below_at table_size i (is_sound_entry f) t.entries h) three filled)
+
+-- each entry that is filled names an object that stands
+pub entry_stands : (f : File) (i : ℕ) → Table f → i < table_size → is_nil f (entry_in f i) ≡ false → Stands f (entry_in f i)
+entry_stands f i t h filled = elim (eqb_tells i 3) [
+    | inl three ↦
+        let a = and_true (not (has_entry f 0) && not (has_entry f 16) && has_entry f 1 && has_entry f 2 && has_entry f 36 && has_entry f 37 && entry_in f 3 == entry_in f 1) _ t.known in
+        let b = and_true (not (has_entry f 0) && not (has_entry f 16) && has_entry f 1 && has_entry f 2 && has_entry f 36 && has_entry f 37) _ a.0 in
+        let same : entry_in f 3 ≡ entry_in f 1 = equal (entry_in f 3) (entry_in f 1) b.1 in
+        let this : entry_in f i ≡ entry_in f 1 = ap (entry_in f) three.1 ∙ same in
+        let P : ℕ → Type 0 = Stands f in
+        subst P (sym this) (other_entry f 1 t (omega (arith, table_size_is)) refl (ap (is_nil f) (sym this) ∙ filled))
+    | inr other ↦ other_entry f i t h other.0 filled
+  ]
+  where
+    equal : (a b : ℕ) → (a == b) ≡ true → a ≡ b
+    equal a b h = grind (arith, nat_tests, h)
+
+-- ---- the roots
+
+pub special_stands : (f : File) (special : ℕ) → is_bad_roots f special ≡ false → Stands f special
+unfolding is_bad_roots
+special_stands f special h = go (named f special) refl
+  where
+    held : option_map_or (is_process f) (active_process_in f special) false ≡ true
+    held = not_false (option_map_or (is_process f) (active_process_in f special) false) h
+    from : Option (List ℕ) → Option ℕ
+    from array = option_and_then (λ special. option_and_then (λ link. option_map (λ scheduler. slice_index scheduler 1)
+        (fields_in f 2 (slice_index link 1))) (fields_in f 2 (slice_index special 3))) array
+    dead : special_in f special ≡ None → Stands f special
+    dead e = let none : option_map_or (is_process f) (from (special_in f special)) false ≡ false = ap (λ (o : Option (List ℕ)). option_map_or (is_process f) (from o) false) e in absurd (cc (sym held ∙ none))
+    hidden : (x : FileObject) → is_visible x ≡ false → (b : Bool) → cond b (fields_of 51 x) None ≡ None
+    hidden x v true = rw v refl
+    hidden x v false = refl
+    by_visible : (x : FileObject) → named f special ≡ Some x → (b : Bool) → is_visible x ≡ b → Stands f special
+    by_visible x e true v = stands_named f special x e v
+    by_visible x e false v = dead (ap (option_and_then (λ o. cond (o.format == 2) (fields_of 51 o) None)) e ∙ hidden x v (x.format == 2))
+    go : (r : Option FileObject) → named f special ≡ r → Stands f special
+    go None e = dead (ap (option_and_then (λ o. cond (o.format == 2) (fields_of 51 o) None)) e)
+    go (Some x) e = by_visible x e (is_visible x) refl
+
+-- ---- the first objects
+
+pub record Firsts (f : File) : Type 0 where
+  pub nil : FileObject
+  pub rest : List FileObject
+  pub objects : f.objects ≡ nil ∷ rest
+  pub oddball : is_oddball nil ≡ true
+  pub three : 3 ≤ length (filter is_visible (nil ∷ rest))
+
+firsts_in : (os : List FileObject) → option_map_or is_oddball (slice_get os 0) false ≡ true → option_map_or is_oddball (slice_get os 1) false ≡ true → option_map_or is_oddball (slice_get os 2) false ≡ true
+    → 3 ≤ length (filter is_visible os)
+firsts_in [] a b c = absurd (cc)
+firsts_in (x ∷ []) a b c = absurd (cc)
+firsts_in (x ∷ y ∷ []) a b c = absurd (cc)
+firsts_in (x ∷ y ∷ z ∷ os) a b c =
+    let p = (and_true (is_visible x) (x.format == 0) a).0 in
+    let q = (and_true (is_visible y) (y.format == 0) b).0 in
+    let r = (and_true (is_visible z) (z.format == 0) c).0 in
+    rw (p, q, r) (omega arith)
+
+pub firsts : (f : File) → Table f → Firsts f
+firsts f t = go f.objects refl
+  where
+    abc : (begins_well f ≡ true) → (has_object f 0 is_oddball ≡ true) × (has_object f 1 is_oddball ≡ true) × (has_object f 2 is_oddball ≡ true)
+    abc h =
+        let a = and_true (has_object f 0 is_oddball && has_object f 1 is_oddball && has_object f 2 is_oddball && has_object f 3 (λ o. is_hidden o && o.format == 10)) _ h in
+        let b = and_true (has_object f 0 is_oddball && has_object f 1 is_oddball && has_object f 2 is_oddball) _ a.0 in
+        let c = and_true (has_object f 0 is_oddball && has_object f 1 is_oddball) _ b.0 in
+        let d = and_true (has_object f 0 is_oddball) _ c.0 in
+        (d.0, d.1, c.1)
+    go : (os : List FileObject) → f.objects ≡ os → Firsts f
+    go [] e = let h : false ≡ true = ap (λ (xs : List FileObject). option_map_or is_oddball (slice_get xs 0) false) (sym e) ∙ (abc t.begins).0 in absurd (cc)
+    go (x ∷ os) e = record {
+      nil = x;
+      rest = os;
+      objects = e;
+      oddball = ap (λ (xs : List FileObject). option_map_or is_oddball (slice_get xs 0) false) (sym e) ∙ (abc t.begins).0;
+      three = firsts_in (x ∷ os) (ap (λ (xs : List FileObject). option_map_or is_oddball (slice_get xs 0) false) (sym e) ∙ (abc t.begins).0)
+          (ap (λ (xs : List FileObject). option_map_or is_oddball (slice_get xs 1) false) (sym e) ∙ (abc t.begins).1)
+          (ap (λ (xs : List FileObject). option_map_or is_oddball (slice_get xs 2) false) (sym e) ∙ (abc t.begins).2);
+    }
+
+pub visible_three : (f : File) → Table f → 3 ≤ length (visible f)
+unfolding visible
+visible_three f t = let s = firsts f t in let P : List FileObject → Type 0 = λ xs. 3 ≤ length (filter is_visible xs) in subst P (sym s.objects) s.three
