@@ -95,6 +95,9 @@ method_code f format words m = ext_get_or 0 (drop (1 + n) (loaded_words f format
     stays true false h = rw m.pointers refl
     stays false d h = rw m.pointers refl
 
+pub header_loaded : (f : File) (j : ℕ) (o : FileObject) → is_pointer_format o.format ≡ false → 0 < length o.words → header_in (loaded_words f o.format o.words) ≡ header_in_words o.words
+header_loaded f j o p h = ap (λ (n : Option ℕ). unwrap_or n 0) (ap count_of (method_head f o.format o.words p h) ∙ count_same (get_or o.words 0 0))
+
 method_same : (f : File) (j : ℕ) (o : FileObject) → IsMethodOf f o.format o.words → plain_format o.format ≡ o.format → NoneLost f (literals_in_words o.words)
     → method_of (ref_of (memory_of f)) (loaded f j o)
     ≡ Method o.class o.format o.hash (header_in_words o.words) (map (ref_by (meant f)) (literals_in_words o.words)) (bytecodes_in_words o.format o.words)

@@ -79,6 +79,7 @@ pub record IsHeader (bytes : List ℕ) : Type 0 where
   pub long : 64 ≤ length bytes
   pub short : length bytes ≤ 536870912
   pub whole : heap_size bytes % 8 ≡ 0
+  pub base : old_base bytes % 8 ≡ 0
   pub fits : old_base bytes + heap_size bytes ≤ 2 ^ 32
 
 pub header_is : (bytes : List ℕ) → header_fault bytes ≡ None → IsHeader bytes
@@ -95,6 +96,7 @@ header_is bytes e =
     record {
       long = let s = when_none (is_short bytes) fault.Short b.0 in grind (arith, nat_tests, s);
       short = let s = when_none (is_too_long bytes) fault.TooLong a.0 in grind (arith, nat_tests, s);
+      base = let s = z.1 in grind (arith, nat_tests, s);
       whole = let s = w.1 in grind (arith, nat_tests, s);
       fits = let s = y.1 in grind (arith, nat_tests, s);
     }

@@ -18,7 +18,7 @@ slice_get-loaded_from f b (o ∷ os) (suc j) =
     let same : b + 1 + j ≡ b + suc j = omega arith in
     slice_get-loaded_from f (b + 1) os j ∙ ap (λ n. option_map (λ o. loaded f n o) (slice_get os j)) same
 
-slot_counts-loaded_from : (f : File) (b : ℕ) (os : List FileObject) → slot_counts (loaded_from f b os) ≡ map (λ o. length o.words) os
+pub slot_counts-loaded_from : (f : File) (b : ℕ) (os : List FileObject) → slot_counts (loaded_from f b os) ≡ map (λ o. length o.words) os
 slot_counts-loaded_from f b [] = refl
 slot_counts-loaded_from f b (o ∷ os) = ap (λ n. n ∷ slot_counts (loaded_from f (b + 1) os)) (length-loaded f b o)
     ∙ ap (λ (ns : List ℕ). length o.words ∷ ns) (slot_counts-loaded_from f (b + 1) os)

@@ -103,7 +103,7 @@ none_lost_in f place (w ∷ words) none i h = go (is_lost f w) refl none (none_l
     go false e none later zero h = e
     go false e none later (suc i) h = later none i (omega (arith, h))
 
-map_none : {X Y : Type 0} (g : X → Y) (r : Option X) → option_map g r ≡ None → r ≡ None
+pub map_none : {X Y : Type 0} (g : X → Y) (r : Option X) → option_map g r ≡ None → r ≡ None
 map_none g None e = refl
 map_none g (Some x) e = absurd (cc)
 

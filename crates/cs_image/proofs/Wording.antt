@@ -145,7 +145,7 @@ count_even word e =
     go false true = refl
     go false false = refl
 
-natural_even : (word : ℕ) → word % 2 ≡ 0 → natural_in_word word ≡ None
+pub natural_even : (word : ℕ) → word % 2 ≡ 0 → natural_in_word word ≡ None
 natural_even word e = let b : (word % 2 == 1) ≡ false = no_test _ _ (λ z. absurd (omega (arith, e, z))) in rw b refl
 
 pub count_same : (word : ℕ) → count_of word ≡ natural_in_word word

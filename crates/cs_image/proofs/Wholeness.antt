@@ -1,0 +1,307 @@
+-- The memory of a file without faults is sound.
+use Rattle.std.proofs.Common.{◌≡◌, ◌≢◌, ℕ, zero, suc, ◌+◌, ◌*◌, ◌-◌, ◌/◌, ◌%◌, ◌<◌, ◌≤◌, ◌==◌, ◌&&◌, ◌||◌, ◌⊎◌, inl, inr, ltb, leb, Bool, true, false, cond, not, List, [], ◌∷◌, ◌++◌, length, map, take, drop, filter, get_or, Option, Some, None, refl, ap, sym, subst, ◌∙◌, arith, slice_get, slice_index, option_map, option_and_then, is_some, unwrap_or, nat_cmp}
+use Rattle.std.specs.Option.{option_map_or}
+use Rattle.std.specs.List.{find, AllPass, list_all}
+use Rattle.std.specs.Cmp.{nat_cmp_total}
+use Rattle.std.specs.Ordering.{eq_by_cmp}
+use Rattle.std.specs.FinMap.{FinMap, empty, get, get-empty, get-insert, insert}
+use Rattle.std.proofs.lemmas.Bool.Decides.{nat_tests, eqb_tells}
+use Rattle.std.proofs.lemmas.List.{get_or-map, length-map, length-take}
+use Rattle.std.proofs.lemmas.Option.{slice_get_past, slice_get_within}
+use Rattle.cs_model.specs.Obj.{context_class, context_fields, literal_count, is_header}
+use Rattle.cs_model.specs.Words.{is_pointer_format, is_method_format, has_shape, plain_format, natural_in_word, header_in_words, literals_in_words, stackp_in_words, unused_bytes}
+use Rattle.cs_model.specs.ImageFile.{FileObject, File, is_visible, visible, is_nil, nil_in, named, names, address_in}
+use Rattle.cs_model.specs.ImageFault.{entry_in, has_entry, page_words, table_size, unless_nil, bad_class, is_context, is_sound_context, is_pc_of, is_stackp, is_method_body, is_method, is_oddball, is_well_formed}
+use Rattle.cs_heap.specs.Object.{Object, address_among, address_of, base, header_address, is_object, slot_counts}
+use Rattle.cs_heap.specs.Format.{format_allows}
+use Rattle.cs_classes.specs.Meaning.{count_of, depth_in, header_in, literals_in}
+use Rattle.cs_classes.specs.Sound.{is_reference, nil_of, references_in, IsSoundContext, IsSoundMethod, IsSoundObject, IsSound, IsWhole}
+use Rattle.cs_classes.specs.declared.Roots.{Roots}
+use Rattle.cs_classes.proofs.Tables.{ties_same, ties_other}
+use Rattle.cs_image.specs.Loading.{address_named, classes_at, loaded, loaded_from, number_of, translated}
+use Rattle.cs_image.proofs.Below.{table_size_is}
+use Rattle.cs_image.proofs.Naming.{Stands, stands_named, stands_there, slice_get-loaded_from, slot_counts-loaded_from, length-loaded_from}
+use Rattle.cs_image.proofs.Wording.{memory_of, is_reference_translated, count_same, count_translated, loaded_words, length-loaded_words, words_pointers, method_head, method_literals, natural_even}
+use Rattle.cs_image.proofs.Elements.{IsFine, NoneLost, header_loaded, plain_others}
+use Rattle.cs_image.proofs.Soundness.{IsSoundFile, Table, table_parts, Firsts, firsts, visible_three, and_true, not_true, not_false, find_none_at, map_none, formed_at, fine_at, context_at, method_body_at, seven, entry_stands, special_stands}
+
+-- ---- objects by place
+
+pub record LoadedAt (f : File) (j : ℕ) (x : Object) : Type 0 where
+  pub o : FileObject
+  pub there : slice_get (visible f) j ≡ Some o
+  pub is : loaded f j o ≡ x
+
+pub loaded_at : (f : File) (j : ℕ) (x : Object) → slice_get (memory_of f) j ≡ Some x → LoadedAt f j x
+loaded_at f j x e = go (slice_get (visible f) j) refl (sym (slice_get-loaded_from f 0 (visible f) j) ∙ e)
+  where
+    go : (r : Option FileObject) → slice_get (visible f) j ≡ r → option_map (λ o. loaded f (0 + j) o) r ≡ Some x → LoadedAt f j x
+    go None er h = absurd (cc)
+    go (Some o) er h = let same : loaded f (0 + j) o ≡ x = cc in let place : j ≡ 0 + j = omega arith in record { o = o; there = er; is = ap (λ n. loaded f n o) place ∙ same }
+
+-- ---- nil
+
+nil_named : (f : File) (s : Firsts f) → named f (nil_in f) ≡ Some s.nil
+unfolding named
+nil_named f s =
+    let here : nil_in f ≡ address_in f s.nil = ap (λ (os : List FileObject). option_map_or (address_in f) (slice_get os 0) 0) s.objects in
+    let p : (address_in f s.nil == nil_in f) ≡ true = same_test _ _ (sym here) in
+    ap (find (λ o. address_in f o == nil_in f)) s.objects ∙ rw p refl
+  where
+    same_test : (a b : ℕ) → a ≡ b → (a == b) ≡ true
+    same_test a b e = grind (arith, nat_tests, e)
+
+nil_visible : (f : File) (s : Firsts f) → is_visible s.nil ≡ true
+nil_visible f s = (and_true (is_visible s.nil) (s.nil.format == 0) s.oddball).0
+
+visible_begins : (f : File) (s : Firsts f) → visible f ≡ s.nil ∷ filter is_visible s.rest
+unfolding visible
+visible_begins f s = ap (filter is_visible) s.objects ∙ rw (nil_visible f s) refl
+
+nil_stands : (f : File) (s : Firsts f) → Stands f (nil_in f)
+nil_stands f s = stands_named f (nil_in f) s.nil (nil_named f s) (nil_visible f s)
+
+nil_number : (f : File) (s : Firsts f) → (nil_stands f s).j ≡ 0
+nil_number f s = first (nil_stands f s).j (sym (nil_stands f s).number ∙ ap (number_of (λ o. address_in f o == nil_in f)) (visible_begins f s) ∙ rw p refl)
+  where
+    here : nil_in f ≡ address_in f s.nil
+    here = ap (λ (os : List FileObject). option_map_or (address_in f) (slice_get os 0) 0) s.objects
+    same_test : (a b : ℕ) → a ≡ b → (a == b) ≡ true
+    same_test a b e = grind (arith, nat_tests, e)
+    p : (address_in f s.nil == nil_in f) ≡ true
+    p = same_test _ _ (sym here)
+    first : (j : ℕ) → Some j ≡ Some 0 → j ≡ 0
+    first j e = cc
+
+pub nil_of-memory : (f : File) (s : Firsts f) → nil_of (memory_of f) ≡ address_named f (nil_in f)
+nil_of-memory f s = ap (λ (r : Option ℕ). unwrap_or r 0) (ap (address_of (memory_of f)) (sym (nil_number f s)) ∙ (nil_stands f s).at)
+
+pub nil_of-base : (f : File) (s : Firsts f) → length s.nil.words ≡ 0 → nil_of (memory_of f) ≡ base
+unfolding address_among
+nil_of-base f s none = ap (λ (ns : List ℕ). unwrap_or (address_among ns base 0) 0) (slot_counts-loaded_from f 0 (visible f) ∙ ap (map (λ o. length o.words)) (visible_begins f s))
+    ∙ ap (header_address base) none
+
+nil_aligned : (f : File) → f.base % 4 ≡ 0 → (s : Firsts f) → nil_in f % 4 ≡ 0
+nil_aligned f aligned s =
+    let here : nil_in f ≡ f.base + 4 * s.nil.place = ap (λ (os : List FileObject). option_map_or (address_in f) (slice_get os 0) 0) s.objects in
+    omega (arith, here, aligned)
+
+pub translated_nil : (f : File) → f.base % 4 ≡ 0 → (s : Firsts f) → translated f (nil_in f) ≡ nil_of (memory_of f)
+translated_nil f aligned s =
+    let z : (nil_in f % 4 == 0) ≡ true = zero_test _ (nil_aligned f aligned s) in
+    let t : translated f (nil_in f) ≡ address_named f (nil_in f) = rw z refl in
+    t ∙ sym (nil_of-memory f s)
+  where
+    zero_test : (n : ℕ) → n ≡ 0 → (n == 0) ≡ true
+    zero_test n e = grind (arith, nat_tests, e)
+
+-- ---- an object
+
+passes_map : (f : File) (ws : List ℕ) → NoneLost f ws → AllPass (is_reference (memory_of f)) (map (translated f) ws)
+passes_map f ws fine k d h =
+    let inside : k < length ws = omega (arith, h, length-map ws (translated f)) in
+    ap (is_reference (memory_of f)) (get_or-map (translated f) ws k 0 d inside) ∙ is_reference_translated f (get_or ws k 0) (fine k inside)
+
+passes_along : (f : File) (xs ys : List ℕ) → xs ≡ ys → AllPass (is_reference (memory_of f)) ys → AllPass (is_reference (memory_of f)) xs
+passes_along f xs ys e h = let P : List ℕ → Type 0 = AllPass (is_reference (memory_of f)) in subst P (sym e) h
+
+shape_plain : (format n : ℕ) → has_shape format n ≡ true → format_allows (plain_format format) n ≡ true
+shape_plain format n h = elim (eqb_tells format 4) [
+    | inl four ↦ rw four.0 refl
+    | inr other ↦ elim (eqb_tells format 5) [
+        | inl five ↦ rw (other.0, five.0) refl
+        | inr another ↦ rw (other.0, another.0) h
+      ]
+  ]
+
+or_cases : (a b : Bool) → (a || b) ≡ true → (a ≡ true) ⊎ (b ≡ true)
+or_cases true b h = inl refl
+or_cases false b h = inr h
+
+or_left : (a b : Bool) → a ≡ true → (a || b) ≡ true
+or_left a b h = rw h refl
+
+or_right : (a b : Bool) → b ≡ true → (a || b) ≡ true
+or_right true b h = refl
+or_right false b h = h
+
+equal : (a b : ℕ) → (a == b) ≡ true → a ≡ b
+equal a b h = grind (arith, nat_tests, h)
+
+same_test : (a b : ℕ) → a ≡ b → (a == b) ≡ true
+same_test a b e = grind (arith, nat_tests, e)
+
+-- a field that is nil or a number that isn't negative
+nil_or_count : (f : File) → f.base % 4 ≡ 0 → (s : Firsts f) → (w : ℕ) → (is_nil f w ≡ true) ⊎ (is_some (natural_in_word w) ≡ true)
+    → (translated f w == nil_of (memory_of f) || is_some (count_of (translated f w))) ≡ true
+nil_or_count f aligned s w (inl h) =
+    let e : w ≡ nil_in f = equal w (nil_in f) h in
+    or_left _ _ (same_test _ _ (ap (translated f) e ∙ translated_nil f aligned s))
+nil_or_count f aligned s w (inr h) = or_right _ _ (ap is_some (count_translated f w) ∙ h)
+
+pc_some : (f : File) (w m : ℕ) → names f (is_pc_of w) m ≡ true → is_some (natural_in_word w) ≡ true
+pc_some f w m h = go (named f m) h
+  where
+    some_if : (g : ℕ → Bool) (r : Option ℕ) → option_map_or g r false ≡ true → is_some r ≡ true
+    some_if g None h = absurd (cc)
+    some_if g (Some n) h = refl
+    go : (r : Option FileObject) → option_map_or (is_pc_of w) r false ≡ true → is_some (natural_in_word w) ≡ true
+    go None h = absurd (cc)
+    go (Some o) h = some_if _ (natural_in_word w) (and_true (is_method o) _ h).1
+
+stackp_some : (size w : ℕ) → is_stackp size w ≡ true → is_some (natural_in_word w) ≡ true
+stackp_some size w h = go (natural_in_word w) h
+  where
+    go : (r : Option ℕ) → option_map_or (λ n. leb n size) r false ≡ true → is_some r ≡ true
+    go None h = absurd (cc)
+    go (Some n) h = refl
+
+stackp_within : (size w : ℕ) → is_stackp size w ≡ true → unwrap_or (natural_in_word w) 0 ≤ size
+stackp_within size w h = go (natural_in_word w) h
+  where
+    below : (n : ℕ) → leb n size ≡ true → n ≤ size
+    below n h = grind (arith, nat_tests, h)
+    go : (r : Option ℕ) → option_map_or (λ n. leb n size) r false ≡ true → unwrap_or r 0 ≤ size
+    go None h = omega arith
+    go (Some n) h = below n h
+
+-- what is needed of a file beside its faults
+pub record Ground (f : File) (special : ℕ) : Type 0 where
+  pub sound : IsSoundFile f special
+  pub aligned : f.base % 4 ≡ 0
+  pub table : Table f
+  pub first : Firsts f
+
+record ContextFacts (f : File) (o : FileObject) : Type 0 where
+  three : o.format ≡ 3
+  long : 6 ≤ length o.words
+  slots : (length o.words == 22 || length o.words == 62) ≡ true
+  pc : (is_nil f (get_or o.words 1 0) ≡ true) ⊎ (is_some (natural_in_word (get_or o.words 1 0)) ≡ true)
+  stackp : (is_nil f (get_or o.words 2 0) ≡ true) ⊎ (is_some (natural_in_word (get_or o.words 2 0)) ≡ true)
+  depth : stackp_in_words o.words ≤ length o.words - context_fields
+
+either : {A B C : Type 0} → A ⊎ B → (B → C) → A ⊎ C
+either (inl a) g = inl a
+either (inr b) g = inr (g b)
+
+depth_within : (f : File) (special : ℕ) (o : FileObject) → Ground f special
+    → (is_nil f (get_or o.words 2 0) ≡ true) ⊎ (is_stackp (length o.words - context_fields) (get_or o.words 2 0) ≡ true) → stackp_in_words o.words ≤ length o.words - context_fields
+depth_within f special o g (inr h) = stackp_within (length o.words - context_fields) (get_or o.words 2 0) h
+depth_within f special o g (inl h) =
+    let e : get_or o.words 2 0 ≡ nil_in f = equal (get_or o.words 2 0) (nil_in f) h in
+    let even : get_or o.words 2 0 % 2 ≡ 0 = (let a = nil_aligned f g.aligned g.first in omega (arith, e, a)) in
+    let none : stackp_in_words o.words ≡ 0 = ap (λ (r : Option ℕ). unwrap_or r 0) (natural_even (get_or o.words 2 0) even) in
+    omega (arith, none)
+
+context_facts : (f : File) (special j : ℕ) (o : FileObject) → Ground f special → slice_get (visible f) j ≡ Some o → (o.class == context_class) ≡ true → ContextFacts f o
+context_facts f special j o g e h =
+    let parts = seven _ _ _ _ _ _ _ (context_at f special j o g.sound e h) in
+    let fine = (fine_at f special j o g.sound e).context h in
+    record {
+      three = fine.0;
+      long = fine.1;
+      slots = parts.slots;
+      pc = either (or_cases _ _ parts.pc) (pc_some f (get_or o.words 1 0) (get_or o.words 3 0));
+      stackp = either (or_cases _ _ parts.stackp) (stackp_some (length o.words - context_fields) (get_or o.words 2 0));
+      depth = depth_within f special o g (or_cases _ _ parts.stackp);
+    }
+
+context_sound : (f : File) (special j : ℕ) (o : FileObject) → Ground f special → ContextFacts f o → IsSoundContext (memory_of f) (loaded f j o)
+context_sound f special j o g c = record {
+  format = ap plain_format c.three;
+  slots = ap (λ n. n == 22 || n == 62) (length-loaded_words f o.format o.words) ∙ c.slots;
+  pc = at 1 (omega (arith, c.long)) c.pc;
+  stackp = at 2 (omega (arith, c.long)) c.stackp;
+  depth =
+      let d : depth_in (loaded_words f o.format o.words) ≡ stackp_in_words o.words = ap (λ (r : Option ℕ). unwrap_or r 0) (ap count_of (read 2 (omega (arith, c.long))) ∙ count_translated f (get_or o.words 2 0)) in
+      let w = c.depth in
+      let l = length-loaded_words f o.format o.words in
+      omega (arith, d, w, l);
+}
+  where
+    words : loaded_words f o.format o.words ≡ map (translated f) o.words
+    words = words_pointers f o.format o.words (ap is_pointer_format c.three)
+    read : (k : ℕ) → k < length o.words → get_or (loaded_words f o.format o.words) k 0 ≡ translated f (get_or o.words k 0)
+    read k h = ap (λ (ws : List ℕ). get_or ws k 0) words ∙ get_or-map (translated f) o.words k 0 0 h
+    at : (k : ℕ) → k < length o.words → (is_nil f (get_or o.words k 0) ≡ true) ⊎ (is_some (natural_in_word (get_or o.words k 0)) ≡ true)
+        → (get_or (loaded_words f o.format o.words) k 0 == nil_of (memory_of f) || is_some (count_of (get_or (loaded_words f o.format o.words) k 0))) ≡ true
+    at k h d = ap (λ w. w == nil_of (memory_of f) || is_some (count_of w)) (read k h) ∙ nil_or_count f g.aligned g.first (get_or o.words k 0) d
+
+header_known : (r : Option ℕ) → option_map_or is_header r false ≡ true → r ≡ Some (unwrap_or r 0)
+header_known None h = absurd (cc)
+header_known (Some n) h = refl
+
+header_valid : (r : Option ℕ) → option_map_or is_header r false ≡ true → is_header (unwrap_or r 0) ≡ true
+header_valid None h = absurd (cc)
+header_valid (Some n) h = h
+
+method_from : (f : File) (j : ℕ) (o : FileObject) → is_pointer_format o.format ≡ false → option_map_or is_header (natural_in_word (slice_index o.words 0)) false ≡ true
+    → literal_count (header_in_words o.words) + (cond (ltb 0 (unused_bytes o.format)) 1 0) < length o.words → IsSoundMethod (loaded f j o)
+method_from f j o p known fits =
+    let header : header_in (loaded_words f o.format o.words) ≡ header_in_words o.words = header_loaded f j o p (omega (arith, fits)) in
+    let l = length-loaded_words f o.format o.words in
+    let Q : ℕ → Type 0 = λ h. literal_count h + (cond (ltb 0 (unused_bytes o.format)) 1 0) < length o.words in
+    let R : ℕ → Type 0 = λ n. literal_count (header_in (loaded_words f o.format o.words)) + (cond (ltb 0 (unused_bytes o.format)) 1 0) < n in
+    let S : ℕ → Type 0 = λ u. literal_count (header_in (loaded_words f o.format o.words)) + (cond (ltb 0 (unused_bytes u)) 1 0) < length (loaded_words f o.format o.words) in
+    record {
+      header = ap count_of (method_head f o.format o.words p (omega (arith, fits))) ∙ count_same (get_or o.words 0 0) ∙ header_known (natural_in_word (get_or o.words 0 0)) known ∙ ap Some (sym header);
+      valid = ap is_header header ∙ header_valid (natural_in_word (get_or o.words 0 0)) known;
+      literals = subst S (sym (plain_others o.format p)) (subst R (sym l) (subst Q (sym header) fits));
+    }
+
+method_sound : (f : File) (special j : ℕ) (o : FileObject) → Ground f special → slice_get (visible f) j ≡ Some o → is_pointer_format o.format ≡ false → is_method_format o.format ≡ true → IsSoundMethod (loaded f j o)
+method_sound f special j o g e p m =
+    let body = and_true (option_map_or is_header (natural_in_word (slice_index o.words 0)) false) _ (method_body_at f special j o g.sound e m) in
+    method_from f j o p body.0 (less (literal_count (header_in_words o.words) + (cond (ltb 0 (unused_bytes o.format)) 1 0)) (length o.words) body.1)
+  where
+    less : (a b : ℕ) → ltb a b ≡ true → a < b
+    less a b h = grind (arith, nat_tests, h)
+
+-- formats stay what they are
+plain_pointer : (format : ℕ) → is_pointer_format (plain_format format) ≡ is_pointer_format format
+plain_pointer format = elim (eqb_tells format 4) [
+    | inl four ↦ ap (λ n. is_pointer_format (plain_format n)) four.1 ∙ ap is_pointer_format (sym four.1)
+    | inr other ↦ elim (eqb_tells format 5) [
+        | inl five ↦ ap (λ n. is_pointer_format (plain_format n)) five.1 ∙ ap is_pointer_format (sym five.1)
+        | inr another ↦ rw (other.0, another.0) refl
+      ]
+  ]
+
+plain_method : (format : ℕ) → is_method_format (plain_format format) ≡ is_method_format format
+plain_method format = elim (eqb_tells format 4) [
+    | inl four ↦ ap (λ n. is_method_format (plain_format n)) four.1 ∙ ap is_method_format (sym four.1)
+    | inr other ↦ elim (eqb_tells format 5) [
+        | inl five ↦ ap (λ n. is_method_format (plain_format n)) five.1 ∙ ap is_method_format (sym five.1)
+        | inr another ↦ rw (other.0, another.0) refl
+      ]
+  ]
+
+method_is_other : (format : ℕ) → is_method_format format ≡ true → is_pointer_format format ≡ false
+method_is_other format h = grind (arith, nat_tests, h)
+
+references_sound : (f : File) (j : ℕ) (o : FileObject) → IsFine f o → AllPass (is_reference (memory_of f)) (references_in (loaded f j o))
+references_sound f j o fine = go (is_pointer_format o.format) (is_method_format o.format) refl refl
+  where
+    go : (b c : Bool) → is_pointer_format o.format ≡ b → is_method_format o.format ≡ c → AllPass (is_reference (memory_of f)) (references_in (loaded f j o))
+    go true c eb ec =
+        let is : references_in (loaded f j o) ≡ map (translated f) o.words = rw (plain_pointer o.format, eb) (words_pointers f o.format o.words eb) in
+        passes_along f _ _ is (passes_map f o.words (fine.pointers eb))
+    go false true eb ec =
+        let m = (fine.method eb ec).0 in
+        let some_words : 0 < length o.words = (let fits = m.fits in omega (arith, fits)) in
+        let header = header_loaded f j o eb some_words in
+        let is : references_in (loaded f j o) ≡ map (translated f) (literals_in_words o.words) =
+            rw (plain_pointer o.format, eb, plain_method o.format, ec) (ap (λ h. take (literal_count h) (drop 1 (loaded_words f o.format o.words))) header ∙ method_literals f o.format o.words m) in
+        passes_along f _ _ is (passes_map f (literals_in_words o.words) (fine.method eb ec).1)
+    go false false eb ec =
+        let is : references_in (loaded f j o) ≡ [] = rw (plain_pointer o.format, eb, plain_method o.format, ec) refl in
+        passes_along f _ _ is (λ k d h. absurd (omega (arith, h)))
+
+object_sound : (f : File) (special j : ℕ) (o : FileObject) → Ground f special → slice_get (visible f) j ≡ Some o → IsSoundObject (memory_of f) (loaded f j o)
+object_sound f special j o g e = record {
+  shape = ap (format_allows (plain_format o.format)) (length-loaded_words f o.format o.words)
+      ∙ shape_plain o.format (length o.words) (and_true (has_shape o.format (length o.words)) _ (formed_at f special j o g.sound e)).0;
+  references = references_sound f j o (fine_at f special j o g.sound e);
+  context = λ h. context_sound f special j o g (context_facts f special j o g e h);
+  method = λ h. let m : is_method_format o.format ≡ true = sym (plain_method o.format) ∙ h in method_sound f special j o g e (method_is_other o.format m) m;
+}
