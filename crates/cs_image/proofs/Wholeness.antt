@@ -10,7 +10,7 @@ use Rattle.std.proofs.lemmas.List.{get_or-map, length-map, length-take}
 use Rattle.std.proofs.lemmas.Option.{slice_get_past, slice_get_within}
 use Rattle.cs_model.specs.Obj.{context_class, context_fields, literal_count, is_header}
 use Rattle.cs_model.specs.Words.{is_pointer_format, is_method_format, has_shape, plain_format, natural_in_word, header_in_words, literals_in_words, stackp_in_words, unused_bytes}
-use Rattle.cs_model.specs.ImageFile.{FileObject, File, is_visible, visible, is_nil, nil_in, named, names, address_in}
+use Rattle.cs_model.specs.ImageFile.{FileObject, File, file_of, old_base, special_address, is_visible, visible, is_nil, nil_in, named, names, address_in}
 use Rattle.cs_model.specs.ImageFault.{entry_in, has_entry, page_words, table_size, unless_nil, bad_class, is_context, is_sound_context, is_pc_of, is_stackp, is_method_body, is_method, is_oddball, is_well_formed}
 use Rattle.cs_heap.specs.Object.{Object, address_among, address_of, base, header_address, is_object, slot_counts}
 use Rattle.cs_heap.specs.Format.{format_allows}
@@ -20,6 +20,7 @@ use Rattle.cs_classes.specs.declared.Roots.{Roots}
 use Rattle.cs_classes.proofs.Tables.{ties_same, ties_other}
 use Rattle.cs_image.specs.Loading.{address_named, classes_at, loaded, loaded_from, number_of, translated}
 use Rattle.cs_image.proofs.Below.{table_size_is}
+use Rattle.cs_image.proofs.Describing.{IsBuilt, built_roots}
 use Rattle.cs_image.proofs.Naming.{Stands, stands_named, stands_there, slice_get-loaded_from, slot_counts-loaded_from, length-loaded_from}
 use Rattle.cs_image.proofs.Wording.{memory_of, is_reference_translated, count_same, count_translated, loaded_words, length-loaded_words, words_pointers, method_head, method_literals, natural_even}
 use Rattle.cs_image.proofs.Elements.{IsFine, NoneLost, header_loaded, plain_others}
@@ -305,3 +306,160 @@ object_sound f special j o g e = record {
   context = λ h. context_sound f special j o g (context_facts f special j o g e h);
   method = λ h. let m : is_method_format o.format ≡ true = sym (plain_method o.format) ∙ h in method_sound f special j o g e (method_is_other o.format m) m;
 }
+
+-- ---- the class table
+
+get_filled : (f : File) (n i : ℕ) → i < n → is_nil f (entry_in f i) ≡ false → get (classes_at f n) i ≡ Some (address_named f (entry_in f i))
+get_filled f zero i h e = absurd (omega (arith, h))
+get_filled f (suc n) i h e = go (is_nil f (entry_in f n)) refl (λ (below : i < n). get_filled f n i below e) (eqb_tells i n)
+  where
+    go : (b : Bool) → is_nil f (entry_in f n) ≡ b → (i < n → get (classes_at f n) i ≡ Some (address_named f (entry_in f i))) → ((i == n) ≡ true) × (i ≡ n) ⊎ ((i == n) ≡ false) × (i ≢ n) → get (classes_at f (suc n)) i ≡ Some (address_named f (entry_in f i))
+    go true en rest (inl same) = let wrong : true ≡ false = sym en ∙ ap (λ k. is_nil f (entry_in f k)) (sym same.1) ∙ e in absurd (cc)
+    go true en rest (inr other) = rw en (rest (omega (arith, h, other.1)))
+    go false en rest (inl same) = rw en (get-insert nat_cmp_total (classes_at f n) n (address_named f (entry_in f n)) i
+        ∙ ap (λ k. cond (eq_by_cmp nat_cmp k n) (Some (address_named f (entry_in f n))) (get (classes_at f n) k)) same.1
+        ∙ ap (λ b. cond b (Some (address_named f (entry_in f n))) (get (classes_at f n) n)) (ties_same n)
+        ∙ ap (λ k. Some (address_named f (entry_in f k))) (sym same.1))
+    go false en rest (inr other) = rw en (get-insert nat_cmp_total (classes_at f n) n (address_named f (entry_in f n)) i
+        ∙ ap (λ b. cond b (Some (address_named f (entry_in f n))) (get (classes_at f n) i)) (ties_other i n other.1)
+        ∙ rest (omega (arith, h, other.1)))
+
+-- what the table has comes from an entry
+record FromEntry (f : File) (n i a : ℕ) : Type 0 where
+  below : i < n
+  filled : is_nil f (entry_in f i) ≡ false
+  address : a ≡ address_named f (entry_in f i)
+
+some_same : (a b : ℕ) → Some a ≡ Some b → a ≡ b
+some_same a b e = cc
+
+from_entry : (f : File) (n i a : ℕ) → get (classes_at f n) i ≡ Some a → FromEntry f n i a
+from_entry f zero i a h = let none = get-empty {X = ℕ} nat_cmp i in absurd (cc (sym none ∙ h))
+from_entry f (suc n) i a h = go (is_nil f (entry_in f n)) refl (from_entry f n i a) (eqb_tells i n)
+  where
+    later : FromEntry f n i a → FromEntry f (suc n) i a
+    later r = record { below = (let b = r.below in omega (arith, b)); filled = r.filled; address = r.address }
+    go : (b : Bool) → is_nil f (entry_in f n) ≡ b → (get (classes_at f n) i ≡ Some a → FromEntry f n i a) → ((i == n) ≡ true) × (i ≡ n) ⊎ ((i == n) ≡ false) × (i ≢ n) → FromEntry f (suc n) i a
+    go true en rest c =
+        let here : classes_at f (suc n) ≡ classes_at f n = rw en refl in
+        later (rest (ap (λ (m : FinMap nat_cmp ℕ). get m i) (sym here) ∙ h))
+    go false en rest (inl same) =
+        let here : classes_at f (suc n) ≡ insert (classes_at f n) n (address_named f (entry_in f n)) = rw en refl in
+        let got : get (classes_at f (suc n)) i ≡ Some (address_named f (entry_in f n)) = ap (λ (m : FinMap nat_cmp ℕ). get m i) here
+            ∙ get-insert nat_cmp_total (classes_at f n) n (address_named f (entry_in f n)) i
+            ∙ ap (λ k. cond (eq_by_cmp nat_cmp k n) (Some (address_named f (entry_in f n))) (get (classes_at f n) k)) same.1
+            ∙ ap (λ b. cond b (Some (address_named f (entry_in f n))) (get (classes_at f n) n)) (ties_same n) in
+        record {
+          below = (let s = same.1 in omega (arith, s));
+          filled = ap (λ k. is_nil f (entry_in f k)) same.1 ∙ en;
+          address = let it : a ≡ address_named f (entry_in f n) = some_same _ _ (sym h ∙ got) in it ∙ ap (λ k. address_named f (entry_in f k)) (sym same.1);
+        }
+    go false en rest (inr other) =
+        let here : classes_at f (suc n) ≡ insert (classes_at f n) n (address_named f (entry_in f n)) = rw en refl in
+        let got : get (classes_at f (suc n)) i ≡ get (classes_at f n) i = ap (λ (m : FinMap nat_cmp ℕ). get m i) here
+            ∙ get-insert nat_cmp_total (classes_at f n) n (address_named f (entry_in f n)) i
+            ∙ ap (λ b. cond b (Some (address_named f (entry_in f n))) (get (classes_at f n) i)) (ties_other i n other.1) in
+        later (rest (sym got ∙ h))
+
+-- an entry that is filled is one of the table
+entry_below : (f : File) (i : ℕ) → is_nil f (entry_in f i) ≡ false → i < table_size
+unfolding entry_in
+entry_below f i e = elim (bounded i) [ inl h ↦ h | inr h ↦ absurd (past h) ]
+  where
+    bounded : (i : ℕ) → (i < table_size) ⊎ (16384 ≤ i)
+    bounded i = go (ltb i 16384) refl
+      where
+        go : (b : Bool) → ltb i 16384 ≡ b → (i < table_size) ⊎ (16384 ≤ i)
+        go true h = inl (let l : i < 16384 = grind (arith, nat_tests, h) in let s = table_size_is in omega (arith, l, s))
+        go false h = inr (grind (arith, nat_tests, h))
+    few : (r : Option FileObject) → length (option_map_or (λ root. take 16 root.words) r []) ≤ 16
+    few None = omega arith
+    few (Some x) = let l = length-take 16 x.words in omega (arith, l)
+    itself : (n : ℕ) → (n == n) ≡ true
+    itself n = grind (arith, nat_tests)
+    past : 16384 ≤ i → ⊥
+    past h =
+        let far : length (page_words f) ≤ i / 1024 = (let l = few (slice_get f.objects 4) in omega (arith, l, h)) in
+        let none : slice_get (page_words f) (i / 1024) ≡ None = slice_get_past (page_words f) (i / 1024) far in
+        let nil : is_nil f (entry_in f i) ≡ true = rw none (itself (nil_in f)) in
+        absurd (cc (sym e ∙ nil))
+
+class_filled : (f : File) (special j : ℕ) (o : FileObject) → Ground f special → slice_get (visible f) j ≡ Some o → is_nil f (entry_in f o.class) ≡ false
+unfolding bad_class
+class_filled f special j o g e =
+    let s = g.sound.classes in
+    let p = find_none_at (λ o. ltb o.class 4 || not (has_entry f o.class)) (visible f) j o (map_none (λ o. o.place) (find (λ o. ltb o.class 4 || not (has_entry f o.class)) (visible f)) s) e in
+    not_true (is_nil f (entry_in f o.class)) (not_false (not (is_nil f (entry_in f o.class))) (second (ltb o.class 4) (not (not (is_nil f (entry_in f o.class)))) p))
+  where
+    second : (a b : Bool) → (a || b) ≡ false → b ≡ false
+    second true b h = absurd (cc)
+    second false b h = h
+
+-- ---- the whole
+
+nil_empty : (f : File) (special : ℕ) (g : Ground f special) → length g.first.nil.words ≡ 0
+nil_empty f special g =
+    let s = g.first in
+    let form : s.nil.format ≡ 0 = equal s.nil.format 0 (and_true (is_visible s.nil) (s.nil.format == 0) s.oddball).1 in
+    let there : slice_get (visible f) 0 ≡ Some s.nil = ap (λ (xs : List FileObject). slice_get xs 0) (visible_begins f s) in
+    let shape = (and_true (has_shape s.nil.format (length s.nil.words)) _ (formed_at f special 0 s.nil g.sound there)).0 in
+    let P : ℕ → Type 0 = λ n. has_shape n (length s.nil.words) ≡ true in
+    let zero_shape : has_shape 0 (length s.nil.words) ≡ true = subst P form shape in
+    equal (length s.nil.words) 0 zero_shape
+
+apart : (f : File) (j k : ℕ) (x y : Object) → slice_get (memory_of f) j ≡ Some x → slice_get (memory_of f) k ≡ Some y → x.birth ≡ y.birth → j ≡ k
+apart f j k x y ej ek same =
+    let a = loaded_at f j x ej in
+    let b = loaded_at f k y ek in
+    ap (λ (z : Object). z.birth) a.is ∙ same ∙ ap (λ (z : Object). z.birth) (sym b.is)
+
+pub memory_whole : (f : File) (special : ℕ) (roots : Roots) → Ground f special → roots.special.0 ≡ address_named f special → roots.next_birth ≡ length (visible f)
+    → IsWhole (memory_of f) (classes_at f table_size) roots
+memory_whole f special roots g at next = record {
+  heap = record {
+    apart = apart f;
+    each = λ k x e. let a = loaded_at f k x e in let P : Object → Type 0 = IsSoundObject (memory_of f) in subst P a.is (object_sound f special k a.o g a.there);
+  };
+  first = let l = length-loaded_from f 0 (visible f) in let three = visible_three f g.table in omega (arith, l, three);
+  nil = nil_of-base f g.first (nil_empty f special g);
+  births = λ k x e.
+      let a = loaded_at f k x e in
+      let birth : k ≡ x.birth = ap (λ (z : Object). z.birth) a.is in
+      let inside = slice_get_within (visible f) k a.o a.there in
+      omega (arith, birth, inside, next);
+  indices = λ k x e.
+      let a = loaded_at f k x e in
+      let filled = class_filled f special k a.o g a.there in
+      let got = get_filled f table_size a.o.class (entry_below f a.o.class filled) filled in
+      ap (λ (z : Object). is_some (get (classes_at f table_size) z.class)) (sym a.is) ∙ ap is_some got;
+  classes = λ index a e.
+      let r = from_entry f table_size index a e in
+      ap (is_object (memory_of f)) r.address ∙ stands_there f (entry_in f index) (entry_stands f index g.table r.below r.filled);
+  special = ap (is_object (memory_of f)) at ∙ stands_there f special (special_stands f special g.sound.roots);
+}
+
+pub ground_of : (bytes : List ℕ) → old_base bytes % 8 ≡ 0 → IsSoundFile (file_of bytes) (special_address bytes) → Ground (file_of bytes) (special_address bytes)
+unfolding file_of
+ground_of bytes base_is s = record {
+  sound = s;
+  aligned = omega (arith, base_is);
+  table = table_parts (file_of bytes) s.table;
+  first = firsts (file_of bytes) (table_parts (file_of bytes) s.table);
+}
+
+-- what was built for a file without faults
+pub built_whole : (bytes : List ℕ) (file : File) (objects : List Object) (table : FinMap nat_cmp ℕ) (roots : Roots) → file ≡ file_of bytes → IsBuilt bytes file objects table roots
+    → old_base bytes % 8 ≡ 0 → IsSoundFile (file_of bytes) (special_address bytes) → IsWhole objects table roots
+built_whole bytes file objects table roots same b base_is s =
+    let r = built_roots bytes file objects table roots same b in
+    let whole = memory_whole (file_of bytes) (special_address bytes) roots (ground_of bytes base_is s) r.special r.next in
+    let P : List Object → Type 0 = λ os. IsWhole os (classes_at (file_of bytes) table_size) roots in
+    let Q : FinMap nat_cmp ℕ → Type 0 = λ t. IsWhole objects t roots in
+    subst Q (sym (b.table_is ∙ ap (λ (f : File). classes_at f table_size) same)) (subst P (sym (b.objects_are ∙ ap (λ (f : File). loaded_from f 0 (visible f)) same)) whole)
+
+-- births are places
+pub built_births : (bytes : List ℕ) (file : File) (objects : List Object) (table : FinMap nat_cmp ℕ) (roots : Roots) → IsBuilt bytes file objects table roots
+    → (k : ℕ) (x : Object) → slice_get objects k ≡ Some x → x.birth ≡ k
+built_births bytes file objects table roots b k x e =
+    let a = loaded_at file k x (ap (λ (os : List Object). slice_get os k) (sym b.objects_are) ∙ e) in
+    ap (λ (z : Object). z.birth) (sym a.is)

@@ -20,12 +20,14 @@ mod table;
 
 pub use error::ImageError;
 
-ghost use Rattle.std.specs.Prelude.{◌≡◌, ℕ, ◌≤◌, false, length, slice_get, take, Some, None, Ok, IfOk, ⊤};
+ghost use Rattle.std.specs.Prelude.{◌≡◌, ℕ, ◌≤◌, false, length, slice_get, take, Some, None, Ok, IfOk, OnOk, ⊤};
 ghost use Rattle.cs_model.specs.ImageFile.{file_of, has_births, visible, words_in, cut_of, special_address, last_hash_in};
 ghost use Rattle.cs_model.specs.ImageFault as fault;
 ghost use Rattle.cs_model.specs.ImageFault.{bad_object, is_over, table_size};
 ghost use Rattle.cs_model.specs.Image.{at_word, fault_of, image_of};
+ghost use Rattle.cs_heap.specs.Object.{Object};
 ghost use Rattle.cs_classes.specs.Meaning.{kept_of};
+ghost use Rattle.cs_classes.specs.Sound.{IsWhole};
 ghost use Rattle.cs_image.specs.Answer.{HasBirthSection, Tells, Told, header_fault};
 ghost use Rattle.cs_image.specs.Loading.{address_named, addresses_of, classes_at, loaded_from};
 
@@ -85,7 +87,10 @@ pub fn load(alloc: Global, bytes: &[u8], limit_words: u32) -> Result<Loaded, Ima
     requires most { limit_words ≤ 67108864 }
     ensures fault { Told (HasBirthSection bytes.now) (fault_of bytes.now limit_words) (λ _. ⊤) result }
     ensures state { IfOk result (λ l. image_of bytes.now limit_words ≡ Ok (kept_of l.heap.objects l.classes l.roots None)) }
+    ensures sound { IfOk result (λ l. IsWhole l.heap.objects l.classes l.roots) }
+    ensures births { IfOk result (λ l. (k : ℕ) (x : Object) → slice_get l.heap.objects k ≡ Some x → x.birth ≡ k) }
     ensures limit { IfOk result (λ l. l.heap.limit ≡ limit_words) }
+    ensures no_section { OnOk result (has_births bytes.now ≡ false) }
 {
     check_header(bytes)?;
     if goes_on(bytes) {
