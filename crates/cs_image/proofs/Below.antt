@@ -1,5 +1,5 @@
 -- What holds of all numbers below a bound.
-use Rattle.std.proofs.Common.{◌≡◌, ℕ, zero, suc, ◌+◌, ◌<◌, ◌&&◌, ◌⊎◌, inl, inr, Bool, true, false, refl, ap, sym, ◌∙◌, arith, add-one}
+use Rattle.std.proofs.Common.{◌≡◌, ℕ, zero, suc, ◌+◌, ◌<◌, ◌&&◌, inl, inr, Bool, true, false, refl, ap, sym, ◌∙◌, arith, add-one}
 use Rattle.std.proofs.lemmas.Bool.Decides.{eqb_tells}
 use Rattle.std.specs.FinMap.{insert}
 use Rattle.cs_model.specs.ImageFile.{File, is_nil}
@@ -16,9 +16,9 @@ all_below_more n p all here = rw (add-one, all, here) refl
 pub all_below_fails : (n k : ℕ) (p : ℕ → Bool) → k < n → p k ≡ false → all_below n p ≡ false
 all_below_fails zero k p h e = absurd (omega (arith, h))
 all_below_fails (suc n) k p h e = elim (eqb_tells k n) as (λ _. (all_below n p && p n) ≡ false) [
-      | inl same ↦ rw (ap p (sym same.1) ∙ e) (no_right (all_below n p))
-      | inr other ↦ rw (all_below_fails n k p (omega (arith, h, other.1)) e) refl
-    ]
+  | inl same ↦ rw (ap p (sym same.1) ∙ e) (no_right (all_below n p))
+  | inr other ↦ rw (all_below_fails n k p (omega (arith, h, other.1)) e) refl
+]
   where
     no_right : (b : Bool) → (b && false) ≡ false
     no_right true = refl

@@ -1,15 +1,13 @@
 -- A file without faults means in memory what it describes.
-use Rattle.std.proofs.Common.{◌≡◌, ℕ, zero, suc, ◌+◌, ◌*◌, ◌<◌, ◌≤◌, ◌&&◌, ◌||◌, ◌==◌, Bool, true, false, cond, not, List, [], ◌∷◌, ◌++◌, length, map, take, drop, replicate, get_or, Option, Some, None, Ok, refl, ap, sym, subst, ◌∙◌, arith, slice_get, slice_index, option_map, nat_cmp}
-use Rattle.std.specs.Option.{option_map_or}
-use Rattle.std.specs.List.{zip, range_with_len, find}
-use Rattle.std.specs.FinMap.{FinMap, empty, get, get-empty, insert, from_entries, nat_cmp-IsAntisymmetric, same_map}
+use Rattle.std.proofs.Common.{◌≡◌, ℕ, zero, suc, ◌+◌, ◌<◌, Bool, true, false, List, [], ◌∷◌, ◌++◌, length, map, take, drop, replicate, Option, Some, None, Ok, refl, ap, sym, ◌∙◌, arith, slice_get, slice_index, option_map, nat_cmp}
+use Rattle.std.specs.List.{zip, range_with_len}
+use Rattle.std.specs.FinMap.{FinMap, empty, get-empty, insert, from_entries, nat_cmp-IsAntisymmetric, same_map}
 use Rattle.std.specs.Cmp.{nat_cmp_total}
 use Rattle.std.proofs.lemmas.List.{drop-take, take-take}
 use Rattle.std.proofs.lemmas.List.FromFn.{get_or-range_with_len}
-use Rattle.cs_model.specs.Ref.{Ref}
 use Rattle.cs_model.specs.Obj.{Obj}
-use Rattle.cs_model.specs.ImageFile.{FileObject, File, file_of, visible, births_in, has_births, next_birth_in, header_in, special_address, last_hash_in, is_visible, is_nil, named}
-use Rattle.cs_model.specs.ImageFault.{entry_in, has_entry, table_size}
+use Rattle.cs_model.specs.ImageFile.{FileObject, File, file_of, visible, births_in, has_births, next_birth_in, header_in, special_address, last_hash_in, is_nil}
+use Rattle.cs_model.specs.ImageFault.{entry_in, table_size}
 use Rattle.cs_model.specs.Image.{birth_in, object_in, classes_in, described, fault_of, image_of, rest_in, state_unless}
 use Rattle.cs_model.specs.ImageFault.{ImageFault}
 use Rattle.cs_model.specs.State.{Kept}
@@ -17,10 +15,10 @@ use Rattle.cs_heap.specs.Object.{Object, birth_of}
 use Rattle.cs_classes.specs.Meaning.{birth_at, classes_of, header_of, kept_of, obj_of, ref_of, objects_of}
 use Rattle.cs_classes.specs.declared.Roots.{Roots}
 use Rattle.cs_classes.proofs.Wholes.{classes_of-insert, get-classes_of}
-use Rattle.cs_image.specs.Loading.{address_named, classes_at, loaded, loaded_from}
+use Rattle.cs_image.specs.Loading.{address_named, classes_at, loaded_from}
 use Rattle.cs_image.proofs.Naming.{Stands, birth_is_place, birth_of-named}
 use Rattle.cs_image.proofs.Soundness.{IsSoundFile, table_parts, entry_stands, fine_at, special_stands, visible_three}
-use Rattle.cs_image.proofs.Wording.{memory_of, meant}
+use Rattle.cs_image.proofs.Wording.{memory_of}
 use Rattle.cs_image.proofs.Elements.{IsFine, object_same}
 
 -- ---- objects
@@ -48,6 +46,7 @@ classes_same f (suc n) stands = go (is_nil f (entry_in f n)) refl (classes_same 
   where
     births : List ℕ
     births = range_with_len 0 (length (visible f))
+
     go : (b : Bool) → is_nil f (entry_in f n) ≡ b → classes_of (memory_of f) (classes_at f n) ≡ classes_in f births n
         → classes_of (memory_of f) (classes_at f (suc n)) ≡ classes_in f births (suc n)
     go true e before =
@@ -77,6 +76,7 @@ header_same bytes = λ i. take_8 i ++ replicate 16 0 ++ drop_24 i
   where
     take_8 : take 8 (take 64 bytes) ≡ take 8 bytes
     take_8 = take-take 8 64 bytes (omega arith)
+
     drop_24 : drop 24 (take 64 bytes) ≡ take 40 (drop 24 bytes)
     drop_24 = drop-take 24 40 bytes
 
@@ -121,8 +121,10 @@ kept_same bytes roots none r s =
   where
     special_same : (f : File) (word a : ℕ) → a ≡ address_named f word → Stands f word → birth_of (memory_of f) a ≡ birth_in f (range_with_len 0 (length (visible f))) word
     special_same f word a e st = ap (birth_of (memory_of f)) e ∙ birth_of-named f word st
+
     header_at : (bytes header : List ℕ) → header ≡ take 64 bytes → header_of header ≡ header_in bytes
     header_at bytes header e = ap header_of e ∙ header_same bytes
+
     next_at : (n : ℕ) → roots.next_birth ≡ n → roots.next_birth ≡ next_birth_in bytes n
     next_at n e = e ∙ sym (next_by_place bytes n none)
 
@@ -158,6 +160,6 @@ pub built_is : (bytes : List ℕ) (limit : ℕ) (file : File) (objects : List Ob
     → image_of bytes limit ≡ Ok (kept_of objects table roots None)
 built_is bytes limit file objects table roots same b none whole s = image_is bytes limit (kept_of objects table roots None) whole
     (kept_is bytes objects table roots
-      (b.objects_are ∙ ap (λ (f : File). loaded_from f 0 (visible f)) same)
-      (b.table_is ∙ ap (λ (f : File). classes_at f table_size) same)
-      none (built_roots bytes file objects table roots same b) s)
+    (b.objects_are ∙ ap (λ (f : File). loaded_from f 0 (visible f)) same)
+    (b.table_is ∙ ap (λ (f : File). classes_at f table_size) same)
+    none (built_roots bytes file objects table roots same b) s)

@@ -1,16 +1,15 @@
 -- What an object of a file means in memory.
-use Rattle.std.proofs.Common.{◌≡◌, ◌≢◌, ℕ, zero, suc, ◌+◌, ◌*◌, ◌-◌, ◌/◌, ◌%◌, ◌^◌, ◌<◌, ◌≤◌, ◌==◌, ◌&&◌, ◌||◌, ◌⊎◌, inl, inr, leb, ltb, Bool, true, false, cond, not, List, [], ◌∷◌, ◌++◌, length, map, take, drop, get_or, Option, Some, None, refl, ap, sym, subst, ◌∙◌, arith, slice_index, unwrap_or, length-drop}
+use Rattle.std.proofs.Common.{◌≡◌, ℕ, suc, ◌+◌, ◌*◌, ◌-◌, ◌/◌, ◌%◌, ◌^◌, ◌<◌, ◌≤◌, ◌==◌, ◌&&◌, ◌||◌, leb, Bool, true, false, cond, List, [], ◌∷◌, length, map, take, drop, get_or, Option, refl, ap, sym, ◌∙◌, arith, unwrap_or, length-drop}
 use Rattle.std.proofs.lemmas.List.{get_or-map, get_or-drop, get_or-take, ext_get_or, length-map, length-take}
-use Rattle.std.specs.List.{take-map, drop-map, range_with_len}
-use Rattle.std.proofs.lemmas.Bool.Decides.{nat_tests, eqb_tells}
-use Rattle.cs_model.specs.Ref.{Ref}
-use Rattle.cs_model.specs.Obj.{Obj, Ptr, Raw, Method, Ctx, Context, context_class, literal_count}
+use Rattle.std.specs.List.{take-map, drop-map}
+use Rattle.std.proofs.lemmas.Bool.Decides.{nat_tests}
+use Rattle.cs_model.specs.Obj.{Ptr, Raw, Method, Ctx, context_class, literal_count}
 use Rattle.cs_model.specs.Words.{obj_by, context_by, ref_by, natural_in_word, is_pointer_format, is_method_format, plain_format, header_in_words, literals_in_words, bytecodes_in_words, bytes_in_words, stackp_in_words, unused_bytes, bytes_of_words}
 use Rattle.cs_model.specs.ImageFile.{FileObject, File}
 use Rattle.cs_model.specs.ImageFault.{is_lost}
 use Rattle.cs_heap.specs.Object.{Object}
 use Rattle.cs_classes.specs.Meaning.{ref_of, count_of, bytes_of, obj_of, context_of, method_of, used_bytes, depth_in, code_in, literals_in, header_in}
-use Rattle.cs_image.specs.Loading.{translated, loaded_word, loaded, refers}
+use Rattle.cs_image.specs.Loading.{translated, loaded}
 use Rattle.cs_image.proofs.Wording.{memory_of, meant, ref_translated, count_same, count_translated, loaded_words, length-loaded_words, get_loaded, words_pointers, words_raw, method_head, method_literals, IsMethodOf, word_stays}
 
 -- no word of these is lost
@@ -59,17 +58,22 @@ context_same f hash ws long fine = λ i. record {
   where
     read : (k : ℕ) → k < length ws → get_or (map (translated f) ws) k 0 ≡ translated f (get_or ws k 0)
     read k h = get_or-map (translated f) ws k 0 0 h
+
     at : (k : ℕ) → k < length ws → ref_of (memory_of f) (get_or (map (translated f) ws) k 0) ≡ ref_by (meant f) (get_or ws k 0)
     at k h = ap (ref_of (memory_of f)) (read k h) ∙ ref_translated f (get_or ws k 0) (fine k h)
+
     count : (k : ℕ) → k < length ws → count_of (get_or (map (translated f) ws) k 0) ≡ natural_in_word (get_or ws k 0)
     count k h = ap count_of (read k h) ∙ count_translated f (get_or ws k 0)
+
     depth : depth_in (map (translated f) ws) ≡ stackp_in_words ws
     depth = ap (λ (n : Option ℕ). unwrap_or n 0) (count 2 (omega (arith, long)))
+
     stack : map (ref_of (memory_of f)) (take (depth_in (map (translated f) ws)) (drop 6 (map (translated f) ws))) ≡ map (ref_by (meant f)) (take (stackp_in_words ws) (drop 6 ws))
     stack = ap (λ n. map (ref_of (memory_of f)) (take n (drop 6 (map (translated f) ws)))) depth
         ∙ ap (λ (xs : List ℕ). map (ref_of (memory_of f)) (take (stackp_in_words ws) xs)) (drop-map (translated f) 6 ws)
         ∙ ap (map (ref_of (memory_of f))) (take-map (translated f) (stackp_in_words ws) (drop 6 ws))
         ∙ refs_same f (take (stackp_in_words ws) (drop 6 ws)) (none_lost_take f (stackp_in_words ws) (drop 6 ws) (none_lost_drop f 6 ws fine))
+
     size : length (map (translated f) ws) - 6 ≡ length ws - 6
     size = ap (λ n. n - 6) (length-map ws (translated f))
 
@@ -79,17 +83,19 @@ method_code : (f : File) (format : ℕ) (words : List ℕ) → IsMethodOf f form
 method_code f format words m = ext_get_or 0 (drop (1 + n) (loaded_words f format words)) (drop (1 + n) words)
     (length-drop (1 + n) (loaded_words f format words) ∙ ap (λ k. k - (1 + n)) (length-loaded_words f format words) ∙ sym (length-drop (1 + n) words))
     (λ i h.
-      let l = length-drop (1 + n) (loaded_words f format words) in
-      let inside : 1 + n + i < length words = omega (arith, h, l, length-loaded_words f format words) in
-      get_or-drop (1 + n) (loaded_words f format words) i 0
-      ∙ get_loaded f format words (1 + n + i) inside
-      ∙ word_stays f format words (1 + n + i) (stays (is_method_format format) (leb 1 (1 + n + i)) (above n i))
-      ∙ sym (get_or-drop (1 + n) words i 0))
+    let l = length-drop (1 + n) (loaded_words f format words) in
+    let inside : 1 + n + i < length words = omega (arith, h, l, length-loaded_words f format words) in
+    get_or-drop (1 + n) (loaded_words f format words) i 0
+    ∙ get_loaded f format words (1 + n + i) inside
+    ∙ word_stays f format words (1 + n + i) (stays (is_method_format format) (leb 1 (1 + n + i)) (above n i))
+    ∙ sym (get_or-drop (1 + n) words i 0))
   where
     n : ℕ
     n = literal_count (header_in_words words)
+
     above : (n i : ℕ) → leb (1 + n + i) n ≡ false
     above n i = let h : n < 1 + n + i = omega arith in grind (arith, nat_tests, h)
+
     stays : (c d : Bool) {e : Bool} → e ≡ false → (is_pointer_format format || c && (d && e)) ≡ false
     stays true true h = rw (m.pointers, h) refl
     stays true false h = rw m.pointers refl
@@ -106,13 +112,17 @@ method_same f j o m plain fine = λ i. Method o.class (plain i) o.hash (header i
   where
     ws : List ℕ
     ws = loaded_words f o.format o.words
+
     header : header_in ws ≡ header_in_words o.words
     header = ap (λ (n : Option ℕ). unwrap_or n 0) (ap count_of (method_head f o.format o.words m.pointers (omega (arith, m.fits))) ∙ count_same (get_or o.words 0 0))
+
     literals : map (ref_of (memory_of f)) (literals_in ws) ≡ map (ref_by (meant f)) (literals_in_words o.words)
     literals = ap (λ n. map (ref_of (memory_of f)) (take (literal_count n) (drop 1 ws))) header
         ∙ ap (map (ref_of (memory_of f))) (method_literals f o.format o.words m) ∙ refs_same f (literals_in_words o.words) fine
+
     words_code : code_in ws ≡ drop (1 + literal_count (header_in_words o.words)) o.words
     words_code = ap (λ n. drop (1 + literal_count n) ws) header ∙ method_code f o.format o.words m
+
     code : used_bytes (plain_format o.format) (code_in ws) ≡ bytecodes_in_words o.format o.words
     code = ap (λ n. used_bytes n (code_in ws)) plain ∙ ap (used_bytes o.format) words_code
         ∙ ap (λ n. take (4 * n - unused_bytes o.format) (bytes_of (drop (1 + literal_count (header_in_words o.words)) o.words))) (length-drop (1 + literal_count (header_in_words o.words)) o.words)
@@ -145,6 +155,7 @@ object_same f j o fine = go (o.class == context_class) (is_pointer_format o.form
   where
     raw_bytes : (a b : ℕ) (xs ys : List ℕ) → a ≡ b → xs ≡ ys → used_bytes a xs ≡ bytes_in_words b ys
     raw_bytes a b xs ys e h = ap (λ n. used_bytes n xs) e ∙ ap (used_bytes b) h ∙ ap (take (4 * length ys - unused_bytes b)) (bytes_same ys)
+
     go : (b c d : Bool) → (o.class == context_class) ≡ b → is_pointer_format o.format ≡ c → is_method_format o.format ≡ d
         → obj_of (ref_of (memory_of f)) (loaded f j o) ≡ obj_by (meant f) o.class o.format o.hash o.words
     go true c d eb ec ed =

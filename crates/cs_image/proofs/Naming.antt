@@ -1,10 +1,10 @@
 -- What the words of a file name in memory.
-use Rattle.std.proofs.Common.{◌≡◌, ℕ, zero, suc, ◌+◌, ◌*◌, ◌%◌, ◌<◌, ◌≤◌, ◌==◌, Bool, true, false, cond, List, [], ◌∷◌, ◌++◌, length, map, filter, get_or, Option, Some, None, refl, ap, sym, subst, ◌∙◌, arith, slice_get, slice_index, option_map, option_and_then, is_some}
+use Rattle.std.proofs.Common.{◌≡◌, ℕ, zero, suc, ◌+◌, ◌*◌, ◌<◌, ◌==◌, Bool, true, false, cond, List, [], ◌∷◌, length, map, filter, Option, Some, None, refl, ap, sym, ◌∙◌, arith, slice_get, slice_index, option_map, is_some}
 use Rattle.std.specs.Option.{option_map_or}
 use Rattle.std.specs.List.{find, zip, range_with_len}
 use Rattle.cs_model.specs.ImageFile.{FileObject, File, is_visible, visible, named, address_in}
 use Rattle.cs_model.specs.Image.{birth_in}
-use Rattle.cs_heap.specs.Object.{Object, address_among, address_of, base, birth_of, header_address, index_of, is_object, object_at, size, slot_counts, units, units_before, body_units}
+use Rattle.cs_heap.specs.Object.{Object, address_among, address_of, base, birth_of, header_address, is_object, size, slot_counts, units}
 use Rattle.cs_heap.proofs.Laws.{index_of-address, object_at-address}
 use Rattle.cs_image.specs.Loading.{number_of, addresses_of, address_named, loaded, loaded_from}
 use Rattle.cs_image.proofs.Loadings.{length-loaded}
@@ -58,8 +58,10 @@ place_named p (o ∷ os) used x e v = go (p o) (is_visible o) refl refl (place_n
   where
     counts : List ℕ
     counts = map (λ o. length o.words) (filter is_visible os)
+
     here : ℕ
     here = header_address (base + 4 * used) (length o.words)
+
     go : (b w : Bool) → p o ≡ b → is_visible o ≡ w
         → (find p os ≡ Some x → is_visible x ≡ true → Placed p os (used + size (length o.words)))
         → (find p os ≡ Some x → is_visible x ≡ true → Placed p os used)
@@ -122,6 +124,7 @@ birth_is_place f os j h = ap (λ (o : Option Object). option_map_or (λ x. x.bir
     slice_get-some [] j h = absurd (omega (arith, h))
     slice_get-some (o ∷ os) zero h = refl
     slice_get-some (o ∷ os) (suc j) h = slice_get-some os j (omega (arith, h))
+
     go : (r : Option FileObject) → is_some r ≡ true → option_map_or (λ x. x.birth) (option_map (λ o. loaded f (0 + j) o) r) 0 ≡ j
     go None h = absurd (cc)
     go (Some o) h = omega arith
@@ -137,6 +140,7 @@ find-zip p b (x ∷ xs) = go (p x) (number_of p xs) (find-zip p (b + 1) xs)
   where
     rest : Option (ℕ × FileObject)
     rest = find (λ e. p e.1) (zip (range_with_len (b + 1) (length xs)) xs)
+
     go : (c : Bool) (r : Option ℕ) → option_map_or (λ e. e.0) rest 0 ≡ option_map_or (λ j. b + 1 + j) r 0
         → option_map_or (λ e. e.0) (cond c (Some (b, x)) rest) 0 ≡ option_map_or (λ j. b + j) (cond c (Some 0) (option_map suc r)) 0
     go true r h = omega arith

@@ -1,5 +1,5 @@
 -- What holds of each visible object of a file without faults.
-use Rattle.std.proofs.Common.{◌≡◌, ◌≢◌, ℕ, zero, suc, ◌+◌, ◌*◌, ◌%◌, ◌<◌, ◌≤◌, ◌==◌, ◌&&◌, ◌||◌, ◌⊎◌, inl, inr, ltb, leb, Bool, true, false, cond, not, List, [], ◌∷◌, ◌++◌, length, map, filter, flat_map, get_or, Option, Some, None, refl, ap, sym, subst, ◌∙◌, arith, slice_get, slice_index, option_map, option_and_then}
+use Rattle.std.proofs.Common.{◌≡◌, ℕ, zero, suc, ◌+◌, ◌<◌, ◌≤◌, ◌==◌, ◌&&◌, ◌||◌, inl, inr, ltb, leb, Bool, true, false, cond, not, List, [], ◌∷◌, length, filter, flat_map, get_or, Option, Some, None, refl, ap, sym, subst, ◌∙◌, arith, slice_get, slice_index, option_map, option_and_then}
 use Rattle.std.specs.Option.{option_map_or, option_or}
 use Rattle.std.specs.List.{find, enumerate_from}
 use Rattle.std.proofs.lemmas.Bool.Decides.{nat_tests, eqb_tells}
@@ -13,11 +13,10 @@ use Rattle.cs_image.proofs.Below.{table_size_is}
 use Rattle.cs_image.proofs.Naming.{Stands, stands_named}
 use Rattle.cs_model.specs.ImageFault.{ImageFault, bad_object, is_well_formed, is_method_body, is_bad_table, bad_ref, bad_class, bad_context, is_bad_roots, is_lost, references, has_entry, is_context, is_sound_context}
 use Rattle.cs_model.specs.ImageFault as fault
-use Rattle.cs_model.specs.Image.{at_word, when, first_of}
+use Rattle.cs_model.specs.Image.{at_word, when}
 use Rattle.cs_image.specs.Answer.{objects_fault}
 use Rattle.cs_image.proofs.Scanning.{find-append}
 use Rattle.cs_image.proofs.Elements.{IsFine, NoneLost}
-use Rattle.cs_image.proofs.Wording.{IsMethodOf}
 
 -- ---- Booleans
 
@@ -76,6 +75,7 @@ filter_at {X} p (y ∷ xs) j x e = go (p y) refl (filter_at p xs) j e
   where
     later : FilteredFrom p xs x → FilteredFrom p (y ∷ xs) x
     later r = record { k = suc r.k; there = r.there; passes = r.passes }
+
     go : (b : Bool) → p y ≡ b → ((i : ℕ) (x : X) → slice_get (filter p xs) i ≡ Some x → FilteredFrom p xs x) → (j : ℕ)
         → slice_get (cond b (y ∷ filter p xs) (filter p xs)) j ≡ Some x → FilteredFrom p (y ∷ xs) x
     go true py rest zero e = let same : y ≡ x = cc in record { k = 0; there = e; passes = ap p (sym same) ∙ py }
@@ -98,6 +98,7 @@ none_lost_in f place (w ∷ words) none i h = go (is_lost f w) refl none (none_l
   where
     rest : Option (ℕ × ℕ)
     rest = find (λ e. is_lost f e.1) (enumerate_from (place + 1) words)
+
     go : (b : Bool) → is_lost f w ≡ b → cond b (Some (place, w)) rest ≡ None → (rest ≡ None → NoneLost f words) → (i : ℕ) → i < suc (length words) → is_lost f (get_or (w ∷ words) i 0) ≡ false
     go true e none later i h = absurd (cc)
     go false e none later zero h = e
@@ -189,19 +190,24 @@ fine_at f special j o s e = record {
       (three o.format parts.format, long (length o.words) parts.slots);
   pointers = λ p. none_lost_in f (o.place + 2) o.words (ap (find (λ e. is_lost f e.1)) (sym (pointers p)) ∙ references_at f special j o s e);
   method = λ p m.
-      let fits = (and_true (option_map_or is_header (natural_in_word (slice_index o.words 0)) false) _ (method_body_at f special j o s e m)).1 in
-      (record { pointers = p; method = m; fits = room (literal_count (header_in_words o.words)) (cond (ltb 0 (unused_bytes o.format)) 1 0) (length o.words) fits },
-      none_lost_in f (o.place + 3) (literals_in_words o.words) (ap (find (λ e. is_lost f e.1)) (sym (methods p m)) ∙ references_at f special j o s e));
+      let fits = (and_true (option_map_or is_header (natural_in_word (slice_index o.words 0)) false) _ (method_body_at f special j o s e m)).1 in (
+        record { pointers = p; method = m; fits = room (literal_count (header_in_words o.words)) (cond (ltb 0 (unused_bytes o.format)) 1 0) (length o.words) fits },
+        none_lost_in f (o.place + 3) (literals_in_words o.words) (ap (find (λ e. is_lost f e.1)) (sym (methods p m)) ∙ references_at f special j o s e),
+      );
 }
   where
     three : (n : ℕ) → (n == 3) ≡ true → n ≡ 3
     three n h = grind (arith, nat_tests, h)
+
     long : (n : ℕ) → (n == 22 || n == 62) ≡ true → 6 ≤ n
     long n h = grind (arith, nat_tests, h)
+
     pointers : is_pointer_format o.format ≡ true → references o ≡ enumerate_from (o.place + 2) o.words
     pointers p = rw p refl
+
     methods : is_pointer_format o.format ≡ false → is_method_format o.format ≡ true → references o ≡ enumerate_from (o.place + 3) (literals_in_words o.words)
     methods p m = rw (p, m) refl
+
     room : (a b c : ℕ) → ltb (a + b) c ≡ true → a < c
     room a b c h = let less : a + b < c = grind (arith, nat_tests, h) in omega (arith, less)
 
@@ -224,9 +230,9 @@ table_parts f h =
 all_below_at : (n i : ℕ) (p : ℕ → Bool) → all_below n p ≡ true → i < n → p i ≡ true
 all_below_at zero i p all h = absurd (omega (arith, h))
 all_below_at (suc n) i p all h = elim (eqb_tells i n) [
-    | inl same ↦ ap p same.1 ∙ (and_true (all_below n p) (p n) all).1
-    | inr other ↦ all_below_at n i p (and_true (all_below n p) (p n) all).0 (omega (arith, h, other.1))
-  ]
+  | inl same ↦ ap p same.1 ∙ (and_true (all_below n p) (p n) all).1
+  | inr other ↦ all_below_at n i p (and_true (all_below n p) (p n) all).0 (omega (arith, h, other.1))
+]
 
 class_stands : (f : File) (i word : ℕ) → names f (is_class i) word ≡ true → Stands f word
 class_stands f i word h = go (named f word) refl h
@@ -253,15 +259,15 @@ other_entry f i t h three filled =
 -- each entry that is filled names an object that stands
 pub entry_stands : (f : File) (i : ℕ) → Table f → i < table_size → is_nil f (entry_in f i) ≡ false → Stands f (entry_in f i)
 entry_stands f i t h filled = elim (eqb_tells i 3) [
-    | inl three ↦
-        let a = and_true (not (has_entry f 0) && not (has_entry f 16) && has_entry f 1 && has_entry f 2 && has_entry f 36 && has_entry f 37 && entry_in f 3 == entry_in f 1) _ t.known in
-        let b = and_true (not (has_entry f 0) && not (has_entry f 16) && has_entry f 1 && has_entry f 2 && has_entry f 36 && has_entry f 37) _ a.0 in
-        let same : entry_in f 3 ≡ entry_in f 1 = equal (entry_in f 3) (entry_in f 1) b.1 in
-        let this : entry_in f i ≡ entry_in f 1 = ap (entry_in f) three.1 ∙ same in
-        let P : ℕ → Type 0 = Stands f in
-        subst P (sym this) (other_entry f 1 t (omega (arith, table_size_is)) refl (ap (is_nil f) (sym this) ∙ filled))
-    | inr other ↦ other_entry f i t h other.0 filled
-  ]
+  | inl three ↦
+      let a = and_true (not (has_entry f 0) && not (has_entry f 16) && has_entry f 1 && has_entry f 2 && has_entry f 36 && has_entry f 37 && entry_in f 3 == entry_in f 1) _ t.known in
+      let b = and_true (not (has_entry f 0) && not (has_entry f 16) && has_entry f 1 && has_entry f 2 && has_entry f 36 && has_entry f 37) _ a.0 in
+      let same : entry_in f 3 ≡ entry_in f 1 = equal (entry_in f 3) (entry_in f 1) b.1 in
+      let this : entry_in f i ≡ entry_in f 1 = ap (entry_in f) three.1 ∙ same in
+      let P : ℕ → Type 0 = Stands f in
+      subst P (sym this) (other_entry f 1 t (omega (arith, table_size_is)) refl (ap (is_nil f) (sym this) ∙ filled))
+  | inr other ↦ other_entry f i t h other.0 filled
+]
   where
     equal : (a b : ℕ) → (a == b) ≡ true → a ≡ b
     equal a b h = grind (arith, nat_tests, h)
@@ -274,17 +280,22 @@ special_stands f special h = go (named f special) refl
   where
     held : option_map_or (is_process f) (active_process_in f special) false ≡ true
     held = not_false (option_map_or (is_process f) (active_process_in f special) false) h
+
     from : Option (List ℕ) → Option ℕ
     from array = option_and_then (λ special. option_and_then (λ link. option_map (λ scheduler. slice_index scheduler 1)
         (fields_in f 2 (slice_index link 1))) (fields_in f 2 (slice_index special 3))) array
+
     dead : special_in f special ≡ None → Stands f special
     dead e = let none : option_map_or (is_process f) (from (special_in f special)) false ≡ false = ap (λ (o : Option (List ℕ)). option_map_or (is_process f) (from o) false) e in absurd (cc (sym held ∙ none))
+
     hidden : (x : FileObject) → is_visible x ≡ false → (b : Bool) → cond b (fields_of 51 x) None ≡ None
     hidden x v true = rw v refl
     hidden x v false = refl
+
     by_visible : (x : FileObject) → named f special ≡ Some x → (b : Bool) → is_visible x ≡ b → Stands f special
     by_visible x e true v = stands_named f special x e v
     by_visible x e false v = dead (ap (option_and_then (λ o. cond (o.format == 2) (fields_of 51 o) None)) e ∙ hidden x v (x.format == 2))
+
     go : (r : Option FileObject) → named f special ≡ r → Stands f special
     go None e = dead (ap (option_and_then (λ o. cond (o.format == 2) (fields_of 51 o) None)) e)
     go (Some x) e = by_visible x e (is_visible x) refl
@@ -319,6 +330,7 @@ firsts f t = go f.objects refl
         let c = and_true (has_object f 0 is_oddball && has_object f 1 is_oddball) _ b.0 in
         let d = and_true (has_object f 0 is_oddball) _ c.0 in
         (d.0, d.1, c.1)
+
     go : (os : List FileObject) → f.objects ≡ os → Firsts f
     go [] e = let h : false ≡ true = ap (λ (xs : List FileObject). option_map_or is_oddball (slice_get xs 0) false) (sym e) ∙ (abc t.begins).0 in absurd (cc)
     go (x ∷ os) e = record {

@@ -1,21 +1,21 @@
 -- The memory of a file without faults is sound.
-use Rattle.std.proofs.Common.{◌≡◌, ◌≢◌, ℕ, zero, suc, ◌+◌, ◌*◌, ◌-◌, ◌/◌, ◌%◌, ◌<◌, ◌≤◌, ◌==◌, ◌&&◌, ◌||◌, ◌⊎◌, inl, inr, ltb, leb, Bool, true, false, cond, not, List, [], ◌∷◌, ◌++◌, length, map, take, drop, filter, get_or, Option, Some, None, refl, ap, sym, subst, ◌∙◌, arith, slice_get, slice_index, option_map, option_and_then, is_some, unwrap_or, nat_cmp}
+use Rattle.std.proofs.Common.{◌≡◌, ◌≢◌, ℕ, zero, suc, ◌+◌, ◌*◌, ◌-◌, ◌/◌, ◌%◌, ◌<◌, ◌≤◌, ◌==◌, ◌||◌, ◌⊎◌, inl, inr, ltb, leb, Bool, true, false, cond, not, List, [], ◌∷◌, length, map, take, drop, filter, get_or, Option, Some, None, refl, ap, sym, subst, ◌∙◌, arith, slice_get, slice_index, option_map, is_some, unwrap_or, nat_cmp}
 use Rattle.std.specs.Option.{option_map_or}
-use Rattle.std.specs.List.{find, AllPass, list_all}
+use Rattle.std.specs.List.{find, AllPass}
 use Rattle.std.specs.Cmp.{nat_cmp_total}
 use Rattle.std.specs.Ordering.{eq_by_cmp}
-use Rattle.std.specs.FinMap.{FinMap, empty, get, get-empty, get-insert, insert}
+use Rattle.std.specs.FinMap.{FinMap, get, get-empty, get-insert, insert}
 use Rattle.std.proofs.lemmas.Bool.Decides.{nat_tests, eqb_tells}
 use Rattle.std.proofs.lemmas.List.{get_or-map, length-map, length-take}
 use Rattle.std.proofs.lemmas.Option.{slice_get_past, slice_get_within}
 use Rattle.cs_model.specs.Obj.{context_class, context_fields, literal_count, is_header}
 use Rattle.cs_model.specs.Words.{is_pointer_format, is_method_format, has_shape, plain_format, natural_in_word, header_in_words, literals_in_words, stackp_in_words, unused_bytes}
 use Rattle.cs_model.specs.ImageFile.{FileObject, File, file_of, old_base, special_address, is_visible, visible, is_nil, nil_in, named, names, address_in}
-use Rattle.cs_model.specs.ImageFault.{entry_in, has_entry, page_words, table_size, unless_nil, bad_class, is_context, is_sound_context, is_pc_of, is_stackp, is_method_body, is_method, is_oddball, is_well_formed}
-use Rattle.cs_heap.specs.Object.{Object, address_among, address_of, base, header_address, is_object, slot_counts}
+use Rattle.cs_model.specs.ImageFault.{entry_in, has_entry, page_words, table_size, bad_class, is_pc_of, is_stackp, is_method}
+use Rattle.cs_heap.specs.Object.{Object, address_among, address_of, base, header_address, is_object}
 use Rattle.cs_heap.specs.Format.{format_allows}
-use Rattle.cs_classes.specs.Meaning.{count_of, depth_in, header_in, literals_in}
-use Rattle.cs_classes.specs.Sound.{is_reference, nil_of, references_in, IsSoundContext, IsSoundMethod, IsSoundObject, IsSound, IsWhole}
+use Rattle.cs_classes.specs.Meaning.{count_of, depth_in, header_in}
+use Rattle.cs_classes.specs.Sound.{is_reference, nil_of, references_in, IsSoundContext, IsSoundMethod, IsSoundObject, IsWhole}
 use Rattle.cs_classes.specs.declared.Roots.{Roots}
 use Rattle.cs_classes.proofs.Tables.{ties_same, ties_other}
 use Rattle.cs_image.specs.Loading.{address_named, classes_at, loaded, loaded_from, number_of, translated}
@@ -67,10 +67,13 @@ nil_number f s = first (nil_stands f s).j (sym (nil_stands f s).number ∙ ap (n
   where
     here : nil_in f ≡ address_in f s.nil
     here = ap (λ (os : List FileObject). option_map_or (address_in f) (slice_get os 0) 0) s.objects
+
     same_test : (a b : ℕ) → a ≡ b → (a == b) ≡ true
     same_test a b e = grind (arith, nat_tests, e)
+
     p : (address_in f s.nil == nil_in f) ≡ true
     p = same_test _ _ (sym here)
+
     first : (j : ℕ) → Some j ≡ Some 0 → j ≡ 0
     first j e = cc
 
@@ -108,12 +111,12 @@ passes_along f xs ys e h = let P : List ℕ → Type 0 = AllPass (is_reference (
 
 shape_plain : (format n : ℕ) → has_shape format n ≡ true → format_allows (plain_format format) n ≡ true
 shape_plain format n h = elim (eqb_tells format 4) [
-    | inl four ↦ rw four.0 refl
-    | inr other ↦ elim (eqb_tells format 5) [
-        | inl five ↦ rw (other.0, five.0) refl
-        | inr another ↦ rw (other.0, another.0) h
-      ]
+  | inl four ↦ rw four.0 refl
+  | inr other ↦ elim (eqb_tells format 5) [
+    | inl five ↦ rw (other.0, five.0) refl
+    | inr another ↦ rw (other.0, another.0) h
   ]
+]
 
 or_cases : (a b : Bool) → (a || b) ≡ true → (a ≡ true) ⊎ (b ≡ true)
 or_cases true b h = inl refl
@@ -146,6 +149,7 @@ pc_some f w m h = go (named f m) h
     some_if : (g : ℕ → Bool) (r : Option ℕ) → option_map_or g r false ≡ true → is_some r ≡ true
     some_if g None h = absurd (cc)
     some_if g (Some n) h = refl
+
     go : (r : Option FileObject) → option_map_or (is_pc_of w) r false ≡ true → is_some (natural_in_word w) ≡ true
     go None h = absurd (cc)
     go (Some o) h = some_if _ (natural_in_word w) (and_true (is_method o) _ h).1
@@ -162,6 +166,7 @@ stackp_within size w h = go (natural_in_word w) h
   where
     below : (n : ℕ) → leb n size ≡ true → n ≤ size
     below n h = grind (arith, nat_tests, h)
+
     go : (r : Option ℕ) → option_map_or (λ n. leb n size) r false ≡ true → unwrap_or r 0 ≤ size
     go None h = omega arith
     go (Some n) h = below n h
@@ -222,8 +227,10 @@ context_sound f special j o g c = record {
   where
     words : loaded_words f o.format o.words ≡ map (translated f) o.words
     words = words_pointers f o.format o.words (ap is_pointer_format c.three)
+
     read : (k : ℕ) → k < length o.words → get_or (loaded_words f o.format o.words) k 0 ≡ translated f (get_or o.words k 0)
     read k h = ap (λ (ws : List ℕ). get_or ws k 0) words ∙ get_or-map (translated f) o.words k 0 0 h
+
     at : (k : ℕ) → k < length o.words → (is_nil f (get_or o.words k 0) ≡ true) ⊎ (is_some (natural_in_word (get_or o.words k 0)) ≡ true)
         → (get_or (loaded_words f o.format o.words) k 0 == nil_of (memory_of f) || is_some (count_of (get_or (loaded_words f o.format o.words) k 0))) ≡ true
     at k h d = ap (λ w. w == nil_of (memory_of f) || is_some (count_of w)) (read k h) ∙ nil_or_count f g.aligned g.first (get_or o.words k 0) d
@@ -261,21 +268,21 @@ method_sound f special j o g e p m =
 -- formats stay what they are
 plain_pointer : (format : ℕ) → is_pointer_format (plain_format format) ≡ is_pointer_format format
 plain_pointer format = elim (eqb_tells format 4) [
-    | inl four ↦ ap (λ n. is_pointer_format (plain_format n)) four.1 ∙ ap is_pointer_format (sym four.1)
-    | inr other ↦ elim (eqb_tells format 5) [
-        | inl five ↦ ap (λ n. is_pointer_format (plain_format n)) five.1 ∙ ap is_pointer_format (sym five.1)
-        | inr another ↦ rw (other.0, another.0) refl
-      ]
+  | inl four ↦ ap (λ n. is_pointer_format (plain_format n)) four.1 ∙ ap is_pointer_format (sym four.1)
+  | inr other ↦ elim (eqb_tells format 5) [
+    | inl five ↦ ap (λ n. is_pointer_format (plain_format n)) five.1 ∙ ap is_pointer_format (sym five.1)
+    | inr another ↦ rw (other.0, another.0) refl
   ]
+]
 
 plain_method : (format : ℕ) → is_method_format (plain_format format) ≡ is_method_format format
 plain_method format = elim (eqb_tells format 4) [
-    | inl four ↦ ap (λ n. is_method_format (plain_format n)) four.1 ∙ ap is_method_format (sym four.1)
-    | inr other ↦ elim (eqb_tells format 5) [
-        | inl five ↦ ap (λ n. is_method_format (plain_format n)) five.1 ∙ ap is_method_format (sym five.1)
-        | inr another ↦ rw (other.0, another.0) refl
-      ]
+  | inl four ↦ ap (λ n. is_method_format (plain_format n)) four.1 ∙ ap is_method_format (sym four.1)
+  | inr other ↦ elim (eqb_tells format 5) [
+    | inl five ↦ ap (λ n. is_method_format (plain_format n)) five.1 ∙ ap is_method_format (sym five.1)
+    | inr another ↦ rw (other.0, another.0) refl
   ]
+]
 
 method_is_other : (format : ℕ) → is_method_format format ≡ true → is_pointer_format format ≡ false
 method_is_other format h = grind (arith, nat_tests, h)
@@ -292,7 +299,7 @@ references_sound f j o fine = go (is_pointer_format o.format) (is_method_format 
         let some_words : 0 < length o.words = (let fits = m.fits in omega (arith, fits)) in
         let header = header_loaded f j o eb some_words in
         let is : references_in (loaded f j o) ≡ map (translated f) (literals_in_words o.words) =
-            rw (plain_pointer o.format, eb, plain_method o.format, ec) (ap (λ h. take (literal_count h) (drop 1 (loaded_words f o.format o.words))) header ∙ method_literals f o.format o.words m) in
+        rw (plain_pointer o.format, eb, plain_method o.format, ec) (ap (λ h. take (literal_count h) (drop 1 (loaded_words f o.format o.words))) header ∙ method_literals f o.format o.words m) in
         passes_along f _ _ is (passes_map f (literals_in_words o.words) (fine.method eb ec).1)
     go false false eb ec =
         let is : references_in (loaded f j o) ≡ [] = rw (plain_pointer o.format, eb, plain_method o.format, ec) refl in
@@ -339,6 +346,7 @@ from_entry f (suc n) i a h = go (is_nil f (entry_in f n)) refl (from_entry f n i
   where
     later : FromEntry f n i a → FromEntry f (suc n) i a
     later r = record { below = (let b = r.below in omega (arith, b)); filled = r.filled; address = r.address }
+
     go : (b : Bool) → is_nil f (entry_in f n) ≡ b → (get (classes_at f n) i ≡ Some a → FromEntry f n i a) → ((i == n) ≡ true) × (i ≡ n) ⊎ ((i == n) ≡ false) × (i ≢ n) → FromEntry f (suc n) i a
     go true en rest c =
         let here : classes_at f (suc n) ≡ classes_at f n = rw en refl in
@@ -346,9 +354,9 @@ from_entry f (suc n) i a h = go (is_nil f (entry_in f n)) refl (from_entry f n i
     go false en rest (inl same) =
         let here : classes_at f (suc n) ≡ insert (classes_at f n) n (address_named f (entry_in f n)) = rw en refl in
         let got : get (classes_at f (suc n)) i ≡ Some (address_named f (entry_in f n)) = ap (λ (m : FinMap nat_cmp ℕ). get m i) here
-            ∙ get-insert nat_cmp_total (classes_at f n) n (address_named f (entry_in f n)) i
-            ∙ ap (λ k. cond (eq_by_cmp nat_cmp k n) (Some (address_named f (entry_in f n))) (get (classes_at f n) k)) same.1
-            ∙ ap (λ b. cond b (Some (address_named f (entry_in f n))) (get (classes_at f n) n)) (ties_same n) in
+        ∙ get-insert nat_cmp_total (classes_at f n) n (address_named f (entry_in f n)) i
+        ∙ ap (λ k. cond (eq_by_cmp nat_cmp k n) (Some (address_named f (entry_in f n))) (get (classes_at f n) k)) same.1
+        ∙ ap (λ b. cond b (Some (address_named f (entry_in f n))) (get (classes_at f n) n)) (ties_same n) in
         record {
           below = (let s = same.1 in omega (arith, s));
           filled = ap (λ k. is_nil f (entry_in f k)) same.1 ∙ en;
@@ -357,8 +365,8 @@ from_entry f (suc n) i a h = go (is_nil f (entry_in f n)) refl (from_entry f n i
     go false en rest (inr other) =
         let here : classes_at f (suc n) ≡ insert (classes_at f n) n (address_named f (entry_in f n)) = rw en refl in
         let got : get (classes_at f (suc n)) i ≡ get (classes_at f n) i = ap (λ (m : FinMap nat_cmp ℕ). get m i) here
-            ∙ get-insert nat_cmp_total (classes_at f n) n (address_named f (entry_in f n)) i
-            ∙ ap (λ b. cond b (Some (address_named f (entry_in f n))) (get (classes_at f n) i)) (ties_other i n other.1) in
+        ∙ get-insert nat_cmp_total (classes_at f n) n (address_named f (entry_in f n)) i
+        ∙ ap (λ b. cond b (Some (address_named f (entry_in f n))) (get (classes_at f n) i)) (ties_other i n other.1) in
         later (rest (sym got ∙ h))
 
 -- an entry that is filled is one of the table
@@ -372,11 +380,14 @@ entry_below f i e = elim (bounded i) [ inl h ↦ h | inr h ↦ absurd (past h) ]
         go : (b : Bool) → ltb i 16384 ≡ b → (i < table_size) ⊎ (16384 ≤ i)
         go true h = inl (let l : i < 16384 = grind (arith, nat_tests, h) in let s = table_size_is in omega (arith, l, s))
         go false h = inr (grind (arith, nat_tests, h))
+
     few : (r : Option FileObject) → length (option_map_or (λ root. take 16 root.words) r []) ≤ 16
     few None = omega arith
     few (Some x) = let l = length-take 16 x.words in omega (arith, l)
+
     itself : (n : ℕ) → (n == n) ≡ true
     itself n = grind (arith, nat_tests)
+
     past : 16384 ≤ i → ⊥
     past h =
         let far : length (page_words f) ≤ i / 1024 = (let l = few (slice_get f.objects 4) in omega (arith, l, h)) in

@@ -1,22 +1,20 @@
 -- What the words of a file are in memory.
-use Rattle.std.proofs.Common.{◌≡◌, ◌≢◌, ℕ, zero, suc, ◌+◌, ◌*◌, ◌-◌, ◌/◌, ◌%◌, ◌^◌, ◌<◌, ◌≤◌, ◌==◌, ◌&&◌, ◌||◌, ◌⊎◌, inl, inr, eqb, leb, Bool, true, false, cond, not, List, [], ◌∷◌, ◌++◌, length, map, take, drop, get_or, Option, Some, None, refl, ap, sym, subst, ◌∙◌, arith, slice_index, min, length-drop}
-use Rattle.std.proofs.lemmas.List.{get_or-map, get_or-take, get_or-drop, ext_get_or, length-map, length-take, length-take-le}
+use Rattle.std.proofs.Common.{◌≡◌, ◌≢◌, ℕ, zero, suc, ◌+◌, ◌*◌, ◌/◌, ◌%◌, ◌<◌, ◌≤◌, ◌==◌, ◌&&◌, ◌||◌, inl, inr, leb, Bool, true, false, cond, not, List, [], ◌∷◌, length, map, take, drop, get_or, Option, Some, None, refl, ap, sym, ◌∙◌, arith, slice_index, length-drop}
+use Rattle.std.proofs.lemmas.List.{get_or-map, get_or-take, get_or-drop, ext_get_or, length-map, length-take-le}
 use Rattle.std.proofs.lemmas.List.FromFn.{get_or-map-range_with_len, length-map-range_with_len}
 use Rattle.std.proofs.lemmas.Bool.Decides.{nat_tests, eqb_tells}
 use Rattle.std.specs.Option.{option_map_or}
 use Rattle.std.specs.List.{range_with_len}
-use Rattle.cs_word.specs.Word.{kind_of}
-use Rattle.cs_word.specs.declared.Kind.{Kind}
 use Rattle.cs_word.specs.declared.Kind.TheVariants as kind
 use Rattle.cs_model.specs.Ref.{Ref}
 use Rattle.cs_model.specs.Ref as ref
 use Rattle.cs_model.specs.Obj.{literal_count}
-use Rattle.cs_model.specs.Words.{small_value, ref_by, natural_in_word, is_pointer_format, is_method_format, header_in_words, literals_in_words}
+use Rattle.cs_model.specs.Words.{ref_by, natural_in_word, is_pointer_format, is_method_format, header_in_words, literals_in_words}
 use Rattle.cs_model.specs.ImageFile.{FileObject, File, is_visible, visible, named, names, address_in}
 use Rattle.cs_model.specs.ImageFault.{is_lost}
 use Rattle.cs_model.specs.Image.{birth_in}
-use Rattle.cs_heap.specs.Object.{Object, base, header_address, size, is_object}
-use Rattle.cs_classes.specs.Meaning.{ref_of, count_of, ref_of_kind, count_of_kind}
+use Rattle.cs_heap.specs.Object.{Object, base, header_address, size}
+use Rattle.cs_classes.specs.Meaning.{ref_of, count_of, count_of_kind}
 use Rattle.cs_classes.specs.Sound.{is_reference}
 use Rattle.cs_classes.proofs.Refs.{ref_of-object, is_reference-object}
 use Rattle.cs_image.specs.Loading.{number_of, addresses_of, address_named, translated, refers, loaded_word, loaded_from}
@@ -44,6 +42,7 @@ not_lost f word h z = visible_named f word (go (names f is_visible word) (word %
   where
     aligned : (word % 4 == 0) ≡ true
     aligned = grind (arith, nat_tests, z)
+
     go : (b c : Bool) → c ≡ true → (c && not b) ≡ false → b ≡ true
     go true c e h = refl
     go false true e h = absurd (cc)
@@ -57,9 +56,9 @@ data Low (word : ℕ) : Type 0 where
 
 low : (word : ℕ) → Low word
 low word = elim (eqb_tells (word % 2) 1) [
-    | inl h ↦ Odd h.1
-    | inr h ↦ elim (eqb_tells (word % 4) 2) [ inl g ↦ Two g.1 | inr g ↦ Zero (omega (arith, h.1, g.1)) ]
-  ]
+  | inl h ↦ Odd h.1
+  | inr h ↦ elim (eqb_tells (word % 4) 2) [ inl g ↦ Two g.1 | inr g ↦ Zero (omega (arith, h.1, g.1)) ]
+]
 
 yes_test : (a b : ℕ) → a ≡ b → (a == b) ≡ true
 yes_test a b e = grind (arith, nat_tests, e)
@@ -119,6 +118,7 @@ even_addresses (o ∷ os) used k = go (is_visible o) k (even_addresses os)
   where
     here : header_address (base + 4 * used) (length o.words) % 2 ≡ 0
     here = omega arith
+
     go : (v : Bool) (k : ℕ) → ((u i : ℕ) → slice_index (addresses_of os u) i % 2 ≡ 0)
         → slice_index (cond v (header_address (base + 4 * used) (length o.words) ∷ addresses_of os (used + size (length o.words))) (0 ∷ addresses_of os used)) k % 2 ≡ 0
     go true zero rest = here
@@ -157,11 +157,11 @@ count_same word = elim (eqb_tells (word % 2) 1) [ inl h ↦ odd h.0 | inr h ↦ 
 
 pub count_translated : (f : File) (word : ℕ) → count_of (translated f word) ≡ natural_in_word word
 count_translated f word = elim (eqb_tells (word % 4) 0) [
-    | inl h ↦
-        let t : translated f word ≡ address_named f word = rw h.0 refl in
-        ap count_of t ∙ count_even (address_named f word) (even_address f word) ∙ sym (natural_even word (omega (arith, h.1)))
-    | inr h ↦ let t : translated f word ≡ word = rw h.0 refl in ap count_of t ∙ count_same word
-  ]
+  | inl h ↦
+      let t : translated f word ≡ address_named f word = rw h.0 refl in
+      ap count_of t ∙ count_even (address_named f word) (even_address f word) ∙ sym (natural_even word (omega (arith, h.1)))
+  | inr h ↦ let t : translated f word ≡ word = rw h.0 refl in ap count_of t ∙ count_same word
+]
 
 -- ---- the words of an object
 
@@ -203,8 +203,10 @@ method_refers f format words i m low high = go (is_pointer_format format) (is_me
   where
     one : (i : ℕ) → 1 ≤ i → leb 1 i ≡ true
     one i h = grind (arith, nat_tests, h)
+
     upto : (i n : ℕ) → i ≤ n → leb i n ≡ true
     upto i n h = grind (arith, nat_tests, h)
+
     go : (b c : Bool) {d e : Bool} → c ≡ true → d ≡ true → e ≡ true → (b || c && (d && e)) ≡ true
     go true c x y z = refl
     go false c x y z = rw (x, y, z) refl
@@ -221,18 +223,20 @@ pub method_literals : (f : File) (format : ℕ) (words : List ℕ) → IsMethodO
 method_literals f format words m = ext_get_or 0 (take n (drop 1 (loaded_words f format words))) (map (translated f) (take n (drop 1 words)))
     (length-take-le n (drop 1 (loaded_words f format words)) fits_loaded ∙ sym (length-map (take n (drop 1 words)) (translated f) ∙ length-take-le n (drop 1 words) fits_words))
     (λ i h.
-      let inside : i < n = omega (arith, h, length-take-le n (drop 1 (loaded_words f format words)) fits_loaded) in
-      let behind : 1 + i < length words = omega (arith, inside, m.fits) in
-      get_or-take n (drop 1 (loaded_words f format words)) i 0 inside
-      ∙ get_or-drop 1 (loaded_words f format words) i 0
-      ∙ get_loaded f format words (1 + i) behind
-      ∙ word_refers f format words (1 + i) (method_refers f format words (1 + i) m (omega arith) (omega (arith, inside)))
-      ∙ ap (translated f) (sym (get_or-take n (drop 1 words) i 0 inside ∙ get_or-drop 1 words i 0))
-      ∙ sym (get_or-map (translated f) (take n (drop 1 words)) i 0 0 (omega (arith, inside, length-take-le n (drop 1 words) fits_words))))
+    let inside : i < n = omega (arith, h, length-take-le n (drop 1 (loaded_words f format words)) fits_loaded) in
+    let behind : 1 + i < length words = omega (arith, inside, m.fits) in
+    get_or-take n (drop 1 (loaded_words f format words)) i 0 inside
+    ∙ get_or-drop 1 (loaded_words f format words) i 0
+    ∙ get_loaded f format words (1 + i) behind
+    ∙ word_refers f format words (1 + i) (method_refers f format words (1 + i) m (omega arith) (omega (arith, inside)))
+    ∙ ap (translated f) (sym (get_or-take n (drop 1 words) i 0 inside ∙ get_or-drop 1 words i 0))
+    ∙ sym (get_or-map (translated f) (take n (drop 1 words)) i 0 0 (omega (arith, inside, length-take-le n (drop 1 words) fits_words))))
   where
     n : ℕ
     n = literal_count (header_in_words words)
+
     fits_words : n ≤ length (drop 1 words)
     fits_words = let d = length-drop 1 words in omega (arith, d, m.fits)
+
     fits_loaded : n ≤ length (drop 1 (loaded_words f format words))
     fits_loaded = let d = length-drop 1 (loaded_words f format words) in omega (arith, d, m.fits, length-loaded_words f format words)

@@ -18,8 +18,6 @@ mod roots;
 mod shape;
 mod table;
 
-pub use error::ImageError;
-
 ghost use Rattle.std.specs.Prelude.{◌≡◌, ℕ, ◌≤◌, false, length, slice_get, take, Some, None, Ok, IfOk, OnOk, ⊤};
 ghost use Rattle.cs_model.specs.ImageFile.{file_of, has_births, visible, words_in, cut_of, special_address, last_hash_in};
 ghost use Rattle.cs_model.specs.ImageFault as fault;
@@ -33,6 +31,7 @@ ghost use Rattle.cs_image.specs.Loading.{address_named, addresses_of, classes_at
 
 use check::{check_header, check_objects};
 use cs_classes::Loaded;
+pub use error::ImageError;
 use file::FileHeap;
 use header::{goes_on, heap_words, u32_at};
 use memory::{addresses, load_classes, load_objects, load_roots};
@@ -50,7 +49,13 @@ fn read_objects(alloc: Global, bytes: &[u8]) -> Result<FileHeap, ImageError>
 }
 
 /// A file without faults in memory.
-fn build(alloc: Global, bytes: &[u8], file: &FileHeap, addresses: &[u32], limit_words: u32) -> Result<Loaded, AllocError>
+fn build(
+    alloc: Global,
+    bytes: &[u8],
+    file: &FileHeap,
+    addresses: &[u32],
+    limit_words: u32,
+) -> Result<Loaded, AllocError>
     requires least { 4096 ≤ limit_words }
     requires most { limit_words ≤ 67108864 }
     requires long { 64 ≤ length bytes.now }

@@ -14,8 +14,8 @@ ghost use Rattle.cs_image.specs.Loading.{address_named, addresses_of, classes_at
 use crate::cut::word_at;
 use crate::error::ImageError;
 use crate::file::{FileHeap, FileObject};
-use crate::shape::{is_method, literal_count};
 use crate::header::u32_at;
+use crate::shape::{is_method, literal_count};
 use crate::table::{ENTRIES, entry};
 use cs_classes::{Classes, Roots};
 use cs_heap::{BASE, Heap};
@@ -34,7 +34,11 @@ fn plain_format(format: u8) -> u8
 }
 
 /// For each object of a file its address in memory, and 0 for a hidden one.
-pub(crate) fn addresses(alloc: Global, file: &FileHeap, limit_words: u32) -> Result<Vec<u32>, ImageError>
+pub(crate) fn addresses(
+    alloc: Global,
+    file: &FileHeap,
+    limit_words: u32,
+) -> Result<Vec<u32>, ImageError>
     requires { limit_words ≤ 67108864 }
     ensures { Tells (when (is_over file.now limit_words) fault.OverLimit)
         (λ addresses. addresses.items ≡ addresses_of file.now.objects 0) result }
@@ -133,7 +137,12 @@ fn load_object(heap: &mut Heap, file: &FileHeap, addresses: &[u32], o: &FileObje
 }
 
 /// The visible objects of a file in a heap of so many words, with their births by place, and the next birth.
-pub(crate) fn load_objects(alloc: Global, file: &FileHeap, addresses: &[u32], limit_words: u32) -> Result<(Heap, u64), AllocError>
+pub(crate) fn load_objects(
+    alloc: Global,
+    file: &FileHeap,
+    addresses: &[u32],
+    limit_words: u32,
+) -> Result<(Heap, u64), AllocError>
     requires least { 4096 ≤ limit_words }
     requires most { limit_words ≤ 67108864 }
     requires addresses { addresses.now ≡ addresses_of file.now.objects 0 }
@@ -155,7 +164,11 @@ pub(crate) fn load_objects(alloc: Global, file: &FileHeap, addresses: &[u32], li
 }
 
 /// The class table of a file with the addresses in memory.
-pub(crate) fn load_classes(alloc: Global, file: &FileHeap, addresses: &[u32]) -> Result<Classes, AllocError>
+pub(crate) fn load_classes(
+    alloc: Global,
+    file: &FileHeap,
+    addresses: &[u32],
+) -> Result<Classes, AllocError>
     requires { addresses.now ≡ addresses_of file.now.objects 0 }
     ensures { IfOk result (λ classes. classes ≡ classes_at file.now table_size) }
 {

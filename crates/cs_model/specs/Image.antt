@@ -8,7 +8,7 @@ use Rattle.cs_model.specs.Ref as ref
 use Rattle.cs_model.specs.Obj.{Obj}
 use Rattle.cs_model.specs.State.{Kept, Rest}
 use Rattle.cs_model.specs.Words.{obj_by}
-use Rattle.cs_model.specs.ImageFile.{special_address, last_hash_in, header_in, words_in, births_in, next_birth_in, FileObject, cut_of, File, file_of, visible, address_in, nil_in}
+use Rattle.cs_model.specs.ImageFile.{special_address, last_hash_in, header_in, words_in, births_in, next_birth_in, FileObject, cut_of, File, file_of, visible, address_in}
 use Rattle.cs_model.specs.ImageFault.{ImageFault, is_too_long, is_short, is_bad_format, is_bad_header_size, is_bad_length, bad_object, is_over, is_bad_table, bad_ref, bad_class, bad_context, is_bad_roots, is_bad_births, has_entry, entry_in, table_size}
 use Rattle.cs_model.specs.ImageFault as fault
 

@@ -1,6 +1,6 @@
 -- What the words of an object mean in 32-bit Spur, wherever they lie: in a file or in the object memory. Which object a
 -- word names is left open here, for a file and a memory have addresses of their own.
-use Rattle.std.specs.Prelude.{ℕ, ℤ, pos, ◌+◌, ◌-◌, ◌*◌, ◌/◌, ◌%◌, ◌^◌, ◌-ℤ◌, ◌==◌, ◌&&◌, ◌||◌, Bool, nat_le, nat_lt, if◌then◌else◌, List, [], ◌∷◌, map, length, take, drop, slice_index, Option, Some, None, unwrap_or}
+use Rattle.std.specs.Prelude.{ℕ, ℤ, pos, ◌+◌, ◌-◌, ◌*◌, ◌/◌, ◌%◌, ◌^◌, ◌-ℤ◌, ◌==◌, ◌&&◌, ◌||◌, Bool, nat_le, nat_lt, if◌then◌else◌, List, [], ◌∷◌, map, length, take, drop, slice_index, Option, None, unwrap_or}
 use Rattle.cs_model.specs.Ref.{Ref, Small, Char, natural_of}
 use Rattle.cs_model.specs.Obj.{Obj, Ptr, Raw, Method, Ctx, Context, context_class, context_fields, literal_count}
 
