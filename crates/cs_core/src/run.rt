@@ -1,11 +1,10 @@
 //! A run of steps.
+use crate::scheduler::{Shape, shape_of};
+use crate::step::{StepEnd, step};
 use cs_acts::World;
 use cs_model::Stop;
 use cs_shelf::{Failed, Sink};
 use cs_word::Oop;
-
-use crate::scheduler::{Shape, shape_of};
-use crate::step::{StepEnd, step};
 
 /// How a run ends.
 #[derive(Clone, Copy, PartialEq, Eq, Debug)]
@@ -57,19 +56,39 @@ fn place_of<W: World>(w: &W, process: Oop) -> Place {
 pub fn run<W: World, K: Sink>(w: &mut W, n: u64, out: &mut K) -> Result<Ran, Failed> {
     let Shape::Active(mut process) = shape_of(w) else {
         let end = if n == 0 { RunEnd::Steps } else { RunEnd::Idle };
-        return Ok(Ran { end, steps: 0, place: NOWHERE });
+        return Ok(Ran {
+            end,
+            steps: 0,
+            place: NOWHERE,
+        });
     };
     for steps in 0..n {
         let before = place_of(w, process);
         match step(w, out) {
             StepEnd::Active(next) => process = next,
             StepEnd::Idle => {
-                let end = if steps + 1 == n { RunEnd::Steps } else { RunEnd::Idle };
-                return Ok(Ran { end, steps: steps + 1, place: NOWHERE });
+                let end = if steps + 1 == n {
+                    RunEnd::Steps
+                } else {
+                    RunEnd::Idle
+                };
+                return Ok(Ran {
+                    end,
+                    steps: steps + 1,
+                    place: NOWHERE,
+                });
             }
-            StepEnd::Stopped(reason) => return Ok(Ran { end: RunEnd::Stopped(reason), steps, place: before }),
+            StepEnd::Stopped(reason) => return Ok(Ran {
+                end: RunEnd::Stopped(reason),
+                steps,
+                place: before,
+            }),
             StepEnd::WriteFault => return Err(Failed),
         }
     }
-    Ok(Ran { end: RunEnd::Steps, steps: n, place: place_of(w, process) })
+    Ok(Ran {
+        end: RunEnd::Steps,
+        steps: n,
+        place: place_of(w, process),
+    })
 }

@@ -48,7 +48,9 @@ fn is_process<W: World>(w: &W, p: Oop) -> bool
     requires named { IsNamed (W.stored w.now) p }
     ensures { result ≡ is_process_at (W.view w.now) (name_of (W.stored w.now) p) }
 {
-    has_slots(w, p, PROCESS_SLOTS) && !is(w, scheduler(w), p) && !is(w, special(w, SCHEDULER_LINK), p)
+    has_slots(w, p, PROCESS_SLOTS)
+        && !is(w, scheduler(w), p)
+        && !is(w, special(w, SCHEDULER_LINK), p)
 }
 
 /// Whether a process is active, none is, or the shape of the scheduler is lost.

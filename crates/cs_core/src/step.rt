@@ -1,4 +1,6 @@
 //! One step: one bytecode and all that it leads to.
+use crate::primitive::{answer, piece_of, sum, write};
+use crate::scheduler::{Shape, shape_of};
 use cs_acts::World;
 use cs_acts::read::{byte, from_top, instruction};
 use cs_code::{CodeEnd, exec};
@@ -6,9 +8,6 @@ use cs_model::Stop;
 use cs_send::{Found, resolve};
 use cs_shelf::Sink;
 use cs_word::Oop;
-
-use crate::primitive::{answer, piece_of, sum, write};
-use crate::scheduler::{Shape, shape_of};
 
 /// Births end so far below 2^62 that a step can't pass it.
 const BIRTH_LIMIT: u64 = (1 << 62) - 64;
@@ -49,14 +48,24 @@ pub fn step<W: World, K: Sink>(w: &mut W, out: &mut K) -> StepEnd {
     w.set_pc(pc);
     match exec(&instruction, w) {
         CodeEnd::Done => finish(w),
-        CodeEnd::Send { selector, args, above } => send(w, out, selector, args, above),
+        CodeEnd::Send {
+            selector,
+            args,
+            above,
+        } => send(w, out, selector, args, above),
         CodeEnd::Return { .. } => StepEnd::Stopped(Stop::NotBuilt),
         CodeEnd::Stop(reason) => StepEnd::Stopped(reason),
     }
 }
 
 /// Sends a message whose method has a primitive that is built.
-fn send<W: World, K: Sink>(w: &mut W, out: &mut K, selector: Oop, args: u32, above: Option<Oop>) -> StepEnd {
+fn send<W: World, K: Sink>(
+    w: &mut W,
+    out: &mut K,
+    selector: Oop,
+    args: u32,
+    above: Option<Oop>,
+) -> StepEnd {
     match resolve(w, selector, args, above) {
         Found::Primitive { number: 1, .. } if args == 1 => answer_sum(w),
         Found::Primitive { number: 900, .. } if args == 1 => answer_written(w, out),
