@@ -20,8 +20,8 @@ const PROCESS_SLOTS: u32 = 4;
 /// What the end of a step finds of the scheduler and the active process.
 #[derive(Clone, Copy, PartialEq, Eq, Debug)]
 pub enum Shape {
-    /// This process is active.
-    Active(Oop),
+    /// A process is active.
+    Active,
     /// No process is active: the scheduler names nil.
     Idle,
     /// The scheduler isn't there, or the active process is none.
@@ -57,7 +57,7 @@ fn is_process<W: World>(w: &W, p: Oop) -> bool
 #[tactic(auto, unfolding(cs_model::specs::Step::shape_fault, cs_model::specs::Due::is_idle))]
 pub fn shape_of<W: World>(w: &W) -> Shape
     requires { IsSound (W.stored w.now) (W.view w.now) }
-    ensures { Shaped (W.stored w.now) (W.view w.now) result }
+    ensures { Shaped (W.view w.now) result }
 {
     let Some(process) = active_process(w) else {
         return Shape::Fault(Stop::BadSpecial);
@@ -65,7 +65,7 @@ pub fn shape_of<W: World>(w: &W) -> Shape
     if same(w, process, nil(w)) {
         Shape::Idle
     } else if is_process(w, process) {
-        Shape::Active(process)
+        Shape::Active
     } else {
         Shape::Fault(Stop::BadProcess)
     }
