@@ -10,7 +10,10 @@ ghost use Rattle.cs_code.specs.Gives.{Gives};
 mod end;
 mod jumps;
 mod pushes;
+mod returns;
 mod sends;
+mod stores;
+mod variables;
 
 use cs_acts::World;
 use cs_model::{Instr, Op, Stop};
