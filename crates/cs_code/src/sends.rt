@@ -68,7 +68,7 @@ pub fn send_special<W: World>(w: &W, special: u32, args: u32) -> CodeEnd
 
 /// Sends special selector `i`: slots 2 `i` and 2 `i` + 1 of special object 23 are the selector and its argument count.
 #[tactic(auto, unfolding(cs_model::specs::Exec::send_selector_out, cs_model::specs::Exec::selector_pair))]
-pub fn send_selector<W: World>(w: &W, i: u8) -> CodeEnd
+pub fn send_selector<W: World>(w: &W, i: u16) -> CodeEnd
     requires { IsReady (W.stored w.now) (W.view w.now) }
     ensures { Gives (W.stored w.now) (W.stored w.now) (W.view w.now) result (send_selector_out (W.view w.now) i) }
 {
