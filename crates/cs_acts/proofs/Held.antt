@@ -92,6 +92,7 @@ there_said refer x o h = go (is_context x) refl
     context_there : (p : Option Obj) → is_context_at p ≡ true → IsSome p
     context_there None e = absurd (cc)
     context_there (Some y) e = refl
+
     go : (b : Bool) → is_context x ≡ b → IsSome o
     go true e = context_there o (h.1 e)
     go false e = ap is_some (h.0 e)

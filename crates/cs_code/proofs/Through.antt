@@ -63,6 +63,7 @@ jumped s0 s1 s2 v0 v1 v2 x e wanted offset z is keeps names top same_as g =
   where
     otherwise : Ref → Out
     otherwise y = if same_ref y (ref.Obj v0.rest.true_) then done (pop_of v0) else (if same_ref y (ref.Obj v0.rest.false_) then done (pop_of v0) else special_send_out v0 must_be_boolean 0)
+
     after : Ref → Out
     after y = if same_ref y (boolean v0 wanted) then jump_out (pop_of v0) (pos offset) else otherwise y
 

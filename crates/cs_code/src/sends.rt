@@ -6,8 +6,8 @@ ghost use Rattle.cs_acts.specs.Ready.{IsReady};
 ghost use Rattle.cs_code.specs.Gives.{Gives};
 
 use crate::CodeEnd;
-use cs_acts::World;
 use crate::variables::variable_value;
+use cs_acts::World;
 use cs_acts::read::{literal, literal_count, slot, special as special_object};
 use cs_model::Stop;
 use cs_word::{Kind, Oop};
