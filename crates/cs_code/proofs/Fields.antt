@@ -1,5 +1,5 @@
 -- What the stores and pushes of variables give, where the variable is there and where it isn't.
-use Rattle.std.proofs.Common.{◌≡◌, ◌∙◌, ℕ, pos, zero, suc, ◌<◌, Bool, true, false, refl, sym, ap, ap₂, subst, arith, inl, inr, Option, Some, None, is_some, option_and_then, List, [], ◌∷◌, length, nat_lt}
+use Rattle.std.proofs.Common.{◌≡◌, ◌∙◌, ℕ, pos, zero, suc, Bool, true, false, refl, sym, ap, ap₂, arith, inl, inr, Option, Some, None, is_some, option_and_then, List, [], ◌∷◌, length, nat_lt}
 use Rattle.std.specs.Prelude.{slice_get, unwrap_or, if◌then◌else◌, nat_le}
 use Rattle.std.proofs.lemmas.Bool.Decides.{nat_tests}
 use Rattle.std.proofs.lemmas.Option.{slice_get_within}
@@ -13,7 +13,7 @@ use Rattle.cs_model.specs.State.{Kept, object_at, object_of, put, slots_of}
 use Rattle.cs_model.specs.Context.{is_context_ref}
 use Rattle.cs_model.specs.Read.{IsRunning, active_birth, active_context, receiver_of, stack_of}
 use Rattle.cs_model.specs.Operation.{drop_of, nil_of, pop_of, store_of}
-use Rattle.cs_model.specs.End.{Out, done, given, stop}
+use Rattle.cs_model.specs.End.{done, given, stop}
 use Rattle.cs_model.specs.Exec.{exec, literal_at, pop_into, push_field, push_out, push_receiver_out, store_field, store_into, store_receiver_out, store_variable_out, store_vector_out, variable_at, variable_value, vector_at, vector_slot}
 use Rattle.cs_model.specs.Keeps.{Keeps}
 use Rattle.cs_model.proofs.Objects.{object_at-put_same, object_at-put_other}

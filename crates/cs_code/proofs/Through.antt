@@ -1,13 +1,10 @@
 -- What was given at the view behind a pop is given at the state that it keeps.
-use Rattle.std.proofs.Common.{◌≡◌, ◌∙◌, ℕ, ℤ, pos, Bool, true, false, refl, sym, ap, subst, Option, Some, None, IsSome, is_some}
+use Rattle.std.proofs.Common.{◌≡◌, ◌∙◌, ℕ, ℤ, pos, Bool, true, refl, sym, subst, Some}
 use Rattle.std.specs.Prelude.{if◌then◌else◌}
 use Rattle.cs_word.specs.declared.Oop.{Oop}
-use Rattle.cs_heap.specs.Object.{Object}
-use Rattle.cs_classes.specs.Meaning.{is_context}
 use Rattle.cs_model.specs.Ref.{Ref, Small, Char, same_ref}
 use Rattle.cs_model.specs.Ref as ref
-use Rattle.cs_model.specs.Obj.{Obj, is_context_at}
-use Rattle.cs_model.specs.State.{Kept, IsHeld, object_of}
+use Rattle.cs_model.specs.State.{Kept, IsHeld}
 use Rattle.cs_model.specs.Keeps.{Keeps}
 use Rattle.cs_model.specs.Alike.{Alike}
 use Rattle.cs_model.specs.Read.{from_top, stack_of}
@@ -19,8 +16,8 @@ use Rattle.cs_model.specs.declared.stop.Stop.TheVariants as why
 use Rattle.cs_model.proofs.Keeping.{Keeps-trans}
 use Rattle.cs_model.proofs.Same.{Same, same}
 use Rattle.cs_model.proofs.Executing.{jump_alike}
-use Rattle.cs_acts.specs.Names.{Store, IsNamed, KeepsNames, Names, NamesOption, name_of}
-use Rattle.cs_acts.specs.Ready.{Holds, IsReady}
+use Rattle.cs_acts.specs.Names.{Store, KeepsNames, Names, NamesOption, name_of}
+use Rattle.cs_acts.specs.Ready.{IsReady}
 use Rattle.cs_acts.proofs.Held.{named_held}
 use Rattle.cs_code.specs.declared.end.CodeEnd.{CodeEnd}
 use Rattle.cs_code.specs.declared.end.CodeEnd.TheVariants as code

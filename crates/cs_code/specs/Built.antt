@@ -47,8 +47,8 @@ is_built_op (Closure copied args size) k = false
 is_built_op (Jump offset) k = true
 is_built_op (JumpTrue offset) k = true
 is_built_op (JumpFalse offset) k = true
-is_built_op (Special i) k = false
-is_built_op (Common i) k = false
+is_built_op (Special i) k = true
+is_built_op (Common i) k = true
 
 -- what an instruction does, where it is built; else nothing, and the step stops
 unfoldable pub built_exec : Op → Kept → Out

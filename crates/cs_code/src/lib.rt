@@ -7,6 +7,7 @@ ghost use Rattle.cs_acts.specs.Ready.{IsReady};
 ghost use Rattle.cs_code.specs.Built.{built_exec};
 ghost use Rattle.cs_code.specs.Gives.{Gives};
 
+mod arithmetic;
 mod end;
 mod jumps;
 mod pushes;
@@ -58,6 +59,8 @@ pub fn exec<W: World>(i: &Instr, w: &mut W) -> CodeEnd
         Op::Jump(offset) => jumps::jump(w, i32::from(offset)),
         Op::JumpTrue(offset) => jumps::jump_if(w, true, offset),
         Op::JumpFalse(offset) => jumps::jump_if(w, false, offset),
+        Op::Special(k) => arithmetic::special(w, k),
+        Op::Common(k) => arithmetic::common(w, k),
         _ => CodeEnd::Stop(Stop::NotBuilt),
     }
 }

@@ -1,5 +1,4 @@
 use Rattle.std.proofs.Common.{subst}
-use Rattle.cs_model.specs.End.{Out}
 use Rattle.cs_model.specs.Exec.{return_out, with_top}
 use Rattle.cs_model.specs.Operation.{pop_of}
 use Rattle.cs_code.specs.Gives.{Gives}
