@@ -7,6 +7,9 @@
 //!
 //! The contracts know no word: they see a list of pages, and a page as the list of its frames, the
 //! last one first (`specs/Page.antt`). Each frame keeps its own place, `at`, as long as it stands.
+//!
+//! Frames that overlap their callers' operands are those of the stack interpreters after Deutsch and
+//! Schiffman. The parts of a frame and their order are this machine's own.
 #![tactic(auto)]
 
 ghost use Rattle.std.specs.Prelude.{◌≡◌, ℕ, zero, ◌+◌, ◌*◌, ◌/◌, ◌^◌, ◌<◌, ◌≤◌, ◌↔◌, List, [], ◌∷◌, ◌++◌};
@@ -33,9 +36,10 @@ const PAGE_WORDS: u32 = 4096;
 /// method, closure, context, the two halves of the birth, the receiver, and a spare one.
 const OVERHEAD: u32 = 10;
 
-/// The places of the birth's halves in the overhead.
+/// The place of the low half of the birth in the overhead.
 const BIRTH_LOW: u32 = 6;
 
+/// The place of the high half.
 const BIRTH_HIGH: u32 = 7;
 
 /// The word of nil.
@@ -44,32 +48,38 @@ const NIL: u32 = 65536;
 /// Each half of a birth has 31 bits, so that it is a SmallInteger.
 const HALF: u64 = 1 << 31;
 
-/// Where a frame stands: its page, and the place where it begins, in words from the beginning of
-/// that page.
+/// Where a frame stands. It names the frame until that is dropped, whatever is called meanwhile.
 #[derive(Clone, Copy, PartialEq, Eq, Debug)]
 pub struct FrameRef {
+    /// The number of its page, from 0 on.
     pub page: u32,
+    /// Where it begins, in words from the beginning of the page.
     pub at: u32,
 }
 
-/// A frame to be made. Its stack is `args` arguments, which leave the caller's stack, and then
-/// `fill` times nil. The birth is below 2^62.
+/// A frame to be made. Its stack is its arguments, which leave the caller's stack, and then nils.
 #[derive(Clone, Copy, PartialEq, Eq, Debug)]
 pub struct NewFrame {
     pub method: Oop,
+    /// The closure that it evaluates, or nil where it runs a method.
     pub closure: Oop,
     pub receiver: Oop,
+    /// The birth of its activation, below 2^62.
     pub birth: u64,
+    /// How many arguments there are. With `fill` they are 56 at most.
     pub args: u32,
+    /// How many nils follow them.
     pub fill: u32,
 }
 
-/// A page's last frame: where it begins and where its stack ends, as places in the zone. `count` is
-/// the number of the page's frames.
+/// What is known of a page beside its words.
 #[derive(Clone, Copy)]
 struct Head {
+    /// Where the last frame begins, as a place in the zone.
     frame: u32,
+    /// Where its stack ends, and with it the used part of the page.
     end: u32,
+    /// How many frames there are.
     count: u32,
 }
 
@@ -443,11 +453,14 @@ impl Frames {
     }
 }
 
-/// Where a new frame begins, the frame that it links to, and the word of its sender cell.
+/// What a new frame's place on its page says of it.
 #[derive(Clone, Copy)]
 struct Begin {
+    /// Where it begins, as a place in the zone.
     frame: u32,
+    /// Where the frame that it links to begins.
     caller: u32,
+    /// The word of its sender cell.
     sender: u32,
 }
 

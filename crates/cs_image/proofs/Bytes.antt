@@ -1,9 +1,9 @@
 -- Numbers in bytes.
-use Rattle.std.proofs.Common.{◌≡◌, ℕ, zero, suc, ◌+◌, ◌-◌, ◌*◌, ◌<◌, List, [], ◌∷◌, ◌++◌, take, drop, length, length-drop, get_or, refl, ap, sym, ◌∙◌, arith, add-one, slice_index}
+use Rattle.std.proofs.Common.{◌≡◌, ℕ, zero, suc, ◌+◌, ◌-◌, ◌*◌, ◌<◌, List, ◌++◌, take, drop, length, length-drop, get_or, refl, ap, sym, ◌∙◌, arith}
 use Rattle.std.proofs.lemmas.List.{take_all, get_or-drop, ext_get_or, drop-drop}
 use Rattle.std.proofs.Math.Seq.{take-append_seam}
 use Rattle.byteorder.specs.Endian.{little_from, little_number, IsRead}
-use Rattle.cs_model.specs.ImageFile.{number_at, u32_at, u64_at, u32s_at, words_in, heap_size}
+use Rattle.cs_model.specs.ImageFile.{number_at, u32_at, u32s_at}
 
 -- `&xs[i..]`
 pub slice_to_end : {A : Type 0} (xs : List A) (i : ℕ) → take (length xs - i) (drop i xs) ≡ drop i xs

@@ -1,9 +1,7 @@
 -- Going over the objects of a heap.
-use Rattle.std.proofs.Common.{◌≡◌, ◌≢◌, ℕ, zero, suc, ◌+◌, ◌*◌, ◌-◌, ◌/◌, ◌%◌, ◌^◌, ◌<◌, ◌≤◌, ◌==◌, ◌&&◌, ◌⊎◌, inl, inr, Bool, true, false, cond, not, max, List, [], ◌∷◌, ◌++◌, length, take, drop, filter, get_or, set, Option, Some, None, refl, ap, sym, subst, ◌∙◌, arith, leb, slice_get, slice_index, option_map, map, replicate, append_assoc, length-drop}
+use Rattle.std.proofs.Common.{◌≡◌, ◌≢◌, ℕ, zero, suc, ◌+◌, ◌-◌, ◌%◌, ◌^◌, ◌<◌, ◌≤◌, ◌==◌, ◌⊎◌, inl, inr, Bool, true, false, cond, not, List, [], ◌∷◌, ◌++◌, length, drop, filter, get_or, set, Option, Some, None, refl, ap, sym, subst, ◌∙◌, arith, leb, slice_get, slice_index, option_map, map, replicate, append_assoc, length-drop}
 use Rattle.std.proofs.lemmas.List.{append-nil, length-take-le, length-append, length-replicate, length-set, map-append, get_or-set_same, get_or-set_other}
 use Rattle.std.proofs.lemmas.Bool.Decides.{nat_tests, eqb_tells}
-use Rattle.std.specs.Option.{option_or}
-use Rattle.std.specs.List.{find}
 use Rattle.cs_model.specs.ImageFile.{FileObject, Cut, nothing, in_front, cut_behind, cut_from, cut_of, object_from, object_within, object_with, bits_at, top_byte, end_at, end_of, stands}
 use Rattle.cs_model.specs.ImageFault.{bad_object, is_well_formed}
 use Rattle.cs_image.specs.declared.file.Placed.{Placed}
@@ -30,6 +28,7 @@ ends_within heap from place slots h = ends_cond _ _ _ _ (record { behind_it = λ
   where
     go : (x : FileObject) → Some (object_with heap from place (bits_at heap place) slots) ≡ Some x → from < end_of x
     go x e = let at : place ≡ x.place = cc in omega (arith, at, h)
+
     at : (x : FileObject) → Some (object_with heap from place (bits_at heap place) slots) ≡ Some x → x.first ≡ from
     at x e = cc
 
@@ -66,6 +65,7 @@ rest_next heap from r h e = step (length heap - from) refl
         → cut_behind from s (λ o. cut_from n heap (end_of o)) ≡ cut_behind from s (λ o. rest heap (end_of o))
     go n (Some x) same = ap (in_front x) (same x refl)
     go n None same = refl
+
     step : (n : ℕ) → length heap - from ≡ n → cut_from n heap from ≡ cut_behind from r (λ o. rest heap (end_of o))
     step zero at = absurd (omega (arith, h, at))
     step (suc n) at =
@@ -149,11 +149,13 @@ index_more heap objects starts o i free lies = record {
   where
     each : (k : ℕ) (x : Placed) → slice_get (objects ++ o ∷ []) k ≡ Some x → IsIn heap x
     each k x e = elim (get_pushed objects o k x e) [
-          | inl h ↦ record { within = i.within k x h; class = i.class k x h; hash = i.hash k x h; well_formed = i.well_formed k x h }
-          | inr h ↦ rw h.1 lies
-        ]
+      | inl h ↦ record { within = i.within k x h; class = i.class k x h; hash = i.hash k x h; well_formed = i.well_formed k x h }
+      | inr h ↦ rw h.1 lies
+    ]
+
     here : get_or (set starts o.place (length objects + 1)) o.place 0 ≡ length objects + 1
     here = get_or-set_same starts o.place (length objects + 1) 0 (omega (arith, i.long, lies.within))
+
     old : (place k : ℕ) → option_map (λ (x : Placed). x.place) (slice_get objects k) ≡ Some place → (r : Option Placed) → slice_get objects k ≡ r
         → option_map (λ (x : Placed). x.place) (slice_get (objects ++ o ∷ []) k) ≡ Some place
     old place k e None is = absurd (cc)
@@ -243,6 +245,7 @@ next_skipped words objects starts at o i n skipped = record {
   where
     out : stands (object_of words o) ≡ false
     out = grind (arith, nat_tests, skipped)
+
     left : filter stands (rest words at).objects ≡ filter stands (rest words (end_at o.place o.slots)).objects
     left = ap (λ (c : Cut). filter stands c.objects) (next_rest words at o n) ∙ rw out refl
 
@@ -262,17 +265,20 @@ next_kept words objects starts at o i n kept = record {
   where
     is_in : stands (object_of words o) ≡ true
     is_in = grind (arith, nat_tests, kept)
+
     formed : (b : Bool) → is_well_formed (object_of words o) ≡ b → b ≡ true
     formed true e = refl
     formed false e =
         let faulty : is_faulty (Some (object_of words o)) ≡ true = rw (is_in, e) refl in
         absurd (cc (sym faulty ∙ ap is_faulty n.is ∙ n.sound))
+
     left : filter stands (rest words at).objects ≡ object_of words o ∷ filter stands (rest words (end_at o.place o.slots)).objects
     left = ap (λ (c : Cut). filter stands c.objects) (next_rest words at o n) ∙ rw is_in refl
 
 pub all_cut : (words : List ℕ) (objects : List Placed) (starts : List ℕ) (at : ℕ) → IsCutTo words objects starts at → length words ≤ at
     → (bad_object (cut_of words) ≡ None) × (map (object_of words) objects ≡ filter stands (cut_of words).objects)
 unfolding bad_object
-all_cut words objects starts at i h =
-    (sym i.fault ∙ ap bad_object (rest_end words at h),
-    sym (append-nil (map (object_of words) objects)) ∙ ap (λ (c : Cut). map (object_of words) objects ++ filter stands c.objects) (sym (rest_end words at h)) ∙ i.kept)
+all_cut words objects starts at i h = (
+  sym i.fault ∙ ap bad_object (rest_end words at h),
+  sym (append-nil (map (object_of words) objects)) ∙ ap (λ (c : Cut). map (object_of words) objects ++ filter stands c.objects) (sym (rest_end words at h)) ∙ i.kept,
+)

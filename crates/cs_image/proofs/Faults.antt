@@ -1,11 +1,11 @@
 -- The first fault of several, and what is told of it.
-use Rattle.std.proofs.Common.{◌≡◌, ℕ, ◌+◌, ◌*◌, ◌/◌, ◌%◌, ◌^◌, ◌≤◌, ◌==◌, ◌&&◌, ◌||◌, Bool, true, false, not, List, [], ◌∷◌, ◌++◌, length, Option, Some, None, Result, Ok, Err, refl, ap, sym, subst, ◌∙◌, arith, ltb}
+use Rattle.std.proofs.Common.{◌≡◌, ℕ, ◌+◌, ◌*◌, ◌/◌, ◌%◌, ◌^◌, ◌≤◌, ◌==◌, ◌&&◌, ◌||◌, Bool, true, false, not, List, [], ◌∷◌, ◌++◌, length, Option, Some, None, Result, Err, refl, ap, sym, subst, ◌∙◌, arith, ltb}
 use Rattle.std.proofs.lemmas.Bool.Decides.{nat_tests}
 use Rattle.std.specs.Option.{option_or}
 use Rattle.cs_model.specs.ImageFault.{ImageFault}
 use Rattle.cs_model.specs.ImageFault as fault
 use Rattle.cs_model.specs.ImageFault.{is_too_long, is_short, is_bad_format, is_bad_header_size, is_bad_length, bad_object, is_over, is_bad_table, bad_ref, bad_class, bad_context, is_bad_roots, is_bad_births}
-use Rattle.cs_model.specs.ImageFile.{u32_at, heap_size, old_base, has_births, words_in, cut_of, file_of, special_address, visible}
+use Rattle.cs_model.specs.ImageFile.{heap_size, old_base, has_births, words_in, cut_of, file_of, special_address, visible}
 use Rattle.cs_model.specs.Image.{at_word, when, first_of, fault_of}
 use Rattle.cs_image.specs.declared.error.ImageError.{ImageError}
 use Rattle.cs_image.specs.declared.error.ImageError.TheVariants as error
@@ -26,14 +26,15 @@ pub fault_of-parts : (bytes : List ℕ) (limit : ℕ) → fault_of bytes limit �
 unfolding fault_of
 fault_of-parts bytes limit =
     first_of-append (when (is_too_long bytes) fault.TooLong ∷ when (is_short bytes) fault.Short ∷ when (is_bad_format bytes) fault.BadFormat
-      ∷ when (is_bad_header_size bytes) fault.BadHeaderSize ∷ when (is_bad_length bytes) fault.BadLength ∷ [])
-      (at_word fault.BadObject (bad_object (cut_of (words_in bytes))) ∷ when (is_over (file_of bytes) limit) fault.OverLimit ∷ objects ++ births)
+    ∷ when (is_bad_header_size bytes) fault.BadHeaderSize ∷ when (is_bad_length bytes) fault.BadLength ∷ [])
+    (at_word fault.BadObject (bad_object (cut_of (words_in bytes))) ∷ when (is_over (file_of bytes) limit) fault.OverLimit ∷ objects ++ births)
     ∙ ap (λ (r : Option ImageFault). option_or (header_fault bytes) (option_or (at_word fault.BadObject (bad_object (cut_of (words_in bytes))))
-      (option_or (when (is_over (file_of bytes) limit) fault.OverLimit) r))) (first_of-append objects births)
+    (option_or (when (is_over (file_of bytes) limit) fault.OverLimit) r))) (first_of-append objects births)
   where
     objects : List (Option ImageFault)
     objects = when (is_bad_table (file_of bytes)) fault.BadTable ∷ at_word fault.BadRef (bad_ref (file_of bytes)) ∷ at_word fault.BadClass (bad_class (file_of bytes))
         ∷ at_word fault.BadContext (bad_context (file_of bytes)) ∷ when (is_bad_roots (file_of bytes) (special_address bytes)) fault.BadRoots ∷ []
+
     births : List (Option ImageFault)
     births = when (is_bad_births bytes (length (visible (file_of bytes)))) fault.BadBirths ∷ []
 
@@ -79,6 +80,7 @@ pub record IsHeader (bytes : List ℕ) : Type 0 where
   pub long : 64 ≤ length bytes
   pub short : length bytes ≤ 536870912
   pub whole : heap_size bytes % 8 ≡ 0
+  pub base : old_base bytes % 8 ≡ 0
   pub fits : old_base bytes + heap_size bytes ≤ 2 ^ 32
 
 pub header_is : (bytes : List ℕ) → header_fault bytes ≡ None → IsHeader bytes
@@ -95,6 +97,7 @@ header_is bytes e =
     record {
       long = let s = when_none (is_short bytes) fault.Short b.0 in grind (arith, nat_tests, s);
       short = let s = when_none (is_too_long bytes) fault.TooLong a.0 in grind (arith, nat_tests, s);
+      base = let s = z.1 in grind (arith, nat_tests, s);
       whole = let s = w.1 in grind (arith, nat_tests, s);
       fits = let s = y.1 in grind (arith, nat_tests, s);
     }

@@ -1,10 +1,9 @@
 -- The first element that passes a test.
-use Rattle.std.proofs.Common.{◌≡◌, ◌≢◌, ℕ, zero, suc, ◌+◌, ◌*◌, ◌<◌, ◌≤◌, ◌==◌, eqb, Bool, true, false, cond, List, [], ◌∷◌, ◌++◌, length, map, get_or, Option, Some, None, refl, ap, sym, ◌∙◌, arith, slice_get, slice_index, option_map, option_and_then}
+use Rattle.std.proofs.Common.{◌≡◌, ◌≢◌, ℕ, zero, suc, ◌+◌, ◌*◌, ◌<◌, ◌==◌, Bool, true, false, cond, List, [], ◌∷◌, map, Option, Some, None, refl, ap, ◌∙◌, arith, slice_get, slice_index, option_map, option_and_then}
 use Rattle.std.specs.List.{find}
-use Rattle.std.proofs.lemmas.Option.{slice_get-map, slice_get_within}
-use Rattle.std.proofs.lemmas.List.{get_or_past}
+use Rattle.std.proofs.lemmas.Option.{slice_get-map}
 use Rattle.std.proofs.lemmas.Bool.Decides.{nat_tests}
-use Rattle.cs_model.specs.ImageFile.{FileObject, File, named, address_in}
+use Rattle.cs_model.specs.ImageFile.{FileObject, address_in}
 use Rattle.cs_image.specs.declared.file.Placed.{Placed}
 use Rattle.cs_image.specs.declared.file.FileHeap.TheInside.{Inside}
 use Rattle.cs_image.specs.Heap.{object_of, file_in, IsFileHeap}
@@ -52,9 +51,9 @@ named_none h inv word none = number_none (λ o. address_in (file_in h) o == word
     let m = mapped (object_of h.words.items) h.objects.items k o e in
     let placed : m.0.place ≡ o.place = ap (λ (x : FileObject). x.place) m.2 in
     eqb_no _ _ (λ named_here.
-      let at0 = none m.0.place (ap (λ (p : ℕ). h.base + 4 * p) placed ∙ named_here) in
-      let atk = inv.index.found k m.0 m.1 in
-      absurd (omega (arith, at0, atk))))
+    let at0 = none m.0.place (ap (λ (p : ℕ). h.base + 4 * p) placed ∙ named_here) in
+    let atk = inv.index.found k m.0 m.1 in
+    absurd (omega (arith, at0, atk))))
 
 -- and else the object whose number is there
 pub named_some : (h : Inside) → IsFileHeap h → (word place k : ℕ) → h.base + 4 * place ≡ word → slice_index h.starts.items place ≡ k + 1
@@ -67,12 +66,12 @@ named_some h inv word place k here starts = go (slice_get h.objects.items k) ref
     go (Some o) e only =
         let placed : o.place ≡ place = cc in
         let got : slice_get (map (object_of h.words.items) h.objects.items) k ≡ Some (object_of h.words.items o) =
-            slice_get-map (object_of h.words.items) h.objects.items k ∙ ap (option_map (object_of h.words.items)) e in
+        slice_get-map (object_of h.words.items) h.objects.items k ∙ ap (option_map (object_of h.words.items)) e in
         number_at (λ x. address_in (file_in h) x == word) _ k (object_of h.words.items o) got (eqb_same _ _ (ap (λ (p : ℕ). h.base + 4 * p) placed ∙ here)) (λ j y below f.
-          let m = mapped (object_of h.words.items) h.objects.items j y f in
-          let also : m.0.place ≡ y.place = ap (λ (x : FileObject). x.place) m.2 in
-          eqb_no _ _ (λ named_here.
-            let there : y.place ≡ place = omega (arith, named_here, here) in
-            let atj : slice_index h.starts.items m.0.place ≡ j + 1 = inv.index.found j m.0 m.1 in
-            let same : slice_index h.starts.items m.0.place ≡ slice_index h.starts.items place = ap (slice_index h.starts.items) (also ∙ there) in
-            absurd (omega (arith, atj, same, starts, below))))
+        let m = mapped (object_of h.words.items) h.objects.items j y f in
+        let also : m.0.place ≡ y.place = ap (λ (x : FileObject). x.place) m.2 in
+        eqb_no _ _ (λ named_here.
+        let there : y.place ≡ place = omega (arith, named_here, here) in
+        let atj : slice_index h.starts.items m.0.place ≡ j + 1 = inv.index.found j m.0 m.1 in
+        let same : slice_index h.starts.items m.0.place ≡ slice_index h.starts.items place = ap (slice_index h.starts.items) (also ∙ there) in
+        absurd (omega (arith, atj, same, starts, below))))

@@ -1,5 +1,5 @@
 -- Loading the visible objects of a file, one after another.
-use Rattle.std.proofs.Common.{◌≡◌, ℕ, zero, suc, ◌+◌, ◌*◌, ◌<◌, ◌≤◌, Bool, true, false, cond, List, [], ◌∷◌, ◌++◌, length, map, drop, filter, Option, Some, None, refl, ap, sym, ◌∙◌, arith, slice_get, append_assoc, sum_by, ltb}
+use Rattle.std.proofs.Common.{◌≡◌, ℕ, suc, ◌+◌, ◌≤◌, true, false, List, [], ◌∷◌, ◌++◌, length, drop, filter, Some, refl, ap, sym, ◌∙◌, arith, slice_get, append_assoc, ltb}
 use Rattle.std.proofs.lemmas.List.{append-nil}
 use Rattle.std.proofs.lemmas.List.FromFn.{length-map-range_with_len}
 use Rattle.std.proofs.lemmas.Bool.Decides.{nat_tests}
@@ -10,7 +10,7 @@ use Rattle.cs_heap.specs.Object.{Object, size, used}
 use Rattle.cs_heap.proofs.Laws.{used-pushed}
 use Rattle.cs_image.specs.Loading.{loaded, loaded_from, loaded_word}
 use Rattle.cs_image.proofs.Scanning.{drop_here}
-use Rattle.cs_image.proofs.Placing.{total, total_visible, total_hidden, total_end}
+use Rattle.cs_image.proofs.Placing.{total, total_visible, total_hidden}
 
 -- what the loop that loads has loaded so far
 pub record IsLoadedTo (f : File) (objects : List Object) (birth k : ℕ) : Type 0 where
@@ -52,6 +52,7 @@ loaded_visible f objects birth k x p e v = record {
   where
     next : filter is_visible (drop k f.objects) ≡ x ∷ filter is_visible (drop (k + 1) f.objects)
     next = ap (filter is_visible) (drop_here f.objects k x e) ∙ rw v refl
+
     counted_on : (a b c d t u : ℕ) → c ≡ b + d → a + c ≡ t → u ≡ a + b → u + d ≡ t
     counted_on a b c d t u h g m = omega (arith, h, g, m)
 
@@ -65,6 +66,7 @@ room_left f objects birth k limit x p e v over =
   where
     below : (t : ℕ) → ltb limit t ≡ false → t ≤ limit
     below t h = grind (arith, nat_tests, h)
+
     fits : (a b c d t l : ℕ) → c ≡ b + d → a + c ≡ t → t ≤ l → a + b ≤ l
     fits a b c d t l h g m = omega (arith, h, g, m)
 

@@ -1,5 +1,5 @@
 -- Giving addresses to the objects of a file, one after another.
-use Rattle.std.proofs.Common.{◌≡◌, ℕ, zero, suc, ◌+◌, ◌*◌, ◌<◌, ◌≤◌, Bool, true, false, cond, not, List, [], ◌∷◌, ◌++◌, length, drop, filter, Option, Some, None, refl, ap, sym, ◌∙◌, arith, slice_get, append_assoc, sum_by, ltb, nat_lt}
+use Rattle.std.proofs.Common.{◌≡◌, ℕ, ◌+◌, ◌*◌, ◌<◌, ◌≤◌, true, false, List, [], ◌∷◌, ◌++◌, length, drop, filter, Some, None, refl, ap, sym, ◌∙◌, arith, slice_get, append_assoc, sum_by, ltb}
 use Rattle.std.proofs.lemmas.List.{append-nil}
 use Rattle.std.proofs.lemmas.List.Sums.{sum_by-cons}
 use Rattle.std.proofs.lemmas.Bool.Decides.{nat_tests}
@@ -9,7 +9,7 @@ use Rattle.cs_model.specs.ImageFile.{FileObject, File, is_visible, visible}
 use Rattle.cs_model.specs.ImageFault as fault
 use Rattle.cs_model.specs.ImageFault.{ImageFault, is_over}
 use Rattle.cs_model.specs.Image.{when}
-use Rattle.cs_heap.specs.Object.{Object, base, header_address, size, units}
+use Rattle.cs_heap.specs.Object.{base, header_address, size}
 use Rattle.cs_image.specs.Loading.{addresses_of}
 use Rattle.cs_image.proofs.Scanning.{drop_here}
 
@@ -62,7 +62,7 @@ unfolding addresses_of
 placed_visible objects addresses used k limit x p e v fits =
     let at : ℕ = header_address (base + 4 * used) (length x.words) in
     let next : addresses_of (drop k objects) used ≡ at ∷ addresses_of (drop (k + 1) objects) (used + size (length x.words)) =
-        ap (λ (xs : List FileObject). addresses_of xs used) (drop_here objects k x e) ∙ rw v refl in
+    ap (λ (xs : List FileObject). addresses_of xs used) (drop_here objects k x e) ∙ rw v refl in
     let more = total_visible objects k x e v in
     record {
       given_so = append_assoc addresses (at ∷ []) (addresses_of (drop (k + 1) objects) (used + size (length x.words))) ∙ ap (λ (r : List ℕ). addresses ++ r) (sym next) ∙ p.given_so;

@@ -1,5 +1,5 @@
 -- Going over the objects of a file in order, for the first one that something is wrong with.
-use Rattle.std.proofs.Common.{◌≡◌, ℕ, zero, suc, ◌+◌, ◌<◌, ◌≤◌, ◌&&◌, Bool, true, false, cond, List, [], ◌∷◌, ◌++◌, length, drop, filter, Option, Some, None, refl, ap, sym, ◌∙◌, arith, slice_get, option_map, flat_map, get_or, add-one}
+use Rattle.std.proofs.Common.{◌≡◌, ℕ, zero, suc, ◌+◌, ◌<◌, ◌≤◌, ◌&&◌, Bool, true, false, cond, List, [], ◌∷◌, ◌++◌, length, drop, filter, Option, Some, None, refl, ap, ◌∙◌, arith, slice_get, option_map, flat_map, get_or}
 use Rattle.std.specs.Option.{option_or}
 use Rattle.std.specs.List.{find, enumerate_from}
 use Rattle.std.proofs.lemmas.List.{drop_more}
@@ -42,7 +42,7 @@ first_none p xs k h = ap (λ (ys : List FileObject). find p (filter is_visible y
 
 -- ---- lost words
 
-find-append : {X : Type 0} (p : X → Bool) (xs ys : List X) → find p (xs ++ ys) ≡ option_or (find p xs) (find p ys)
+pub find-append : {X : Type 0} (p : X → Bool) (xs ys : List X) → find p (xs ++ ys) ≡ option_or (find p xs) (find p ys)
 find-append p [] ys = refl
 find-append p (x ∷ xs) ys = go (p x) (find-append p xs ys)
   where
@@ -74,6 +74,7 @@ lost_next f xs k x e = ap (λ (ys : List FileObject). lost f (flat_map reference
   where
     rest : List FileObject
     rest = filter is_visible (drop (k + 1) xs)
+
     go : (v : Bool) → is_visible x ≡ v → lost f (flat_map references (cond (is_visible x) (x ∷ rest) rest)) ≡ option_or (cond (is_visible x) (lost f (references x)) None) (lost f (flat_map references rest))
     go true ev = rw ev (lost-append f (references x) (flat_map references rest))
     go false ev = rw ev refl
@@ -99,6 +100,7 @@ word_next f place words i h = ap (λ (ws : List ℕ). lost f (enumerate_from (pl
   where
     next : lost f (enumerate_from (place + i + 1) (drop (i + 1) words)) ≡ lost_among f place words (i + 1)
     next = ap (λ n. lost f (enumerate_from n (drop (i + 1) words))) (omega arith)
+
     go : (b : Bool) → is_lost f (get_or words i 0) ≡ b → lost f (enumerate_from (place + i) (get_or words i 0 ∷ drop (i + 1) words))
         ≡ cond (is_lost f (get_or words i 0)) (Some (place + i)) (lost_among f place words (i + 1))
     go true e = rw e refl

@@ -1,5 +1,5 @@
 -- Storing an object's hash and slots behind all others.
-use Rattle.std.proofs.Common.{◌≡◌, ◌≢◌, ℕ, zero, suc, ◌+◌, ◌<◌, ◌≤◌, true, ◌⊎◌, inl, inr, List, [], ◌∷◌, ◌++◌, length, map, set, get_or, replicate, refl, ap, sym, ◌∙◌, arith, length-set, add-one}
+use Rattle.std.proofs.Common.{◌≡◌, ℕ, zero, suc, ◌+◌, ◌<◌, true, inl, inr, List, [], ◌∷◌, ◌++◌, length, map, set, get_or, replicate, refl, ap, sym, ◌∙◌, arith, length-set}
 use Rattle.std.proofs.lemmas.List.{length-replicate, get_or-set_same, get_or-set_other, ext_get_or}
 use Rattle.std.proofs.lemmas.Bool.Decides.{eqb_tells}
 use Rattle.std.specs.List.{range_with_len}
@@ -17,11 +17,11 @@ length-written (suc n) value xs = length-set (written n value xs) n (value n) �
 get_or-written : (n : ℕ) (value : ℕ → ℕ) (xs : List ℕ) (k : ℕ) → k < n → k < length xs → get_or (written n value xs) k 0 ≡ value k
 get_or-written zero value xs k h g = absurd (omega (arith, h))
 get_or-written (suc n) value xs k h g = elim (eqb_tells k n) as (λ _. get_or (set (written n value xs) n (value n)) k 0 ≡ value k) [
-      | inl same ↦
-          let inside : n < length (written n value xs) = omega (arith, length-written n value xs, same.1, g) in
-          ap (λ i. get_or (set (written n value xs) n (value n)) i 0) same.1 ∙ get_or-set_same (written n value xs) n (value n) 0 inside ∙ ap value (sym same.1)
-      | inr other ↦ get_or-set_other (written n value xs) n k (value n) 0 other.1 ∙ get_or-written n value xs k (omega (arith, h, other.1)) g
-    ]
+  | inl same ↦
+      let inside : n < length (written n value xs) = omega (arith, length-written n value xs, same.1, g) in
+      ap (λ i. get_or (set (written n value xs) n (value n)) i 0) same.1 ∙ get_or-set_same (written n value xs) n (value n) 0 inside ∙ ap value (sym same.1)
+  | inr other ↦ get_or-set_other (written n value xs) n k (value n) 0 other.1 ∙ get_or-written n value xs k (omega (arith, h, other.1)) g
+]
 
 -- all are written
 pub written_all : (n : ℕ) (value : ℕ → ℕ) (xs : List ℕ) → length xs ≡ n → written n value xs ≡ map value (range_with_len 0 n)

@@ -1,5 +1,5 @@
 -- The objects of a file as the loader keeps them.
-use Rattle.std.specs.Prelude.{◌≡◌, ℕ, suc, ◌+◌, ◌*◌, ◌<◌, ◌≤◌, ◌^◌, ◌&&◌, not, Bool, true, List, length, map, take, drop, slice_index, slice_get, option_map, Option, Some}
+use Rattle.std.specs.Prelude.{◌≡◌, ℕ, ◌+◌, ◌*◌, ◌<◌, ◌≤◌, ◌^◌, ◌&&◌, not, Bool, true, List, length, map, take, drop, slice_index, slice_get, option_map, Option, Some}
 use Rattle.std.specs.Option.{option_map_or}
 use Rattle.cs_model.specs.ImageFile.{FileObject, File, stands}
 use Rattle.cs_model.specs.ImageFault.{is_well_formed}

@@ -1,5 +1,5 @@
 -- Where the objects of a file go in memory, and what they are there.
-use Rattle.std.specs.Prelude.{ℕ, zero, suc, ◌+◌, ◌*◌, ◌%◌, ◌==◌, ◌&&◌, ◌||◌, Bool, nat_le, nat_lt, if◌then◌else◌, List, [], ◌∷◌, length, map, slice_index, slice_set, Option, Some, None, option_map}
+use Rattle.std.specs.Prelude.{ℕ, zero, suc, ◌+◌, ◌*◌, ◌%◌, ◌==◌, ◌&&◌, ◌||◌, Bool, nat_le, if◌then◌else◌, List, [], ◌∷◌, length, map, slice_index, slice_set, Option, Some, None, option_map}
 use Rattle.std.specs.Option.{option_map_or}
 use Rattle.std.specs.List.{range_with_len}
 use Rattle.std.specs.Ordering.{nat_cmp}
@@ -63,4 +63,4 @@ loaded_from f birth (o ∷ objects) = loaded f birth o ∷ loaded_from f (birth 
 -- the addresses of the classes of the indices below n
 abbrev pub classes_at : File → ℕ → FinMap nat_cmp ℕ
 classes_at f zero = empty
-classes_at f (suc n) = if has_entry f n then insert (classes_at f n) n (translated f (entry_in f n)) else classes_at f n
+classes_at f (suc n) = if has_entry f n then insert (classes_at f n) n (address_named f (entry_in f n)) else classes_at f n

@@ -10,11 +10,11 @@ ghost use Rattle.cs_model.specs.Image.{at_word};
 ghost use Rattle.cs_image.specs.Heap.{object_of, is_faulty};
 ghost use Rattle.cs_image.specs.Answer.{Tells};
 
-use cs_word::Header;
-use std::alloc::Global;
 use crate::error::ImageError;
 use crate::file::{FileHeap, Placed};
 use crate::shape::is_body;
+use cs_word::Header;
+use std::alloc::Global;
 
 /// The word at a place, and 0 past the end.
 pub(crate) fn word_at(words: &[u32], at: usize) -> u32

@@ -114,7 +114,11 @@ impl FileHeap {
             return None;
         }
         let number = word_at(&self.starts, ((word - self.base) / 4) as usize);
-        if number == 0 { None } else { Some(number as usize - 1) }
+        if number == 0 {
+            None
+        } else {
+            Some(number as usize - 1)
+        }
     }
 
     /// The object that a word names.
@@ -149,6 +153,10 @@ impl FileHeap {
     pub(crate) fn unless_nil(&self, word: u32) -> Option<FileObject<'_>>
         ensures { option_map seen result ≡ unless_nil self.now word }
     {
-        if self.is_nil(word) { None } else { self.named(word) }
+        if self.is_nil(word) {
+            None
+        } else {
+            self.named(word)
+        }
     }
 }

@@ -18,18 +18,23 @@ mod roots;
 mod shape;
 mod table;
 
-pub use error::ImageError;
-
-ghost use Rattle.std.specs.Prelude.{◌≡◌, ℕ, ◌≤◌, false, length, slice_get, take, Some, None, IfOk, ⊤};
+ghost use Rattle.std.specs.Prelude.{◌≡◌, ℕ, ◌≤◌, false, length, slice_get, take, Some, None, Ok, IfOk, OnOk, ⊤};
 ghost use Rattle.cs_model.specs.ImageFile.{file_of, has_births, visible, words_in, cut_of, special_address, last_hash_in};
 ghost use Rattle.cs_model.specs.ImageFault as fault;
 ghost use Rattle.cs_model.specs.ImageFault.{bad_object, is_over, table_size};
-ghost use Rattle.cs_model.specs.Image.{at_word, fault_of};
+ghost use Rattle.cs_model.specs.Image.{at_word, fault_of, image_of};
+ghost use Rattle.cs_model.specs.Due.{is_idle};
+ghost use Rattle.cs_model.specs.Read.{IsRunning};
+ghost use Rattle.cs_model.specs.Settle.{open_kept};
+ghost use Rattle.cs_heap.specs.Object.{Object};
+ghost use Rattle.cs_classes.specs.Meaning.{kept_of};
+ghost use Rattle.cs_classes.specs.Sound.{IsWhole};
 ghost use Rattle.cs_image.specs.Answer.{HasBirthSection, Tells, Told, header_fault};
-ghost use Rattle.cs_image.specs.Loading.{addresses_of, classes_at, loaded_from, translated};
+ghost use Rattle.cs_image.specs.Loading.{address_named, addresses_of, classes_at, loaded_from};
 
 use check::{check_header, check_objects};
 use cs_classes::Loaded;
+pub use error::ImageError;
 use file::FileHeap;
 use header::{goes_on, heap_words, u32_at};
 use memory::{addresses, load_classes, load_objects, load_roots};
@@ -47,7 +52,13 @@ fn read_objects(alloc: Global, bytes: &[u8]) -> Result<FileHeap, ImageError>
 }
 
 /// A file without faults in memory.
-fn build(alloc: Global, bytes: &[u8], file: &FileHeap, addresses: &[u32], limit_words: u32) -> Result<Loaded, AllocError>
+fn build(
+    alloc: Global,
+    bytes: &[u8],
+    file: &FileHeap,
+    addresses: &[u32],
+    limit_words: u32,
+) -> Result<Loaded, AllocError>
     requires least { 4096 ≤ limit_words }
     requires most { limit_words ≤ 67108864 }
     requires long { 64 ≤ length bytes.now }
@@ -56,7 +67,7 @@ fn build(alloc: Global, bytes: &[u8], file: &FileHeap, addresses: &[u32], limit_
     ensures limit { IfOk result (λ l. l.heap.limit ≡ limit_words) }
     ensures objects { IfOk result (λ l. l.heap.objects ≡ loaded_from file.now 0 (visible file.now)) }
     ensures classes { IfOk result (λ l. l.classes ≡ classes_at file.now table_size) }
-    ensures special { IfOk result (λ l. l.roots.special.0 ≡ translated file.now (special_address bytes.now)) }
+    ensures special { IfOk result (λ l. l.roots.special.0 ≡ address_named file.now (special_address bytes.now)) }
     ensures hash { IfOk result (λ l. l.roots.last_hash ≡ last_hash_in bytes.now) }
     ensures next { IfOk result (λ l. l.roots.next_birth ≡ length (visible file.now)) }
     ensures header { IfOk result (λ l. l.roots.header ≡ take 64 bytes.now) }
@@ -75,7 +86,8 @@ fn build(alloc: Global, bytes: &[u8], file: &FileHeap, addresses: &[u32], limit_
 ///
 /// The objects come in the order of the file, with their places in it, counted from 0, as births. Objects of class index 0
 /// are skipped, and those of class index 16, the class table and its pages, are hidden and aren't loaded. Weak objects are
-/// read as ones with named and indexed fields, and ephemerons as ones with named fields. No context is active yet.
+/// read as ones with named and indexed fields, and ephemerons as ones with named fields. No context is active yet: where a
+/// process is active it keeps one that is live and whose pc lies in its method, so that the state can be opened and runs.
 ///
 /// An error says what the first fault is (see `ImageError`). A file with a birth section isn't read yet: it is
 /// `HasBirths`, once its header has no fault.
@@ -83,7 +95,12 @@ pub fn load(alloc: Global, bytes: &[u8], limit_words: u32) -> Result<Loaded, Ima
     requires least { 4096 ≤ limit_words }
     requires most { limit_words ≤ 67108864 }
     ensures fault { Told (HasBirthSection bytes.now) (fault_of bytes.now limit_words) (λ _. ⊤) result }
+    ensures state { IfOk result (λ l. image_of bytes.now limit_words ≡ Ok (kept_of l.heap.objects l.classes l.roots None)) }
+    ensures opens { IfOk result (λ l. is_idle (kept_of l.heap.objects l.classes l.roots None) ≡ false → IsRunning (open_kept (kept_of l.heap.objects l.classes l.roots None))) }
+    ensures sound { IfOk result (λ l. IsWhole l.heap.objects l.classes l.roots) }
+    ensures births { IfOk result (λ l. (k : ℕ) (x : Object) → slice_get l.heap.objects k ≡ Some x → x.birth ≡ k) }
     ensures limit { IfOk result (λ l. l.heap.limit ≡ limit_words) }
+    ensures no_section { OnOk result (has_births bytes.now ≡ false) }
 {
     check_header(bytes)?;
     if goes_on(bytes) {

@@ -11,10 +11,11 @@ ghost use Rattle.cs_image.specs.Answer.{Tells};
 ghost use Rattle.cs_image.specs.Heap.{seen};
 ghost use Rattle.cs_image.specs.Loading.{address_named, addresses_of, classes_at, loaded, loaded_from, loaded_word as loaded_word_of, refers, translated as translated_of};
 
+use crate::cut::word_at;
 use crate::error::ImageError;
 use crate::file::{FileHeap, FileObject};
-use crate::shape::{is_method, literal_count};
 use crate::header::u32_at;
+use crate::shape::{is_method, literal_count};
 use crate::table::{ENTRIES, entry};
 use cs_classes::{Classes, Roots};
 use cs_heap::{BASE, Heap};
@@ -33,7 +34,11 @@ fn plain_format(format: u8) -> u8
 }
 
 /// For each object of a file its address in memory, and 0 for a hidden one.
-pub(crate) fn addresses(alloc: Global, file: &FileHeap, limit_words: u32) -> Result<Vec<u32>, ImageError>
+pub(crate) fn addresses(
+    alloc: Global,
+    file: &FileHeap,
+    limit_words: u32,
+) -> Result<Vec<u32>, ImageError>
     requires { limit_words ≤ 67108864 }
     ensures { Tells (when (is_over file.now limit_words) fault.OverLimit)
         (λ addresses. addresses.items ≡ addresses_of file.now.objects 0) result }
@@ -65,18 +70,27 @@ fn address_behind(used: u32, slots: u32) -> u32
     if slots < 255 { at } else { at + 8 }
 }
 
-/// The word of memory for a word of the file that may name an object.
+/// The address in memory of the object that a word of the file names, and 0 where it names none.
 #[tactic(auto, unfolding(crate::specs::Loading::address_named))]
+fn address(file: &FileHeap, addresses: &[u32], word: u32) -> u32
+    requires { addresses.now ≡ addresses_of file.now.objects 0 }
+    ensures { result ≡ address_named file.now word }
+{
+    match file.number_named(word) {
+        Some(number) => word_at(addresses, number),
+        None => 0,
+    }
+}
+
+/// The word of memory for a word of the file that may name an object.
 fn translated(file: &FileHeap, addresses: &[u32], word: u32) -> u32
     requires { addresses.now ≡ addresses_of file.now.objects 0 }
     ensures { result ≡ translated_of file.now word }
 {
-    if word % 4 != 0 {
-        return word;
-    }
-    match file.number_named(word) {
-        Some(number) => crate::cut::word_at(addresses, number),
-        None => 0,
+    if word % 4 == 0 {
+        address(file, addresses, word)
+    } else {
+        word
     }
 }
 
@@ -123,7 +137,12 @@ fn load_object(heap: &mut Heap, file: &FileHeap, addresses: &[u32], o: &FileObje
 }
 
 /// The visible objects of a file in a heap of so many words, with their births by place, and the next birth.
-pub(crate) fn load_objects(alloc: Global, file: &FileHeap, addresses: &[u32], limit_words: u32) -> Result<(Heap, u64), AllocError>
+pub(crate) fn load_objects(
+    alloc: Global,
+    file: &FileHeap,
+    addresses: &[u32],
+    limit_words: u32,
+) -> Result<(Heap, u64), AllocError>
     requires least { 4096 ≤ limit_words }
     requires most { limit_words ≤ 67108864 }
     requires addresses { addresses.now ≡ addresses_of file.now.objects 0 }
@@ -145,7 +164,11 @@ pub(crate) fn load_objects(alloc: Global, file: &FileHeap, addresses: &[u32], li
 }
 
 /// The class table of a file with the addresses in memory.
-pub(crate) fn load_classes(alloc: Global, file: &FileHeap, addresses: &[u32]) -> Result<Classes, AllocError>
+pub(crate) fn load_classes(
+    alloc: Global,
+    file: &FileHeap,
+    addresses: &[u32],
+) -> Result<Classes, AllocError>
     requires { addresses.now ≡ addresses_of file.now.objects 0 }
     ensures { IfOk result (λ classes. classes ≡ classes_at file.now table_size) }
 {
@@ -153,7 +176,7 @@ pub(crate) fn load_classes(alloc: Global, file: &FileHeap, addresses: &[u32]) ->
     for index in 0..ENTRIES {
         let word = entry(file, index);
         if !file.is_nil(word) {
-            classes.set_entry(index, Oop(translated(file, addresses, word)));
+            classes.set_entry(index, Oop(address(file, addresses, word)));
         }
     }
     Ok(classes)
@@ -163,7 +186,7 @@ pub(crate) fn load_classes(alloc: Global, file: &FileHeap, addresses: &[u32]) ->
 pub(crate) fn load_roots(bytes: &[u8], file: &FileHeap, addresses: &[u32], next_birth: u64) -> Roots
     requires long { 64 ≤ length bytes.now }
     requires addresses { addresses.now ≡ addresses_of file.now.objects 0 }
-    ensures special { result.special.0 ≡ translated_of file.now (special_address bytes.now) }
+    ensures special { result.special.0 ≡ address_named file.now (special_address bytes.now) }
     ensures hash { result.last_hash ≡ last_hash_in bytes.now }
     ensures next { result.next_birth ≡ next_birth }
     ensures header { result.header ≡ take 64 bytes.now }
@@ -171,7 +194,7 @@ pub(crate) fn load_roots(bytes: &[u8], file: &FileHeap, addresses: &[u32], next_
     let mut header = [0; 64];
     header.copy_from_slice(&bytes[..64]);
     Roots {
-        special: Oop(translated(file, addresses, u32_at(bytes, 16))),
+        special: Oop(address(file, addresses, u32_at(bytes, 16))),
         last_hash: u32_at(bytes, 20) % (1 << 22),
         next_birth,
         header,

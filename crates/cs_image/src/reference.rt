@@ -59,7 +59,11 @@ fn lost_in_visible(file: &FileHeap, o: &FileObject<'_>) -> Option<u32>
     ensures value { result ≡ (if is_visible (seen o.now) then
         option_map (λ e. e.0) (find (λ e. is_lost file.now e.1) (references (seen o.now))) else None) }
 {
-    if o.class == 16 { None } else { lost_in_object(file, o) }
+    if o.class == 16 {
+        None
+    } else {
+        lost_in_object(file, o)
+    }
 }
 
 /// The place of the first word that should be the address of a visible object, and isn't.

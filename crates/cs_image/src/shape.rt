@@ -80,5 +80,6 @@ pub(crate) fn is_body(format: u8, words: &[u32]) -> bool
     requires { length words.now < 2 ^ 32 }
     ensures { result ≡ is_body_of format words.now }
 {
-    cs_heap::format_allows(format, words.len() as u32) && (!is_method(format) || is_method_body(format, words))
+    cs_heap::format_allows(format, words.len() as u32)
+        && (!is_method(format) || is_method_body(format, words))
 }

@@ -111,7 +111,12 @@ pub(crate) fn is_filled(file: &FileHeap, index: u32) -> bool
 fn is_class_of(o: &FileObject<'_>, index: u32) -> bool
     ensures { result ≡ is_class index (seen o.now) }
 {
-    o.class != 16 && o.format >= 1 && o.format <= 5 && o.class != 36 && o.words.len() >= 3 && o.hash == index
+    o.class != 16
+        && o.format >= 1
+        && o.format <= 5
+        && o.class != 36
+        && o.words.len() >= 3
+        && o.hash == index
 }
 
 /// Whether the entry of an index is nil or a class.

@@ -1,5 +1,5 @@
 -- The state that the file of an image describes, or its first fault.
-use Rattle.std.specs.Prelude.{ℕ, zero, suc, ◌*◌, ◌==◌, Bool, if◌then◌else◌, List, [], ◌∷◌, length, map, slice_get, zip, find, Option, Some, None, option_map, Result, Ok, Err}
+use Rattle.std.specs.Prelude.{ℕ, zero, suc, ◌*◌, ◌==◌, Bool, if◌then◌else◌, List, [], ◌∷◌, length, map, slice_index, zip, find, Option, Some, None, option_map, Result, Ok, Err}
 use Rattle.std.specs.Option.{option_map_or, option_or}
 use Rattle.std.specs.Ordering.{nat_cmp}
 use Rattle.std.specs.FinMap.{FinMap, empty, insert, from_entries}
@@ -8,7 +8,7 @@ use Rattle.cs_model.specs.Ref as ref
 use Rattle.cs_model.specs.Obj.{Obj}
 use Rattle.cs_model.specs.State.{Kept, Rest}
 use Rattle.cs_model.specs.Words.{obj_by}
-use Rattle.cs_model.specs.ImageFile.{special_address, last_hash_in, header_in, words_in, births_in, next_birth_in, FileObject, cut_of, File, file_of, visible, address_in, nil_in}
+use Rattle.cs_model.specs.ImageFile.{special_address, last_hash_in, header_in, words_in, births_in, next_birth_in, FileObject, cut_of, File, file_of, visible, address_in}
 use Rattle.cs_model.specs.ImageFault.{ImageFault, is_too_long, is_short, is_bad_format, is_bad_header_size, is_bad_length, bad_object, is_over, is_bad_table, bad_ref, bad_class, bad_context, is_bad_roots, is_bad_births, has_entry, entry_in, table_size}
 use Rattle.cs_model.specs.ImageFault as fault
 
@@ -29,9 +29,9 @@ classes_in f births (suc n) =
 
 abbrev pub rest_in : List ℕ → File → List ℕ → Rest
 rest_in bytes f births = record {
-  nil = birth_in f births (nil_in f);
-  false_ = birth_in f births (option_map_or (address_in f) (slice_get f.objects 1) 0);
-  true_ = birth_in f births (option_map_or (address_in f) (slice_get f.objects 2) 0);
+  nil = slice_index births 0;
+  false_ = slice_index births 1;
+  true_ = slice_index births 2;
   special = birth_in f births (special_address bytes);
   header = header_in bytes;
   classes = classes_in f births table_size;
@@ -40,7 +40,8 @@ rest_in bytes f births = record {
   active = None;
 }
 
--- The state of a file without faults: its visible objects by their births. No context is active yet.
+-- The state of a file without faults: its visible objects by their births, of which nil, false and true come first. No
+-- context is active yet.
 unfoldable pub described : List ℕ → Kept
 described bytes = let f = file_of bytes in let births = births_in bytes (length (visible f)) in record {
   objects = from_entries (zip births (map (object_in f births) (visible f)));

@@ -1,7 +1,7 @@
 -- What the words of an object mean in 32-bit Spur, wherever they lie: in a file or in the object memory. Which object a
 -- word names is left open here, for a file and a memory have addresses of their own.
-use Rattle.std.specs.Prelude.{ℕ, ℤ, pos, ◌+◌, ◌-◌, ◌*◌, ◌/◌, ◌%◌, ◌^◌, ◌-ℤ◌, ◌==◌, ◌&&◌, ◌||◌, Bool, nat_le, nat_lt, if◌then◌else◌, List, [], ◌∷◌, map, length, take, drop, slice_index, Option, Some, None, unwrap_or}
-use Rattle.cs_model.specs.Ref.{Ref, Small, Char}
+use Rattle.std.specs.Prelude.{ℕ, ℤ, pos, ◌+◌, ◌-◌, ◌*◌, ◌/◌, ◌%◌, ◌^◌, ◌-ℤ◌, ◌==◌, ◌&&◌, ◌||◌, Bool, nat_le, nat_lt, if◌then◌else◌, List, [], ◌∷◌, map, length, take, drop, slice_index, Option, None, unwrap_or}
+use Rattle.cs_model.specs.Ref.{Ref, Small, Char, natural_of}
 use Rattle.cs_model.specs.Obj.{Obj, Ptr, Raw, Method, Ctx, Context, context_class, context_fields, literal_count}
 
 -- ---- words
@@ -16,7 +16,7 @@ ref_by named word = if word % 2 == 1 then Small (small_value word) else (if word
 
 -- a word that is a SmallInteger and isn't negative, as a number
 abbrev pub natural_in_word : ℕ → Option ℕ
-natural_in_word word = if word % 2 == 1 && nat_lt word (2 ^ 31) then Some (word / 2) else None
+natural_in_word word = if word % 2 == 1 then natural_of (small_value word) else None
 
 -- byte j of a word, counted from the lowest
 abbrev pub byte_in : ℕ → ℕ → ℕ

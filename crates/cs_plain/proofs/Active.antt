@@ -68,6 +68,7 @@ sound_world w whole within most = record {
     object = λ j x h other. get-objects_of-element w.heap.objects j x whole.heap.apart h;
     context = λ j x h is. ap is_context_at (get-objects_of-element w.heap.objects j x whole.heap.apart h)
         ∙ ap (λ o. is_context_at (Some o)) (obj_of-context (ref_of w.heap.objects) x is);
+    back = λ i o h other. h;
     within = within;
     most = most;
     rest = refl;

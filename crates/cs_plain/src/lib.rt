@@ -10,10 +10,12 @@ ghost use Rattle.cs_classes.specs.Meaning.{count_of};
 ghost use Rattle.cs_model.specs.Ref.{natural_of};
 ghost use Rattle.cs_acts.specs.Ready.{IsReady};
 
+use cs_acts::read::{active_process, nil, same, slot};
 use cs_acts::{Act, Loaded, Roots, World};
 use cs_classes::Classes;
 use cs_heap::Heap;
 use cs_word::{Kind, Oop};
+use std::alloc::{AllocError, Global};
 
 /// A world of heap contexts.
 #[derive(Drop)]
@@ -36,6 +38,11 @@ const CLOSURE: u32 = 4;
 const RECEIVER: u32 = 5;
 
 const STACK: u32 = 6;
+
+/// The slots of a process, and the one in which it keeps its context while it doesn't run.
+const PROCESS_SLOTS: u32 = 4;
+
+const SUSPENDED_CONTEXT: u32 = 1;
 
 /// The number itself, and 0 for a negative one.
 fn natural(value: i32) -> u32
@@ -65,6 +72,36 @@ fn count_word(count: u32) -> Oop
 
 impl PlainWorld {
     ghost use Rattle.cs_plain.specs.View.{stored_of, view_of};
+
+    /// Opens a loaded image: the active process gives its context to the machine. With no active process none is active.
+    pub fn new(_alloc: Global, loaded: Loaded) -> Result<PlainWorld, AllocError> {
+        let Loaded {
+            heap,
+            classes,
+            roots,
+        } = loaded;
+        let mut world = PlainWorld {
+            heap,
+            classes,
+            roots,
+            active: None,
+        };
+        if let Some(process) = active_process(&world) {
+            world.open(process);
+        }
+        Ok(world)
+    }
+
+    /// Takes the context of the active process, unless that is nil.
+    fn open(&mut self, process: Oop) {
+        if !same(self, process, nil(self)) {
+            if let Some(context) = slot(self, process, PROCESS_SLOTS, SUSPENDED_CONTEXT) {
+                let nil = nil(self);
+                self.heap.set_slot(process, SUSPENDED_CONTEXT, nil);
+                self.active = Some(context);
+            }
+        }
+    }
 
     /// The active context.
     fn active_context(&self) -> Oop

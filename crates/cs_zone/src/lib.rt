@@ -1,7 +1,7 @@
 //! The raw words of the stack pages.
 //!
-//! A zone is a fixed number of 32-bit words, and its contracts see it as the list of them. What
-//! keeps the words is nobody's business above: each call speaks of that list alone.
+//! A zone is a fixed number of 32-bit words, and its contracts see it as the list of them. They say
+//! nothing of how the words are kept, so no crate above depends on it.
 #![tactic(auto)]
 
 ghost use Rattle.std.specs.Prelude.{◌≡◌, ◌+◌, ◌<◌, ◌≤◌, IfOk, length, replicate, slice_index, slice_range, slice_set};

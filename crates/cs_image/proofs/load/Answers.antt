@@ -1,15 +1,18 @@
-use Rattle.std.proofs.Common.{◌≡◌, ℕ, Bool, false, Option, Some, None, Result, Ok, Err, Vec, Global, length, ap, sym, subst, ◌∙◌, arith}
+use Rattle.std.proofs.Common.{◌≡◌, ℕ, false, None, Vec, Global, length, ap, sym, ◌∙◌}
 use Rattle.std.specs.Prelude.{⊤}
 use Rattle.std.specs.Option.{option_or}
 use Rattle.cs_image.specs.Loading.{addresses_of}
 use Rattle.std.proofs.lemmas.Result.{err_from_is_err_and}
-use Rattle.cs_classes.specs.declared.Loaded.{Loaded}
-use Rattle.cs_model.specs.ImageFile.{File, cut_of, file_of, special_address, visible, words_in}
+use Rattle.cs_model.specs.ImageFile.{File, has_births, cut_of, file_of, special_address, visible, words_in}
 use Rattle.cs_model.specs.ImageFault.{ImageFault, bad_object, is_over, is_bad_births}
 use Rattle.cs_model.specs.ImageFault as fault
 use Rattle.cs_model.specs.Image.{at_word, fault_of, when}
 use Rattle.cs_image.specs.Answer.{HasBirthSection, header_fault, objects_fault}
-use Rattle.cs_image.proofs.Faults.{fault_of-parts, told_as, after_header, after_objects, after_room, no_fault}
+use Rattle.cs_image.proofs.Faults.{fault_of-parts, told_as, after_header, after_objects, after_room, header_is, no_fault}
+use Rattle.cs_image.proofs.Soundness.{sound_file}
+use Rattle.cs_image.proofs.Describing.{built_is}
+use Rattle.cs_image.proofs.Wholeness.{built_whole, built_births}
+use Rattle.cs_image.proofs.Opening.{built_opens}
 use Rattle.cs_image.proofs.load.Goals as goal
 
 pub returns-in_err-check_header-clause-fault : goal.returns-in_err-check_header-clause-fault
@@ -33,9 +36,9 @@ returns-in_err-addresses-clause-fault c =
     (when (is_over c.in_ok-file.file c.args.limit_words) fault.OverLimit) _
     c.in_err-addresses.field-0.0 p.0 c.from_residual-in_err-addresses.result
     (after_objects c.args.bytes.now c.args.limit_words c.in_ok-check_header.ensures.0 c.in_ok-file.ensures.0
-      ∙ ap (λ (f : File). option_or (when (is_over f c.args.limit_words) fault.OverLimit)
-        (option_or (objects_fault (file_of c.args.bytes.now) (special_address c.args.bytes.now))
-        (option_or (when (is_bad_births c.args.bytes.now (length (visible (file_of c.args.bytes.now)))) fault.BadBirths) None))) (sym same))
+    ∙ ap (λ (f : File). option_or (when (is_over f c.args.limit_words) fault.OverLimit)
+    (option_or (objects_fault (file_of c.args.bytes.now) (special_address c.args.bytes.now))
+    (option_or (when (is_bad_births c.args.bytes.now (length (visible (file_of c.args.bytes.now)))) fault.BadBirths) None))) (sym same))
     c.in_err-addresses.ensures p.1 p.2
 
 room : (f g : File) (limit : ℕ) → f ≡ g → when (is_over f limit) fault.OverLimit ≡ None → when (is_over g limit) fault.OverLimit ≡ None
@@ -49,18 +52,82 @@ returns-in_err-check_objects-clause-fault c =
     (objects_fault c.in_ok-file.file c.u32_at.result) _
     c.in_err-check_objects.field-0.0 p.0 c.from_residual-in_err-check_objects.result
     (after_room c.args.bytes.now c.args.limit_words c.in_ok-check_header.ensures.0 c.in_ok-file.ensures.0
-        (room c.in_ok-file.file (file_of c.args.bytes.now) c.args.limit_words same c.in_ok-addresses.ensures.0)
-      ∙ ap (λ (f : File). option_or (objects_fault f (special_address c.args.bytes.now))
-        (option_or (when (is_bad_births c.args.bytes.now (length (visible (file_of c.args.bytes.now)))) fault.BadBirths) None)) (sym same)
-      ∙ ap (λ (special : ℕ). option_or (objects_fault c.in_ok-file.file special)
-        (option_or (when (is_bad_births c.args.bytes.now (length (visible (file_of c.args.bytes.now)))) fault.BadBirths) None)) (sym c.u32_at.ensures))
+    (room c.in_ok-file.file (file_of c.args.bytes.now) c.args.limit_words same c.in_ok-addresses.ensures.0)
+    ∙ ap (λ (f : File). option_or (objects_fault f (special_address c.args.bytes.now))
+    (option_or (when (is_bad_births c.args.bytes.now (length (visible (file_of c.args.bytes.now)))) fault.BadBirths) None)) (sym same)
+    ∙ ap (λ (special : ℕ). option_or (objects_fault c.in_ok-file.file special)
+    (option_or (when (is_bad_births c.args.bytes.now (length (visible (file_of c.args.bytes.now)))) fault.BadBirths) None)) (sym c.u32_at.ensures))
     c.in_err-check_objects.ensures p.1 p.2
 
 pub returns-clause-fault : goal.returns-clause-fault
 returns-clause-fault c =
+    let same : c.in_ok-file.file ≡ file_of c.args.bytes.now = c.in_ok-file.ensures.1 in (
+      no_fault c.args.bytes.now c.args.limit_words c.in_ok-check_header.ensures.0 c.in_ok-file.ensures.0
+          (room c.in_ok-file.file (file_of c.args.bytes.now) c.args.limit_words same c.in_ok-addresses.ensures.0)
+          (ap (λ (f : File). objects_fault f (special_address c.args.bytes.now)) (sym same)
+          ∙ ap (λ (special : ℕ). objects_fault c.in_ok-file.file special) (sym c.u32_at.ensures) ∙ c.in_ok-check_objects.ensures.0)
+          (sym c.goes_on.ensures ∙ c.if-goes_on.false),
+      tt,
+    )
+
+pub returns-clause-state : goal.returns-clause-state
+returns-clause-state c =
     let same : c.in_ok-file.file ≡ file_of c.args.bytes.now = c.in_ok-file.ensures.1 in
-    (no_fault c.args.bytes.now c.args.limit_words c.in_ok-check_header.ensures.0 c.in_ok-file.ensures.0
-      (room c.in_ok-file.file (file_of c.args.bytes.now) c.args.limit_words same c.in_ok-addresses.ensures.0)
-      (ap (λ (f : File). objects_fault f (special_address c.args.bytes.now)) (sym same)
-        ∙ ap (λ (special : ℕ). objects_fault c.in_ok-file.file special) (sym c.u32_at.ensures) ∙ c.in_ok-check_objects.ensures.0)
-      (sym c.goes_on.ensures ∙ c.if-goes_on.false), tt)
+    let births : has_births c.args.bytes.now ≡ false = sym c.goes_on.ensures ∙ c.if-goes_on.false in
+    let fine : objects_fault (file_of c.args.bytes.now) (special_address c.args.bytes.now) ≡ None =
+    ap (λ (f : File). objects_fault f (special_address c.args.bytes.now)) (sym same)
+    ∙ ap (λ (special : ℕ). objects_fault c.in_ok-file.file special) (sym c.u32_at.ensures) ∙ c.in_ok-check_objects.ensures.0 in
+    let whole = no_fault c.args.bytes.now c.args.limit_words c.in_ok-check_header.ensures.0 c.in_ok-file.ensures.0
+    (room c.in_ok-file.file (file_of c.args.bytes.now) c.args.limit_words same c.in_ok-addresses.ensures.0) fine births in
+    built_is c.args.bytes.now c.args.limit_words c.in_ok-file.file c.in_ok-loaded.loaded.heap.objects c.in_ok-loaded.loaded.classes c.in_ok-loaded.loaded.roots same
+    (record {
+      objects_are = c.in_ok-loaded.ensures.objects;
+      table_is = c.in_ok-loaded.ensures.classes;
+      special = c.in_ok-loaded.ensures.special;
+      hash = c.in_ok-loaded.ensures.hash;
+      next = c.in_ok-loaded.ensures.next;
+      header = c.in_ok-loaded.ensures.header;
+    }) births whole (sound_file c.args.bytes.now c.in_ok-file.ensures.0 fine)
+
+pub returns-clause-sound : goal.returns-clause-sound
+returns-clause-sound c =
+    let same : c.in_ok-file.file ≡ file_of c.args.bytes.now = c.in_ok-file.ensures.1 in
+    let fine : objects_fault (file_of c.args.bytes.now) (special_address c.args.bytes.now) ≡ None =
+    ap (λ (f : File). objects_fault f (special_address c.args.bytes.now)) (sym same)
+    ∙ ap (λ (special : ℕ). objects_fault c.in_ok-file.file special) (sym c.u32_at.ensures) ∙ c.in_ok-check_objects.ensures.0 in
+    built_whole c.args.bytes.now c.in_ok-file.file c.in_ok-loaded.loaded.heap.objects c.in_ok-loaded.loaded.classes c.in_ok-loaded.loaded.roots same
+    (record {
+      objects_are = c.in_ok-loaded.ensures.objects;
+      table_is = c.in_ok-loaded.ensures.classes;
+      special = c.in_ok-loaded.ensures.special;
+      hash = c.in_ok-loaded.ensures.hash;
+      next = c.in_ok-loaded.ensures.next;
+      header = c.in_ok-loaded.ensures.header;
+    }) (header_is c.args.bytes.now c.in_ok-check_header.ensures.0).base (sound_file c.args.bytes.now c.in_ok-file.ensures.0 fine)
+
+pub returns-clause-births : goal.returns-clause-births
+returns-clause-births c = built_births c.args.bytes.now c.in_ok-file.file c.in_ok-loaded.loaded.heap.objects c.in_ok-loaded.loaded.classes c.in_ok-loaded.loaded.roots
+    (record {
+      objects_are = c.in_ok-loaded.ensures.objects;
+      table_is = c.in_ok-loaded.ensures.classes;
+      special = c.in_ok-loaded.ensures.special;
+      hash = c.in_ok-loaded.ensures.hash;
+      next = c.in_ok-loaded.ensures.next;
+      header = c.in_ok-loaded.ensures.header;
+    })
+
+pub returns-clause-opens : goal.returns-clause-opens
+returns-clause-opens c =
+    let same : c.in_ok-file.file ≡ file_of c.args.bytes.now = c.in_ok-file.ensures.1 in
+    let fine : objects_fault (file_of c.args.bytes.now) (special_address c.args.bytes.now) ≡ None =
+    ap (λ (f : File). objects_fault f (special_address c.args.bytes.now)) (sym same)
+    ∙ ap (λ (special : ℕ). objects_fault c.in_ok-file.file special) (sym c.u32_at.ensures) ∙ c.in_ok-check_objects.ensures.0 in
+    built_opens c.args.bytes.now c.in_ok-file.file c.in_ok-loaded.loaded.heap.objects c.in_ok-loaded.loaded.classes c.in_ok-loaded.loaded.roots same
+    (record {
+      objects_are = c.in_ok-loaded.ensures.objects;
+      table_is = c.in_ok-loaded.ensures.classes;
+      special = c.in_ok-loaded.ensures.special;
+      hash = c.in_ok-loaded.ensures.hash;
+      next = c.in_ok-loaded.ensures.next;
+      header = c.in_ok-loaded.ensures.header;
+    }) (header_is c.args.bytes.now c.in_ok-check_header.ensures.0).base (sound_file c.args.bytes.now c.in_ok-file.ensures.0 fine)

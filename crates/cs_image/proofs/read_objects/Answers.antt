@@ -1,6 +1,6 @@
-use Rattle.std.proofs.Common.{◌≡◌, ℕ, ◌+◌, ◌*◌, ◌/◌, ◌≤◌, List, length, ap, ◌∙◌, arith}
+use Rattle.std.proofs.Common.{◌≡◌, ◌/◌, length, ap, ◌∙◌, arith}
 use Rattle.cs_model.specs.ImageFile.{heap_size}
-use Rattle.cs_image.proofs.Faults.{IsHeader, header_is, heap_is, length-words_in}
+use Rattle.cs_image.proofs.Faults.{header_is, heap_is, length-words_in}
 use Rattle.cs_image.proofs.read_objects.Goals as goal
 
 pub cut-requires-clause-size : goal.cut-requires-clause-size

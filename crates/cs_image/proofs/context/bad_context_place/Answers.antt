@@ -1,8 +1,8 @@
-use Rattle.std.proofs.Common.{◌≡◌, ◌&&◌, not, option_map, Option, Bool, ap, sym, ◌∙◌, arith, refl}
+use Rattle.std.proofs.Common.{◌&&◌, not, option_map, ap, sym, ◌∙◌, arith, refl}
 use Rattle.cs_model.specs.ImageFile.{FileObject, visible}
 use Rattle.cs_model.specs.ImageFault.{bad_context, is_context, is_sound_context}
 use Rattle.cs_image.specs.Heap.{seen}
-use Rattle.cs_image.proofs.Scanning.{first_from, first_here, first_later, first_none}
+use Rattle.cs_image.proofs.Scanning.{first_here, first_later, first_none}
 use Rattle.cs_image.proofs.context.bad_context_place.Goals as goal
 
 pub loop-number-init : goal.loop-number-init

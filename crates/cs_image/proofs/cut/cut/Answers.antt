@@ -1,11 +1,11 @@
-use Rattle.std.proofs.Common.{◌≡◌, ◌≢◌, ℕ, ◌+◌, ◌*◌, ◌<◌, ◌≤◌, Bool, true, false, List, [], ◌∷◌, ◌++◌, Some, None, Option, option_map, length, replicate, set, ap, sym, ◌∙◌, subst, arith, rules}
+use Rattle.std.proofs.Common.{◌≡◌, ℕ, ◌+◌, true, List, [], ◌∷◌, ◌++◌, length, replicate, set, ap, sym, ◌∙◌, subst, arith, rules}
 use Rattle.cs_model.specs.ImageFault as fault
 use Rattle.cs_model.specs.ImageFault.{bad_object}
-use Rattle.cs_model.specs.ImageFile.{cut_of, end_at, File, object_from}
+use Rattle.cs_model.specs.ImageFile.{end_at, object_from}
 use Rattle.cs_model.specs.Image.{at_word}
-use Rattle.cs_image.specs.Heap.{object_of, is_faulty}
+use Rattle.cs_image.specs.Heap.{is_faulty}
 use Rattle.cs_image.specs.declared.file.Placed.{Placed}
-use Rattle.cs_image.proofs.Cutting.{IsCutTo, none_cut, next_kept, next_skipped, next_is, faulty_here, all_cut}
+use Rattle.cs_image.proofs.Cutting.{none_cut, next_kept, next_skipped, next_is, faulty_here, all_cut}
 use Rattle.cs_image.proofs.cut.cut.Goals as goal
 use Rattle.cs_image.proofs.cut.cut.Goals.{then-o-ne0+in_ok-push, else-o-ne0}
 
@@ -25,7 +25,7 @@ pub loop-at-preserved : goal.loop-at-preserved
 loop-at-preserved c =
     let o : Placed = c.in-Some.o in
     let next = next_is c.args.words.items c.deref.result.now c.deref.ensures.value c.loop-at.at o (omega arith)
-        c.in-Some.ensures.value c.in-Some.ensures.fault c.in-Some.ensures.within c.in-Some.ensures.behind c.in-Some.ensures.class c.in-Some.ensures.hash in
+    c.in-Some.ensures.value c.in-Some.ensures.fault c.in-Some.ensures.within c.in-Some.ensures.behind c.in-Some.ensures.class c.in-Some.ensures.hash in
     let end : c.end_at-at.result ≡ end_at o.place o.slots = c.end_at-at.ensures ∙ ap (end_at o.place) c.from.ensures in
     elim c.if-o-ne0.branch [
       | then-o-ne0+in_ok-push w ↦

@@ -1,4 +1,4 @@
-use Rattle.std.proofs.Common.{◌≡◌, ℕ, ◌-◌, ◌*◌, ◌/◌, ◌%◌, List, length, take, drop, length-drop, ap, sym, ◌∙◌, arith, rules, refl}
+use Rattle.std.proofs.Common.{◌≡◌, ◌-◌, ◌/◌, length, take, drop, length-drop, ap, ◌∙◌, arith, rules}
 use Rattle.cs_model.specs.ImageFile.{words_in, heap_size}
 use Rattle.cs_image.proofs.Bytes.{slice_to_end, words_read, whole_written}
 use Rattle.cs_image.proofs.header.heap_words.Goals as goal

@@ -1,4 +1,4 @@
-use Rattle.std.proofs.Common.{◌≡◌, ℕ, ◌+◌, ◌<◌, List, [], ◌∷◌, ◌++◌, length, ap, sym, subst, ◌∙◌, arith}
+use Rattle.std.proofs.Common.{◌≡◌, ℕ, ◌<◌, List, [], ◌∷◌, ◌++◌, length, ap, sym, subst, ◌∙◌, arith}
 use Rattle.cs_heap.specs.Object.{Memory, Object, is_object, new_object, slot_count_of, with_hash, with_slot}
 use Rattle.cs_image.specs.Heap.{seen}
 use Rattle.cs_image.specs.Loading.{loaded_word}
@@ -8,19 +8,19 @@ use Rattle.cs_image.proofs.memory.load_object.Goals as goal
 pub set_hash-requires-clause-object : goal.set_hash-requires-clause-object
 set_hash-requires-clause-object c =
     let added : c.allocate.new.self.objects ≡ c.args.heap.now.objects ++ fresh c.args.birth (seen c.args.o.now) ∷ [] =
-        ap (λ (m : Memory). m.objects) c.in-Ok.ensures.added
-        ∙ ap (λ p. c.args.heap.now.objects ++ new_object c.args.o.now.class p (length c.args.o.now.words.now) c.args.birth ∷ []) c.plain_format.ensures in
+    ap (λ (m : Memory). m.objects) c.in-Ok.ensures.added
+    ∙ ap (λ p. c.args.heap.now.objects ++ new_object c.args.o.now.class p (length c.args.o.now.words.now) c.args.birth ∷ []) c.plain_format.ensures in
     ap (λ (xs : List Object). is_object xs c.in-Ok.at.0) added ∙ fresh_there c.args.heap.now.objects c.args.birth (seen c.args.o.now) c.in-Ok.at.0 c.in-Ok.ensures.address
 
 pub loop-i-init : goal.loop-i-init
 loop-i-init c =
     let added : c.allocate.new.self ≡ record c.args.heap.now { objects = c.args.heap.now.objects ++ fresh c.args.birth (seen c.args.o.now) ∷ [] } =
-        c.in-Ok.ensures.added
-        ∙ ap (λ p. record c.args.heap.now { objects = c.args.heap.now.objects ++ new_object c.args.o.now.class p (length c.args.o.now.words.now) c.args.birth ∷ [] }) c.plain_format.ensures in
+    c.in-Ok.ensures.added
+    ∙ ap (λ p. record c.args.heap.now { objects = c.args.heap.now.objects ++ new_object c.args.o.now.class p (length c.args.o.now.words.now) c.args.birth ∷ [] }) c.plain_format.ensures in
     c.set_hash.ensures
     ∙ ap (λ (m : Memory). record m { objects = with_hash m.objects c.in-Ok.at.0 c.args.o.now.hash }) added
     ∙ ap (λ (xs : List Object). record c.args.heap.now { objects = xs })
-      (fresh_begun c.args.file.now c.args.heap.now.objects c.args.birth (seen c.args.o.now) c.in-Ok.at.0 c.in-Ok.ensures.address)
+    (fresh_begun c.args.file.now c.args.heap.now.objects c.args.birth (seen c.args.o.now) c.in-Ok.at.0 c.in-Ok.ensures.address)
 
 pub set_slot-requires : goal.set_slot-requires
 set_slot-requires c =
@@ -34,7 +34,7 @@ loop-i-preserved c =
     ∙ ap (λ v. record c.loop-i.heap { objects = with_slot c.loop-i.heap.objects c.in-Ok.at.0 c.loop-i.i v }) c.loaded_word.ensures
     ∙ ap (λ (m : Memory). record m { objects = with_slot m.objects c.in-Ok.at.0 c.loop-i.i (loaded_word c.args.file.now c.args.o.now.format c.args.o.now.words.now c.loop-i.i) }) c.loop-i.invariant
     ∙ ap (λ (xs : List Object). record c.args.heap.now { objects = xs })
-      (begun_more c.args.file.now c.args.heap.now.objects c.args.birth (seen c.args.o.now) c.loop-i.i c.in-Ok.at.0 c.in-Ok.ensures.address)
+    (begun_more c.args.file.now c.args.heap.now.objects c.args.birth (seen c.args.o.now) c.loop-i.i c.in-Ok.at.0 c.in-Ok.ensures.address)
 
 pub returns : goal.returns
 returns c =

@@ -1,10 +1,10 @@
-use Rattle.std.proofs.Common.{◌≡◌, ℕ, ◌+◌, ◌≤◌, true, false, List, [], ◌∷◌, ◌++◌, length, ap, sym, subst, ◌∙◌, arith}
+use Rattle.std.proofs.Common.{◌≡◌, ℕ, ◌+◌, ◌≤◌, true, false, [], ◌∷◌, ◌++◌, length, ap, sym, subst, ◌∙◌, arith}
 use Rattle.std.proofs.lemmas.Bool.Decides.{nat_tests}
 use Rattle.cs_model.specs.ImageFile.{is_visible}
-use Rattle.cs_heap.specs.Object.{Memory, Object, size, used}
+use Rattle.cs_heap.specs.Object.{Memory, size, used}
 use Rattle.cs_image.specs.Heap.{seen}
 use Rattle.cs_image.specs.Loading.{loaded}
-use Rattle.cs_image.proofs.Loadings.{IsLoadedTo, none_loaded, loaded_hidden, loaded_visible, room_left, all_loaded, next_loaded}
+use Rattle.cs_image.proofs.Loadings.{none_loaded, loaded_hidden, loaded_visible, room_left, all_loaded, next_loaded}
 use Rattle.cs_image.proofs.memory.load_objects.Goals as goal
 use Rattle.cs_image.proofs.memory.load_objects.Goals.{then-o-ne16, else-o-ne16}
 
@@ -23,23 +23,23 @@ load_object-requires-clause-room c =
 
 pub loop-number-preserved : goal.loop-number-preserved
 loop-number-preserved c = elim c.if-o-ne16.branch [
-      | then-o-ne16 w ↦
-          let visible_one : is_visible (seen c.object-o.result) ≡ true = grind (arith, nat_tests, w.if-o-ne16.true) in
-          let after : c.if-o-ne16.heap ≡ record c.loop-number.heap { objects = c.loop-number.heap.objects ++ loaded c.args.file.now c.loop-number.birth (seen c.object-o.result) ∷ [] } =
-              w.heap-is ∙ w.load_object.ensures in
-          record {
-            limit = ap (λ (m : Memory). m.limit) after ∙ c.loop-number.invariant.limit;
-            objects = rw (ap (λ (m : Memory). m.objects) after, w.birth-is) (loaded_visible c.args.file.now c.loop-number.heap.objects c.loop-number.birth c.loop-number.number
-                (seen c.object-o.result) c.loop-number.invariant.objects c.object-o.ensures.value visible_one);
-          }
-      | else-o-ne16 w ↦
-          let hidden : is_visible (seen c.object-o.result) ≡ false = grind (arith, nat_tests, w.if-o-ne16.false) in
-          record {
-            limit = ap (λ (m : Memory). m.limit) w.heap-is ∙ c.loop-number.invariant.limit;
-            objects = rw (w.heap-is, w.birth-is) (loaded_hidden c.args.file.now c.loop-number.heap.objects c.loop-number.birth c.loop-number.number
-                (seen c.object-o.result) c.loop-number.invariant.objects c.object-o.ensures.value hidden);
-          }
-    ]
+  | then-o-ne16 w ↦
+      let visible_one : is_visible (seen c.object-o.result) ≡ true = grind (arith, nat_tests, w.if-o-ne16.true) in
+      let after : c.if-o-ne16.heap ≡ record c.loop-number.heap { objects = c.loop-number.heap.objects ++ loaded c.args.file.now c.loop-number.birth (seen c.object-o.result) ∷ [] } =
+      w.heap-is ∙ w.load_object.ensures in
+      record {
+        limit = ap (λ (m : Memory). m.limit) after ∙ c.loop-number.invariant.limit;
+        objects = rw (ap (λ (m : Memory). m.objects) after, w.birth-is) (loaded_visible c.args.file.now c.loop-number.heap.objects c.loop-number.birth c.loop-number.number
+            (seen c.object-o.result) c.loop-number.invariant.objects c.object-o.ensures.value visible_one);
+      }
+  | else-o-ne16 w ↦
+      let hidden : is_visible (seen c.object-o.result) ≡ false = grind (arith, nat_tests, w.if-o-ne16.false) in
+      record {
+        limit = ap (λ (m : Memory). m.limit) w.heap-is ∙ c.loop-number.invariant.limit;
+        objects = rw (w.heap-is, w.birth-is) (loaded_hidden c.args.file.now c.loop-number.heap.objects c.loop-number.birth c.loop-number.number
+            (seen c.object-o.result) c.loop-number.invariant.objects c.object-o.ensures.value hidden);
+      }
+]
 
 pub returns-clause-objects : goal.returns-clause-objects
 returns-clause-objects c =

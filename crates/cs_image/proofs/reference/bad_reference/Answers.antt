@@ -1,4 +1,4 @@
-use Rattle.std.proofs.Common.{◌≡◌, sym, ◌∙◌, arith, refl}
+use Rattle.std.proofs.Common.{sym, ◌∙◌, arith, refl}
 use Rattle.cs_model.specs.ImageFile.{visible}
 use Rattle.cs_model.specs.ImageFault.{bad_ref}
 use Rattle.cs_image.specs.Heap.{seen}

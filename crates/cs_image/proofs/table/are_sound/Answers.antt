@@ -1,4 +1,4 @@
-use Rattle.std.proofs.Common.{◌≡◌, ℕ, ◌<◌, true, ap, sym, ◌∙◌, arith}
+use Rattle.std.proofs.Common.{◌≡◌, ◌<◌, ap, sym, ◌∙◌, arith}
 use Rattle.cs_model.specs.ImageFault.{all_below, is_sound_entry, table_size}
 use Rattle.cs_image.proofs.Below.{table_size_is, all_below_more, all_below_fails}
 use Rattle.cs_image.proofs.table.are_sound.Goals as goal

@@ -1,0 +1,12 @@
+//! The program's top call: what its words say, and the report that it prints.
+#![tactic(auto)]
+
+mod line;
+mod report;
+#[cfg(test)]
+mod test_images;
+#[cfg(test)]
+mod tests;
+mod top;
+
+pub use top::cogstack;

@@ -1,0 +1,113 @@
+//! The report of a run: one line feed and one line.
+//!
+//! The line is the word of the ending, for a stop also its reason, and then
+//! `steps=S process=P context=C pc=Q`. The words and names are this machine's own.
+
+ghost use Rattle.std.specs.Prelude.{◌≡◌, ◌≤◌, ◌+◌, ◌++◌, length};
+ghost use Rattle.arrayvec.specs.ArrayString.{array_string_len};
+ghost use Rattle.cs_model.specs.Report.{ending_text, line_of, number_text, reason_text};
+ghost use Rattle.cs_cli.specs.Meaning.{ending_of, place_of};
+
+use arrayvec::ArrayString;
+use cs_model::Stop;
+use itoa::Buffer;
+
+/// Bytes that hold every report: 31 of its own words, 21 of an ending and its reason, and four
+/// numbers of at most 20 digits.
+pub const LONGEST_REPORT: usize = 132;
+
+/// How a run ends.
+#[derive(Clone, Copy, PartialEq, Eq, Debug)]
+pub enum Ending {
+    /// The steps that were asked for are done.
+    Steps,
+    /// The image quits.
+    Quit,
+    /// No process is active and no event is left.
+    Idle,
+    /// A step stops, and the run stands before it.
+    Stopped(Stop),
+}
+
+/// Where a run stands.
+///
+/// All three are `None` where no process is active.
+#[derive(Clone, Copy, PartialEq, Eq, Debug)]
+pub struct Place {
+    /// The birth of the active process.
+    pub process: Option<u64>,
+    /// The birth of the active context.
+    pub context: Option<u64>,
+    /// The active context's pc, which counts the bytes of its method from 1 on, header and literals too.
+    pub pc: Option<u32>,
+}
+
+/// The text of the report: how a run ended, how many bytecodes it completed, and where it stands.
+///
+/// It takes no memory.
+pub fn report(ending: Ending, steps: u64, place: &Place) -> ArrayString<LONGEST_REPORT>
+    ensures { result.bytes ≡ line_of (ending_of ending) steps (place_of place.now) }
+{
+    let mut text = ArrayString::new();
+    text.push_str("\n");
+    push_ending(&mut text, ending);
+    push_field(&mut text, " steps=", Some(steps));
+    push_field(&mut text, " process=", place.process);
+    push_field(&mut text, " context=", place.context);
+    push_field(&mut text, " pc=", place.pc.map(u64::from));
+    text.push_str("\n");
+    text
+}
+
+/// Appends the word of an ending, and the reason of a stop.
+fn push_ending(text: &mut ArrayString<LONGEST_REPORT>, ending: Ending)
+    requires room { array_string_len text.old + 21 ≤ LONGEST_REPORT }
+    ensures text { text.new.bytes ≡ text.old.bytes ++ ending_text (ending_of ending) }
+    ensures within { array_string_len text.new ≤ array_string_len text.old + 21 }
+{
+    match ending {
+        Ending::Steps => text.push_str("Steps"),
+        Ending::Quit => text.push_str("Quit"),
+        Ending::Idle => text.push_str("Idle"),
+        Ending::Stopped(reason) => {
+            text.push_str("Stopped ");
+            text.push_str(reason_name(reason));
+        }
+    }
+}
+
+/// Appends the name of a number, and the number in decimal, or `-` where there is none.
+fn push_field(text: &mut ArrayString<LONGEST_REPORT>, name: &str, number: Option<u64>)
+    requires room { array_string_len text.old + length name.now + 20 ≤ LONGEST_REPORT }
+    ensures text { text.new.bytes ≡ text.old.bytes ++ name.now ++ number_text number }
+    ensures within { array_string_len text.new ≤ array_string_len text.old + length name.now + 20 }
+{
+    text.push_str(name);
+    match number {
+        Some(number) => text.push_str(Buffer::new().format(number)),
+        None => text.push_str("-"),
+    }
+}
+
+/// The name of a reason to stop, as reports print it.
+fn reason_name(reason: Stop) -> &'static str
+    ensures name { result.now ≡ reason_text reason }
+    ensures short { length result.now ≤ 13 }
+{
+    match reason {
+        Stop::BadCode => "BadCode",
+        Stop::BadLiteral => "BadLiteral",
+        Stop::BadField => "BadField",
+        Stop::BadStore => "BadStore",
+        Stop::StackUnder => "StackUnder",
+        Stop::StackOver => "StackOver",
+        Stop::BadArgs => "BadArgs",
+        Stop::BadSpecial => "BadSpecial",
+        Stop::BadProcess => "BadProcess",
+        Stop::NotUnderstood => "NotUnderstood",
+        Stop::ClassLoop => "ClassLoop",
+        Stop::ChainTooLong => "ChainTooLong",
+        Stop::BirthLimit => "BirthLimit",
+        Stop::NotBuilt => "NotBuilt",
+    }
+}

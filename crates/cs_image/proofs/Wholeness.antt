@@ -1,0 +1,476 @@
+-- The memory of a file without faults is sound.
+use Rattle.std.proofs.Common.{◌≡◌, ◌≢◌, ℕ, zero, suc, ◌+◌, ◌*◌, ◌-◌, ◌/◌, ◌%◌, ◌<◌, ◌≤◌, ◌==◌, ◌||◌, ◌⊎◌, inl, inr, ltb, leb, Bool, true, false, cond, not, List, [], ◌∷◌, length, map, take, drop, filter, get_or, Option, Some, None, refl, ap, sym, subst, ◌∙◌, arith, slice_get, slice_index, option_map, is_some, unwrap_or, nat_cmp}
+use Rattle.std.specs.Option.{option_map_or}
+use Rattle.std.specs.List.{find, AllPass}
+use Rattle.std.specs.Cmp.{nat_cmp_total}
+use Rattle.std.specs.Ordering.{eq_by_cmp}
+use Rattle.std.specs.FinMap.{FinMap, get, get-empty, get-insert, insert}
+use Rattle.std.proofs.lemmas.Bool.Decides.{nat_tests, eqb_tells}
+use Rattle.std.proofs.lemmas.List.{get_or-map, length-map, length-take}
+use Rattle.std.proofs.lemmas.Option.{slice_get_past, slice_get_within}
+use Rattle.cs_model.specs.Obj.{context_class, context_fields, literal_count, is_header}
+use Rattle.cs_model.specs.Words.{is_pointer_format, is_method_format, has_shape, plain_format, natural_in_word, header_in_words, literals_in_words, stackp_in_words, unused_bytes}
+use Rattle.cs_model.specs.ImageFile.{FileObject, File, file_of, old_base, special_address, is_visible, visible, is_nil, nil_in, named, names, address_in}
+use Rattle.cs_model.specs.ImageFault.{entry_in, has_entry, page_words, table_size, bad_class, is_pc_of, is_stackp, is_method}
+use Rattle.cs_heap.specs.Object.{Object, address_among, address_of, base, header_address, is_object}
+use Rattle.cs_heap.specs.Format.{format_allows}
+use Rattle.cs_classes.specs.Meaning.{count_of, depth_in, header_in}
+use Rattle.cs_classes.specs.Sound.{is_reference, nil_of, references_in, IsSoundContext, IsSoundMethod, IsSoundObject, IsWhole}
+use Rattle.cs_classes.specs.declared.Roots.{Roots}
+use Rattle.cs_classes.proofs.Tables.{ties_same, ties_other}
+use Rattle.cs_image.specs.Loading.{address_named, classes_at, loaded, loaded_from, number_of, translated}
+use Rattle.cs_image.proofs.Below.{table_size_is}
+use Rattle.cs_image.proofs.Describing.{IsBuilt, built_roots}
+use Rattle.cs_image.proofs.Naming.{Stands, stands_named, stands_there, slice_get-loaded_from, slot_counts-loaded_from, length-loaded_from}
+use Rattle.cs_image.proofs.Wording.{memory_of, is_reference_translated, count_same, count_translated, loaded_words, length-loaded_words, words_pointers, method_head, method_literals, natural_even}
+use Rattle.cs_image.proofs.Elements.{IsFine, NoneLost, header_loaded, plain_others}
+use Rattle.cs_image.proofs.Soundness.{IsSoundFile, Table, table_parts, Firsts, firsts, visible_three, and_true, not_true, not_false, find_none_at, map_none, formed_at, fine_at, context_at, method_body_at, seven, entry_stands, special_stands}
+
+-- ---- objects by place
+
+pub record LoadedAt (f : File) (j : ℕ) (x : Object) : Type 0 where
+  pub o : FileObject
+  pub there : slice_get (visible f) j ≡ Some o
+  pub is : loaded f j o ≡ x
+
+pub loaded_at : (f : File) (j : ℕ) (x : Object) → slice_get (memory_of f) j ≡ Some x → LoadedAt f j x
+loaded_at f j x e = go (slice_get (visible f) j) refl (sym (slice_get-loaded_from f 0 (visible f) j) ∙ e)
+  where
+    go : (r : Option FileObject) → slice_get (visible f) j ≡ r → option_map (λ o. loaded f (0 + j) o) r ≡ Some x → LoadedAt f j x
+    go None er h = absurd (cc)
+    go (Some o) er h = let same : loaded f (0 + j) o ≡ x = cc in let place : j ≡ 0 + j = omega arith in record { o = o; there = er; is = ap (λ n. loaded f n o) place ∙ same }
+
+-- ---- nil
+
+nil_named : (f : File) (s : Firsts f) → named f (nil_in f) ≡ Some s.nil
+unfolding named
+nil_named f s =
+    let here : nil_in f ≡ address_in f s.nil = ap (λ (os : List FileObject). option_map_or (address_in f) (slice_get os 0) 0) s.objects in
+    let p : (address_in f s.nil == nil_in f) ≡ true = same_test _ _ (sym here) in
+    ap (find (λ o. address_in f o == nil_in f)) s.objects ∙ rw p refl
+  where
+    same_test : (a b : ℕ) → a ≡ b → (a == b) ≡ true
+    same_test a b e = grind (arith, nat_tests, e)
+
+nil_visible : (f : File) (s : Firsts f) → is_visible s.nil ≡ true
+nil_visible f s = (and_true (is_visible s.nil) (s.nil.format == 0) s.oddball).0
+
+visible_begins : (f : File) (s : Firsts f) → visible f ≡ s.nil ∷ filter is_visible s.rest
+unfolding visible
+visible_begins f s = ap (filter is_visible) s.objects ∙ rw (nil_visible f s) refl
+
+pub nil_stands : (f : File) (s : Firsts f) → Stands f (nil_in f)
+nil_stands f s = stands_named f (nil_in f) s.nil (nil_named f s) (nil_visible f s)
+
+pub nil_number : (f : File) (s : Firsts f) → (nil_stands f s).j ≡ 0
+nil_number f s = first (nil_stands f s).j (sym (nil_stands f s).number ∙ ap (number_of (λ o. address_in f o == nil_in f)) (visible_begins f s) ∙ rw p refl)
+  where
+    here : nil_in f ≡ address_in f s.nil
+    here = ap (λ (os : List FileObject). option_map_or (address_in f) (slice_get os 0) 0) s.objects
+
+    same_test : (a b : ℕ) → a ≡ b → (a == b) ≡ true
+    same_test a b e = grind (arith, nat_tests, e)
+
+    p : (address_in f s.nil == nil_in f) ≡ true
+    p = same_test _ _ (sym here)
+
+    first : (j : ℕ) → Some j ≡ Some 0 → j ≡ 0
+    first j e = cc
+
+pub nil_of-memory : (f : File) (s : Firsts f) → nil_of (memory_of f) ≡ address_named f (nil_in f)
+nil_of-memory f s = ap (λ (r : Option ℕ). unwrap_or r 0) (ap (address_of (memory_of f)) (sym (nil_number f s)) ∙ (nil_stands f s).at)
+
+pub nil_of-base : (f : File) (s : Firsts f) → length s.nil.words ≡ 0 → nil_of (memory_of f) ≡ base
+unfolding address_among
+nil_of-base f s none = ap (λ (ns : List ℕ). unwrap_or (address_among ns base 0) 0) (slot_counts-loaded_from f 0 (visible f) ∙ ap (map (λ o. length o.words)) (visible_begins f s))
+    ∙ ap (header_address base) none
+
+pub nil_aligned : (f : File) → f.base % 4 ≡ 0 → (s : Firsts f) → nil_in f % 4 ≡ 0
+nil_aligned f aligned s =
+    let here : nil_in f ≡ f.base + 4 * s.nil.place = ap (λ (os : List FileObject). option_map_or (address_in f) (slice_get os 0) 0) s.objects in
+    omega (arith, here, aligned)
+
+pub translated_nil : (f : File) → f.base % 4 ≡ 0 → (s : Firsts f) → translated f (nil_in f) ≡ nil_of (memory_of f)
+translated_nil f aligned s =
+    let z : (nil_in f % 4 == 0) ≡ true = zero_test _ (nil_aligned f aligned s) in
+    let t : translated f (nil_in f) ≡ address_named f (nil_in f) = rw z refl in
+    t ∙ sym (nil_of-memory f s)
+  where
+    zero_test : (n : ℕ) → n ≡ 0 → (n == 0) ≡ true
+    zero_test n e = grind (arith, nat_tests, e)
+
+-- ---- an object
+
+passes_map : (f : File) (ws : List ℕ) → NoneLost f ws → AllPass (is_reference (memory_of f)) (map (translated f) ws)
+passes_map f ws fine k d h =
+    let inside : k < length ws = omega (arith, h, length-map ws (translated f)) in
+    ap (is_reference (memory_of f)) (get_or-map (translated f) ws k 0 d inside) ∙ is_reference_translated f (get_or ws k 0) (fine k inside)
+
+passes_along : (f : File) (xs ys : List ℕ) → xs ≡ ys → AllPass (is_reference (memory_of f)) ys → AllPass (is_reference (memory_of f)) xs
+passes_along f xs ys e h = let P : List ℕ → Type 0 = AllPass (is_reference (memory_of f)) in subst P (sym e) h
+
+shape_plain : (format n : ℕ) → has_shape format n ≡ true → format_allows (plain_format format) n ≡ true
+shape_plain format n h = elim (eqb_tells format 4) [
+  | inl four ↦ rw four.0 refl
+  | inr other ↦ elim (eqb_tells format 5) [
+    | inl five ↦ rw (other.0, five.0) refl
+    | inr another ↦ rw (other.0, another.0) h
+  ]
+]
+
+or_cases : (a b : Bool) → (a || b) ≡ true → (a ≡ true) ⊎ (b ≡ true)
+or_cases true b h = inl refl
+or_cases false b h = inr h
+
+or_left : (a b : Bool) → a ≡ true → (a || b) ≡ true
+or_left a b h = rw h refl
+
+or_right : (a b : Bool) → b ≡ true → (a || b) ≡ true
+or_right true b h = refl
+or_right false b h = h
+
+equal : (a b : ℕ) → (a == b) ≡ true → a ≡ b
+equal a b h = grind (arith, nat_tests, h)
+
+same_test : (a b : ℕ) → a ≡ b → (a == b) ≡ true
+same_test a b e = grind (arith, nat_tests, e)
+
+-- a field that is nil or a number that isn't negative
+nil_or_count : (f : File) → f.base % 4 ≡ 0 → (s : Firsts f) → (w : ℕ) → (is_nil f w ≡ true) ⊎ (is_some (natural_in_word w) ≡ true)
+    → (translated f w == nil_of (memory_of f) || is_some (count_of (translated f w))) ≡ true
+nil_or_count f aligned s w (inl h) =
+    let e : w ≡ nil_in f = equal w (nil_in f) h in
+    or_left _ _ (same_test _ _ (ap (translated f) e ∙ translated_nil f aligned s))
+nil_or_count f aligned s w (inr h) = or_right _ _ (ap is_some (count_translated f w) ∙ h)
+
+pc_some : (f : File) (w m : ℕ) → names f (is_pc_of w) m ≡ true → is_some (natural_in_word w) ≡ true
+pc_some f w m h = go (named f m) h
+  where
+    some_if : (g : ℕ → Bool) (r : Option ℕ) → option_map_or g r false ≡ true → is_some r ≡ true
+    some_if g None h = absurd (cc)
+    some_if g (Some n) h = refl
+
+    go : (r : Option FileObject) → option_map_or (is_pc_of w) r false ≡ true → is_some (natural_in_word w) ≡ true
+    go None h = absurd (cc)
+    go (Some o) h = some_if _ (natural_in_word w) (and_true (is_method o) _ h).1
+
+stackp_some : (size w : ℕ) → is_stackp size w ≡ true → is_some (natural_in_word w) ≡ true
+stackp_some size w h = go (natural_in_word w) h
+  where
+    go : (r : Option ℕ) → option_map_or (λ n. leb n size) r false ≡ true → is_some r ≡ true
+    go None h = absurd (cc)
+    go (Some n) h = refl
+
+stackp_within : (size w : ℕ) → is_stackp size w ≡ true → unwrap_or (natural_in_word w) 0 ≤ size
+stackp_within size w h = go (natural_in_word w) h
+  where
+    below : (n : ℕ) → leb n size ≡ true → n ≤ size
+    below n h = grind (arith, nat_tests, h)
+
+    go : (r : Option ℕ) → option_map_or (λ n. leb n size) r false ≡ true → unwrap_or r 0 ≤ size
+    go None h = omega arith
+    go (Some n) h = below n h
+
+-- what is needed of a file beside its faults
+pub record Ground (f : File) (special : ℕ) : Type 0 where
+  pub sound : IsSoundFile f special
+  pub aligned : f.base % 4 ≡ 0
+  pub table : Table f
+  pub first : Firsts f
+
+record ContextFacts (f : File) (o : FileObject) : Type 0 where
+  three : o.format ≡ 3
+  long : 6 ≤ length o.words
+  slots : (length o.words == 22 || length o.words == 62) ≡ true
+  pc : (is_nil f (get_or o.words 1 0) ≡ true) ⊎ (is_some (natural_in_word (get_or o.words 1 0)) ≡ true)
+  stackp : (is_nil f (get_or o.words 2 0) ≡ true) ⊎ (is_some (natural_in_word (get_or o.words 2 0)) ≡ true)
+  depth : stackp_in_words o.words ≤ length o.words - context_fields
+
+either : {A B C : Type 0} → A ⊎ B → (B → C) → A ⊎ C
+either (inl a) g = inl a
+either (inr b) g = inr (g b)
+
+depth_within : (f : File) (special : ℕ) (o : FileObject) → Ground f special
+    → (is_nil f (get_or o.words 2 0) ≡ true) ⊎ (is_stackp (length o.words - context_fields) (get_or o.words 2 0) ≡ true) → stackp_in_words o.words ≤ length o.words - context_fields
+depth_within f special o g (inr h) = stackp_within (length o.words - context_fields) (get_or o.words 2 0) h
+depth_within f special o g (inl h) =
+    let e : get_or o.words 2 0 ≡ nil_in f = equal (get_or o.words 2 0) (nil_in f) h in
+    let even : get_or o.words 2 0 % 2 ≡ 0 = (let a = nil_aligned f g.aligned g.first in omega (arith, e, a)) in
+    let none : stackp_in_words o.words ≡ 0 = ap (λ (r : Option ℕ). unwrap_or r 0) (natural_even (get_or o.words 2 0) even) in
+    omega (arith, none)
+
+context_facts : (f : File) (special j : ℕ) (o : FileObject) → Ground f special → slice_get (visible f) j ≡ Some o → (o.class == context_class) ≡ true → ContextFacts f o
+context_facts f special j o g e h =
+    let parts = seven _ _ _ _ _ _ _ (context_at f special j o g.sound e h) in
+    let fine = (fine_at f special j o g.sound e).context h in
+    record {
+      three = fine.0;
+      long = fine.1;
+      slots = parts.slots;
+      pc = either (or_cases _ _ parts.pc) (pc_some f (get_or o.words 1 0) (get_or o.words 3 0));
+      stackp = either (or_cases _ _ parts.stackp) (stackp_some (length o.words - context_fields) (get_or o.words 2 0));
+      depth = depth_within f special o g (or_cases _ _ parts.stackp);
+    }
+
+context_sound : (f : File) (special j : ℕ) (o : FileObject) → Ground f special → ContextFacts f o → IsSoundContext (memory_of f) (loaded f j o)
+context_sound f special j o g c = record {
+  format = ap plain_format c.three;
+  slots = ap (λ n. n == 22 || n == 62) (length-loaded_words f o.format o.words) ∙ c.slots;
+  pc = at 1 (omega (arith, c.long)) c.pc;
+  stackp = at 2 (omega (arith, c.long)) c.stackp;
+  depth =
+      let d : depth_in (loaded_words f o.format o.words) ≡ stackp_in_words o.words = ap (λ (r : Option ℕ). unwrap_or r 0) (ap count_of (read 2 (omega (arith, c.long))) ∙ count_translated f (get_or o.words 2 0)) in
+      let w = c.depth in
+      let l = length-loaded_words f o.format o.words in
+      omega (arith, d, w, l);
+}
+  where
+    words : loaded_words f o.format o.words ≡ map (translated f) o.words
+    words = words_pointers f o.format o.words (ap is_pointer_format c.three)
+
+    read : (k : ℕ) → k < length o.words → get_or (loaded_words f o.format o.words) k 0 ≡ translated f (get_or o.words k 0)
+    read k h = ap (λ (ws : List ℕ). get_or ws k 0) words ∙ get_or-map (translated f) o.words k 0 0 h
+
+    at : (k : ℕ) → k < length o.words → (is_nil f (get_or o.words k 0) ≡ true) ⊎ (is_some (natural_in_word (get_or o.words k 0)) ≡ true)
+        → (get_or (loaded_words f o.format o.words) k 0 == nil_of (memory_of f) || is_some (count_of (get_or (loaded_words f o.format o.words) k 0))) ≡ true
+    at k h d = ap (λ w. w == nil_of (memory_of f) || is_some (count_of w)) (read k h) ∙ nil_or_count f g.aligned g.first (get_or o.words k 0) d
+
+header_known : (r : Option ℕ) → option_map_or is_header r false ≡ true → r ≡ Some (unwrap_or r 0)
+header_known None h = absurd (cc)
+header_known (Some n) h = refl
+
+header_valid : (r : Option ℕ) → option_map_or is_header r false ≡ true → is_header (unwrap_or r 0) ≡ true
+header_valid None h = absurd (cc)
+header_valid (Some n) h = h
+
+method_from : (f : File) (j : ℕ) (o : FileObject) → is_pointer_format o.format ≡ false → option_map_or is_header (natural_in_word (slice_index o.words 0)) false ≡ true
+    → literal_count (header_in_words o.words) + (cond (ltb 0 (unused_bytes o.format)) 1 0) < length o.words → IsSoundMethod (loaded f j o)
+method_from f j o p known fits =
+    let header : header_in (loaded_words f o.format o.words) ≡ header_in_words o.words = header_loaded f j o p (omega (arith, fits)) in
+    let l = length-loaded_words f o.format o.words in
+    let Q : ℕ → Type 0 = λ h. literal_count h + (cond (ltb 0 (unused_bytes o.format)) 1 0) < length o.words in
+    let R : ℕ → Type 0 = λ n. literal_count (header_in (loaded_words f o.format o.words)) + (cond (ltb 0 (unused_bytes o.format)) 1 0) < n in
+    let S : ℕ → Type 0 = λ u. literal_count (header_in (loaded_words f o.format o.words)) + (cond (ltb 0 (unused_bytes u)) 1 0) < length (loaded_words f o.format o.words) in
+    record {
+      header = ap count_of (method_head f o.format o.words p (omega (arith, fits))) ∙ count_same (get_or o.words 0 0) ∙ header_known (natural_in_word (get_or o.words 0 0)) known ∙ ap Some (sym header);
+      valid = ap is_header header ∙ header_valid (natural_in_word (get_or o.words 0 0)) known;
+      literals = subst S (sym (plain_others o.format p)) (subst R (sym l) (subst Q (sym header) fits));
+    }
+
+method_sound : (f : File) (special j : ℕ) (o : FileObject) → Ground f special → slice_get (visible f) j ≡ Some o → is_pointer_format o.format ≡ false → is_method_format o.format ≡ true → IsSoundMethod (loaded f j o)
+method_sound f special j o g e p m =
+    let body = and_true (option_map_or is_header (natural_in_word (slice_index o.words 0)) false) _ (method_body_at f special j o g.sound e m) in
+    method_from f j o p body.0 (less (literal_count (header_in_words o.words) + (cond (ltb 0 (unused_bytes o.format)) 1 0)) (length o.words) body.1)
+  where
+    less : (a b : ℕ) → ltb a b ≡ true → a < b
+    less a b h = grind (arith, nat_tests, h)
+
+-- formats stay what they are
+plain_pointer : (format : ℕ) → is_pointer_format (plain_format format) ≡ is_pointer_format format
+plain_pointer format = elim (eqb_tells format 4) [
+  | inl four ↦ ap (λ n. is_pointer_format (plain_format n)) four.1 ∙ ap is_pointer_format (sym four.1)
+  | inr other ↦ elim (eqb_tells format 5) [
+    | inl five ↦ ap (λ n. is_pointer_format (plain_format n)) five.1 ∙ ap is_pointer_format (sym five.1)
+    | inr another ↦ rw (other.0, another.0) refl
+  ]
+]
+
+plain_method : (format : ℕ) → is_method_format (plain_format format) ≡ is_method_format format
+plain_method format = elim (eqb_tells format 4) [
+  | inl four ↦ ap (λ n. is_method_format (plain_format n)) four.1 ∙ ap is_method_format (sym four.1)
+  | inr other ↦ elim (eqb_tells format 5) [
+    | inl five ↦ ap (λ n. is_method_format (plain_format n)) five.1 ∙ ap is_method_format (sym five.1)
+    | inr another ↦ rw (other.0, another.0) refl
+  ]
+]
+
+method_is_other : (format : ℕ) → is_method_format format ≡ true → is_pointer_format format ≡ false
+method_is_other format h = grind (arith, nat_tests, h)
+
+references_sound : (f : File) (j : ℕ) (o : FileObject) → IsFine f o → AllPass (is_reference (memory_of f)) (references_in (loaded f j o))
+references_sound f j o fine = go (is_pointer_format o.format) (is_method_format o.format) refl refl
+  where
+    go : (b c : Bool) → is_pointer_format o.format ≡ b → is_method_format o.format ≡ c → AllPass (is_reference (memory_of f)) (references_in (loaded f j o))
+    go true c eb ec =
+        let is : references_in (loaded f j o) ≡ map (translated f) o.words = rw (plain_pointer o.format, eb) (words_pointers f o.format o.words eb) in
+        passes_along f _ _ is (passes_map f o.words (fine.pointers eb))
+    go false true eb ec =
+        let m = (fine.method eb ec).0 in
+        let some_words : 0 < length o.words = (let fits = m.fits in omega (arith, fits)) in
+        let header = header_loaded f j o eb some_words in
+        let is : references_in (loaded f j o) ≡ map (translated f) (literals_in_words o.words) =
+        rw (plain_pointer o.format, eb, plain_method o.format, ec) (ap (λ h. take (literal_count h) (drop 1 (loaded_words f o.format o.words))) header ∙ method_literals f o.format o.words m) in
+        passes_along f _ _ is (passes_map f (literals_in_words o.words) (fine.method eb ec).1)
+    go false false eb ec =
+        let is : references_in (loaded f j o) ≡ [] = rw (plain_pointer o.format, eb, plain_method o.format, ec) refl in
+        passes_along f _ _ is (λ k d h. absurd (omega (arith, h)))
+
+object_sound : (f : File) (special j : ℕ) (o : FileObject) → Ground f special → slice_get (visible f) j ≡ Some o → IsSoundObject (memory_of f) (loaded f j o)
+object_sound f special j o g e = record {
+  shape = ap (format_allows (plain_format o.format)) (length-loaded_words f o.format o.words)
+      ∙ shape_plain o.format (length o.words) (and_true (has_shape o.format (length o.words)) _ (formed_at f special j o g.sound e)).0;
+  references = references_sound f j o (fine_at f special j o g.sound e);
+  context = λ h. context_sound f special j o g (context_facts f special j o g e h);
+  method = λ h. let m : is_method_format o.format ≡ true = sym (plain_method o.format) ∙ h in method_sound f special j o g e (method_is_other o.format m) m;
+}
+
+-- ---- the class table
+
+get_filled : (f : File) (n i : ℕ) → i < n → is_nil f (entry_in f i) ≡ false → get (classes_at f n) i ≡ Some (address_named f (entry_in f i))
+get_filled f zero i h e = absurd (omega (arith, h))
+get_filled f (suc n) i h e = go (is_nil f (entry_in f n)) refl (λ (below : i < n). get_filled f n i below e) (eqb_tells i n)
+  where
+    go : (b : Bool) → is_nil f (entry_in f n) ≡ b → (i < n → get (classes_at f n) i ≡ Some (address_named f (entry_in f i))) → ((i == n) ≡ true) × (i ≡ n) ⊎ ((i == n) ≡ false) × (i ≢ n) → get (classes_at f (suc n)) i ≡ Some (address_named f (entry_in f i))
+    go true en rest (inl same) = let wrong : true ≡ false = sym en ∙ ap (λ k. is_nil f (entry_in f k)) (sym same.1) ∙ e in absurd (cc)
+    go true en rest (inr other) = rw en (rest (omega (arith, h, other.1)))
+    go false en rest (inl same) = rw en (get-insert nat_cmp_total (classes_at f n) n (address_named f (entry_in f n)) i
+        ∙ ap (λ k. cond (eq_by_cmp nat_cmp k n) (Some (address_named f (entry_in f n))) (get (classes_at f n) k)) same.1
+        ∙ ap (λ b. cond b (Some (address_named f (entry_in f n))) (get (classes_at f n) n)) (ties_same n)
+        ∙ ap (λ k. Some (address_named f (entry_in f k))) (sym same.1))
+    go false en rest (inr other) = rw en (get-insert nat_cmp_total (classes_at f n) n (address_named f (entry_in f n)) i
+        ∙ ap (λ b. cond b (Some (address_named f (entry_in f n))) (get (classes_at f n) i)) (ties_other i n other.1)
+        ∙ rest (omega (arith, h, other.1)))
+
+-- what the table has comes from an entry
+record FromEntry (f : File) (n i a : ℕ) : Type 0 where
+  below : i < n
+  filled : is_nil f (entry_in f i) ≡ false
+  address : a ≡ address_named f (entry_in f i)
+
+some_same : (a b : ℕ) → Some a ≡ Some b → a ≡ b
+some_same a b e = cc
+
+from_entry : (f : File) (n i a : ℕ) → get (classes_at f n) i ≡ Some a → FromEntry f n i a
+from_entry f zero i a h = let none = get-empty {X = ℕ} nat_cmp i in absurd (cc (sym none ∙ h))
+from_entry f (suc n) i a h = go (is_nil f (entry_in f n)) refl (from_entry f n i a) (eqb_tells i n)
+  where
+    later : FromEntry f n i a → FromEntry f (suc n) i a
+    later r = record { below = (let b = r.below in omega (arith, b)); filled = r.filled; address = r.address }
+
+    go : (b : Bool) → is_nil f (entry_in f n) ≡ b → (get (classes_at f n) i ≡ Some a → FromEntry f n i a) → ((i == n) ≡ true) × (i ≡ n) ⊎ ((i == n) ≡ false) × (i ≢ n) → FromEntry f (suc n) i a
+    go true en rest c =
+        let here : classes_at f (suc n) ≡ classes_at f n = rw en refl in
+        later (rest (ap (λ (m : FinMap nat_cmp ℕ). get m i) (sym here) ∙ h))
+    go false en rest (inl same) =
+        let here : classes_at f (suc n) ≡ insert (classes_at f n) n (address_named f (entry_in f n)) = rw en refl in
+        let got : get (classes_at f (suc n)) i ≡ Some (address_named f (entry_in f n)) = ap (λ (m : FinMap nat_cmp ℕ). get m i) here
+        ∙ get-insert nat_cmp_total (classes_at f n) n (address_named f (entry_in f n)) i
+        ∙ ap (λ k. cond (eq_by_cmp nat_cmp k n) (Some (address_named f (entry_in f n))) (get (classes_at f n) k)) same.1
+        ∙ ap (λ b. cond b (Some (address_named f (entry_in f n))) (get (classes_at f n) n)) (ties_same n) in
+        record {
+          below = (let s = same.1 in omega (arith, s));
+          filled = ap (λ k. is_nil f (entry_in f k)) same.1 ∙ en;
+          address = let it : a ≡ address_named f (entry_in f n) = some_same _ _ (sym h ∙ got) in it ∙ ap (λ k. address_named f (entry_in f k)) (sym same.1);
+        }
+    go false en rest (inr other) =
+        let here : classes_at f (suc n) ≡ insert (classes_at f n) n (address_named f (entry_in f n)) = rw en refl in
+        let got : get (classes_at f (suc n)) i ≡ get (classes_at f n) i = ap (λ (m : FinMap nat_cmp ℕ). get m i) here
+        ∙ get-insert nat_cmp_total (classes_at f n) n (address_named f (entry_in f n)) i
+        ∙ ap (λ b. cond b (Some (address_named f (entry_in f n))) (get (classes_at f n) i)) (ties_other i n other.1) in
+        later (rest (sym got ∙ h))
+
+-- an entry that is filled is one of the table
+entry_below : (f : File) (i : ℕ) → is_nil f (entry_in f i) ≡ false → i < table_size
+unfolding entry_in
+entry_below f i e = elim (bounded i) [ inl h ↦ h | inr h ↦ absurd (past h) ]
+  where
+    bounded : (i : ℕ) → (i < table_size) ⊎ (16384 ≤ i)
+    bounded i = go (ltb i 16384) refl
+      where
+        go : (b : Bool) → ltb i 16384 ≡ b → (i < table_size) ⊎ (16384 ≤ i)
+        go true h = inl (let l : i < 16384 = grind (arith, nat_tests, h) in let s = table_size_is in omega (arith, l, s))
+        go false h = inr (grind (arith, nat_tests, h))
+
+    few : (r : Option FileObject) → length (option_map_or (λ root. take 16 root.words) r []) ≤ 16
+    few None = omega arith
+    few (Some x) = let l = length-take 16 x.words in omega (arith, l)
+
+    itself : (n : ℕ) → (n == n) ≡ true
+    itself n = grind (arith, nat_tests)
+
+    past : 16384 ≤ i → ⊥
+    past h =
+        let far : length (page_words f) ≤ i / 1024 = (let l = few (slice_get f.objects 4) in omega (arith, l, h)) in
+        let none : slice_get (page_words f) (i / 1024) ≡ None = slice_get_past (page_words f) (i / 1024) far in
+        let nil : is_nil f (entry_in f i) ≡ true = rw none (itself (nil_in f)) in
+        absurd (cc (sym e ∙ nil))
+
+class_filled : (f : File) (special j : ℕ) (o : FileObject) → Ground f special → slice_get (visible f) j ≡ Some o → is_nil f (entry_in f o.class) ≡ false
+unfolding bad_class
+class_filled f special j o g e =
+    let s = g.sound.classes in
+    let p = find_none_at (λ o. ltb o.class 4 || not (has_entry f o.class)) (visible f) j o (map_none (λ o. o.place) (find (λ o. ltb o.class 4 || not (has_entry f o.class)) (visible f)) s) e in
+    not_true (is_nil f (entry_in f o.class)) (not_false (not (is_nil f (entry_in f o.class))) (second (ltb o.class 4) (not (not (is_nil f (entry_in f o.class)))) p))
+  where
+    second : (a b : Bool) → (a || b) ≡ false → b ≡ false
+    second true b h = absurd (cc)
+    second false b h = h
+
+-- ---- the whole
+
+nil_empty : (f : File) (special : ℕ) (g : Ground f special) → length g.first.nil.words ≡ 0
+nil_empty f special g =
+    let s = g.first in
+    let form : s.nil.format ≡ 0 = equal s.nil.format 0 (and_true (is_visible s.nil) (s.nil.format == 0) s.oddball).1 in
+    let there : slice_get (visible f) 0 ≡ Some s.nil = ap (λ (xs : List FileObject). slice_get xs 0) (visible_begins f s) in
+    let shape = (and_true (has_shape s.nil.format (length s.nil.words)) _ (formed_at f special 0 s.nil g.sound there)).0 in
+    let P : ℕ → Type 0 = λ n. has_shape n (length s.nil.words) ≡ true in
+    let zero_shape : has_shape 0 (length s.nil.words) ≡ true = subst P form shape in
+    equal (length s.nil.words) 0 zero_shape
+
+apart : (f : File) (j k : ℕ) (x y : Object) → slice_get (memory_of f) j ≡ Some x → slice_get (memory_of f) k ≡ Some y → x.birth ≡ y.birth → j ≡ k
+apart f j k x y ej ek same =
+    let a = loaded_at f j x ej in
+    let b = loaded_at f k y ek in
+    ap (λ (z : Object). z.birth) a.is ∙ same ∙ ap (λ (z : Object). z.birth) (sym b.is)
+
+pub memory_whole : (f : File) (special : ℕ) (roots : Roots) → Ground f special → roots.special.0 ≡ address_named f special → roots.next_birth ≡ length (visible f)
+    → IsWhole (memory_of f) (classes_at f table_size) roots
+memory_whole f special roots g at next = record {
+  heap = record {
+    apart = apart f;
+    each = λ k x e. let a = loaded_at f k x e in let P : Object → Type 0 = IsSoundObject (memory_of f) in subst P a.is (object_sound f special k a.o g a.there);
+  };
+  first = let l = length-loaded_from f 0 (visible f) in let three = visible_three f g.table in omega (arith, l, three);
+  nil = nil_of-base f g.first (nil_empty f special g);
+  births = λ k x e.
+      let a = loaded_at f k x e in
+      let birth : k ≡ x.birth = ap (λ (z : Object). z.birth) a.is in
+      let inside = slice_get_within (visible f) k a.o a.there in
+      omega (arith, birth, inside, next);
+  indices = λ k x e.
+      let a = loaded_at f k x e in
+      let filled = class_filled f special k a.o g a.there in
+      let got = get_filled f table_size a.o.class (entry_below f a.o.class filled) filled in
+      ap (λ (z : Object). is_some (get (classes_at f table_size) z.class)) (sym a.is) ∙ ap is_some got;
+  classes = λ index a e.
+      let r = from_entry f table_size index a e in
+      ap (is_object (memory_of f)) r.address ∙ stands_there f (entry_in f index) (entry_stands f index g.table r.below r.filled);
+  special = ap (is_object (memory_of f)) at ∙ stands_there f special (special_stands f special g.sound.roots);
+}
+
+pub ground_of : (bytes : List ℕ) → old_base bytes % 8 ≡ 0 → IsSoundFile (file_of bytes) (special_address bytes) → Ground (file_of bytes) (special_address bytes)
+unfolding file_of
+ground_of bytes base_is s = record {
+  sound = s;
+  aligned = omega (arith, base_is);
+  table = table_parts (file_of bytes) s.table;
+  first = firsts (file_of bytes) (table_parts (file_of bytes) s.table);
+}
+
+-- what was built for a file without faults
+pub built_whole : (bytes : List ℕ) (file : File) (objects : List Object) (table : FinMap nat_cmp ℕ) (roots : Roots) → file ≡ file_of bytes → IsBuilt bytes file objects table roots
+    → old_base bytes % 8 ≡ 0 → IsSoundFile (file_of bytes) (special_address bytes) → IsWhole objects table roots
+built_whole bytes file objects table roots same b base_is s =
+    let r = built_roots bytes file objects table roots same b in
+    let whole = memory_whole (file_of bytes) (special_address bytes) roots (ground_of bytes base_is s) r.special r.next in
+    let P : List Object → Type 0 = λ os. IsWhole os (classes_at (file_of bytes) table_size) roots in
+    let Q : FinMap nat_cmp ℕ → Type 0 = λ t. IsWhole objects t roots in
+    subst Q (sym (b.table_is ∙ ap (λ (f : File). classes_at f table_size) same)) (subst P (sym (b.objects_are ∙ ap (λ (f : File). loaded_from f 0 (visible f)) same)) whole)
+
+-- births are places
+pub built_births : (bytes : List ℕ) (file : File) (objects : List Object) (table : FinMap nat_cmp ℕ) (roots : Roots) → IsBuilt bytes file objects table roots
+    → (k : ℕ) (x : Object) → slice_get objects k ≡ Some x → x.birth ≡ k
+built_births bytes file objects table roots b k x e =
+    let a = loaded_at file k x (ap (λ (os : List Object). slice_get os k) (sym b.objects_are) ∙ e) in
+    ap (λ (z : Object). z.birth) (sym a.is)
