@@ -17,6 +17,6 @@ returns g c =
     let s = g.W.World.stored c.args.w.now in
     let x = name_of s c.args.x in
     gives_done s (g.W.World.stored c.pop.new.self) (g.W.World.view c.pop.new.self) (pop_of (set_stack_of old (c.depth-depth.result - 2) x)) _
-    (ap done (sym (ap (λ n. pop_of (set_stack_of old (n - 2) x)) c.depth-depth.ensures ∙ two-replaced old x c.requires.there)))
+    (ap done (sym (ap (λ n. pop_of (set_stack_of old (n - 2) x)) c.depth-depth.ensures.value ∙ two-replaced old x c.requires.there)))
     (c.pop.ensures.state (set_stack_of old (c.depth-depth.result - 2) x) (c.set_stack.ensures.state old c.requires.ready.sound.closed))
     c.pop.ensures.ready (names-trans s (g.W.World.stored c.set_stack.new.self) (g.W.World.stored c.pop.new.self) c.set_stack.ensures.names c.pop.ensures.names)
