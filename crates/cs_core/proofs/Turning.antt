@@ -1,14 +1,17 @@
 -- From the parts of a step to the whole step.
 use Rattle.std.proofs.Common.{◌≡◌, ℕ, ◌+◌, ◌-◌, Bool, true, false, refl, sym, ap, ap₂, subst, ◌∙◌, Option, Some, None, List, [], ◌∷◌, ◌++◌, option_map, nat_lt}
-use Rattle.std.specs.Prelude.{if◌then◌else◌, slice_get}
+use Rattle.std.specs.Prelude.{◌==◌, if◌then◌else◌, not, slice_get}
 use Rattle.cs_shelf.specs.Outside.{Appends}
 use Rattle.cs_model.specs.declared.stop.Stop.{Stop as Reason}
 use Rattle.cs_model.specs.declared.stop.Stop.TheVariants as why
 use Rattle.cs_model.specs.declared.instruction.Instr.{Instr}
 use Rattle.cs_model.specs.Ref.{Ref}
-use Rattle.cs_model.specs.Obj.{first_pc}
+use Rattle.cs_model.specs.Obj.{argument_count, bytecodes_in, first_pc, header_in, primitive_number}
 use Rattle.cs_model.specs.State as state
-use Rattle.cs_model.specs.State.{Kept, Run, State}
+use Rattle.cs_model.specs.State.{IsHeld, Kept, Run, State}
+use Rattle.cs_model.specs.Lookup.{Sought}
+use Rattle.cs_model.specs.Lookup as sought
+use Rattle.cs_model.specs.Alike.{SoughtHeld}
 use Rattle.cs_model.specs.Keeps.{Keeps}
 use Rattle.cs_model.specs.Read.{bytecodes_of, literals_of, pc_of}
 use Rattle.cs_model.specs.Operation.{set_pc_of, suspend_of}
@@ -17,16 +20,21 @@ use Rattle.cs_model.specs.End as ends
 use Rattle.cs_model.specs.End.{End, Out, no_count}
 use Rattle.cs_model.specs.PrimRun.{Result, result}
 use Rattle.cs_model.specs.Due.{due, due_of, is_idle}
-use Rattle.cs_model.proofs.Same.{equal, option_equal}
+use Rattle.cs_model.proofs.Same.{Any, Same, equal, if_same, is, of_option, option_equal, same, value}
 use Rattle.cs_model.proofs.Keeping.{Keeps-trans}
 use Rattle.std.proofs.lemmas.List.{append-nil}
 use Rattle.cs_model.proofs.Happening.{is_idle_same}
-use Rattle.cs_model.proofs.Stepping.{shape_fault_same}
-use Rattle.cs_model.specs.Step.{completed, ends_with, finish, is_left, Message, Step, Ending, Steps, Stopped, add_count, birth_limit, bytecode, counting, do_send, finish_of, followed, instruction_at, message_in, next_step, return_in, shape_fault, step, stops, with_kept, without_context}
-use Rattle.cs_model.specs.Built.{built_step, is_built, is_built_at, is_built_byte, is_built_bytecode, is_built_end, is_built_send}
+use Rattle.cs_model.proofs.Fields.{and_same}
+use Rattle.cs_model.proofs.Combining.{end_same}
+use Rattle.cs_model.proofs.Reading.{depth_same, held_if, object_of_same}
+use Rattle.cs_model.proofs.Sending.{begins_at_same, look_from_same}
+use Rattle.cs_model.proofs.Tables.{prim_alike}
+use Rattle.cs_model.proofs.Stepping.{MessageHeld, do_send_alike, shape_fault_same}
+use Rattle.cs_model.specs.Step.{completed, ends_with, finish, is_left, Message, Step, Ending, Steps, Stopped, add_count, birth_limit, bytecode, counting, do_send, finish_of, followed, instruction_at, is_fail, message_in, next_step, return_in, shape_fault, step, stops, with_kept, without_context}
+use Rattle.cs_model.specs.Built.{answers, built_step, is_built, is_built_found, is_built_method, is_built_number, is_built_at, is_built_byte, is_built_bytecode, is_built_end, is_built_send}
 use Rattle.cs_acts.specs.Names.{Store}
 use Rattle.cs_acts.specs.Ready.{IsReady}
-use Rattle.cs_core.specs.Stepped.{Completes, EndsBy, IsAnswer, AnswersIn, LeadsTo, LeadsToNone, StepGives, Turn, TurnStops, unbuilt, stopped, lost, Turns, TurnGives, run_at, state_at, step_at}
+use Rattle.cs_core.specs.Stepped.{Completes, EndsBy, IsAnswer, AnswersIn, LeadsTo, LeadsToNone, StepGives, Turn, TurnStops, unbuilt, stopped, lost, Turns, TurnGives, run_at, sending, state_at, step_at}
 use Rattle.cs_core.specs.declared.step.StepEnd.{StepEnd}
 use Rattle.cs_core.specs.declared.step.StepEnd.TheVariants.{Active, Idle, Stopped as Stop, WriteFault}
 
@@ -244,16 +252,79 @@ record IsSame (a b : Turn) : Type 0 where
   pub run : a.result.run ≡ b.result.run
 
 answer_over : (x y : Turn) (v : Kept) (r : Run) → IsSame x y → IsAnswer x v r → IsDone y v r
-answer_over x y v r same a = record {
-  built = sym same.built ∙ a.built;
-  over = subst IsOver (sym a.end ∙ same.end) tt;
-  state = Keeps-trans a.state same.state;
-  run = sym same.run ∙ a.run;
+answer_over x y v r alike a = record {
+  built = sym alike.built ∙ a.built;
+  over = subst IsOver (sym a.end ∙ alike.end) tt;
+  state = Keeps-trans a.state alike.state;
+  run = sym alike.run ∙ a.run;
 }
 
 stop_over : (s : State) (x y : Turn) (reason : Reason) → IsSame x y → TurnStops x reason → (ended s y).ending ≡ Stopped reason
-stop_over s x y reason same (unbuilt b is) = ended_unbuilt s y reason (sym same.built ∙ b) is
-stop_over s x y reason same (stopped b end) = ended_stopped s y reason (sym same.built ∙ b) (sym same.end ∙ end)
-stop_over s x y reason same (lost b end fault) =
+stop_over s x y reason alike (unbuilt b fault) = ended_unbuilt s y reason (sym alike.built ∙ b) fault
+stop_over s x y reason alike (stopped b end) = ended_stopped s y reason (sym alike.built ∙ b) (sym alike.end ∙ end)
+stop_over s x y reason alike (lost b end fault) =
     ended_lost s y x.result.out.state y.result.run reason
-    (record { built = sym same.built ∙ b; over = subst IsOver (sym end ∙ same.end) tt; state = same.state; run = refl }) fault
+    (record { built = sym alike.built ∙ b; over = subst IsOver (sym end ∙ alike.end) tt; state = alike.state; run = refl }) fault
+
+is_built_method_same : {v m : Kept} {x y : Ref} → Keeps v m → (r : Run) → Same (IsHeld v) x y → (args : ℕ) → Same Any (is_built_method (with_kept v r) x args) (is_built_method (with_kept m r) y args)
+is_built_method_same k r s args =
+    let o = object_of_same k s in
+    let number = of_option (λ o. primitive_number (header_in o) (bytecodes_in o)) o in
+    if_same (of_option (λ o. argument_count (header_in o) == args) o) (and_same (value is_built_number number) (answers_same k r args number)) (is true)
+  where
+    answers_same : {v m : Kept} {o p : Option ℕ} → Keeps v m → (r : Run) → (args : ℕ) → Same Any o p → Same Any (answers (with_kept v r) args o) (answers (with_kept m r) args p)
+    answers_same k r args (same None a) = is false
+    answers_same k r args (same (Some number) a) = value (λ e. not (is_fail e)) (end_same (prim_alike k r number args).out)
+
+is_built_found_same : {v m : Kept} {a b : Sought} → Keeps v m → (r : Run) → (args : ℕ) → Same (SoughtHeld v) a b → Same Any (is_built_found (with_kept v r) args a) (is_built_found (with_kept m r) args b)
+is_built_found_same k r args (same (sought.Method x) h) = is_built_method_same k r (same x h) args
+is_built_found_same k r args (same sought.Missing h) = is false
+is_built_found_same k r args (same sought.Loop h) = is true
+
+is_built_send_same : {v m : Kept} → Keeps v m → (r : Run) → (p : Message) → MessageHeld v p → Same Any (is_built_send (with_kept v r) p) (is_built_send (with_kept m r) p)
+is_built_send_same k r p h =
+    if_same (value (nat_lt p.args) (depth_same k)) (is_built_found_same k r p.args (look_from_same k (is p.selector) (begins_at_same k p.args (held_if k p.above h.1)))) (is true)
+
+sends_same : (k : Kept) (i : Instr) (u : Kept) (m : Message) (output : List ℕ) (steps : ℕ) → Keeps u (effect k i).state → MessageHeld u m → IsSame (sending u m output steps) (send_turn k i m output steps)
+sends_same k i u m output steps keeps held =
+    let a = do_send_alike keeps (run_at output steps) (same m.selector held.0) m.args (held_if keeps m.above held.1) in
+    record {
+      built = sym (equal (is_built_send_same keeps (run_at output steps) m held));
+      end = a.out.end;
+      state = a.out.keeps;
+      run = a.run;
+    }
+
+pub send_gives : (k : Kept) (i : Instr) (u : Kept) (m : Message) (old new : Option (List ℕ)) (s : Store) (v : Kept) (e : StepEnd) → Begins k i → (effect k i).end ≡ ends.Send m.selector m.args m.above
+    → Keeps u (effect k i).state → MessageHeld u m → TurnGives (sending u m) old new s v e → StepGives k old new s v e
+send_gives k i u m old new s v e h end keeps held gives = go e gives
+  where
+    over : (bytes : List ℕ) → AnswersIn (sending u m) v bytes → DoneIn (model_turn k i) v bytes
+    over bytes a output steps =
+        subst (λ t. IsDone t v (run_at (output ++ bytes) steps)) (sym (sends_turn k i m output steps end))
+        (answer_over (sending u m output steps) (send_turn k i m output steps) v (run_at (output ++ bytes) steps) (sends_same k i u m output steps keeps held) (a output steps))
+    stop : (reason : Reason) → ((output : List ℕ) (steps : ℕ) → TurnStops (sending u m output steps) reason) → (output : List ℕ) (steps : ℕ) → (step_at k output steps).ending ≡ Stopped reason
+    stop reason f = stops_by k i reason h (λ output steps.
+        subst (λ t. (ended (state_at k output steps) t).ending ≡ Stopped reason) (sym (sends_turn k i m output steps end))
+        (stop_over (state_at k output steps) (sending u m output steps) (send_turn k i m output steps) reason (sends_same k i u m output steps keeps held) (f output steps)))
+    go : (e : StepEnd) → TurnGives (sending u m) old new s v e → StepGives k old new s v e
+    go Active (bytes, told, a, ready, shape, active) = (bytes, told, completes k i v bytes h (over bytes a) shape, leads_to k i v bytes h (over bytes a) shape active, ready, active)
+    go Idle (bytes, told, a, shape, idle) = (bytes, told, completes k i v bytes h (over bytes a) shape, leads_to_none k i v bytes h (over bytes a) shape idle)
+    go (Stop reason) (none, f) = (none, stop reason f)
+    go WriteFault (bytes, told, a, shape) = (bytes, told, completes k i v bytes h (over bytes a) shape)
+
+-- ---- no instruction is done
+
+pub births_used : (k : Kept) (s : Store) (v : Kept) (old : Option (List ℕ)) → nat_lt birth_limit k.rest.next ≡ true → StepGives k old old s v (Stop why.BirthLimit)
+unfolding built_step is_built step
+births_used k s v old births = (refl, λ output steps. rw births)
+
+pub not_built : (k : Kept) (s : Store) (v : Kept) (old : Option (List ℕ)) → nat_lt birth_limit k.rest.next ≡ false → is_idle k ≡ false
+    → is_built_byte (slice_get (bytecodes_of k) (pc_of k - first_pc (literals_of k))) ≡ false → StepGives k old old s v (Stop why.NotBuilt)
+unfolding built_step is_built is_built_bytecode
+not_built k s v old births active byte = (refl, λ output steps. rw (births, active, byte))
+
+pub no_instruction : (k : Kept) (s : Store) (v : Kept) (old : Option (List ℕ)) → nat_lt birth_limit k.rest.next ≡ false → is_idle k ≡ false
+    → is_built_byte (slice_get (bytecodes_of k) (pc_of k - first_pc (literals_of k))) ≡ true → instruction_at k ≡ None → StepGives k old old s v (Stop why.BadCode)
+unfolding built_step is_built is_built_bytecode step due due_of bytecode
+no_instruction k s v old births active byte none = (refl, λ output steps. rw (births, active, byte, none))

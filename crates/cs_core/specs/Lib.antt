@@ -1,3 +1,2 @@
-pub mod Shaped
 pub mod Stepped
 pub mod Running
