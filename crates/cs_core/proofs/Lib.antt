@@ -1,1 +1,5 @@
 mod Answering
+mod Lasting
+mod Piecing
+mod Portions
+mod Summing

@@ -11,6 +11,10 @@ use Rattle.cs_core.specs.declared.primitive.Piece.TheVariants.{Byte, Bytes}
 abbrev pub is_byte_format : ℕ → Bool
 is_byte_format format = nat_le 16 format && nat_lt format 20
 
+-- a word is the address of a byte object
+abbrev pub is_bytes_at : List Object → ℕ → Bool
+is_bytes_at objects word = is_object objects word && is_byte_format (format_of objects word)
+
 -- the used bytes of the object at an address
 abbrev pub bytes_at : List Object → ℕ → List ℕ
 bytes_at objects address = option_map_or (λ x. used_bytes x.format x.words) (object_at objects address) []
@@ -27,7 +31,7 @@ bytes_of_piece objects (Bytes object) = bytes_at objects object.0
 -- the object of a piece is there, and holds bytes
 abbrev pub is_piece : List Object → Piece → Bool
 is_piece objects (Byte byte) = true
-is_piece objects (Bytes object) = is_object objects object.0 && is_byte_format (format_of objects object.0)
+is_piece objects (Bytes object) = is_bytes_at objects object.0
 
 -- the object of a piece is no other one than this
 abbrev pub IsPieceOf : Oop → Piece → Type 0

@@ -6,16 +6,16 @@ ghost use Rattle.cs_model.specs.Exec.{small_operands};
 ghost use Rattle.cs_model.specs.Number.{number_result};
 ghost use Rattle.cs_model.specs.PrimRun.{bytes_to_write, small_byte};
 ghost use Rattle.cs_model.specs.Read.{depth_of};
-ghost use Rattle.cs_model.specs.Ref.{natural_of};
 ghost use Rattle.cs_model.specs.Operation.{drop_of, push_of};
 ghost use Rattle.cs_acts.specs.Names.{IsNamed, KeepsNames, NamesOption, name_of};
 ghost use Rattle.cs_acts.specs.Ready.{IsReady, IsSound};
-ghost use Rattle.cs_classes.specs.Meaning.{unused_bytes};
-ghost use Rattle.cs_heap.specs.Object.{format_of, is_object, slot_count_of};
+ghost use Rattle.cs_classes.specs.Meaning.{count_of, unused_bytes};
+ghost use Rattle.cs_heap.specs.Object.{format_of, slot_count_of};
 ghost use Rattle.cs_shelf.specs.Outside.{Appends, AppendsPart, Rose};
 ghost use Rattle.cs_word.specs.declared.Kind.TheVariants as kind;
-ghost use Rattle.cs_word.specs.Word.{IsSmall, kind_of};
-ghost use Rattle.cs_core.specs.Pieces.{IsPieceOf, all_bytes_at, bytes_at, bytes_of_piece, is_byte_format, is_piece};
+ghost use Rattle.cs_word.specs.Word.{kind_of};
+ghost use Rattle.cs_core.specs.Pieces.{IsPieceOf, all_bytes_at, bytes_at, bytes_of_piece, is_bytes_at, is_piece};
+ghost use Rattle.cs_core.specs.Sum.{sum_in};
 
 use arrayvec::ArrayVec;
 use cs_acts::World;
@@ -54,21 +54,20 @@ pub fn sum<W: World>(w: &W) -> Option<Oop>
     let Some(argument) = from_top(w, 0) else {
         return None;
     };
-    match (receiver.kind(), argument.kind()) {
-        (Kind::Small(a), Kind::Small(b)) => small(add(a, b)),
-        _ => None,
-    }
+    small_sum(receiver, argument)
 }
 
-/// The word of a SmallInteger, where there is one.
-fn small(value: Option<i32>) -> Option<Oop>
-    requires { IfSome value (λ z. IsSmall z) }
-    ensures kind { IfSome result (λ o. option_map (λ z. kind.Small z) value ≡ Some (kind_of o.0)) }
-    ensures some { is_some result ≡ is_some value }
+/// The sum of two words that are SmallIntegers, as a word; None exactly where one isn't, or where the sum doesn't fit.
+fn small_sum(a: Oop, b: Oop) -> Option<Oop>
+    ensures some { is_some result ≡ is_some (sum_in (kind_of a.0) (kind_of b.0)) }
+    ensures kind { IfSome result (λ o. option_map (λ z. kind.Small z) (sum_in (kind_of a.0) (kind_of b.0)) ≡ Some (kind_of o.0)) }
 {
-    match value {
-        Some(value) => Oop::small(value),
-        None => None,
+    match (a.kind(), b.kind()) {
+        (Kind::Small(a), Kind::Small(b)) => match add(a, b) {
+            Some(sum) => Oop::small(sum),
+            None => None,
+        },
+        _ => None,
     }
 }
 
@@ -90,39 +89,32 @@ pub fn piece_of<W: World>(w: &W, argument: Oop) -> Option<Piece>
     ensures piece { IfSome result (λ p. is_piece (W.stored w.now).memory.objects p ≡ true) }
     ensures own { IfSome result (λ p. IsPieceOf argument p) }
 {
-    match argument.kind() {
-        Kind::Small(value) => match byte_of(value) {
+    if holds_bytes(w.heap(), argument) {
+        Some(Piece::Bytes(argument))
+    } else {
+        match byte_of(argument) {
             Some(byte) => Some(Piece::Byte(byte)),
             None => None,
-        },
-        Kind::Object(_) => {
-            if holds_bytes(w.heap(), argument) {
-                Some(Piece::Bytes(argument))
-            } else {
-                None
-            }
         }
+    }
+}
+
+/// Whether a word is the address of an object of format 16 to 19.
+fn holds_bytes(heap: &Heap, o: Oop) -> bool
+    ensures { result ≡ is_bytes_at heap.now.objects o.0 }
+{
+    heap.is_object(o) && (16..20).contains(&heap.format(o))
+}
+
+/// The SmallInteger that a word is, as a byte; None exactly where it is none from 0 to 255.
+#[tactic(auto, unfolding(cs_classes::specs::Meaning::count_of))]
+fn byte_of(o: Oop) -> Option<u8>
+    ensures { option_map (λ b. b ∷ []) result ≡ small_byte (count_of o.0) }
+{
+    match o.kind() {
+        Kind::Small(value) if (0..256).contains(&value) => Some(value as u8),
         _ => None,
     }
-}
-
-/// The number as a byte; None exactly where it is below 0 or above 255.
-fn byte_of(value: i32) -> Option<u8>
-    ensures { option_map (λ b. b ∷ []) result ≡ small_byte (natural_of value) }
-{
-    if (0..256).contains(&value) {
-        Some(value as u8)
-    } else {
-        None
-    }
-}
-
-/// Whether an object has one of the formats 16 to 19.
-fn holds_bytes(heap: &Heap, o: Oop) -> bool
-    requires { is_object heap.now.objects o.0 ≡ true }
-    ensures { result ≡ is_byte_format (format_of heap.now.objects o.0) }
-{
-    (16..20).contains(&heap.format(o))
 }
 
 /// Writes the bytes of a piece, each once and in order.
@@ -143,8 +135,7 @@ pub fn write<K: Sink>(heap: &Heap, piece: Piece, out: &mut K) -> Result<(), Fail
 
 /// How many bytes a byte object has: the unused ones at its end don't count.
 fn byte_count(heap: &Heap, object: Oop) -> u32
-    requires there { is_object heap.now.objects object.0 ≡ true }
-    requires format { is_byte_format (format_of heap.now.objects object.0) ≡ true }
+    requires { is_bytes_at heap.now.objects object.0 ≡ true }
     ensures value { result ≡ 4 * slot_count_of heap.now.objects object.0 - unused_bytes (format_of heap.now.objects object.0) }
     ensures most { result ≤ 268435456 }
 {
@@ -169,8 +160,7 @@ fn bytes_from(heap: &Heap, object: Oop, at: u32, end: u32) -> ArrayVec<u8, 256>
 
 /// Writes the bytes of a byte object, in pieces.
 fn write_bytes<K: Sink>(heap: &Heap, object: Oop, out: &mut K) -> Result<(), Failed>
-    requires there { is_object heap.now.objects object.0 ≡ true }
-    requires format { is_byte_format (format_of heap.now.objects object.0) ≡ true }
+    requires { is_bytes_at heap.now.objects object.0 ≡ true }
     ensures ok { OnOk result (Appends (K.taken out.old) (K.taken out.new) (bytes_at heap.now.objects object.0)) }
     ensures err { OnErr result (AppendsPart (K.taken out.old) (K.taken out.new) (bytes_at heap.now.objects object.0)) }
     ensures never_falls { K.fault_count out.old ≤ K.fault_count out.new }
