@@ -1,5 +1,5 @@
 -- What is to be written is the same behind the answer, which changes the active context alone.
-use Rattle.std.proofs.Common.{◌≡◌, ℕ, Bool, true, false, refl, sym, ap, subst, ◌∙◌, Option, Some, None, List, ◌⊎◌, inl, inr}
+use Rattle.std.proofs.Common.{◌≡◌, ℕ, Bool, true, false, refl, sym, ap, subst, ◌∙◌, Option, Some, None, List, inl, inr}
 use Rattle.std.proofs.lemmas.Bool.{false≢true}
 use Rattle.std.proofs.lemmas.Bool.Decides.{eqb_tells}
 use Rattle.std.specs.Prelude.{◌&&◌}
@@ -10,10 +10,10 @@ use Rattle.cs_classes.proofs.Refs.{index_of-ref_of, ref_of-object}
 use Rattle.cs_model.specs.Ref.{Ref}
 use Rattle.cs_model.specs.Ref as ref
 use Rattle.cs_model.specs.Obj.{Obj, Context, Ptr, Raw, Method, Ctx, pushed, popped}
-use Rattle.cs_model.specs.State.{Kept, object_at, object_of, put}
+use Rattle.cs_model.specs.State.{Kept, object_at, object_of}
 use Rattle.cs_model.specs.Keeps.{Keeps}
-use Rattle.cs_model.specs.Read.{IsRunning, active_birth, active_context}
-use Rattle.cs_model.specs.Operation.{drop_of, edit_active, push_of, put_active}
+use Rattle.cs_model.specs.Read.{IsRunning, active_birth}
+use Rattle.cs_model.specs.Operation.{drop_of, push_of, put_active}
 use Rattle.cs_model.specs.PrimObject.{byte_string}
 use Rattle.cs_model.specs.PrimRun.{bytes_to_write, or_bytes, small_byte}
 use Rattle.cs_model.proofs.Editing.{edit_twice}
@@ -32,7 +32,7 @@ bytes-put k c (ref.Small z) r = refl
 bytes-put k c (ref.Char z) r = refl
 bytes-put k c (ref.Obj j) r = elim (eqb_tells j (active_birth k)) [
   | inl e ↦ ap (λ n. byte_string (object_at (put_active k c) n)) e.1 ∙ ap byte_string (object_at-put_same k (active_birth k) (Ctx c))
-    ∙ sym (ap (λ n. byte_string (object_at k n)) e.1 ∙ ap byte_string r.found)
+      ∙ sym (ap (λ n. byte_string (object_at k n)) e.1 ∙ ap byte_string r.found)
   | inr e ↦ ap byte_string (object_at-put_other k (active_birth k) j (Ctx c) e.1)
 ]
 

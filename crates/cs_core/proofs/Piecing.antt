@@ -6,13 +6,13 @@ use Rattle.std.proofs.lemmas.Bool.{false≢true}
 use Rattle.std.proofs.lemmas.Bool.Decides.{nat_tests}
 use Rattle.cs_word.specs.declared.Oop.{Oop}
 use Rattle.cs_heap.specs.Format.{format_allows, is_method, is_pointers}
-use Rattle.cs_heap.specs.Object.{Memory, Object, format_of, is_object, object_at}
+use Rattle.cs_heap.specs.Object.{Memory, Object, format_of}
 use Rattle.cs_classes.specs.Meaning.{count_of, ref_of, used_bytes}
 use Rattle.cs_classes.specs.Sound.{IsSoundObject}
 use Rattle.cs_classes.proofs.Refs.{index_of-ref_of}
 use Rattle.cs_classes.proofs.Sorts.{AContext, AMethod, Bytes, Pointers, Sort, sort_of, obj_of-pointers, obj_of-method, obj_of-bytes}
 use Rattle.cs_classes.proofs.Sounds.{sound_at}
-use Rattle.cs_model.specs.Obj.{Obj, Context, Ptr, Raw, Method, Ctx, is_context_at}
+use Rattle.cs_model.specs.Obj.{Obj, Ptr, Raw, Method, Ctx, is_context_at}
 use Rattle.cs_model.specs.State.{Kept, object_of}
 use Rattle.cs_model.specs.PrimObject.{byte_string}
 use Rattle.cs_model.specs.PrimRun.{bytes_to_write, or_bytes, small_byte}

@@ -55,9 +55,11 @@ taken_part old mid new all piece at n end before is within part =
     let size : length piece ≡ length (take n (drop at all)) = ap length is in
     let less : m < n = omega (arith, part.1, size, length-take n (drop at all)) in
     let first : take m piece ≡ take m (drop at all) = ap (take m) is ∙ take-take m n (drop at all) (omega (arith, less)) in
-    let whole : take (at + m) (take end all) ≡ take (at + m) all = take-take (at + m) end all (omega (arith, less, within)) in
-    (at + m, omega (arith, part.1, size, less, within, length-take n (drop at all), length-drop at all, length-take end all),
-    subst (Appends old new) (sym whole) (taken_more old mid new all (take m piece) at m before first part.2))
+    let whole : take (at + m) (take end all) ≡ take (at + m) all = take-take (at + m) end all (omega (arith, less, within)) in (
+      at + m,
+      omega (arith, part.1, size, less, within, length-take n (drop at all), length-drop at all, length-take end all),
+      subst (Appends old new) (sym whole) (taken_more old mid new all (take m piece) at m before first part.2),
+    )
 
 pub on_err : {T E : Type 0} (r : Result T E) (P : Type 0) → P → OnErr r P
 on_err (Ok x) P p = tt

@@ -8,5 +8,5 @@ loop-i-preserved c =
       begun = omega (arith, c.loop-i.invariant.begun);
       count = omega (arith, c.loop-i.invariant.count, c.push.ensures.len);
       bytes = c.push.ensures.items ∙ more_bytes c.args.heap.now.objects c.args.object.0 c.args.at c.loop-i.i c.byte.result _ c.loop-i.invariant.begun
-      (omega (arith, c.loop-i-test.true, c.min-i-end.ensures, c.requires.within)) c.byte.ensures c.loop-i.invariant.bytes;
+          (omega (arith, c.loop-i-test.true, c.min-i-end.ensures, c.requires.within)) c.byte.ensures c.loop-i.invariant.bytes;
     }

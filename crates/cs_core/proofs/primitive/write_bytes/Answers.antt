@@ -17,6 +17,6 @@ loop-at-preserved g c =
     record {
       within = omega (arith, c.bytes_from-piece.ensures.part, c.len.ensures.value);
       taken = taken_more _ _ _ all c.as_slice.result.now c.loop-at.at c.len.result c.loop-at.invariant.taken
-      (c.as_slice.ensures.value ∙ c.bytes_from-piece.ensures.items ∙ ap (λ n. take n (drop c.loop-at.at all)) (sym c.len.ensures.value)) c.in_ok-write_whole.ensures.ok;
+          (c.as_slice.ensures.value ∙ c.bytes_from-piece.ensures.items ∙ ap (λ n. take n (drop c.loop-at.at all)) (sym c.len.ensures.value)) c.in_ok-write_whole.ensures.ok;
       never_falls = omega (arith, c.loop-at.invariant.never_falls, c.write_whole.ensures.never_falls);
     }
