@@ -3,3 +3,6 @@ mod Lasting
 mod Piecing
 mod Portions
 mod Summing
+pub mod Thin
+pub mod Resolving
+pub mod Turning

@@ -41,6 +41,7 @@ const STACK: u32 = 6;
 
 /// The slots of a process, and the one in which it keeps its context while it doesn't run.
 const PROCESS_SLOTS: u32 = 4;
+
 const SUSPENDED_CONTEXT: u32 = 1;
 
 /// The number itself, and 0 for a negative one.
@@ -74,7 +75,11 @@ impl PlainWorld {
 
     /// Opens a loaded image: the active process gives its context to the machine. With no active process none is active.
     pub fn new(_alloc: Global, loaded: Loaded) -> Result<PlainWorld, AllocError> {
-        let Loaded { heap, classes, roots } = loaded;
+        let Loaded {
+            heap,
+            classes,
+            roots,
+        } = loaded;
         let mut world = PlainWorld {
             heap,
             classes,
