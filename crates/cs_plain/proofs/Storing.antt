@@ -48,7 +48,7 @@ pub record Storable (w : PlainWorld) (o : Oop) (i : ℕ) (v : ℕ) (x : Object) 
   pub lies : (pc : ℕ) → lies_in (Some (operation.with_slot i (ref_of w.heap.objects v) (obj_of (ref_of w.heap.objects) x))) pc ≡ lies_in (Some (obj_of (ref_of w.heap.objects) x)) pc
 
 -- an address is the word itself
-kind_address : (word a : ℕ) → kind_of word ≡ kind.Object a → a ≡ word
+pub kind_address : (word a : ℕ) → kind_of word ≡ kind.Object a → a ≡ word
 kind_address word a h = go (word % 2 == 1) (word % 4 == 2) (word % 8 == 0) h
   where
     go : (b c d : Bool) → (if b then kind.Small (small_value word) else (if c then kind.Character (word / 4) else (if d then kind.Object word else kind.Link word))) ≡ kind.Object a → a ≡ word
