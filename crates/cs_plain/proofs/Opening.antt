@@ -1,5 +1,5 @@
 -- Opening an image: the active process gives its context to the machine.
-use Rattle.std.proofs.Common.{◌≡◌, ℕ, ◌<◌, ◌≤◌, Bool, true, false, refl, sym, ap, subst, ◌∙◌, Option, Some, None, is_some, List, length, option_and_then}
+use Rattle.std.proofs.Common.{◌≡◌, ℕ, ◌≤◌, Bool, true, false, refl, sym, ap, subst, ◌∙◌, Option, Some, None, is_some, List, option_and_then}
 use Rattle.std.specs.Prelude.{◌&&◌, ◌==◌, not, nat_le, slice_get, if◌then◌else◌}
 use Rattle.std.specs.FinMap.{get}
 use Rattle.cs_word.specs.declared.Oop.{Oop}
@@ -7,13 +7,13 @@ use Rattle.cs_word.specs.declared.Kind.{Kind}
 use Rattle.cs_word.specs.declared.Kind.TheVariants as kind
 use Rattle.cs_word.specs.Word.{kind_of}
 use Rattle.cs_heap.specs.Format.{is_pointers}
-use Rattle.cs_heap.specs.Object.{Memory, Object, birth_of, class_of, format_of, is_object, object_at, set_word, slot_count_of, with_slot}
+use Rattle.cs_heap.specs.Object.{Object, birth_of, class_of, format_of, is_object, object_at, slot_count_of, with_slot}
 use Rattle.cs_heap.proofs.Laws.{birth_of-with_slot, is_object-with_slot, used-with_slot}
 use Rattle.cs_classes.specs.Meaning.{is_context, kept_of, obj_of, objects_of, ref_of, ref_of_kind}
 use Rattle.cs_classes.specs.Sound.{is_reference, is_reference_kind}
 use Rattle.cs_classes.proofs.Heaps.{birth_of-object_at, object_there}
 use Rattle.cs_classes.proofs.Sorts.{context_is}
-use Rattle.cs_classes.proofs.Writes.{Does, does-set_slot}
+use Rattle.cs_classes.proofs.Writes.{does-set_slot}
 use Rattle.cs_model.specs.Ref.{Ref}
 use Rattle.cs_model.specs.Ref as ref
 use Rattle.cs_model.specs.Obj.{Ctx, context_class}

@@ -1,12 +1,11 @@
 -- Behind the opening of an image the scheduler names the process that it named, and that is a process still.
-use Rattle.std.proofs.Common.{◌≡◌, ◌≢◌, ℕ, suc, Bool, true, false, refl, sym, ap, subst, ◌∙◌, Option, Some, None, is_some, List, [], ◌∷◌, length, option_and_then, arith, inl, inr}
+use Rattle.std.proofs.Common.{◌≡◌, ◌≢◌, ℕ, Bool, true, false, refl, sym, ap, subst, ◌∙◌, Option, Some, None, is_some, List, [], ◌∷◌, length, option_and_then, arith, inl, inr}
 use Rattle.std.specs.Prelude.{◌&&◌, not, nat_le, slice_get, slice_set, if◌then◌else◌}
-use Rattle.std.proofs.lemmas.Bool.{eqb-true}
 use Rattle.std.proofs.lemmas.Bool.Decides.{eqb_tells, nat_tests}
 use Rattle.cs_model.specs.Ref.{Ref, Small, Char, birth_of, same_ref}
 use Rattle.cs_model.specs.Ref as ref
-use Rattle.cs_model.specs.Obj.{Ctx, Method, Obj, Ptr, Raw, at_least, is_context, slots_in}
-use Rattle.cs_model.specs.State.{Kept, active_process, is_nil, object_at, object_of, put, scheduler_of, slots_of, special_at}
+use Rattle.cs_model.specs.Obj.{Ctx, Method, Obj, Ptr, Raw, at_least, slots_in}
+use Rattle.cs_model.specs.State.{Kept, active_process, is_nil, object_at, put, scheduler_of, slots_of, special_at}
 use Rattle.cs_model.specs.Read.{IsRunning, active_context}
 use Rattle.cs_model.specs.Operation as operation
 use Rattle.cs_model.specs.Operation.{edit_found, nil_of, resume_of, store_of}

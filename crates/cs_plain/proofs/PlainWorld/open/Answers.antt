@@ -1,4 +1,4 @@
-use Rattle.std.proofs.Common.{Some, ap, arith, subst, sym, ◌∙◌}
+use Rattle.std.proofs.Common.{ap, subst, sym, ◌∙◌}
 use Rattle.cs_model.specs.Ref.{same_ref}
 use Rattle.cs_acts.specs.Names.{NamesOption, name_of}
 use Rattle.cs_model.specs.State.{active_process}

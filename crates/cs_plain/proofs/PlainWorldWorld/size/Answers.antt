@@ -1,4 +1,4 @@
-use Rattle.std.proofs.Common.{◌≡◌, ◌-◌, ap, ◌∙◌, arith}
+use Rattle.std.proofs.Common.{◌-◌, ap, ◌∙◌, arith}
 use Rattle.cs_plain.proofs.Active.{active_is}
 use Rattle.cs_plain.proofs.Slots.{fields_within, size_is_read, slots_are}
 use Rattle.cs_plain.proofs.PlainWorldWorld.size.Goals as goal
