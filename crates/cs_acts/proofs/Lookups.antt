@@ -110,11 +110,13 @@ both_at s k h i = in_heap (get (objects_of s.memory.objects) i) refl
         at : (b : Bool) → is_context_at (Some o) ≡ b → Both None (Some o)
         at true c = absent (Some o) c
         at false c = absurd (let e : Some o ≡ None = sym (h.back i o e c) ∙ n in cc)
+
     found : (o : Obj) (x : Object) (j : ℕ) (c : Bool) → is_context x ≡ c → slice_get s.memory.objects j ≡ Some x → x.birth ≡ i → obj_of (ref_of s.memory.objects) x ≡ o → Both (Some o) (object_at k i)
     found o x j false e at birth means = equal (Some o) (object_at k i) (sym (ap (object_at k) (sym birth) ∙ h.object j x at e ∙ ap (λ p. Some p) means))
     found o x j true e at birth means =
         contexts (Some o) (object_at k i) (ap (λ p. is_context_at (Some p)) (sym means ∙ obj_of-context (ref_of s.memory.objects) x e))
         (ap (λ n. is_context_at (object_at k n)) (sym birth) ∙ h.context j x at e)
+
     in_heap : (o : Option Obj) → get (objects_of s.memory.objects) i ≡ o → Both o (object_at k i)
     in_heap None e = in_state (object_at k i) refl e
     in_heap (Some o) e = let c = objects_of-comes s.memory.objects i o h.whole.heap.apart e in found o c.object c.place (is_context c.object) refl c.element c.birth c.meaning
@@ -126,6 +128,7 @@ alike_heap s k h = record { slots = slots; methods = methods }
     slots (Small z) = refl
     slots (Char c) = refl
     slots (ref.Obj i) = both_slots (both_at s k h i)
+
     methods : (x : Ref) → is_method (object_of (heap_state s k) x) ≡ is_method (object_of k x)
     methods (Small z) = refl
     methods (Char c) = refl

@@ -3,10 +3,10 @@
 
 mod line;
 mod report;
-mod top;
 #[cfg(test)]
 mod test_images;
 #[cfg(test)]
 mod tests;
+mod top;
 
 pub use top::cogstack;

@@ -1,13 +1,12 @@
 //! The call that the program makes.
+use crate::line::{Line, parse};
+use crate::report::{Ending, Place, report};
 use cs_acts::Loaded;
 use cs_core::{Place as CorePlace, Ran, RunEnd, run};
 use cs_image::{ImageError, load};
 use cs_plain::PlainWorld;
 use cs_shelf::{Failed, ReadError, Shelf, Sink, read_whole, write_whole};
 use std::alloc::{AllocError, Global};
-
-use crate::line::{Line, parse};
-use crate::report::{Ending, Place, report};
 
 /// The longest image file, in bytes.
 const LONGEST_IMAGE: usize = 536_870_912;
@@ -17,10 +16,15 @@ const HEAP_LIMIT: u32 = 16_777_216;
 
 /// The statuses of the program.
 const STOPPED: u8 = 1;
+
 const BAD_LINE: u8 = 2;
+
 const BAD_IMAGE: u8 = 3;
+
 const READ_FAILED: u8 = 6;
+
 const WRITE_FAILED: u8 = 7;
+
 const NO_MEMORY: u8 = 8;
 
 /// Why no run begins.
@@ -34,7 +38,12 @@ enum Refusal {
 }
 
 /// Does what the words behind the program's name say, writes all that is printed to `out`, and gives the status.
-pub fn cogstack<S: Shelf, K: Sink>(alloc: Global, words: &[String], shelf: &mut S, out: &mut K) -> u8 {
+pub fn cogstack<S: Shelf, K: Sink>(
+    alloc: Global,
+    words: &[String],
+    shelf: &mut S,
+    out: &mut K,
+) -> u8 {
     let Some(line) = parse(words) else {
         return print(out, BAD_LINE, "cogstack: line\n");
     };

@@ -1,1 +1,3 @@
 mod Answering
+pub mod Thin
+pub mod Resolving

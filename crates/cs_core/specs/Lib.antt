@@ -1,1 +1,3 @@
 pub mod Shaped
+pub mod Stepped
+pub mod Running

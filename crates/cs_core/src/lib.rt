@@ -1,9 +1,7 @@
-//! The machine: one step, and a run of steps, over any world.
+//! The machine: steps and runs over any world.
 #![tactic(auto)]
 
 mod primitive;
-mod run;
+pub mod run;
 mod scheduler;
 mod step;
-
-pub use run::{Place, Ran, RunEnd, run};

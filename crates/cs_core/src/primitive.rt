@@ -53,7 +53,9 @@ pub enum Piece {
 pub fn piece_of<W: World>(w: &W, argument: Oop) -> Option<Piece> {
     match argument.kind() {
         Kind::Small(value) => u8::try_from(value).ok().map(Piece::Byte),
-        Kind::Object(_) if BYTES.contains(&w.heap().format(argument)) => Some(Piece::Bytes(argument)),
+        Kind::Object(_) if BYTES.contains(&w.heap().format(argument)) => Some(Piece::Bytes(
+            argument,
+        )),
         _ => None,
     }
 }

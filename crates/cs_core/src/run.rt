@@ -1,15 +1,25 @@
 //! A run of steps.
+ghost use Rattle.std.specs.Prelude.{◌≡◌, ◌==◌, ◌≤◌, false, if◌then◌else◌, OnErr, IfOk};
+ghost use Rattle.cs_shelf.specs.Outside.{Rose};
+ghost use Rattle.cs_model.specs.Due.{is_idle};
+ghost use Rattle.cs_model.specs.Read.{IsRunning};
+ghost use Rattle.cs_model.specs.Ref.{birth_of};
+ghost use Rattle.cs_model.specs.Report.{no_place, place_of};
+ghost use Rattle.cs_model.specs.Step.{Idle, Steps};
+ghost use Rattle.cs_acts.specs.Names.{IsNamed, name_of};
+ghost use Rattle.cs_acts.specs.Ready.{IsSound};
+ghost use Rattle.cs_core.specs.Running.{RunFails, RunGives, ending_of, place_by};
+
+use crate::step::{StepEnd, step};
 use cs_acts::World;
+use cs_acts::read::{active_process, nil, same};
 use cs_model::Stop;
 use cs_shelf::{Failed, Sink};
-use cs_word::Oop;
-
-use crate::scheduler::{Shape, shape_of};
-use crate::step::{StepEnd, step};
+use cs_word::{Kind, Oop};
 
 /// How a run ends.
 #[derive(Clone, Copy, PartialEq, Eq, Debug)]
-pub enum RunEnd {
+pub enum Ending {
     /// The steps that were asked for are done.
     Steps,
     /// No process is active and no event is left.
@@ -18,58 +28,122 @@ pub enum RunEnd {
     Stopped(Stop),
 }
 
-/// Where a run stands: births and pc, None where no process is active.
+/// Where a run stands.
+///
+/// All three are `None` where no process is active.
 #[derive(Clone, Copy, PartialEq, Eq, Debug)]
 pub struct Place {
     /// The birth of the active process.
     pub process: Option<u64>,
     /// The birth of the active context.
     pub context: Option<u64>,
-    /// The pc of the active context.
+    /// The active context's pc, which counts the bytes of its method from 1 on, header and literals too.
     pub pc: Option<u32>,
 }
 
-/// What a run comes to: how it ended, the bytecodes that it completed, and where it stands.
+/// What a run comes to.
 #[derive(Clone, Copy, PartialEq, Eq, Debug)]
 pub struct Ran {
-    pub end: RunEnd,
+    /// How it ends.
+    pub ending: Ending,
+    /// The bytecodes that it completed.
     pub steps: u64,
+    /// Where it stands then.
     pub place: Place,
 }
 
-/// No process is active.
+/// Where no process is active.
 const NOWHERE: Place = Place {
     process: None,
     context: None,
     pc: None,
 };
 
-/// Where the active context of a process stands.
-fn place_of<W: World>(w: &W, process: Oop) -> Place {
+/// The birth of the object that a word names, if it names one.
+fn birth_of<W: World>(w: &W, o: Oop) -> Option<u64>
+    requires sound { IsSound (W.stored w.now) (W.view w.now) }
+    requires named { IsNamed (W.stored w.now) o }
+    ensures { result ≡ birth_of (name_of (W.stored w.now) o) }
+{
+    match o.kind() {
+        Kind::Object(_) => Some(w.heap().birth(o)),
+        _ => None,
+    }
+}
+
+/// Where the machine stands.
+fn place_of<W: World>(w: &W) -> Place
+    requires sound { IsSound (W.stored w.now) (W.view w.now) }
+    requires running { is_idle (W.view w.now) ≡ false → IsRunning (W.view w.now) }
+    ensures { place_of (W.view w.now) ≡ place_by result }
+{
+    let Some(process) = active_process(w) else {
+        return NOWHERE;
+    };
+    if same(w, process, nil(w)) {
+        return NOWHERE;
+    }
     Place {
-        process: Some(w.heap().birth(process)),
+        process: birth_of(w, process),
         context: Some(w.act_birth(w.active())),
         pc: Some(w.pc()),
     }
 }
 
+/// Whether no process is active: the scheduler names nil.
+fn is_idle<W: World>(w: &W) -> bool
+    requires { IsSound (W.stored w.now) (W.view w.now) }
+    ensures { result ≡ is_idle (W.view w.now) }
+{
+    match active_process(w) {
+        Some(process) => same(w, process, nil(w)),
+        None => false,
+    }
+}
+
 /// Runs `n` steps, or fewer where one of them ends the run.
-pub fn run<W: World, K: Sink>(w: &mut W, n: u64, out: &mut K) -> Result<Ran, Failed> {
-    let Shape::Active(mut process) = shape_of(w) else {
-        let end = if n == 0 { RunEnd::Steps } else { RunEnd::Idle };
-        return Ok(Ran { end, steps: 0, place: NOWHERE });
-    };
+///
+/// `Failed` comes only where the sink failed. Then it has taken a first part of what the run writes.
+pub fn run<W: World, K: Sink>(w: &mut W, n: u64, out: &mut K) -> Result<Ran, Failed>
+    requires sound { IsSound (W.stored w.old) (W.view w.old) }
+    requires running { is_idle (W.view w.old) ≡ false → IsRunning (W.view w.old) }
+    ensures ran { IfOk result (λ r. RunGives (W.view w.old) (K.taken out.old) (K.taken out.new) n r) }
+    ensures failed { OnErr result (RunFails (W.view w.old) (K.taken out.old) (K.taken out.new) n) }
+    ensures never_falls { K.fault_count out.old ≤ K.fault_count out.new }
+    ensures cause { OnErr result (Rose (K.fault_count out.old) (K.fault_count out.new)) }
+{
+    if is_idle(w) {
+        return Ok(at_rest(0, n));
+    }
     for steps in 0..n {
-        let before = place_of(w, process);
+        let before = place_of(w);
         match step(w, out) {
-            StepEnd::Active(next) => process = next,
-            StepEnd::Idle => {
-                let end = if steps + 1 == n { RunEnd::Steps } else { RunEnd::Idle };
-                return Ok(Ran { end, steps: steps + 1, place: NOWHERE });
-            }
-            StepEnd::Stopped(reason) => return Ok(Ran { end: RunEnd::Stopped(reason), steps, place: before }),
+            StepEnd::Active => {}
+            StepEnd::Idle => return Ok(at_rest(steps + 1, n)),
+            StepEnd::Stopped(reason) => return Ok(Ran {
+                ending: Ending::Stopped(reason),
+                steps,
+                place: before,
+            }),
             StepEnd::WriteFault => return Err(Failed),
         }
     }
-    Ok(Ran { end: RunEnd::Steps, steps: n, place: place_of(w, process) })
+    Ok(Ran {
+        ending: Ending::Steps,
+        steps: n,
+        place: place_of(w),
+    })
+}
+
+/// A run of `n` steps in which no process is active behind the first ones of them, so that no further one is done.
+fn at_rest(steps: u64, n: u64) -> Ran
+    ensures steps { result.steps ≡ steps }
+    ensures place { place_by result.place ≡ no_place }
+    ensures ending { ending_of result.ending ≡ (if steps == n then Steps else Idle) }
+{
+    Ran {
+        ending: if steps == n { Ending::Steps } else { Ending::Idle },
+        steps,
+        place: NOWHERE,
+    }
 }

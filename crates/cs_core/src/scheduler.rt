@@ -20,8 +20,8 @@ const PROCESS_SLOTS: u32 = 4;
 /// What the end of a step finds of the scheduler and the active process.
 #[derive(Clone, Copy, PartialEq, Eq, Debug)]
 pub enum Shape {
-    /// This process is active.
-    Active(Oop),
+    /// A process is active.
+    Active,
     /// No process is active: the scheduler names nil.
     Idle,
     /// The scheduler isn't there, or the active process is none.
@@ -48,14 +48,16 @@ fn is_process<W: World>(w: &W, p: Oop) -> bool
     requires named { IsNamed (W.stored w.now) p }
     ensures { result ≡ is_process_at (W.view w.now) (name_of (W.stored w.now) p) }
 {
-    has_slots(w, p, PROCESS_SLOTS) && !is(w, scheduler(w), p) && !is(w, special(w, SCHEDULER_LINK), p)
+    has_slots(w, p, PROCESS_SLOTS)
+        && !is(w, scheduler(w), p)
+        && !is(w, special(w, SCHEDULER_LINK), p)
 }
 
 /// Whether a process is active, none is, or the shape of the scheduler is lost.
 #[tactic(auto, unfolding(cs_model::specs::Step::shape_fault, cs_model::specs::Due::is_idle))]
 pub fn shape_of<W: World>(w: &W) -> Shape
     requires { IsSound (W.stored w.now) (W.view w.now) }
-    ensures { Shaped (W.stored w.now) (W.view w.now) result }
+    ensures { Shaped (W.view w.now) result }
 {
     let Some(process) = active_process(w) else {
         return Shape::Fault(Stop::BadSpecial);
@@ -63,7 +65,7 @@ pub fn shape_of<W: World>(w: &W) -> Shape
     if same(w, process, nil(w)) {
         Shape::Idle
     } else if is_process(w, process) {
-        Shape::Active(process)
+        Shape::Active
     } else {
         Shape::Fault(Stop::BadProcess)
     }

@@ -59,10 +59,10 @@ visible_begins : (f : File) (s : Firsts f) → visible f ≡ s.nil ∷ filter is
 unfolding visible
 visible_begins f s = ap (filter is_visible) s.objects ∙ rw (nil_visible f s) refl
 
-nil_stands : (f : File) (s : Firsts f) → Stands f (nil_in f)
+pub nil_stands : (f : File) (s : Firsts f) → Stands f (nil_in f)
 nil_stands f s = stands_named f (nil_in f) s.nil (nil_named f s) (nil_visible f s)
 
-nil_number : (f : File) (s : Firsts f) → (nil_stands f s).j ≡ 0
+pub nil_number : (f : File) (s : Firsts f) → (nil_stands f s).j ≡ 0
 nil_number f s = first (nil_stands f s).j (sym (nil_stands f s).number ∙ ap (number_of (λ o. address_in f o == nil_in f)) (visible_begins f s) ∙ rw p refl)
   where
     here : nil_in f ≡ address_in f s.nil
@@ -85,7 +85,7 @@ unfolding address_among
 nil_of-base f s none = ap (λ (ns : List ℕ). unwrap_or (address_among ns base 0) 0) (slot_counts-loaded_from f 0 (visible f) ∙ ap (map (λ o. length o.words)) (visible_begins f s))
     ∙ ap (header_address base) none
 
-nil_aligned : (f : File) → f.base % 4 ≡ 0 → (s : Firsts f) → nil_in f % 4 ≡ 0
+pub nil_aligned : (f : File) → f.base % 4 ≡ 0 → (s : Firsts f) → nil_in f % 4 ≡ 0
 nil_aligned f aligned s =
     let here : nil_in f ≡ f.base + 4 * s.nil.place = ap (λ (os : List FileObject). option_map_or (address_in f) (slice_get os 0) 0) s.objects in
     omega (arith, here, aligned)

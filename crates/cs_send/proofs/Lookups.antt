@@ -1,7 +1,6 @@
 -- A lookup in the heap of a world, in terms of its state.
-use Rattle.std.proofs.Common.{◌≡◌, Bool, true, false, refl, sym, ap, subst, ◌∙◌}
+use Rattle.std.proofs.Common.{◌≡◌, Bool, true, false, refl, sym, subst, ◌∙◌}
 use Rattle.std.specs.Prelude.{◌&&◌}
-use Rattle.std.proofs.lemmas.Bool.{false≢true}
 use Rattle.cs_word.specs.declared.Oop.{Oop}
 use Rattle.cs_heap.specs.Format.{is_method}
 use Rattle.cs_heap.specs.Object.{Memory, format_of, is_object}
@@ -11,12 +10,12 @@ use Rattle.cs_model.specs.State.{Kept}
 use Rattle.cs_model.specs.Lookup.{lookup}
 use Rattle.cs_lookup.specs.declared.Found.{Found}
 use Rattle.cs_lookup.specs.declared.Found.TheVariants.{Method, Missing, Loop}
-use Rattle.cs_lookup.specs.Found.{FindsMethod, HasObjects, is_method_at, sought_of}
+use Rattle.cs_lookup.specs.Found.{FindsMethod, HasObjects, sought_of}
 use Rattle.cs_acts.specs.Names.{Store, IsNamed, name_of}
 use Rattle.cs_acts.specs.Ready.{Holds}
 use Rattle.cs_acts.proofs.Lookups.{heap_state, lookup-held}
 use Rattle.cs_acts.proofs.Named.{method_read}
-use Rattle.cs_send.specs.Resolved.{IsMethodNamed, LooksUpMethod}
+use Rattle.cs_send.specs.Resolved.{LooksUpMethod}
 
 pub found_in_state : (s : Store) (k : Kept) (h : Memory) (class selector : Oop) (f : Found) → h ≡ s.memory → Holds s k
     → ((j : Kept) → HasObjects h.objects j → sought_of h.objects f ≡ lookup j (ref_of h.objects class.0) (ref_of h.objects selector.0))

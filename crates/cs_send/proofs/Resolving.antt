@@ -7,7 +7,7 @@ use Rattle.cs_model.specs.Ref.{Ref}
 use Rattle.cs_model.specs.State.{Kept}
 use Rattle.cs_model.specs.Read.{depth_of}
 use Rattle.cs_model.specs.Send.{begins_at, look_from}
-use Rattle.cs_send.specs.Resolved.{Resolved, Stops, resolve_found, resolve_of}
+use Rattle.cs_send.specs.Resolved.{Stops, resolve_found, resolve_of}
 
 is_less : (m n : ℕ) → m < n → nat_lt m n ≡ true
 is_less m n h = grind (arith, nat_tests)

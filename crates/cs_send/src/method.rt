@@ -17,7 +17,7 @@ use cs_word::{Kind, Oop};
 /// The bytecode that a method with a primitive begins with.
 const CALL_PRIMITIVE: u8 = 139;
 
-/// The lowest format of methods, which says that all bytes of their last slot are used; each one more, that one more isn't.
+/// The format of a method whose last slot has no unused byte. The three formats above it say how many it has, 1 to 3.
 const METHOD: u32 = 24;
 
 /// How many arguments a method takes: bits 24 to 27 of its header.
@@ -43,7 +43,7 @@ pub(crate) fn primitive<W: World>(w: &W, method: Oop) -> Option<u32>
     }
 }
 
-/// The primitive that the bytecodes of a method begin with. They begin at this byte of it, behind its header and its literals.
+/// The primitive that the bytecodes of a method begin with; `first` is their first byte, behind the header and the literals.
 fn first_number<W: World>(w: &W, method: Oop, first: u32) -> Option<u32>
     requires sound { IsSound (W.stored w.now) (W.view w.now) }
     requires method { IsMethodNamed (W.stored w.now) (W.view w.now) method }
@@ -88,7 +88,7 @@ fn header<W: World>(w: &W, method: Oop) -> u32
     count(w.heap().slot(method, 0))
 }
 
-/// The number that a word is.
+/// The number that a word is, where it is a SmallInteger that isn't negative.
 #[tactic(auto, unfolding(cs_classes::specs::Meaning::count_of))]
 fn count(word: Oop) -> u32
     requires { IsSome (count_of word.0) }

@@ -1,4 +1,4 @@
-use Rattle.std.proofs.Common.{◌<◌, ◌∙◌, arith}
+use Rattle.std.proofs.Common.{arith}
 use Rattle.cs_model.specs.State.{object_of}
 use Rattle.cs_acts.specs.Names.{name_of}
 use Rattle.cs_acts.proofs.Methods.{format_is, is_there, slots_fit}

@@ -1,4 +1,4 @@
-use Rattle.std.proofs.Common.{◌<◌, ◌∙◌, arith, sym, ap, is_some}
+use Rattle.std.proofs.Common.{◌∙◌, arith, sym, ap, is_some}
 use Rattle.cs_classes.specs.Meaning.{count_of}
 use Rattle.cs_model.specs.State.{object_of}
 use Rattle.cs_acts.specs.Names.{name_of}
