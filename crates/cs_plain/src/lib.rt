@@ -90,6 +90,7 @@ impl PlainWorld {
         requires running { is_idle (loaded_kept loaded) ≡ false → IsRunning (open_kept (loaded_kept loaded)) }
         ensures view { IfOk result (λ w. view_of w ≡ open_kept (loaded_kept loaded)) }
         ensures sound { IfOk result (λ w. IsSound (stored_of w) (view_of w)) }
+        ensures limit { IfOk result (λ w. (stored_of w).memory.limit ≡ loaded.heap.limit) }
         ensures idle { IfOk result (λ w. is_idle (view_of w) ≡ is_idle (loaded_kept loaded)) }
         ensures shape { IfOk result (λ w. shape_fault (view_of w) ≡ None) }
         ensures ready { IfOk result (λ w. is_idle (view_of w) ≡ false → IsReady (stored_of w) (view_of w)) }
@@ -120,6 +121,7 @@ impl PlainWorld {
         requires running { is_idle (view_of self.old) ≡ false → IsRunning (open_kept (view_of self.old)) }
         ensures view { view_of self.new ≡ open_kept (view_of self.old) }
         ensures sound { IsSound (stored_of self.new) (view_of self.new) }
+        ensures limit { self.new.heap.limit ≡ self.old.heap.limit }
     {
         let nil = nil(self);
         if let Some(process) = active_process(self) {
@@ -138,6 +140,7 @@ impl PlainWorld {
         requires running { IsRunning (taken_of (view_of self.old) (name_of (stored_of self.old) process)) }
         ensures view { view_of self.new ≡ taken_of (view_of self.old) (name_of (stored_of self.old) process) }
         ensures sound { IsSound (stored_of self.new) (view_of self.new) }
+        ensures limit { self.new.heap.limit ≡ self.old.heap.limit }
     {
         if let Some(context) = slot(self, process, PROCESS_SLOTS, SUSPENDED_CONTEXT) {
             self.heap.set_slot(process, SUSPENDED_CONTEXT, nil);
