@@ -6,3 +6,4 @@ mod Summing
 pub mod Thin
 pub mod Resolving
 pub mod Turning
+pub mod Trying

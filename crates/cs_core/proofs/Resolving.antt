@@ -16,7 +16,7 @@ use Rattle.cs_model.specs.End.{Out, stop}
 use Rattle.cs_model.specs.Send.{begins_at, look_from, offer, invoke, send_found, send}
 use Rattle.cs_model.specs.PrimRun.{Result}
 use Rattle.cs_model.specs.PrimTable.{prim}
-use Rattle.cs_model.specs.Step.{Message, with_kept, sent, do_send, is_fail, try_primitive, tried, or_enter, arguments_of}
+use Rattle.cs_model.specs.Step.{Message, with_kept, sent, do_send, is_fail, primitive_in, try_primitive, tried, or_enter, arguments_of}
 use Rattle.cs_model.specs.Built.{answers, is_built_number, is_built_method, is_built_found, is_built_send}
 use Rattle.cs_send.specs.Resolved.{Resolved, Offered, Plain, Missing, Stops, resolve_method, resolve_found, resolve_of}
 use Rattle.cs_send.specs.Resolved as resolved
@@ -97,17 +97,22 @@ unbuilt_send r k m h = go (nat_lt m.args (depth_of k)) (look_from k m.selector (
 
 -- ---- a primitive is offered
 
+-- the primitive doesn't fail, and reaches no other one
+pub record IsFinal (r : Result) : Type 0 where
+  pub holds : is_fail r.out.end ≡ false
+  pub last : primitive_in r.out.end ≡ None
+
 -- it is built where the primitive is and answers, and then it comes to what that gives
 pub record IsOffered (s : State) (args number : ℕ) (b : Bool) (d : Result) : Type 0 where
   pub built : b ≡ (is_built_number (Some number) && answers s args (Some number))
-  pub end : (prim number args s).out.end ≡ ends.Answer → d.out.end ≡ ends.Answer
-  pub state : (prim number args s).out.end ≡ ends.Answer → d.out.state ≡ (prim number args s).out.state
-  pub run : (prim number args s).out.end ≡ ends.Answer → d.run ≡ (prim number args s).run
+  pub end : IsFinal (prim number args s) → d.out.end ≡ (prim number args s).out.end
+  pub state : IsFinal (prim number args s) → d.out.state ≡ (prim number args s).out.state
+  pub run : IsFinal (prim number args s) → d.run ≡ (prim number args s).run
 
-answered : (s : State) (method : Ref) (p : Result) → p.out.end ≡ ends.Answer → tried s method p ≡ p
-answered s method p e = rw e
+answered : (s : State) (method : Ref) (p : Result) → IsFinal p → tried s method p ≡ p
+answered s method p h = rw (h.holds, h.last)
 
-tried_with : (s : State) (method : Ref) (number args : ℕ) → arguments_of s.kept method ≡ args → (prim number args s).out.end ≡ ends.Answer
+tried_with : (s : State) (method : Ref) (number args : ℕ) → arguments_of s.kept method ≡ args → IsFinal (prim number args s)
     → try_primitive s method number ≡ prim number args s
 unfolding try_primitive
 tried_with s method number args is e =
@@ -127,7 +132,7 @@ offered_number : (r : Run) (k : Kept) (x : Ref) (args number : ℕ) → argument
     → IsOffered (with_kept k r) args number (is_built_number (Some number) && answers (with_kept k r) args (Some number)) (sent r (offer k x args (Some number)))
 offered_number r k x args number is = record {
   built = refl;
-  end = λ e. ap (λ (p : Result). p.out.end) (tried_with (with_kept k r) x number args is e) ∙ e;
+  end = λ e. ap (λ (p : Result). p.out.end) (tried_with (with_kept k r) x number args is e);
   state = λ e. ap (λ (p : Result). p.out.state) (tried_with (with_kept k r) x number args is e);
   run = λ e. ap (λ (p : Result). p.run) (tried_with (with_kept k r) x number args is e);
 }

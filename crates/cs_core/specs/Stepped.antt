@@ -1,5 +1,5 @@
 -- What a step gives, beside the step of the model.
-use Rattle.std.specs.Prelude.{◌≡◌, ℕ, ◌+◌, Bool, true, false, List, ◌++◌, [], Option, Some, None, option_map}
+use Rattle.std.specs.Prelude.{◌≡◌, ℕ, ◌+◌, ◌&&◌, Bool, true, false, List, ◌++◌, [], Option, Some, None, option_map}
 use Rattle.cs_shelf.specs.Outside.{Appends, AppendsPart, Rose}
 use Rattle.cs_model.specs.declared.stop.Stop.{Stop as Reason}
 use Rattle.cs_model.specs.declared.stop.Stop.TheVariants as why
@@ -11,7 +11,7 @@ use Rattle.cs_model.specs.End as ends
 use Rattle.cs_model.specs.PrimRun.{Result}
 use Rattle.cs_model.specs.PrimTable.{prim}
 use Rattle.cs_model.specs.Step.{Message, Step, Steps, Stopped, do_send, shape_fault, with_kept}
-use Rattle.cs_model.specs.Built.{answers, built_step, is_built_send}
+use Rattle.cs_model.specs.Built.{answers, built_step, is_built_number, is_built_send}
 use Rattle.cs_word.specs.declared.Oop.{Oop}
 use Rattle.cs_acts.specs.Names.{Store, name_of}
 use Rattle.cs_acts.specs.Ready.{IsReady}
@@ -76,9 +76,9 @@ message_of s selector args above = record { selector = name_of s selector; args 
 abbrev pub sending : Kept → Message → Turns
 sending k m output steps = record { built = is_built_send (state_at k output steps) m; result = do_send (run_at output steps) k m.selector m.args m.above }
 
--- a primitive with one argument is tried
+-- a primitive is tried with one argument
 abbrev pub trying : Kept → ℕ → Turns
-trying k number output steps = record { built = answers (state_at k output steps) 1 (Some number); result = prim number 1 (state_at k output steps) }
+trying k number output steps = record { built = is_built_number (Some number) && answers (state_at k output steps) 1 (Some number); result = prim number 1 (state_at k output steps) }
 
 -- it answers, in this run and in a state that v keeps
 pub record IsAnswer (t : Turn) (v : Kept) (r : Run) : Type 0 where

@@ -1,5 +1,5 @@
 //! One step: one bytecode and all that it leads to.
-ghost use Rattle.std.specs.Prelude.{◌≡◌, ◌<◌, ◌≤◌, false, IfSome, None};
+ghost use Rattle.std.specs.Prelude.{◌≡◌, ◌<◌, ◌≤◌, ℕ, false, IfSome, List, Option};
 ghost use Rattle.cs_model.specs.Built.{is_built_byte, is_built_code};
 ghost use Rattle.cs_model.specs.Due.{is_idle};
 ghost use Rattle.cs_model.specs.Read.{depth_of};
@@ -95,9 +95,23 @@ fn send<W: World, K: Sink>(
     ensures cause { CausedByFault (K.fault_count out.old) (K.fault_count out.new) result }
 {
     match resolve(w, selector, args, above) {
-        Found::Primitive { number: 1, .. } if args == 1 => answer_sum(w),
-        Found::Primitive { number: 900, .. } if args == 1 => answer_written(w, out),
+        Found::Primitive { number, .. } if args == 1 => try_primitive(w, out, number),
         Found::Stop(reason) => StepEnd::Stopped(reason),
+        _ => StepEnd::Stopped(Stop::NotBuilt),
+    }
+}
+
+/// Tries a primitive with one argument.
+fn try_primitive<W: World, K: Sink>(w: &mut W, out: &mut K, number: u16) -> StepEnd
+    requires ready { IsReady (W.stored w.old) (W.view w.old) }
+    requires there { 1 < depth_of (W.view w.old) }
+    ensures gives { TurnGives (trying (W.view w.old) number) (K.taken out.old) (K.taken out.new) (W.stored w.new) (W.view w.new) result }
+    ensures never_falls { K.fault_count out.old ≤ K.fault_count out.new }
+    ensures cause { CausedByFault (K.fault_count out.old) (K.fault_count out.new) result }
+{
+    match number {
+        1 => answer_sum(w),
+        900 => answer_written(w, out),
         _ => StepEnd::Stopped(Stop::NotBuilt),
     }
 }
@@ -106,7 +120,8 @@ fn send<W: World, K: Sink>(
 fn answer_sum<W: World>(w: &mut W) -> StepEnd
     requires ready { IsReady (W.stored w.old) (W.view w.old) }
     requires there { 1 < depth_of (W.view w.old) }
-    ensures { TurnGives (trying (W.view w.old) 1) None None (W.stored w.new) (W.view w.new) result }
+    ensures gives { (told : Option (List ℕ)) → TurnGives (trying (W.view w.old) 1) told told (W.stored w.new) (W.view w.new) result }
+    ensures cause { (faults : ℕ) → CausedByFault faults faults result }
 {
     match sum(w) {
         Some(sum) => {
