@@ -7,14 +7,14 @@ use Rattle.cs_model.specs.Ref.{Ref, same_ref}
 use Rattle.cs_model.specs.Obj.{first_pc, header_in, argument_count}
 use Rattle.cs_model.specs.State.{Kept, Run, State, object_of, slots_of, special_at, scheduler_of, is_nil, active_process}
 use Rattle.cs_model.specs.Read.{pc_of, literals_of, bytecodes_of}
-use Rattle.cs_model.specs.Operation.{set_pc_of, suspend_of}
+use Rattle.cs_model.specs.Operation.{set_pc_of}
 use Rattle.cs_model.specs.Decode.{decode_at}
 use Rattle.cs_model.specs.Exec.{exec}
 use Rattle.cs_model.specs.Send.{enter_out, send}
 use Rattle.cs_model.specs.Return.{back}
 use Rattle.cs_model.specs.PrimRun.{Result, result}
 use Rattle.cs_model.specs.PrimTable.{prim, is_perform}
-use Rattle.cs_model.specs.Due.{Happened, is_idle, due}
+use Rattle.cs_model.specs.Due.{Happened, is_idle, without_context, left_count, due}
 use Rattle.cs_model.specs.End.{End, Out, Count, out, stop, no_count, plus, given}
 use Rattle.cs_model.specs.End as ends
 
@@ -196,16 +196,7 @@ stops s n reason = record { ending = Stopped reason; state = s; count = n; snaps
 abbrev pub next_step : Run → Run
 next_step r = record r { steps = r.steps + 1 }
 
--- with no active process no context is active; that one stopped counts as a look, if no primitive has counted it
-abbrev pub is_left : Kept → Bool
-is_left k = is_idle k && is_some k.rest.active
-
-abbrev pub without_context : Kept → Kept
-without_context k = if is_left k then suspend_of k else k
-
-abbrev pub left_count : Kept → Count
-left_count k = if is_left k then record { objects = 0; contexts = 0; looks = 1 } else no_count
-
+-- with no active process no context is active
 abbrev pub ends_with : Ending → Result → Step
 ends_with e r = record {
   ending = e;
