@@ -11,7 +11,7 @@ use Rattle.cs_model.specs.Send.{enter_out}
 use Rattle.cs_model.specs.PrimRun.{Result}
 use Rattle.cs_model.specs.PrimTable.{prim, is_perform}
 use Rattle.cs_model.specs.Due.{Happened}
-use Rattle.cs_model.specs.Step.{Message, message_in, return_in, primitive_in, call_in, is_fail, counting, arguments_of, or_enter, try_performed, tried, try_primitive, sent, do_send, do_call, returned, do_return, followed, instruction_at, obey, bytecode, is_ref, is_process, process_fault, shape_fault, Ending, Steps, Quit, Idle, Stopped, Step, stops, next_step, ends_with, completed, finish, birth_limit, add_count, ready, stop_in, after_due, step, Ran, saved, go_on, run_by, run}
+use Rattle.cs_model.specs.Step.{Message, message_in, return_in, primitive_in, call_in, is_fail, counting, arguments_of, or_enter, try_performed, tried, try_primitive, sent, do_send, do_call, returned, do_return, followed, instruction_at, obey, bytecode, is_ref, is_process, process_fault, shape_fault, Ending, Steps, Quit, Idle, Stopped, Step, stops, next_step, ends_with, completed, saved_fault, finish, birth_limit, add_count, ready, stop_in, after_due, step, Ran, saved, go_on, run_by, run}
 use Rattle.cs_model.specs.End.{End, Out, Count, out, stop, no_count, plus, given}
 use Rattle.cs_model.specs.End as ends
 use Rattle.cs_model.specs.Keeps.{Keeps, Grows, KeepsState}
@@ -202,6 +202,12 @@ step_behind g h = record { ending = h.ending; count = h.count; state = h.state; 
 completed_alike : {s t : State} {a b : Result} → KeepsState s t → (e : Ending) → AlikeResult s.kept a b → AlikeStep s.kept (completed s e a) (completed t e b)
 completed_alike k e h = given_step _ _ (shape_fault_same h.out.keeps) (ends_with_alike e h) (λ reason a. stops_alike k (count_same h.out) reason)
 
+saved_fault_same : (o p : Option Kept) → KeepsIf o p → SameOption Any (saved_fault o) (saved_fault p)
+saved_fault_same None None h = none
+saved_fault_same None (Some m) h = elim h [ ]
+saved_fault_same (Some v) None h = elim h [ ]
+saved_fault_same (Some v) (Some m) h = shape_fault_same h
+
 finish_case : {s t : State} {a b : Result} {e f : End} {P : End → Type 0} → KeepsState s t → AlikeResult s.kept a b → Same P e f → AlikeStep s.kept (finish s a e) (finish t b f)
 finish_case k h (same ends.Done a) = completed_alike k Steps h
 finish_case k h (same (ends.Send selector args above) a) = completed_alike k Steps h
@@ -212,7 +218,7 @@ finish_case k h (same (ends.Call special args) a) = completed_alike k Steps h
 finish_case k h (same ends.Answer a) = completed_alike k Steps h
 finish_case k h (same ends.Fail a) = completed_alike k Steps h
 finish_case k h (same ends.Quit a) = completed_alike k Quit h
-finish_case k h (same ends.Snapshot a) = completed_alike k Steps h
+finish_case {a = x} {b = y} k h (same ends.Snapshot a) = given_step _ _ (saved_fault_same x.snapshot y.snapshot h.snapshot) (completed_alike k Steps h) (λ reason c. stops_alike k (count_same h.out) reason)
 finish_case k h (same (ends.Stopped reason) a) = stops_alike k (count_same h.out) reason
 
 result_behind : {v t u : Kept} {a b : Result} → Moved v t u → AlikeResult t a b → AlikeResult v a b

@@ -1,5 +1,5 @@
 -- One step of the machine: the events that are due, and one bytecode with all that it leads to. A run is a number of steps.
-use Rattle.std.specs.Prelude.{ℕ, zero, suc, ◌+◌, ◌-◌, ◌&&◌, Bool, true, false, not, nat_lt, if◌then◌else◌, List, [], ◌∷◌, ◌++◌, Option, Some, None, is_some}
+use Rattle.std.specs.Prelude.{ℕ, zero, suc, ◌+◌, ◌-◌, ◌&&◌, Bool, true, false, not, nat_lt, if◌then◌else◌, List, [], ◌∷◌, ◌++◌, Option, Some, None, is_some, option_and_then}
 use Rattle.cs_model.specs.declared.stop.Stop.{Stop}
 use Rattle.cs_model.specs.declared.stop.Stop.TheVariants as why
 use Rattle.cs_model.specs.declared.instruction.Instr.{Instr}
@@ -208,6 +208,11 @@ ends_with e r = record {
 abbrev pub completed : State → Ending → Result → Step
 completed s e r = given (shape_fault r.out.state) (ends_with e r) (λ reason. stops s r.out.count reason)
 
+-- A state that is saved must have that shape too: where the active process is the scheduler or special 3, settling writes over what
+-- names it.
+abbrev pub saved_fault : Option Kept → Option Stop
+saved_fault saved = option_and_then (λ k. shape_fault k) saved
+
 abbrev pub finish : State → Result → End → Step
 finish s r ends.Done = completed s Steps r
 finish s r (ends.Send selector args above) = completed s Steps r
@@ -218,7 +223,7 @@ finish s r (ends.Call special args) = completed s Steps r
 finish s r ends.Answer = completed s Steps r
 finish s r ends.Fail = completed s Steps r
 finish s r ends.Quit = completed s Quit r
-finish s r ends.Snapshot = completed s Steps r
+finish s r ends.Snapshot = given (saved_fault r.snapshot) (completed s Steps r) (λ reason. stops s r.out.count reason)
 finish s r (ends.Stopped reason) = stops s r.out.count reason
 
 -- ---- a step
