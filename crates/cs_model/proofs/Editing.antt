@@ -1,12 +1,12 @@
 -- Edits of the active context, one behind another.
-use Rattle.std.proofs.Common.{◌≡◌, ℕ, ◌+◌, ◌-◌, ◌≤◌, Bool, true, false, refl, sym, ap, ◌∙◌, Option, Some, None, List, length, take, unwrap_or, length-take, arith, rules, cond}
+use Rattle.std.proofs.Common.{◌≡◌, ℕ, ◌-◌, Bool, true, false, refl, sym, ap, ◌∙◌, Option, Some, List, length, take, unwrap_or, length-take, arith, cond}
 use Rattle.std.proofs.lemmas.List.{take-take}
 use Rattle.std.specs.FinMap.{FinMap, get, get-insert, insert, nat_cmp-IsAntisymmetric, same_map}
 use Rattle.std.specs.Cmp.{nat_cmp_total}
 use Rattle.std.specs.Ordering.{eq_by_cmp, nat_cmp}
 use Rattle.cs_model.specs.Ref.{Ref}
 use Rattle.cs_model.specs.Obj.{Context, Ctx, Obj, context_in, popped, with_stack}
-use Rattle.cs_model.specs.State.{Kept, object_at, put}
+use Rattle.cs_model.specs.State.{Kept, put}
 use Rattle.cs_model.specs.Read.{active_birth, active_context, blank}
 use Rattle.cs_model.specs.Operation.{drop_of, edit_active, put_active}
 use Rattle.cs_model.proofs.Objects.{object_at-put_same}

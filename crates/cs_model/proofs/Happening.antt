@@ -1,18 +1,19 @@
 -- Events are alike.
-use Rattle.std.proofs.Common.{ℕ, ◌+◌, ◌-◌, ◌||◌, Bool, true, false, refl, sym, ap, ◌∙◌, Option, Some, None, List, [], ◌∷◌, nat_lt, nat_le, if◌then◌else◌}
+use Rattle.std.proofs.Common.{ℕ, ◌+◌, ◌-◌, ◌||◌, Bool, true, false, refl, sym, ap, ◌∙◌, ◌≡◌, ◌&&◌, is_some, Option, Some, None, List, [], ◌∷◌, nat_lt, nat_le, if◌then◌else◌}
 use Rattle.cs_model.specs.declared.event.Event.{Event}
 use Rattle.cs_model.specs.declared.event.EventKind.{EventKind}
 use Rattle.cs_model.specs.declared.event.EventKind.TheVariants as kind
 use Rattle.cs_model.specs.Ref.{Ref}
 use Rattle.cs_model.specs.State.{Kept, Run, State, Timer, IsHeld}
 use Rattle.cs_model.specs.PrimRun.{with_timer}
-use Rattle.cs_model.specs.Due.{external_semaphores, external_at, signal_external, due_timer, Happened, happened, with_out, fire, with_clock, add_input, happen, with_events, is_idle_at, is_idle, go_on, due_of, due}
-use Rattle.cs_model.specs.End.{Out, is_done, plus}
+use Rattle.cs_model.specs.Due.{external_semaphores, external_at, signal_external, due_timer, Happened, happened, with_out, fire, with_clock, add_input, happen, with_events, is_idle_at, is_idle, is_left, without_context, left_count, behind, go_on, due_of, due}
+use Rattle.cs_model.specs.End.{Out, Count, no_count, is_done, plus}
 use Rattle.cs_model.specs.Keeps.{Keeps, KeepsState}
 use Rattle.cs_model.specs.Alike.{Alike, AlikeHappened}
-use Rattle.cs_model.proofs.Same.{Same, same, SameOption, none, some, Any, is, value, and_then_same, if_option, same_by}
-use Rattle.cs_model.proofs.Keeping.{unmoved, grows-trans}
-use Rattle.cs_model.proofs.Reading.{is_nil_same, special_at_same, object_of_same, slots_in_same, slice_same, active_process_same}
+use Rattle.cs_model.proofs.Same.{Same, same, SameOption, none, some, Any, is, value, two, and_then_same, if_option, same_by}
+use Rattle.cs_model.proofs.Keeping.{Moved, unmoved, choose_moved, grows-trans}
+use Rattle.cs_model.proofs.Reading.{rest_same, is_nil_same, special_at_same, object_of_same, slots_in_same, slice_same, active_process_same}
+use Rattle.cs_model.proofs.Operating.{suspend_moved}
 use Rattle.cs_model.proofs.Combining.{done_alike, given_alike, if_alike}
 use Rattle.cs_model.proofs.Scheduling.{signal_alike, signal_any}
 use Rattle.cs_model.proofs.Processing.{is_semaphore_same}
@@ -58,11 +59,27 @@ if_happened (same false h) s t = t
 pub run_same : {s t : State} → KeepsState s t → Same Any s.run t.run
 run_same {s} {t} h = same_by Any s.run t.run (sym h.run) tt
 
+pub is_left_same : {v m : Kept} → Keeps v m → Same Any (is_left v) (is_left m)
+is_left_same k = two (λ b r. b && is_some r.active) (is_idle_same k) (rest_same k)
+
+pub without_context_moved : {v m : Kept} → Keeps v m → Moved v (without_context v) (without_context m)
+without_context_moved k = choose_moved (is_left_same k) (suspend_moved k) (unmoved k)
+
+pub left_counted : {x y : Bool} {n l : Count} → Same Any x y → Same Any n l → plus n (if x then record { objects = 0; contexts = 0; looks = 1 } else no_count) ≡ plus l (if y then record { objects = 0; contexts = 0; looks = 1 } else no_count)
+left_counted (same x c) (same n d) = refl
+
 go_on_alike : {v : Kept} {a b : Happened} (f g : State → Happened) → AlikeHappened v a b → ((t u : Kept) (r q : Run) → Keeps t u → Same Any r q → AlikeHappened t (f (record { kept = t; run = r })) (g (record { kept = u; run = q }))) → AlikeHappened v (go_on a f) (go_on b g)
 go_on_alike {v} {a} {b} f g h next =
-    let n = next _ _ _ _ h.state.kept (run_same h.state) in
+    let w = without_context_moved h.state.kept in
+    let n = next _ _ _ _ w.keeps (run_same h.state) in
+    let c = left_counted (is_left_same h.state.kept) (same_by Any a.count b.count (sym h.count) tt) in
     if_happened (same_by Any (is_done a.end) (is_done b.end) (ap is_done (sym h.end)) tt)
-    (record { end = n.end; count = ap (plus a.count) n.count ∙ ap (λ c. plus c (g b.state).count) h.count; state = n.state; grows = grows-trans h.grows n.grows })
+    (record {
+      end = n.end;
+      count = ap (plus (plus a.count (left_count a.state.kept))) n.count ∙ ap (λ c. plus c (g (behind b)).count) c;
+      state = n.state;
+      grows = grows-trans h.grows (grows-trans w.grows n.grows);
+    })
     h
 
 pub due_of_alike : (es : List Event) {v m : Kept} {r q : Run} → Keeps v m → Same Any r q → AlikeHappened v (due_of es (record { kept = v; run = r })) (due_of es (record { kept = m; run = q }))

@@ -7,7 +7,7 @@ use Rattle.cs_model.specs.Ref as ref
 use Rattle.cs_model.specs.Ref.{Ref, Small, Char, same_ref, small_of, index_of}
 use Rattle.cs_model.specs.Obj.{Obj, Ptr, Raw, Method, Ctx, is_context, slots_in, at_least}
 use Rattle.cs_model.specs.State.{Kept, object_at, slots_of, IsHeld}
-use Rattle.cs_model.specs.Process.{next_link, suspended_context, priority, my_list, first_link, last_link, excess_signals, process_slots, semaphore_slots, list_slots, slot_or_none, with_slot_of, with_scheduler, with_active_process, lists_of, list_at, if_list, list_of_process, with_list_of, link_last, add_last, link_past, is_same, end_at, unlinked, take_out, with_first, give_context, start_at, start, stop_running, Highest, Waiting, AllEmpty, NoList, if_waiting, or_lower, highest_of, none_active, start_highest, start_next, with_priority, preempt, resume, one_more, signal, wait_behind, wait, suspend_active, list_links, Place, At, NotThere, NoProcess, TooFar, find_link, leave_list, suspend_other, suspend, give_way_to, give_way}
+use Rattle.cs_model.specs.Process.{next_link, suspended_context, priority, my_list, first_link, last_link, excess_signals, process_slots, semaphore_slots, list_slots, slot_or_none, with_slot_of, with_scheduler, with_active_process, lists_of, list_at, if_list, list_of_process, with_list_of, link_last, add_last, link_past, is_same, end_at, unlinked, take_out, with_first, give_context, start_at, start, stop_running, Highest, Waiting, AllEmpty, NoList, if_waiting, or_lower, highest_of, none_active, start_highest, start_next, with_priority, preempt, resume_beside, resume, one_more, signal, wait_behind, wait, suspend_active, list_links, Place, At, NotThere, NoProcess, TooFar, find_link, leave_list, suspend_other, suspend, give_way_to, give_way}
 use Rattle.cs_model.specs.End.{Out}
 use Rattle.cs_model.specs.Keeps.{Keeps}
 use Rattle.cs_model.specs.Alike.{Alike, IsHeldIf}
@@ -162,15 +162,18 @@ preempt_alike k running p =
     looked_alike (behind s (with_list_alike _ _ s.keeps (up s.grows running) (λ list h.
     and_then_alike _ _ (add_last_alike s.keeps (same list h) (up s.grows running)) (λ t u r. start_alike r.keeps (up r.grows (up s.grows p))))))
 
+resume_beside_alike : {v m : Kept} {r s p q : Ref} → Keeps v m → Same (IsHeld v) r s → Same (IsHeld v) p q → Alike v (resume_beside v r p) (resume_beside m s q)
+resume_beside_alike k running p =
+    if_alike (is_nil_same k running) (start_alike k p)
+    (with_priority_alike _ _ k p (λ mine a.
+    with_priority_alike _ _ k running (λ its b.
+    if_alike (is (int_lt its mine)) (preempt_alike k running p) (with_list_alike _ _ k p (λ list g. add_last_alike k (same list g) p)))))
+
 pub resume_alike : {v m : Kept} {p q : Ref} → Keeps v m → Same (IsHeld v) p q → Alike v (resume v p) (resume m q)
 unfolding resume
 resume_alike k p =
     if_alike (is_process_same k p)
-    (with_active_alike _ _ k (λ running h.
-    if_alike (is_nil_same k (is running)) (start_alike k p)
-    (with_priority_alike _ _ k p (λ mine a.
-    with_priority_alike _ _ k (same running h) (λ its b.
-    if_alike (is (int_lt its mine)) (preempt_alike k (same running h) p) (with_list_alike _ _ k p (λ list g. add_last_alike k (same list g) p)))))))
+    (with_active_alike _ _ k (λ running h. resume_beside_alike k (same running h) p))
     (stop_alike k _)
 
 one_more_alike : {v m : Kept} {x y : Ref} {o p : Option ℤ} → Keeps v m → Same (IsHeld v) x y → Same Any o p → Alike v (one_more v x o) (one_more m y p)
@@ -182,7 +185,7 @@ unfolding signal
 signal_alike k s =
     with_slot_alike _ _ k semaphore_slots first_link s (λ first h.
     if_alike (is_nil_same k (is first)) (one_more_alike k s (of_option (λ o. option_and_then (λ x. small_of x) o) (slot_same k semaphore_slots excess_signals s)))
-    (with_first_alike _ _ k s (λ t u p r g. resume_alike r.keeps g)))
+    (with_active_alike _ _ k (λ running h. with_first_alike _ _ k s (λ t u p r g. resume_beside_alike r.keeps (up r.grows (same running h)) g))))
 
 -- a reference that v lacks names a context of m, or nothing: neither is a semaphore
 none_both : {A : Type 0} (P : A → Type 0) (o p : Option A) → o ≡ None → p ≡ None → SameOption P o p

@@ -1,5 +1,5 @@
 -- A bytecode with all that it leads to is alike, and so are a step and a run.
-use Rattle.std.proofs.Common.{◌≡◌, ℕ, zero, suc, ◌+◌, ◌-◌, ◌&&◌, not, Bool, true, false, refl, sym, ap, ◌∙◌, Option, Some, None, is_some, List, [], ◌∷◌, ◌++◌, nat_lt, if◌then◌else◌}
+use Rattle.std.proofs.Common.{ℕ, zero, suc, ◌+◌, ◌-◌, ◌&&◌, not, Bool, true, false, refl, sym, ap, ◌∙◌, Option, Some, None, is_some, List, [], ◌∷◌, ◌++◌, nat_lt, if◌then◌else◌}
 use Rattle.cs_model.specs.declared.stop.Stop.{Stop}
 use Rattle.cs_model.specs.declared.stop.Stop.TheVariants as why
 use Rattle.cs_model.specs.declared.instruction.Instr.{Instr}
@@ -11,22 +11,22 @@ use Rattle.cs_model.specs.Send.{enter_out}
 use Rattle.cs_model.specs.PrimRun.{Result}
 use Rattle.cs_model.specs.PrimTable.{prim, is_perform}
 use Rattle.cs_model.specs.Due.{Happened}
-use Rattle.cs_model.specs.Step.{Message, message_in, return_in, primitive_in, call_in, is_fail, counting, arguments_of, or_enter, try_performed, tried, try_primitive, sent, do_send, do_call, returned, do_return, followed, instruction_at, obey, bytecode, is_ref, is_process, process_fault, shape_fault, Ending, Steps, Quit, Idle, Stopped, Step, stops, next_step, is_left, ends_with, completed, finish, birth_limit, add_count, ready, stop_in, after_due, step, Ran, saved, go_on, run_by, run}
+use Rattle.cs_model.specs.Step.{Message, message_in, return_in, primitive_in, call_in, is_fail, counting, arguments_of, or_enter, try_performed, tried, try_primitive, sent, do_send, do_call, returned, do_return, followed, instruction_at, obey, bytecode, is_ref, is_process, process_fault, shape_fault, Ending, Steps, Quit, Idle, Stopped, Step, stops, next_step, ends_with, completed, saved_fault, finish, birth_limit, add_count, ready, stop_in, after_due, step, Ran, saved, go_on, run_by, run}
 use Rattle.cs_model.specs.End.{End, Out, Count, out, stop, no_count, plus, given}
 use Rattle.cs_model.specs.End as ends
 use Rattle.cs_model.specs.Keeps.{Keeps, Grows, KeepsState}
 use Rattle.cs_model.specs.Alike.{Alike, EndHeld, IsHeldIf, AlikeResult, AlikeHappened, AlikeStep, AlikeRan, KeepsIf, AllKeep}
 use Rattle.cs_model.proofs.Same.{Same, same, SameOption, none, some, Any, is, value, of_option, two, same_by, plain}
-use Rattle.cs_model.proofs.Keeping.{Moved, unmoved, choose_moved, grows-trans}
+use Rattle.cs_model.proofs.Keeping.{Moved, unmoved, grows-trans}
 use Rattle.cs_model.proofs.Reading.{held_if, rest_same, is_nil_same, slots_of_same, special_at_same, scheduler_same, active_process_same, object_of_same, bytecodes_same, literals_same, pc_same}
-use Rattle.cs_model.proofs.Operating.{set_pc_moved, suspend_moved}
+use Rattle.cs_model.proofs.Operating.{set_pc_moved}
 use Rattle.cs_model.proofs.Combining.{behind, left, end_same, count_same, counting_alike, stop_alike}
 use Rattle.cs_model.proofs.Executing.{exec_alike}
 use Rattle.cs_model.proofs.Sending.{enter_alike, send_alike}
 use Rattle.cs_model.proofs.Returning.{back_alike}
 use Rattle.cs_model.proofs.Running.{result_alike, if_result, given_result}
 use Rattle.cs_model.proofs.Tables.{prim_alike}
-use Rattle.cs_model.proofs.Happening.{is_idle_same, run_same, due_alike}
+use Rattle.cs_model.proofs.Happening.{is_idle_same, is_left_same, without_context_moved, left_counted, run_same, due_alike}
 
 -- ---- what an end asks for
 
@@ -171,25 +171,20 @@ pub shape_fault_same : {v m : Kept} → Keeps v m → SameOption Any (shape_faul
 unfolding shape_fault
 shape_fault_same k = plain (process_fault_same k (active_process_same k))
 
-is_left_same : {v m : Kept} → Keeps v m → Same Any (is_left v) (is_left m)
-is_left_same k = two (λ b r. b && is_some r.active) (is_idle_same k) (rest_same k)
-
 -- s is what the step began with
 pub stops_alike : {s t : State} {n l : Count} → KeepsState s t → Same Any n l → (reason : Stop) → AlikeStep s.kept (stops s n reason) (stops t l reason)
 stops_alike h (same n a) reason = record { ending = refl; count = refl; state = h; grows = (unmoved h.kept).grows; snapshot = tt }
 
 ends_with_alike : {v : Kept} {a b : Result} → (e : Ending) → AlikeResult v a b → AlikeStep v (ends_with e a) (ends_with e b)
 ends_with_alike {v} {a} {b} e h =
-    let w = choose_moved (is_left_same h.out.keeps) (suspend_moved h.out.keeps) (unmoved h.out.keeps) in
+    let w = without_context_moved h.out.keeps in
     record {
       ending = refl;
-      count = counted (is_left_same h.out.keeps) (count_same h.out);
+      count = left_counted (is_left_same h.out.keeps) (count_same h.out);
       state = record { kept = w.keeps; run = ap next_step h.run };
       grows = grows-trans h.out.grows w.grows;
       snapshot = h.snapshot;
-    } where
-      counted : {x y : Bool} {n l : Count} → Same Any x y → Same Any n l → plus n (if x then record { objects = 0; contexts = 0; looks = 1 } else no_count) ≡ plus l (if y then record { objects = 0; contexts = 0; looks = 1 } else no_count)
-      counted (same x c) (same n d) = refl
+    }
 
 given_step : {v : Kept} {A : Type 0} {P : A → Type 0} {o p : Option A} {a b : Step} (f g : A → Step) → SameOption P o p → AlikeStep v a b → ((x : A) → P x → AlikeStep v (f x) (g x)) → AlikeStep v (given o a f) (given p b g)
 given_step f g none n s = n
@@ -207,6 +202,12 @@ step_behind g h = record { ending = h.ending; count = h.count; state = h.state; 
 completed_alike : {s t : State} {a b : Result} → KeepsState s t → (e : Ending) → AlikeResult s.kept a b → AlikeStep s.kept (completed s e a) (completed t e b)
 completed_alike k e h = given_step _ _ (shape_fault_same h.out.keeps) (ends_with_alike e h) (λ reason a. stops_alike k (count_same h.out) reason)
 
+saved_fault_same : (o p : Option Kept) → KeepsIf o p → SameOption Any (saved_fault o) (saved_fault p)
+saved_fault_same None None h = none
+saved_fault_same None (Some m) h = elim h [ ]
+saved_fault_same (Some v) None h = elim h [ ]
+saved_fault_same (Some v) (Some m) h = shape_fault_same h
+
 finish_case : {s t : State} {a b : Result} {e f : End} {P : End → Type 0} → KeepsState s t → AlikeResult s.kept a b → Same P e f → AlikeStep s.kept (finish s a e) (finish t b f)
 finish_case k h (same ends.Done a) = completed_alike k Steps h
 finish_case k h (same (ends.Send selector args above) a) = completed_alike k Steps h
@@ -217,7 +218,7 @@ finish_case k h (same (ends.Call special args) a) = completed_alike k Steps h
 finish_case k h (same ends.Answer a) = completed_alike k Steps h
 finish_case k h (same ends.Fail a) = completed_alike k Steps h
 finish_case k h (same ends.Quit a) = completed_alike k Quit h
-finish_case k h (same ends.Snapshot a) = completed_alike k Steps h
+finish_case {a = x} {b = y} k h (same ends.Snapshot a) = given_step _ _ (saved_fault_same x.snapshot y.snapshot h.snapshot) (completed_alike k Steps h) (λ reason c. stops_alike k (count_same h.out) reason)
 finish_case k h (same (ends.Stopped reason) a) = stops_alike k (count_same h.out) reason
 
 result_behind : {v t u : Kept} {a b : Result} → Moved v t u → AlikeResult t a b → AlikeResult v a b

@@ -1,11 +1,12 @@
 -- The events that are due before a bytecode.
-use Rattle.std.specs.Prelude.{ℕ, ℤ, ◌+◌, ◌-◌, ◌||◌, Bool, false, int_lt, nat_lt, nat_le, if◌then◌else◌, List, [], ◌∷◌, ◌++◌, Option, Some, None, option_and_then, slice_get}
+use Rattle.std.specs.Prelude.{ℕ, ℤ, ◌+◌, ◌-◌, ◌&&◌, ◌||◌, Bool, false, int_lt, nat_lt, nat_le, if◌then◌else◌, List, [], ◌∷◌, ◌++◌, Option, Some, None, is_some, option_and_then, slice_get}
 use Rattle.cs_model.specs.declared.event.Event.{Event}
 use Rattle.cs_model.specs.declared.event.EventKind.{EventKind}
 use Rattle.cs_model.specs.declared.event.EventKind.TheVariants as kind
 use Rattle.cs_model.specs.Ref.{Ref}
 use Rattle.cs_model.specs.Obj.{slots_in}
 use Rattle.cs_model.specs.State.{Kept, Run, State, Timer, object_of, special_at, is_nil, active_process}
+use Rattle.cs_model.specs.Operation.{suspend_of}
 use Rattle.cs_model.specs.Process.{signal}
 use Rattle.cs_model.specs.PrimProcess.{is_semaphore}
 use Rattle.cs_model.specs.PrimRun.{with_timer}
@@ -73,11 +74,25 @@ is_idle k = is_idle_at k (active_process k)
 abbrev pub is_due : State → Event → Bool
 is_due s e = nat_le e.before (s.run.steps + 1) || is_idle s.kept
 
+-- With no active process no context is active; that one stopped counts as a look, if nothing else has counted it.
+abbrev pub is_left : Kept → Bool
+is_left k = is_idle k && is_some k.rest.active
+
+abbrev pub without_context : Kept → Kept
+without_context k = if is_left k then suspend_of k else k
+
+abbrev pub left_count : Kept → Count
+left_count k = if is_left k then record { objects = 0; contexts = 0; looks = 1 } else no_count
+
+-- behind an event, which may leave no process active by a store into a link
+abbrev pub behind : Happened → State
+behind h = record { kept = without_context h.state.kept; run = h.state.run }
+
 abbrev pub counting : Count → Happened → Happened
 counting n h = record h { count = plus n h.count }
 
 abbrev pub go_on : Happened → (State → Happened) → Happened
-go_on h next = if is_done h.end then counting h.count (next h.state) else h
+go_on h next = if is_done h.end then counting (plus h.count (left_count h.state.kept)) (next (behind h)) else h
 
 -- the events are given as a list, so that the recursion follows it; `with_events` leaves those that aren't due
 unfoldable pub due_of : List Event → State → Happened

@@ -193,15 +193,17 @@ preempt k running p =
     looked (with_list_of (stop_running k running) running (λ list.
     and_then (add_last (stop_running k running) list running) (λ t. start t p)))
 
--- p is active where its priority is above that of the active process, or none is active; else it waits in its own list
-unfoldable pub resume : Kept → Ref → Out
-resume k p =
-    if is_some (slots_of k process_slots p) then
-    with_active_process k (λ running.
+-- p is active where its priority is above that of the running process, or none is running; else it waits in its own list
+abbrev pub resume_beside : Kept → Ref → Ref → Out
+resume_beside k running p =
     if is_nil k running then start k p else
     with_priority k p (λ mine.
     with_priority k running (λ its.
-    if int_lt its mine then preempt k running p else with_list_of k p (λ list. add_last k list p))))
+    if int_lt its mine then preempt k running p else with_list_of k p (λ list. add_last k list p)))
+
+unfoldable pub resume : Kept → Ref → Out
+resume k p =
+    if is_some (slots_of k process_slots p) then with_active_process k (λ running. resume_beside k running p)
     else stop why.BadProcess k
 
 -- one more excess signal, if that is still a SmallInteger
@@ -210,12 +212,13 @@ one_more k semaphore None = stop why.BadProcess k
 one_more k semaphore (Some n) =
     if int_lt n (pos 1073741823) then done (store_of k semaphore excess_signals (Small (n +ℤ pos 1))) else stop why.BadProcess k
 
--- the first waiter is resumed; without one the signal is kept
+-- The first waiter is resumed; without one the signal is kept. The active process is read before the waiter leaves the list,
+-- since that list may be the scheduler.
 unfoldable pub signal : Kept → Ref → Out
 signal k semaphore =
     with_slot_of k semaphore_slots first_link semaphore (λ first.
     if is_nil k first then one_more k semaphore (option_and_then (λ x. small_of x) (slot_or_none k semaphore_slots excess_signals semaphore))
-    else with_first k semaphore (λ t p. resume t p))
+    else with_active_process k (λ running. with_first k semaphore (λ t p. resume_beside t running p)))
 
 -- the active process waits in the semaphore's list, and the next one runs
 abbrev pub wait_behind : Kept → Ref → Out

@@ -137,6 +137,7 @@ pub record IsValid (s : State) : Type 0 where
   pub pcs : (i : ℕ) (c : Context) → object_at s.kept i ≡ Some (Ctx c) → PcLies s.kept c
   pub indices : (i : ℕ) (o : Obj) → object_at s.kept i ≡ Some o → is_class_index (class_index_in o) ≡ true
   pub table : (index i : ℕ) → get s.kept.rest.classes index ≡ Some i → context_in (object_at s.kept i) ≡ None
+  pub hidden : get s.kept.rest.classes 16 ≡ None
   pub scheduler : IsSome (active_process s.kept)
   pub process : (p : Ref) → active_process s.kept ≡ Some p → is_nil s.kept p ≡ false → IsProcess s.kept p
   pub idle : (p : Ref) → active_process s.kept ≡ Some p → (is_nil s.kept p ≡ true) ↔ (s.kept.rest.active ≡ None)

@@ -1,5 +1,5 @@
 -- One step of the machine: the events that are due, and one bytecode with all that it leads to. A run is a number of steps.
-use Rattle.std.specs.Prelude.{ℕ, zero, suc, ◌+◌, ◌-◌, ◌&&◌, Bool, true, false, not, nat_lt, if◌then◌else◌, List, [], ◌∷◌, ◌++◌, Option, Some, None, is_some}
+use Rattle.std.specs.Prelude.{ℕ, zero, suc, ◌+◌, ◌-◌, ◌&&◌, Bool, true, false, not, nat_lt, if◌then◌else◌, List, [], ◌∷◌, ◌++◌, Option, Some, None, is_some, option_and_then}
 use Rattle.cs_model.specs.declared.stop.Stop.{Stop}
 use Rattle.cs_model.specs.declared.stop.Stop.TheVariants as why
 use Rattle.cs_model.specs.declared.instruction.Instr.{Instr}
@@ -7,14 +7,14 @@ use Rattle.cs_model.specs.Ref.{Ref, same_ref}
 use Rattle.cs_model.specs.Obj.{first_pc, header_in, argument_count}
 use Rattle.cs_model.specs.State.{Kept, Run, State, object_of, slots_of, special_at, scheduler_of, is_nil, active_process}
 use Rattle.cs_model.specs.Read.{pc_of, literals_of, bytecodes_of}
-use Rattle.cs_model.specs.Operation.{set_pc_of, suspend_of}
+use Rattle.cs_model.specs.Operation.{set_pc_of}
 use Rattle.cs_model.specs.Decode.{decode_at}
 use Rattle.cs_model.specs.Exec.{exec}
 use Rattle.cs_model.specs.Send.{enter_out, send}
 use Rattle.cs_model.specs.Return.{back}
 use Rattle.cs_model.specs.PrimRun.{Result, result}
 use Rattle.cs_model.specs.PrimTable.{prim, is_perform}
-use Rattle.cs_model.specs.Due.{Happened, is_idle, due}
+use Rattle.cs_model.specs.Due.{Happened, is_idle, without_context, left_count, due}
 use Rattle.cs_model.specs.End.{End, Out, Count, out, stop, no_count, plus, given}
 use Rattle.cs_model.specs.End as ends
 
@@ -196,16 +196,7 @@ stops s n reason = record { ending = Stopped reason; state = s; count = n; snaps
 abbrev pub next_step : Run → Run
 next_step r = record r { steps = r.steps + 1 }
 
--- with no active process no context is active; that one stopped counts as a look, if no primitive has counted it
-abbrev pub is_left : Kept → Bool
-is_left k = is_idle k && is_some k.rest.active
-
-abbrev pub without_context : Kept → Kept
-without_context k = if is_left k then suspend_of k else k
-
-abbrev pub left_count : Kept → Count
-left_count k = if is_left k then record { objects = 0; contexts = 0; looks = 1 } else no_count
-
+-- with no active process no context is active
 abbrev pub ends_with : Ending → Result → Step
 ends_with e r = record {
   ending = e;
@@ -217,6 +208,11 @@ ends_with e r = record {
 abbrev pub completed : State → Ending → Result → Step
 completed s e r = given (shape_fault r.out.state) (ends_with e r) (λ reason. stops s r.out.count reason)
 
+-- A state that is saved must have that shape too: where the active process is the scheduler or special 3, settling writes over what
+-- names it.
+abbrev pub saved_fault : Option Kept → Option Stop
+saved_fault saved = option_and_then (λ k. shape_fault k) saved
+
 abbrev pub finish : State → Result → End → Step
 finish s r ends.Done = completed s Steps r
 finish s r (ends.Send selector args above) = completed s Steps r
@@ -227,7 +223,7 @@ finish s r (ends.Call special args) = completed s Steps r
 finish s r ends.Answer = completed s Steps r
 finish s r ends.Fail = completed s Steps r
 finish s r ends.Quit = completed s Quit r
-finish s r ends.Snapshot = completed s Steps r
+finish s r ends.Snapshot = given (saved_fault r.snapshot) (completed s Steps r) (λ reason. stops s r.out.count reason)
 finish s r (ends.Stopped reason) = stops s r.out.count reason
 
 -- ---- a step
