@@ -19,7 +19,7 @@ use Rattle.cs_model.specs.Exec.{exec}
 use Rattle.cs_model.specs.End as ends
 use Rattle.cs_model.specs.End.{End, Out, no_count}
 use Rattle.cs_model.specs.PrimRun.{Result, result}
-use Rattle.cs_model.specs.Due.{due, due_of, is_idle}
+use Rattle.cs_model.specs.Due.{due, due_of, is_idle, is_left, without_context}
 use Rattle.cs_model.proofs.Same.{Any, Same, equal, if_same, is, of_option, option_equal, same, value}
 use Rattle.cs_model.proofs.Keeping.{Keeps-trans}
 use Rattle.std.proofs.lemmas.List.{append-nil}
@@ -30,7 +30,7 @@ use Rattle.cs_model.proofs.Reading.{depth_same, held_if, object_of_same}
 use Rattle.cs_model.proofs.Sending.{begins_at_same, look_from_same}
 use Rattle.cs_model.proofs.Tables.{prim_alike}
 use Rattle.cs_model.proofs.Stepping.{MessageHeld, do_send_alike, shape_fault_same}
-use Rattle.cs_model.specs.Step.{completed, ends_with, finish, is_left, Message, Step, Ending, Steps, Stopped, add_count, birth_limit, bytecode, counting, do_send, finish_of, followed, instruction_at, is_fail, message_in, next_step, return_in, shape_fault, step, stops, with_kept, without_context}
+use Rattle.cs_model.specs.Step.{completed, ends_with, finish, Message, Step, Ending, Steps, Stopped, add_count, birth_limit, bytecode, counting, do_send, finish_of, followed, instruction_at, is_fail, message_in, next_step, return_in, shape_fault, step, stops, with_kept}
 use Rattle.cs_model.specs.Built.{answers, built_step, is_built, is_built_found, is_built_method, is_built_number, is_built_at, is_built_byte, is_built_bytecode, is_built_end, is_built_send}
 use Rattle.cs_acts.specs.Names.{Store}
 use Rattle.cs_acts.specs.Ready.{IsReady}
