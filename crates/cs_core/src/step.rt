@@ -102,7 +102,7 @@ fn send<W: World, K: Sink>(
 }
 
 /// Tries a primitive with one argument.
-fn try_primitive<W: World, K: Sink>(w: &mut W, out: &mut K, number: u16) -> StepEnd
+fn try_primitive<W: World, K: Sink>(w: &mut W, out: &mut K, number: u32) -> StepEnd
     requires ready { IsReady (W.stored w.old) (W.view w.old) }
     requires there { 1 < depth_of (W.view w.old) }
     ensures gives { TurnGives (trying (W.view w.old) number) (K.taken out.old) (K.taken out.new) (W.stored w.new) (W.view w.new) result }
