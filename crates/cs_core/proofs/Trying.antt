@@ -41,7 +41,7 @@ shape_kept v m k = option_equal (shape_fault_same k)
 ends_by : (f : Turns) (v : Kept) (bytes : List ℕ) (old new : Option (List ℕ)) (s : Store) (e : StepEnd) → AnswersIn f v bytes → IsReady s v → Appends old new bytes → ((reason : Reason) → e ≡ Stop reason → new ≡ old)
     → EndsBy v e → TurnGives f old new s v e
 ends_by f v bytes old new s Active a ready told same b = (bytes, told, a, ready, b.0, b.1)
-ends_by f v bytes old new s Idle a ready told same b = (bytes, told, a, b.0, b.1)
+ends_by f v bytes old new s Idle a ready told same b = (bytes, told, a, ready.sound, b.0, b.1)
 ends_by f v bytes old new s (Stop reason) a ready told same b = (same reason refl, λ output steps.
     let t = a output steps in
     lost t.built t.end (shape_kept v (f output steps).result.out.state t.state ∙ b))
@@ -101,7 +101,8 @@ prim_write : (k : Kept) (x y : Ref) (bytes output : List ℕ) (steps : ℕ) → 
 unfolding prim write_prim
 prim_write k x y bytes output steps p q h =
     let is : bytes_to_write k (argument k 1 0) ≡ Some bytes = ap (bytes_to_write k) (argument_is k y q) ∙ h in
-    rw is ∙ ap (λ z. result (answer k 1 z) (run_at (output ++ bytes) steps)) (receiver_is k x p)
+    let first : prim 900 1 (state_at k output steps) ≡ result (answer k 1 (receiver k 1)) (run_at (output ++ bytes) steps) = rw is in
+    first ∙ ap (λ z. result (answer k 1 z) (run_at (output ++ bytes) steps)) (receiver_is k x p)
 
 prim_no_write : (k : Kept) (y : Ref) (r : Run) → from_top 0 (stack_of k) ≡ Some y → bytes_to_write k y ≡ None → prim 900 1 (with_kept k r) ≡ fails (with_kept k r)
 unfolding prim write_prim
@@ -173,10 +174,10 @@ offered_gives k m method number old new s v e offer one gives = go e gives
         let f = final_answer (trying k number output steps).result end in
         lost (o.built ∙ b) (o.end f ∙ end) (ap shape_fault (o.state f) ∙ fault)
     go : (e : StepEnd) → TurnGives (trying k number) old new s v e → TurnGives (sending k m) old new s v e
-    go Active (bytes, told, a, rest) = (bytes, told, over bytes a, rest)
-    go Idle (bytes, told, a, rest) = (bytes, told, over bytes a, rest)
+    go Active (bytes, told, a, ready, shape, active) = (bytes, told, over bytes a, ready, shape, active)
+    go Idle (bytes, told, a, sound, shape, idle) = (bytes, told, over bytes a, sound, shape, idle)
     go (Stop reason) (none, f) = (none, λ output steps. stop reason output steps (f output steps))
-    go WriteFault (bytes, told, a, rest) = (bytes, told, over bytes a, rest)
+    go WriteFault (bytes, told, a, shape) = (bytes, told, over bytes a, shape)
 
 sum_fails : (s : State) (args : ℕ) → (1 == args) ≡ false → is_fail (prim 1 args s).out.end ≡ true
 unfolding prim kept_prim number_prim
