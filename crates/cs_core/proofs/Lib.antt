@@ -1,3 +1,4 @@
 mod Answering
 pub mod Thin
 pub mod Resolving
+pub mod Places
