@@ -2,3 +2,4 @@ mod Answering
 pub mod Thin
 pub mod Resolving
 pub mod Places
+pub mod Rolling
