@@ -1,5 +1,5 @@
 -- What the heap of a world says of its state.
-use Rattle.std.proofs.Common.{◌≡◌, ℕ, Bool, true, false, refl, sym, ap, subst, ◌∙◌, Option, Some, None, List, length, map}
+use Rattle.std.proofs.Common.{◌≡◌, ℕ, Bool, true, false, refl, sym, ap, subst, ◌∙◌, Option, Some, None, IsSome, is_some, List, length, map}
 use Rattle.std.proofs.lemmas.List.{length-map}
 use Rattle.std.specs.Prelude.{nat_le, if◌then◌else◌, option_map}
 use Rattle.cs_word.specs.declared.Oop.{Oop}
@@ -83,3 +83,29 @@ slots-said refer n (Some x) o h = go (is_context x) refl
 pub slots_of-named : (s : Store) (k : Kept) (n : ℕ) (o : Oop) → Holds s k → IsNamed s o → slots_of k n (name_of s o) ≡ option_map (map (ref_of s.memory.objects)) (pointer_words s.memory.objects n o.0)
 unfolding slots_of pointer_words
 slots_of-named s k n o h named = slots-said (ref_of s.memory.objects) n (object_named s.memory.objects o.0) (object_of k (name_of s o)) (says s k o h named)
+
+-- ---- what a word names is held
+
+there_said : (refer : ℕ → Ref) (x : Object) (o : Option Obj) → Says refer (Some x) o → IsSome o
+there_said refer x o h = go (is_context x) refl
+  where
+    context_there : (p : Option Obj) → is_context_at p ≡ true → IsSome p
+    context_there None e = absurd (cc)
+    context_there (Some y) e = refl
+
+    go : (b : Bool) → is_context x ≡ b → IsSome o
+    go true e = context_there o (h.1 e)
+    go false e = ap is_some (h.0 e)
+
+held_kind : (s : Store) (k : Kept) → Holds s k → (w : Kind) → is_reference_kind s.memory.objects w ≡ true → state.IsHeld k (ref_of_kind s.memory.objects w)
+held_kind s k h (kind.Small value) named = tt
+held_kind s k h (kind.Character code) named = tt
+held_kind s k h (kind.Object address) named =
+    let x = object_there s.memory.objects address named in
+    there_said (ref_of s.memory.objects) x.0 (state.object_at k (birth_of s.memory.objects address))
+    (subst (λ o. Says (ref_of s.memory.objects) o (state.object_at k (birth_of s.memory.objects address))) x.1 (says_address s k h address named))
+held_kind s k h (kind.Link word) named = absurd (cc)
+
+pub named_held : (s : Store) (k : Kept) (o : Oop) → Holds s k → IsNamed s o → state.IsHeld k (name_of s o)
+unfolding ref_of is_reference
+named_held s k o h named = held_kind s k h (kind_of o.0) named

@@ -1,3 +1,4 @@
 pub mod Names
 pub mod Ready
 pub mod Reading
+pub mod Shaped

@@ -6,9 +6,11 @@
 
 mod act;
 pub mod read;
+mod shape;
 mod words;
 mod world;
 
 pub use act::Act;
 pub use cs_classes::{Loaded, Roots};
+pub use shape::{Shape, shape_of};
 pub use world::World;

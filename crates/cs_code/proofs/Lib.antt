@@ -1,0 +1,4 @@
+pub mod Through
+pub mod Fields
+pub mod Tops
+pub mod Bits

@@ -1,15 +1,19 @@
 //! Jumps.
 ghost use Rattle.std.specs.Prelude.{◌≡◌, IfSome, true};
-ghost use Rattle.cs_model.specs.Exec.{jump_out, pc_after};
+ghost use Rattle.cs_model.specs.Exec.{jump_if_out, jump_out, pc_after};
 ghost use Rattle.cs_model.specs.Obj.{lies_in};
 ghost use Rattle.cs_model.specs.Read.{method_of};
 ghost use Rattle.cs_acts.specs.Ready.{IsReady};
 ghost use Rattle.cs_code.specs.Gives.{Gives};
 
 use crate::CodeEnd;
+use crate::sends::send_special;
 use cs_acts::World;
-use cs_acts::read::lies;
+use cs_acts::read::{boolean, from_top, lies, same};
 use cs_model::Stop;
+
+/// The special object that is sent to a condition that is neither true nor false.
+const MUST_BE_BOOLEAN: u32 = 25;
 
 /// Moves the pc so far, where it stays in the method.
 #[tactic(auto, unfolding(cs_model::specs::Exec::jump_out))]
@@ -42,4 +46,25 @@ fn pc_after<W: World>(w: &W, offset: i32) -> Option<u32>
     } else {
         None
     }
+}
+
+/// Pops a condition and jumps if it is the wanted one. A value that is neither true nor false stays, as the receiver of
+/// `mustBeBoolean`.
+#[tactic(auto, unfolding(cs_model::specs::Exec::jump_if_out))]
+pub fn jump_if<W: World>(w: &mut W, wanted: bool, offset: u16) -> CodeEnd
+    requires { IsReady (W.stored w.old) (W.view w.old) }
+    ensures { Gives (W.stored w.old) (W.stored w.new) (W.view w.new) result (jump_if_out (W.view w.old) wanted offset) }
+{
+    let Some(condition) = from_top(w, 0) else {
+        return CodeEnd::Stop(Stop::StackUnder);
+    };
+    if same(w, condition, boolean(w, wanted)) {
+        w.pop();
+        return jump(w, i32::from(offset));
+    }
+    if same(w, condition, boolean(w, !wanted)) {
+        w.pop();
+        return CodeEnd::Done;
+    }
+    send_special(w, MUST_BE_BOOLEAN, 0)
 }

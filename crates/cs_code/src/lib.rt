@@ -7,10 +7,14 @@ ghost use Rattle.cs_acts.specs.Ready.{IsReady};
 ghost use Rattle.cs_code.specs.Built.{built_exec};
 ghost use Rattle.cs_code.specs.Gives.{Gives};
 
+mod arithmetic;
 mod end;
 mod jumps;
 mod pushes;
+mod returns;
 mod sends;
+mod stores;
+mod variables;
 
 use cs_acts::World;
 use cs_model::{Instr, Op, Stop};
@@ -23,18 +27,40 @@ pub fn exec<W: World>(i: &Instr, w: &mut W) -> CodeEnd
     ensures { Gives (W.stored w.old) (W.stored w.new) (W.view w.new) result (built_exec i.now.op (W.view w.old)) }
 {
     match i.op {
+        Op::PushRcvr(k) => variables::push_field(w, k),
         Op::PushTemp(k) => pushes::push_temporary(w, k),
         Op::PushLit(k) => pushes::push_literal(w, k),
+        Op::PushLitVar(k) => variables::push_variable(w, k),
+        Op::PopRcvr(k) => stores::pop_field(w, k),
+        Op::PopTemp(k) => stores::pop_temporary(w, k),
+        Op::PopLitVar(k) => stores::pop_variable(w, k),
+        Op::StoreRcvr(k) => stores::keep_field(w, k),
+        Op::StoreTemp(k) => stores::keep_temporary(w, k),
+        Op::StoreLitVar(k) => stores::keep_variable(w, k),
         Op::PushSelf => pushes::push_receiver(w),
         Op::PushTrue => pushes::push_boolean(w, true),
         Op::PushFalse => pushes::push_boolean(w, false),
         Op::PushNil => pushes::push_nil(w),
         Op::PushInt(z) => pushes::push_small(w, z),
+        Op::ReturnSelf => returns::return_receiver(w),
+        Op::ReturnTrue => returns::return_boolean(w, true),
+        Op::ReturnFalse => returns::return_boolean(w, false),
+        Op::ReturnNil => returns::return_nil(w),
+        Op::ReturnTop => returns::return_top(w),
+        Op::BlockReturn => returns::return_to_sender(w),
         Op::Send { lit, args } => sends::send(w, lit, args),
+        Op::SendSuper { lit, args } => sends::send_super(w, lit, args),
         Op::Pop => pushes::pop(w),
         Op::Dup => pushes::dup(w),
         Op::Prim { .. } => CodeEnd::Done,
+        Op::PushVec { k, j } => variables::push_vector(w, k, j),
+        Op::StoreVec { k, j } => stores::keep_vector(w, k, j),
+        Op::PopVec { k, j } => stores::pop_vector(w, k, j),
         Op::Jump(offset) => jumps::jump(w, i32::from(offset)),
+        Op::JumpTrue(offset) => jumps::jump_if(w, true, offset),
+        Op::JumpFalse(offset) => jumps::jump_if(w, false, offset),
+        Op::Special(k) => arithmetic::special(w, k),
+        Op::Common(k) => arithmetic::common(w, k),
         _ => CodeEnd::Stop(Stop::NotBuilt),
     }
 }

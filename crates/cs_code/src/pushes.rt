@@ -1,5 +1,6 @@
 //! Pushes of single values, and what is done to the top of the stack alone.
 ghost use Rattle.std.specs.Prelude.{◌≡◌};
+ghost use Rattle.cs_word.specs.Word.{IsSmall};
 ghost use Rattle.cs_model.specs.Number.{boolean as boolean_of};
 ghost use Rattle.cs_model.specs.Operation.{nil_of};
 ghost use Rattle.cs_model.specs.Read.{receiver_of};
@@ -87,16 +88,17 @@ pub fn push_small<W: World>(w: &mut W, z: i8) -> CodeEnd
     requires { IsReady (W.stored w.old) (W.view w.old) }
     ensures { Gives (W.stored w.old) (W.stored w.new) (W.view w.new) result (push_out (W.view w.old) (ref.Small z)) }
 {
-    let x = small_word(z);
+    let x = small_word(i32::from(z));
     push(w, x)
 }
 
-/// The word of a small number.
+/// The word of a SmallInteger.
 #[tactic(auto, unfolding(cs_classes::specs::Meaning::ref_of, cs_classes::specs::Sound::is_reference))]
-fn small_word(z: i8) -> Oop
+pub fn small_word(z: i32) -> Oop
+    requires { IsSmall z }
     ensures { (s : Store) → Names s result (ref.Small z) }
 {
-    let Some(word) = Oop::small(i32::from(z)) else {
+    let Some(word) = Oop::small(z) else {
         unreachable!();
     };
     word

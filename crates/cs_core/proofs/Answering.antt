@@ -1,11 +1,11 @@
 -- What two pops and a push leave.
-use Rattle.std.proofs.Common.{◌≡◌, ℕ, ◌+◌, ◌-◌, ◌<◌, ◌≤◌, refl, sym, ap, subst, ◌∙◌, List, length, take, length-take, arith}
+use Rattle.std.proofs.Common.{◌≡◌, ◌-◌, sym, ap, subst, ◌∙◌, length, length-take, arith}
 use Rattle.cs_model.specs.Ref.{Ref}
-use Rattle.cs_model.specs.Obj.{Context, popped}
+use Rattle.cs_model.specs.Obj.{popped}
 use Rattle.cs_model.specs.State.{Kept}
 use Rattle.cs_model.specs.Keeps.{Keeps}
 use Rattle.cs_model.specs.Read.{active_context, depth_of, size_of, stack_of}
-use Rattle.cs_model.specs.Operation.{drop_of, edit_active, push_of}
+use Rattle.cs_model.specs.Operation.{drop_of, push_of}
 use Rattle.cs_model.proofs.Agreeing.{active_context-kept}
 use Rattle.cs_model.proofs.Editing.{active_context-put, drop_twice}
 

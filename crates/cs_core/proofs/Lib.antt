@@ -1,5 +1,10 @@
 mod Answering
+mod Lasting
+mod Piecing
+mod Portions
+mod Summing
 pub mod Thin
 pub mod Resolving
 pub mod Places
 pub mod Rolling
+pub mod Turning

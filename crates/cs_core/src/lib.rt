@@ -3,5 +3,4 @@
 
 mod primitive;
 pub mod run;
-mod scheduler;
 mod step;

@@ -1,19 +1,31 @@
 //! The primitives that are built: 1, the sum of two SmallIntegers, and 900, which writes bytes.
-ghost use Rattle.std.specs.Prelude.{◌≡◌, ◌<◌, ◌+ℤ◌, IfSome, Some, option_map};
+ghost use Rattle.std.specs.Prelude.{◌≡◌, ◌<◌, ◌≤◌, ◌+◌, ◌*◌, ◌-◌, [], ◌∷◌, true, IfSome, OnErr, OnOk, Some, drop, is_some, option_and_then, option_map, take};
+ghost use Rattle.arrayvec.specs.ArrayVec.{array_vec_len};
 ghost use Rattle.cs_model.specs.Keeps.{Keeps};
+ghost use Rattle.cs_model.specs.Exec.{small_operands};
+ghost use Rattle.cs_model.specs.Number.{number_result};
+ghost use Rattle.cs_model.specs.PrimRun.{bytes_to_write, small_byte};
 ghost use Rattle.cs_model.specs.Read.{depth_of};
 ghost use Rattle.cs_model.specs.Operation.{drop_of, push_of};
 ghost use Rattle.cs_acts.specs.Names.{IsNamed, KeepsNames, NamesOption, name_of};
-ghost use Rattle.cs_acts.specs.Ready.{IsReady};
+ghost use Rattle.cs_acts.specs.Ready.{IsReady, IsSound};
+ghost use Rattle.cs_classes.specs.Meaning.{count_of, unused_bytes};
+ghost use Rattle.cs_heap.specs.Object.{format_of, slot_count_of};
+ghost use Rattle.cs_shelf.specs.Outside.{Appends, AppendsPart, Rose};
+ghost use Rattle.cs_word.specs.declared.Kind.TheVariants as kind;
+ghost use Rattle.cs_word.specs.Word.{kind_of};
+ghost use Rattle.cs_core.specs.Pieces.{IsPieceOf, all_bytes_at, bytes_at, bytes_of_piece, is_bytes_at, is_piece};
+ghost use Rattle.cs_core.specs.Sum.{sum_in};
 
+use arrayvec::ArrayVec;
 use cs_acts::World;
 use cs_acts::read::from_top;
 use cs_heap::Heap;
 use cs_shelf::{Failed, Sink, write_whole};
 use cs_word::{Kind, Oop, add};
 
-/// The formats of objects that hold bytes.
-const BYTES: std::ops::Range<u8> = 16..20;
+/// The most bytes that are handed to the sink at once.
+const AT_ONCE: u32 = 256;
 
 /// Puts an answer in the place of the receiver and one argument.
 pub fn answer<W: World>(w: &mut W, value: Oop)
@@ -30,49 +42,136 @@ pub fn answer<W: World>(w: &mut W, value: Oop)
     w.push(value);
 }
 
-/// The sum of receiver and argument; None exactly where they aren't two SmallIntegers or the sum doesn't fit.
-pub fn sum<W: World>(w: &W) -> Option<Oop> {
-    let receiver = from_top(w, 1)?;
-    let argument = from_top(w, 0)?;
-    match (receiver.kind(), argument.kind()) {
-        (Kind::Small(a), Kind::Small(b)) => Oop::small(add(a, b)?),
+/// The sum of receiver and argument, as primitive 1 gives it (Blue Book); None exactly where they aren't two SmallIntegers
+/// or the sum doesn't fit.
+pub fn sum<W: World>(w: &W) -> Option<Oop>
+    requires { IsReady (W.stored w.now) (W.view w.now) }
+    ensures { NamesOption (W.stored w.now) result (option_and_then (λ p. number_result (W.view w.now) 1 p.0 p.1) (small_operands (W.view w.now))) }
+{
+    let Some(receiver) = from_top(w, 1) else {
+        return None;
+    };
+    let Some(argument) = from_top(w, 0) else {
+        return None;
+    };
+    small_sum(receiver, argument)
+}
+
+/// The sum of two words that are SmallIntegers, as a word; None exactly where one isn't, or where the sum doesn't fit.
+fn small_sum(a: Oop, b: Oop) -> Option<Oop>
+    ensures some { is_some result ≡ is_some (sum_in (kind_of a.0) (kind_of b.0)) }
+    ensures kind { IfSome result (λ o. option_map (λ z. kind.Small z) (sum_in (kind_of a.0) (kind_of b.0)) ≡ Some (kind_of o.0)) }
+{
+    match (a.kind(), b.kind()) {
+        (Kind::Small(a), Kind::Small(b)) => match add(a, b) {
+            Some(sum) => Oop::small(sum),
+            None => None,
+        },
         _ => None,
     }
 }
 
-/// What primitive 900 writes.
+/// What primitive 900 writes, which is this machine's own.
 #[derive(Clone, Copy, PartialEq, Eq, Debug)]
 pub enum Piece {
     /// One byte.
     Byte(u8),
-    /// The bytes of this object.
+    /// The bytes of this object, of format 16 to 19.
     Bytes(Oop),
 }
 
-/// What the argument is to be written as; None exactly where it is neither a byte object nor a byte.
-pub fn piece_of<W: World>(w: &W, argument: Oop) -> Option<Piece> {
-    match argument.kind() {
-        Kind::Small(value) => u8::try_from(value).ok().map(Piece::Byte),
-        Kind::Object(_) if BYTES.contains(&w.heap().format(argument)) => Some(Piece::Bytes(
-            argument,
-        )),
+/// What the argument is to be written as: a byte object as its bytes, a SmallInteger from 0 to 255 as one byte; None exactly
+/// where it is neither.
+pub fn piece_of<W: World>(w: &W, argument: Oop) -> Option<Piece>
+    requires sound { IsSound (W.stored w.now) (W.view w.now) }
+    requires named { IsNamed (W.stored w.now) argument }
+    ensures bytes { option_map (bytes_of_piece (W.stored w.now).memory.objects) result ≡ bytes_to_write (W.view w.now) (name_of (W.stored w.now) argument) }
+    ensures piece { IfSome result (λ p. is_piece (W.stored w.now).memory.objects p ≡ true) }
+    ensures own { IfSome result (λ p. IsPieceOf argument p) }
+{
+    if holds_bytes(w.heap(), argument) {
+        Some(Piece::Bytes(argument))
+    } else {
+        match byte_of(argument) {
+            Some(byte) => Some(Piece::Byte(byte)),
+            None => None,
+        }
+    }
+}
+
+/// Whether a word is the address of an object of format 16 to 19.
+fn holds_bytes(heap: &Heap, o: Oop) -> bool
+    ensures { result ≡ is_bytes_at heap.now.objects o.0 }
+{
+    heap.is_object(o) && (16..20).contains(&heap.format(o))
+}
+
+/// The SmallInteger that a word is, as a byte; None exactly where it is none from 0 to 255.
+#[tactic(auto, unfolding(cs_classes::specs::Meaning::count_of))]
+fn byte_of(o: Oop) -> Option<u8>
+    ensures { option_map (λ b. b ∷ []) result ≡ small_byte (count_of o.0) }
+{
+    match o.kind() {
+        Kind::Small(value) if (0..256).contains(&value) => Some(value as u8),
         _ => None,
     }
 }
 
-/// Writes a piece.
-pub fn write<K: Sink>(heap: &Heap, piece: Piece, out: &mut K) -> Result<(), Failed> {
+/// Writes the bytes of a piece, each once and in order.
+///
+/// `Failed` comes only where a write failed. Then the sink has taken the first of the bytes, maybe none, and not all.
+pub fn write<K: Sink>(heap: &Heap, piece: Piece, out: &mut K) -> Result<(), Failed>
+    requires { is_piece heap.now.objects piece ≡ true }
+    ensures ok { OnOk result (Appends (K.taken out.old) (K.taken out.new) (bytes_of_piece heap.now.objects piece)) }
+    ensures err { OnErr result (AppendsPart (K.taken out.old) (K.taken out.new) (bytes_of_piece heap.now.objects piece)) }
+    ensures never_falls { K.fault_count out.old ≤ K.fault_count out.new }
+    ensures cause { OnErr result (Rose (K.fault_count out.old) (K.fault_count out.new)) }
+{
     match piece {
         Piece::Byte(byte) => write_whole(out, &[byte]),
         Piece::Bytes(object) => write_bytes(heap, object, out),
     }
 }
 
-/// Writes the bytes of an object, but the unused ones at its end.
-fn write_bytes<K: Sink>(heap: &Heap, object: Oop, out: &mut K) -> Result<(), Failed> {
-    let unused = u32::from(heap.format(object)) - 16;
-    for i in 0..4 * heap.slot_count(object) - unused {
-        write_whole(out, &[heap.byte(object, i)])?;
+/// How many bytes a byte object has: the unused ones at its end don't count.
+fn byte_count(heap: &Heap, object: Oop) -> u32
+    requires { is_bytes_at heap.now.objects object.0 ≡ true }
+    ensures value { result ≡ 4 * slot_count_of heap.now.objects object.0 - unused_bytes (format_of heap.now.objects object.0) }
+    ensures most { result ≤ 268435456 }
+{
+    4 * heap.slot_count(object) - (u32::from(heap.format(object)) - 16)
+}
+
+/// The bytes of an object from place `at` up to `end`, at most 256 of them.
+fn bytes_from(heap: &Heap, object: Oop, at: u32, end: u32) -> ArrayVec<u8, 256>
+    requires order { at < end }
+    requires within { end ≤ 4 * slot_count_of heap.now.objects object.0 }
+    requires most { end ≤ 268435456 }
+    ensures items { result.items ≡ take (array_vec_len result) (drop at (all_bytes_at heap.now.objects object.0)) }
+    ensures some { 0 < array_vec_len result }
+    ensures part { at + array_vec_len result ≤ end }
+{
+    let mut piece = ArrayVec::new();
+    for i in at..end.min(at + AT_ONCE) {
+        piece.push(heap.byte(object, i));
+    }
+    piece
+}
+
+/// Writes the bytes of a byte object, in pieces.
+fn write_bytes<K: Sink>(heap: &Heap, object: Oop, out: &mut K) -> Result<(), Failed>
+    requires { is_bytes_at heap.now.objects object.0 ≡ true }
+    ensures ok { OnOk result (Appends (K.taken out.old) (K.taken out.new) (bytes_at heap.now.objects object.0)) }
+    ensures err { OnErr result (AppendsPart (K.taken out.old) (K.taken out.new) (bytes_at heap.now.objects object.0)) }
+    ensures never_falls { K.fault_count out.old ≤ K.fault_count out.new }
+    ensures cause { OnErr result (Rose (K.fault_count out.old) (K.fault_count out.new)) }
+{
+    let end = byte_count(heap, object);
+    let mut at = 0;
+    while at < end {
+        let piece = bytes_from(heap, object, at, end);
+        write_whole(out, piece.as_slice())?;
+        at += piece.len() as u32;
     }
     Ok(())
 }

@@ -8,9 +8,8 @@ ghost use Rattle.cs_acts.specs.Ready.{IsReady, IsSound};
 ghost use Rattle.cs_core.specs.Stepped.{CausedByFault, EndsBy, StepGives, TurnGives, message_of, sending, trying};
 
 use crate::primitive::{answer, piece_of, sum, write};
-use crate::scheduler::{Shape, shape_of};
-use cs_acts::World;
-use cs_acts::read::{byte, from_top, instruction, lies};
+use cs_acts::read::{byte, from_top, instruction};
+use cs_acts::{Shape, World, shape_of};
 use cs_code::{CodeEnd, exec};
 use cs_model::Stop;
 use cs_send::{Found, resolve};
@@ -149,7 +148,7 @@ fn finish<W: World>(w: &W) -> StepEnd
     ensures { EndsBy (W.view w.now) result }
 {
     match shape_of(w) {
-        Shape::Active => StepEnd::Active,
+        Shape::Active(_) => StepEnd::Active,
         Shape::Idle => StepEnd::Idle,
         Shape::Fault(reason) => StepEnd::Stopped(reason),
     }

@@ -1,4 +1,4 @@
-use Rattle.std.proofs.Common.{◌<◌, arith, ◌∙◌}
+use Rattle.std.proofs.Common.{arith, ◌∙◌}
 use Rattle.cs_core.proofs.Answering.{depth_behind_pop, pushed_behind, size_behind_pop}
 use Rattle.cs_core.proofs.primitive.answer.Goals as goal
 

@@ -1,0 +1,206 @@
+//! Stores into variables of every sort.
+//!
+//! A pop form takes the value first, and what is there is judged on the stack without it.
+ghost use Rattle.std.specs.Prelude.{◌≡◌, false};
+ghost use Rattle.cs_model.specs.declared.instruction.Op.{Op};
+ghost use Rattle.cs_model.specs.Context.{is_context_ref};
+ghost use Rattle.cs_model.specs.Exec.{store_temp_out, store_variable_out, store_vector_out, store_receiver_out, store_into, pop_into};
+ghost use Rattle.cs_model.specs.Read.{receiver_of};
+ghost use Rattle.cs_acts.specs.Names.{IsNamed, name_of};
+ghost use Rattle.cs_acts.specs.Ready.{IsReady};
+ghost use Rattle.cs_code.specs.Built.{built_exec};
+ghost use Rattle.cs_code.specs.Gives.{Gives};
+
+use crate::CodeEnd;
+use cs_acts::World;
+use cs_acts::read::{from_top, is_context, literal, slot, slot_if_any, temporary};
+use cs_model::Stop;
+use cs_word::Oop;
+
+/// Stores into argument or temporary `i`.
+#[tactic(auto, unfolding(cs_model::specs::Exec::store_temp_out))]
+fn store_temporary<W: World>(w: &mut W, i: u8, x: Oop) -> CodeEnd
+    requires ready { IsReady (W.stored w.old) (W.view w.old) }
+    requires named { IsNamed (W.stored w.old) x }
+    ensures { Gives (W.stored w.old) (W.stored w.new) (W.view w.new) result (store_temp_out (W.view w.old) i (name_of (W.stored w.old) x)) }
+{
+    let i = u32::from(i);
+    if i < w.depth() {
+        w.set_stack(i, x);
+        CodeEnd::Done
+    } else {
+        CodeEnd::Stop(Stop::BadField)
+    }
+}
+
+/// Stores into literal variable `i`.
+#[tactic(auto, unfolding(cs_model::specs::Exec::store_variable_out, cs_model::specs::Exec::variable_at))]
+fn store_variable<W: World>(w: &mut W, i: u8, x: Oop) -> CodeEnd
+    requires ready { IsReady (W.stored w.old) (W.view w.old) }
+    requires named { IsNamed (W.stored w.old) x }
+    ensures { Gives (W.stored w.old) (W.stored w.new) (W.view w.new) result (store_variable_out (W.view w.old) i (name_of (W.stored w.old) x)) }
+{
+    let Some(variable) = literal(w, u32::from(i)) else {
+        return CodeEnd::Stop(Stop::BadLiteral);
+    };
+    match slot(w, variable, 2, 1) {
+        Some(_) => {
+            w.store(variable, 1, x);
+            CodeEnd::Done
+        }
+        None => CodeEnd::Stop(Stop::BadLiteral),
+    }
+}
+
+/// Stores into slot `k` of the vector that is stack value `j`.
+#[tactic(auto, unfolding(cs_model::specs::Exec::store_vector_out))]
+fn store_vector<W: World>(w: &mut W, k: u8, j: u8, x: Oop) -> CodeEnd
+    requires ready { IsReady (W.stored w.old) (W.view w.old) }
+    requires named { IsNamed (W.stored w.old) x }
+    ensures { Gives (W.stored w.old) (W.stored w.new) (W.view w.new) result (store_vector_out (W.view w.old) k j (name_of (W.stored w.old) x)) }
+{
+    let Some(vector) = temporary(w, u32::from(j)) else {
+        return CodeEnd::Stop(Stop::BadField);
+    };
+    match slot_if_any(w, vector, u32::from(k)) {
+        Some(_) => {
+            w.store(vector, u32::from(k), x);
+            CodeEnd::Done
+        }
+        None => CodeEnd::Stop(Stop::BadField),
+    }
+}
+
+/// Stores into field `i` of the receiver, which is no context.
+#[tactic(auto, unfolding(cs_model::specs::Exec::store_receiver_out))]
+fn store_field<W: World>(w: &mut W, i: u8, x: Oop) -> CodeEnd
+    requires ready { IsReady (W.stored w.old) (W.view w.old) }
+    requires named { IsNamed (W.stored w.old) x }
+    requires plain { is_context_ref (W.view w.old) (receiver_of (W.view w.old)) ≡ false }
+    ensures { Gives (W.stored w.old) (W.stored w.new) (W.view w.new) result (store_receiver_out (W.view w.old) i (name_of (W.stored w.old) x)) }
+{
+    let receiver = w.receiver();
+    match slot_if_any(w, receiver, u32::from(i)) {
+        Some(_) => {
+            w.store(receiver, u32::from(i), x);
+            CodeEnd::Done
+        }
+        None => CodeEnd::Stop(Stop::BadField),
+    }
+}
+
+/// Stores the topmost value into argument or temporary `i` and leaves it on the stack.
+#[tactic(auto, unfolding(cs_model::specs::Exec::store_into))]
+pub fn keep_temporary<W: World>(w: &mut W, i: u8) -> CodeEnd
+    requires { IsReady (W.stored w.old) (W.view w.old) }
+    ensures { Gives (W.stored w.old) (W.stored w.new) (W.view w.new) result (store_into (W.view w.old) (λ t x. store_temp_out t i x)) }
+{
+    match from_top(w, 0) {
+        Some(x) => store_temporary(w, i, x),
+        None => CodeEnd::Stop(Stop::StackUnder),
+    }
+}
+
+/// Pops the topmost value into argument or temporary `i`.
+#[tactic(auto, unfolding(cs_model::specs::Exec::pop_into))]
+pub fn pop_temporary<W: World>(w: &mut W, i: u8) -> CodeEnd
+    requires { IsReady (W.stored w.old) (W.view w.old) }
+    ensures { Gives (W.stored w.old) (W.stored w.new) (W.view w.new) result (pop_into (W.view w.old) (λ t x. store_temp_out t i x)) }
+{
+    match from_top(w, 0) {
+        Some(x) => {
+            w.pop();
+            store_temporary(w, i, x)
+        }
+        None => CodeEnd::Stop(Stop::StackUnder),
+    }
+}
+
+/// Stores the topmost value into literal variable `i` and leaves it on the stack.
+#[tactic(auto, unfolding(cs_model::specs::Exec::store_into))]
+pub fn keep_variable<W: World>(w: &mut W, i: u8) -> CodeEnd
+    requires { IsReady (W.stored w.old) (W.view w.old) }
+    ensures { Gives (W.stored w.old) (W.stored w.new) (W.view w.new) result (store_into (W.view w.old) (λ t x. store_variable_out t i x)) }
+{
+    match from_top(w, 0) {
+        Some(x) => store_variable(w, i, x),
+        None => CodeEnd::Stop(Stop::StackUnder),
+    }
+}
+
+/// Pops the topmost value into literal variable `i`.
+#[tactic(auto, unfolding(cs_model::specs::Exec::pop_into))]
+pub fn pop_variable<W: World>(w: &mut W, i: u8) -> CodeEnd
+    requires { IsReady (W.stored w.old) (W.view w.old) }
+    ensures { Gives (W.stored w.old) (W.stored w.new) (W.view w.new) result (pop_into (W.view w.old) (λ t x. store_variable_out t i x)) }
+{
+    match from_top(w, 0) {
+        Some(x) => {
+            w.pop();
+            store_variable(w, i, x)
+        }
+        None => CodeEnd::Stop(Stop::StackUnder),
+    }
+}
+
+/// Stores the topmost value into slot `k` of the vector that is stack value `j` and leaves it on the stack.
+#[tactic(auto, unfolding(cs_model::specs::Exec::store_into))]
+pub fn keep_vector<W: World>(w: &mut W, k: u8, j: u8) -> CodeEnd
+    requires { IsReady (W.stored w.old) (W.view w.old) }
+    ensures { Gives (W.stored w.old) (W.stored w.new) (W.view w.new) result (store_into (W.view w.old) (λ t x. store_vector_out t k j x)) }
+{
+    match from_top(w, 0) {
+        Some(x) => store_vector(w, k, j, x),
+        None => CodeEnd::Stop(Stop::StackUnder),
+    }
+}
+
+/// Pops the topmost value into slot `k` of the vector that is stack value `j`.
+#[tactic(auto, unfolding(cs_model::specs::Exec::pop_into))]
+pub fn pop_vector<W: World>(w: &mut W, k: u8, j: u8) -> CodeEnd
+    requires { IsReady (W.stored w.old) (W.view w.old) }
+    ensures { Gives (W.stored w.old) (W.stored w.new) (W.view w.new) result (pop_into (W.view w.old) (λ t x. store_vector_out t k j x)) }
+{
+    match from_top(w, 0) {
+        Some(x) => {
+            w.pop();
+            store_vector(w, k, j, x)
+        }
+        None => CodeEnd::Stop(Stop::StackUnder),
+    }
+}
+
+/// Stores the topmost value into field `i` of the receiver and leaves it on the stack, where the receiver is no context.
+#[tactic(auto, unfolding(crate::specs::Built::built_exec, cs_model::specs::Exec::exec, cs_model::specs::Exec::store_into))]
+pub fn keep_field<W: World>(w: &mut W, i: u8) -> CodeEnd
+    requires { IsReady (W.stored w.old) (W.view w.old) }
+    ensures { Gives (W.stored w.old) (W.stored w.new) (W.view w.new) result (built_exec (Op.StoreRcvr i) (W.view w.old)) }
+{
+    let receiver = w.receiver();
+    if is_context(w, receiver) {
+        return CodeEnd::Stop(Stop::NotBuilt);
+    }
+    match from_top(w, 0) {
+        Some(x) => store_field(w, i, x),
+        None => CodeEnd::Stop(Stop::StackUnder),
+    }
+}
+
+/// Pops the topmost value into field `i` of the receiver, where that is no context.
+#[tactic(auto, unfolding(crate::specs::Built::built_exec, cs_model::specs::Exec::exec, cs_model::specs::Exec::pop_into))]
+pub fn pop_field<W: World>(w: &mut W, i: u8) -> CodeEnd
+    requires { IsReady (W.stored w.old) (W.view w.old) }
+    ensures { Gives (W.stored w.old) (W.stored w.new) (W.view w.new) result (built_exec (Op.PopRcvr i) (W.view w.old)) }
+{
+    let receiver = w.receiver();
+    if is_context(w, receiver) {
+        return CodeEnd::Stop(Stop::NotBuilt);
+    }
+    match from_top(w, 0) {
+        Some(x) => {
+            w.pop();
+            store_field(w, i, x)
+        }
+        None => CodeEnd::Stop(Stop::StackUnder),
+    }
+}

@@ -1,0 +1,78 @@
+//! Literal variables, receiver fields and vectors.
+ghost use Rattle.std.specs.Prelude.{◌≡◌, Some};
+ghost use Rattle.cs_model.specs.declared.instruction.Op.{Op};
+ghost use Rattle.cs_model.specs.Exec.{push_variable_out, variable_value, push_vector_out, vector_slot, store_temp_out, store_variable_out, store_vector_out, store_into, pop_into};
+ghost use Rattle.cs_acts.specs.Names.{IsNamed, NamesOption, name_of};
+ghost use Rattle.cs_acts.specs.Ready.{IsReady};
+ghost use Rattle.cs_code.specs.Built.{built_exec};
+ghost use Rattle.cs_code.specs.Gives.{Gives};
+
+use crate::CodeEnd;
+use crate::pushes::push;
+use cs_acts::World;
+use cs_acts::read::{from_top, is_context, literal, slot, slot_if_any, temporary};
+use cs_model::Stop;
+use cs_word::Oop;
+
+/// The value of literal variable `i`: slot 1 of a literal that is a pointer object with two slots.
+#[tactic(auto, unfolding(cs_model::specs::Exec::variable_at))]
+pub fn variable_value<W: World>(w: &W, i: u32) -> Option<Oop>
+    requires { IsReady (W.stored w.now) (W.view w.now) }
+    ensures { NamesOption (W.stored w.now) result (variable_value (W.view w.now) i) }
+{
+    match literal(w, i) {
+        Some(variable) => slot(w, variable, 2, 1),
+        None => None,
+    }
+}
+
+/// Slot `k` of the vector that is stack value `j`.
+fn vector_slot<W: World>(w: &W, k: u8, j: u8) -> Option<Oop>
+    requires { IsReady (W.stored w.now) (W.view w.now) }
+    ensures { NamesOption (W.stored w.now) result (vector_slot (W.view w.now) k j) }
+{
+    match temporary(w, u32::from(j)) {
+        Some(vector) => slot_if_any(w, vector, u32::from(k)),
+        None => None,
+    }
+}
+
+/// Pushes the value of literal variable `i`.
+#[tactic(auto, unfolding(cs_model::specs::Exec::push_variable_out))]
+pub fn push_variable<W: World>(w: &mut W, i: u8) -> CodeEnd
+    requires { IsReady (W.stored w.old) (W.view w.old) }
+    ensures { Gives (W.stored w.old) (W.stored w.new) (W.view w.new) result (push_variable_out (W.view w.old) i) }
+{
+    match variable_value(w, u32::from(i)) {
+        Some(x) => push(w, x),
+        None => CodeEnd::Stop(Stop::BadLiteral),
+    }
+}
+
+/// Pushes slot `k` of the vector that is stack value `j`.
+#[tactic(auto, unfolding(cs_model::specs::Exec::push_vector_out))]
+pub fn push_vector<W: World>(w: &mut W, k: u8, j: u8) -> CodeEnd
+    requires { IsReady (W.stored w.old) (W.view w.old) }
+    ensures { Gives (W.stored w.old) (W.stored w.new) (W.view w.new) result (push_vector_out (W.view w.old) k j) }
+{
+    match vector_slot(w, k, j) {
+        Some(x) => push(w, x),
+        None => CodeEnd::Stop(Stop::BadField),
+    }
+}
+
+/// Pushes field `i` of the receiver, where that is no context.
+#[tactic(auto, unfolding(crate::specs::Built::built_exec, cs_model::specs::Exec::exec, cs_model::specs::Exec::push_receiver_out))]
+pub fn push_field<W: World>(w: &mut W, i: u8) -> CodeEnd
+    requires { IsReady (W.stored w.old) (W.view w.old) }
+    ensures { Gives (W.stored w.old) (W.stored w.new) (W.view w.new) result (built_exec (Op.PushRcvr i) (W.view w.old)) }
+{
+    let receiver = w.receiver();
+    if is_context(w, receiver) {
+        return CodeEnd::Stop(Stop::NotBuilt);
+    }
+    match slot_if_any(w, receiver, u32::from(i)) {
+        Some(x) => push(w, x),
+        None => CodeEnd::Stop(Stop::BadField),
+    }
+}
