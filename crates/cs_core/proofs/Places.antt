@@ -12,9 +12,9 @@ use Rattle.cs_classes.specs.Sound.{is_reference, is_reference_kind}
 use Rattle.cs_model.specs.Ref.{Ref, birth_of, same_ref}
 use Rattle.cs_model.specs.State.{Kept, active_process, is_nil}
 use Rattle.cs_model.specs.Operation.{nil_of}
-use Rattle.cs_model.specs.Read.{IsRunning, active_context, active_birth, pc_of}
+use Rattle.cs_model.specs.Read.{IsRunning, active_context, pc_of}
 use Rattle.cs_model.specs.Due.{is_idle, is_idle_at}
-use Rattle.cs_model.specs.Report.{Place, place_of, place_at, no_place}
+use Rattle.cs_model.specs.Report.{place_of, place_at, no_place}
 use Rattle.cs_acts.specs.Names.{Store, IsNamed, Names, NamesOption, name_of}
 
 -- ---- the birth that a word names

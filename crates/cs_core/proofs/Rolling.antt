@@ -10,26 +10,22 @@ use Rattle.cs_model.specs.declared.stop.Stop.{Stop as Reason}
 use Rattle.cs_model.specs.declared.stop.Stop.TheVariants as why
 use Rattle.cs_model.specs.State.{Kept, Rest, Run, State}
 use Rattle.cs_model.specs.Read.{IsRunning}
-use Rattle.cs_model.specs.Keeps.{Keeps, KeepsState}
+use Rattle.cs_model.specs.Keeps.{Keeps}
 use Rattle.cs_model.specs.Alike.{AlikeStep}
-use Rattle.cs_model.specs.End.{End, Count, given, no_count}
+use Rattle.cs_model.specs.End.{End, given, no_count}
 use Rattle.cs_model.specs.End as ends
 use Rattle.cs_model.specs.PrimRun.{Result}
 use Rattle.cs_model.specs.Due.{Happened, due, due_of, happened, is_idle}
-use Rattle.cs_model.specs.Step as model
-use Rattle.cs_model.specs.Step.{Ending, Steps, Quit, Idle, Stopped, Step, Ran, go_on, one_more, run_by, started, stops, step, ready, after_due, stop_in, finish, finish_of, completed, ends_with, add_count, shape_fault, birth_limit, idle, bytecode, with_kept}
-use Rattle.cs_model.specs.Built.{built_step, built_run, is_built, is_built_bytecode}
+use Rattle.cs_model.specs.Step.{Ending, Steps, Quit, Idle, Stopped, Step, Ran, go_on, one_more, run_by, stops, step, ready, after_due, stop_in, finish, finish_of, completed, ends_with, add_count, shape_fault, birth_limit, idle, bytecode, with_kept}
+use Rattle.cs_model.specs.Built.{built_step, is_built, is_built_bytecode}
 use Rattle.cs_model.specs.Report.{no_place, place_of}
 use Rattle.cs_model.proofs.Keeping.{Keeps-trans}
 use Rattle.cs_model.proofs.Building.{built_step_alike}
 use Rattle.cs_model.proofs.Agreeing.{place_of-kept, is_idle-kept}
 use Rattle.cs_acts.specs.Names.{Store}
 use Rattle.cs_acts.specs.Ready.{IsReady, IsSound}
-use Rattle.cs_core.specs.declared.step.StepEnd.{StepEnd}
 use Rattle.cs_core.specs.declared.step.StepEnd.TheVariants as how
 use Rattle.cs_core.specs.declared.run.Ran.{Ran as Report}
-use Rattle.cs_core.specs.declared.run.Place.{Place}
-use Rattle.cs_core.specs.declared.run.Ending.TheVariants as ending
 use Rattle.cs_core.specs.Stepped.{StepGives, run_at, state_at, step_at}
 use Rattle.cs_core.specs.Running.{RunGives, RunFails, run_of, ending_of, ending_at_rest, place_by}
 use Rattle.cs_core.proofs.Places.{idle_place}
