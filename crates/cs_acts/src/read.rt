@@ -1,5 +1,5 @@
 //! What code above a world reads of its state.
-ghost use Rattle.std.specs.Prelude.{◌≡◌, ◌<◌, ◌^◌, ◌-◌, Bool, IsSome, IsTrue, Option, length, option_and_then, slice_get, is_some};
+ghost use Rattle.std.specs.Prelude.{◌≤◌, ◌≡◌, ◌<◌, ◌^◌, ◌-◌, Bool, IsSome, IsTrue, Option, length, option_and_then, slice_get, is_some};
 ghost use Rattle.cs_model.specs.Context.{is_context_ref};
 ghost use Rattle.cs_model.specs.Number.{boolean};
 ghost use Rattle.cs_model.specs.Obj.{first_pc, is_method, lies_in, slots_in};
@@ -229,9 +229,12 @@ pub fn byte<W: World>(w: &W) -> Option<u8>
 }
 
 /// The instruction at the active pc; None exactly where the bytes there are none.
+///
+/// A method has at most 2^28 bytes, so that a pc behind the instruction fits.
 pub fn instruction<W: World>(w: &W) -> Option<Instr>
     requires { IsReady (W.stored w.now) (W.view w.now) }
-    ensures { result ≡ instruction_at (W.view w.now) }
+    ensures value { result ≡ instruction_at (W.view w.now) }
+    ensures most { pc_of (W.view w.now) ≤ 268435457 }
 {
     let heap = w.heap();
     let method = w.method();

@@ -40,8 +40,8 @@ overflow_sub-end g c =
     let p = place_of c.heap-heap.result.now.objects k c.method-method.result.0 m _ c.requires.running.method in
     omega (arith, p.last, c.pc-at.ensures, c.byte_count-end.ensures.value)
 
-pub returns-in-Ok : goal.returns-in-Ok
-returns-in-Ok g c =
+pub returns-in-Ok-clause-value : goal.returns-in-Ok-clause-value
+returns-in-Ok-clause-value g c =
     let k = g.W.World.view c.args.w.now in
     let os = c.heap-heap.result.now.objects in
     let m = active_method (g.W.World.stored c.args.w.now) k c.heap-heap.result.now c.method-method.result c.heap-heap.ensures c.requires c.method-method.ensures in
@@ -50,8 +50,8 @@ returns-in-Ok g c =
     c.byte_before.ensures c.byte_before-2.ensures c.byte_before-3.ensures c.byte_before-4.ensures in
     sym c.in-Ok.ensures.instruction ∙ read
 
-pub returns-in-Err : goal.returns-in-Err
-returns-in-Err g c =
+pub returns-in-Err-clause-value : goal.returns-in-Err-clause-value
+returns-in-Err-clause-value g c =
     let k = g.W.World.view c.args.w.now in
     let os = c.heap-heap.result.now.objects in
     let m = active_method (g.W.World.stored c.args.w.now) k c.heap-heap.result.now c.method-method.result c.heap-heap.ensures c.requires c.method-method.ensures in
@@ -59,3 +59,17 @@ returns-in-Err g c =
     let read = instruction_read os k c.method-method.result.0 c.pc-at.result c.byte_count-end.result c.min-count.result _ _ _ _ m p c.pc-at.ensures c.byte_count-end.ensures.value c.min-count.ensures
     c.byte_before.ensures c.byte_before-2.ensures c.byte_before-3.ensures c.byte_before-4.ensures in
     sym c.in-Err.ensures.none ∙ read
+
+pub returns-in-Ok-clause-most : goal.returns-in-Ok-clause-most
+returns-in-Ok-clause-most g c =
+    let k = g.W.World.view c.args.w.now in
+    let m = active_method (g.W.World.stored c.args.w.now) k c.heap-heap.result.now c.method-method.result c.heap-heap.ensures c.requires c.method-method.ensures in
+    let p = place_of c.heap-heap.result.now.objects k c.method-method.result.0 m _ c.requires.running.method in
+    omega (arith, p.last, c.byte_count-end.ensures.value, c.byte_count-end.ensures.most)
+
+pub returns-in-Err-clause-most : goal.returns-in-Err-clause-most
+returns-in-Err-clause-most g c =
+    let k = g.W.World.view c.args.w.now in
+    let m = active_method (g.W.World.stored c.args.w.now) k c.heap-heap.result.now c.method-method.result c.heap-heap.ensures c.requires c.method-method.ensures in
+    let p = place_of c.heap-heap.result.now.objects k c.method-method.result.0 m _ c.requires.running.method in
+    omega (arith, p.last, c.byte_count-end.ensures.value, c.byte_count-end.ensures.most)
