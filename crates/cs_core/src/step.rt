@@ -17,7 +17,7 @@ use cs_shelf::Sink;
 use cs_word::Oop;
 
 /// Births end so far below 2^62 that a step can't pass it.
-const BIRTH_LIMIT: u64 = (1 << 62) - 64;
+pub(crate) const BIRTH_LIMIT: u64 = (1 << 62) - 64;
 
 /// How a step ends.
 #[derive(Clone, Copy, PartialEq, Eq, Debug)]
