@@ -9,3 +9,4 @@ pub mod Places
 pub mod Rolling
 pub mod Turning
 pub mod Trying
+pub mod Beginning

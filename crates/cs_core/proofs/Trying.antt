@@ -27,7 +27,7 @@ use Rattle.cs_model.specs.Built.{answers, is_built_number}
 use Rattle.cs_acts.specs.Names.{Store}
 use Rattle.cs_acts.specs.Ready.{IsReady}
 use Rattle.cs_send.specs.Resolved.{Offered, Stops, resolve_of}
-use Rattle.cs_core.specs.Stepped.{EndsBy, IsAnswer, AnswersIn, Turn, TurnStops, unbuilt, stopped, lost, Turns, TurnGives, run_at, sending, state_at, trying}
+use Rattle.cs_core.specs.Stepped.{CausedByFault, EndsBy, IsAnswer, AnswersIn, Turn, TurnStops, unbuilt, stopped, lost, Turns, TurnGives, run_at, sending, state_at, trying}
 use Rattle.cs_core.specs.declared.step.StepEnd.{StepEnd}
 use Rattle.cs_core.specs.declared.step.StepEnd.TheVariants.{Active, Idle, Stopped as Stop, WriteFault}
 use Rattle.cs_core.proofs.Resolving.{IsFinal, IsOffered, IsUnbuilt, offered_send, stopped_send, unbuilt_send}
@@ -212,3 +212,17 @@ stops_gives k m reason s v old e = (refl, λ output steps.
 
 pub unbuilt_gives : (k : Kept) (m : Message) (s : Store) (v : Kept) (old : Option (List ℕ)) → IsUnbuilt (resolve_of k m.selector m.args m.above) → TurnGives (sending k m) old old s v (Stop why.NotBuilt)
 unbuilt_gives k m s v old h = (refl, λ output steps. unbuilt (unbuilt_send (run_at output steps) k m h) refl)
+
+-- a step that ends by the scheduler needs no fault
+pub no_cause : (v : Kept) (e : StepEnd) (old new : ℕ) → EndsBy v e → CausedByFault old new e
+no_cause v Active old new by = tt
+no_cause v Idle old new by = tt
+no_cause v (Stop reason) old new by = tt
+no_cause v WriteFault old new by = absurd by
+
+pub other_count : (n : ℕ) → (n ≡ 1 → ⊥) → (1 == n) ≡ false
+other_count n h = go (1 == n) refl
+  where
+    go : (b : Bool) → (1 == n) ≡ b → (1 == n) ≡ false
+    go true p = absurd (h (grind (arith, nat_tests, p)))
+    go false p = p

@@ -95,9 +95,16 @@ fn send<W: World, K: Sink>(
     ensures cause { CausedByFault (K.fault_count out.old) (K.fault_count out.new) result }
 {
     match resolve(w, selector, args, above) {
-        Found::Primitive { number, .. } if args == 1 => try_primitive(w, out, number),
+        Found::Primitive { number, .. } => {
+            if args == 1 {
+                try_primitive(w, out, number)
+            } else {
+                StepEnd::Stopped(Stop::NotBuilt)
+            }
+        }
+        Found::Plain { .. } => StepEnd::Stopped(Stop::NotBuilt),
+        Found::Missing => StepEnd::Stopped(Stop::NotBuilt),
         Found::Stop(reason) => StepEnd::Stopped(reason),
-        _ => StepEnd::Stopped(Stop::NotBuilt),
     }
 }
 
