@@ -5,5 +5,8 @@ mod Portions
 mod Summing
 pub mod Thin
 pub mod Resolving
+pub mod Places
+pub mod Rolling
 pub mod Turning
 pub mod Trying
+pub mod Beginning

@@ -8,7 +8,7 @@ use Rattle.cs_model.specs.declared.instruction.Instr.{Instr}
 use Rattle.cs_model.specs.Ref.{Ref}
 use Rattle.cs_model.specs.Obj.{argument_count, bytecodes_in, first_pc, header_in, primitive_number}
 use Rattle.cs_model.specs.State as state
-use Rattle.cs_model.specs.State.{IsHeld, Kept, Run, State}
+use Rattle.cs_model.specs.State.{IsHeld, Kept, Rest, Run, State}
 use Rattle.cs_model.specs.Lookup.{Sought}
 use Rattle.cs_model.specs.Lookup as sought
 use Rattle.cs_model.specs.Alike.{SoughtHeld}
@@ -165,6 +165,14 @@ idle_stays x h = go (is_left x)
     go true = h
     go false = h
 
+next_stays : (x : Kept) → (without_context x).rest.next ≡ x.rest.next
+unfolding suspend_of
+next_stays x = go (is_left x)
+  where
+    go : (b : Bool) → (if b then suspend_of x else x).rest.next ≡ x.rest.next
+    go true = refl
+    go false = refl
+
 -- ---- a step that the code has done
 
 -- the turn that the model's step from k takes with the instruction i
@@ -189,12 +197,13 @@ leads_to k i v bytes h d shape active output steps =
     let is : (step_at k output steps).state.kept ≡ without_context t.result.out.state = ap (λ (p : Step). p.state.kept) (begun k i output steps h) ∙ c.state in
     subst (Keeps v) (sym is) (active_stays v t.result.out.state (d output steps).state active)
 
-leads_to_none : (k : Kept) (i : Instr) (v : Kept) (bytes : List ℕ) → Begins k i → DoneIn (model_turn k i) v bytes → shape_fault v ≡ None → is_idle v ≡ true → LeadsToNone k
+leads_to_none : (k : Kept) (i : Instr) (v : Kept) (bytes : List ℕ) → Begins k i → DoneIn (model_turn k i) v bytes → shape_fault v ≡ None → is_idle v ≡ true → LeadsToNone k v
 leads_to_none k i v bytes h d shape idle output steps =
     let t = model_turn k i output steps in
     let c = ended_completed (state_at k output steps) t v (run_at (output ++ bytes) steps) (d output steps) shape in
     let is : (step_at k output steps).state.kept ≡ without_context t.result.out.state = ap (λ (p : Step). p.state.kept) (begun k i output steps h) ∙ c.state in
-    ap is_idle is ∙ idle_stays t.result.out.state (idle_kept v t.result.out.state (d output steps).state ∙ idle)
+    (ap is_idle is ∙ idle_stays t.result.out.state (idle_kept v t.result.out.state (d output steps).state ∙ idle),
+     ap (λ (k : Kept). k.rest.next) is ∙ next_stays t.result.out.state ∙ sym (ap (λ (r : Rest). r.next) (d output steps).state.rest))
 
 stops_by : (k : Kept) (i : Instr) (reason : Reason) → Begins k i → ((output : List ℕ) (steps : ℕ) → (ended (state_at k output steps) (model_turn k i output steps)).ending ≡ Stopped reason)
     → (output : List ℕ) (steps : ℕ) → (step_at k output steps).ending ≡ Stopped reason
@@ -221,7 +230,7 @@ done_gives k i s v old e h end keeps ready by = go e by
         }
     go : (e : StepEnd) → EndsBy v e → StepGives k old old s v e
     go Active b = ([], nothing_told old, completes k i v [] h done b.0, leads_to k i v [] h done b.0 b.1, ready, b.1)
-    go Idle b = ([], nothing_told old, completes k i v [] h done b.0, leads_to_none k i v [] h done b.0 b.1)
+    go Idle b = ([], nothing_told old, completes k i v [] h done b.0, leads_to_none k i v [] h done b.0 b.1, ready.sound)
     go (Stop reason) b = (refl, stops_by k i reason h (λ output steps. ended_lost (state_at k output steps) (model_turn k i output steps) v (run_at (output ++ []) steps) reason (done output steps) b))
     go WriteFault b = absurd b
 
@@ -309,7 +318,7 @@ send_gives k i u m old new s v e h end keeps held gives = go e gives
         (stop_over (state_at k output steps) (sending u m output steps) (send_turn k i m output steps) reason (sends_same k i u m output steps keeps held) (f output steps)))
     go : (e : StepEnd) → TurnGives (sending u m) old new s v e → StepGives k old new s v e
     go Active (bytes, told, a, ready, shape, active) = (bytes, told, completes k i v bytes h (over bytes a) shape, leads_to k i v bytes h (over bytes a) shape active, ready, active)
-    go Idle (bytes, told, a, shape, idle) = (bytes, told, completes k i v bytes h (over bytes a) shape, leads_to_none k i v bytes h (over bytes a) shape idle)
+    go Idle (bytes, told, a, sound, shape, idle) = (bytes, told, completes k i v bytes h (over bytes a) shape, leads_to_none k i v bytes h (over bytes a) shape idle, sound)
     go (Stop reason) (none, f) = (none, stop reason f)
     go WriteFault (bytes, told, a, shape) = (bytes, told, completes k i v bytes h (over bytes a) shape)
 

@@ -1,10 +1,11 @@
 -- What a run gives, beside the run of the model.
-use Rattle.std.specs.Prelude.{◌≡◌, ℕ, ◌+◌, ◌<◌, List, [], Option}
+use Rattle.std.specs.Prelude.{◌≡◌, ℕ, ◌+◌, ◌<◌, ◌==◌, nat_lt, if◌then◌else◌, List, [], Option}
 use Rattle.cs_shelf.specs.Outside.{Appends, AppendsPart}
+use Rattle.cs_model.specs.declared.stop.Stop.TheVariants as why
 use Rattle.cs_model.specs.State.{Kept}
 use Rattle.cs_model.specs.Report.{Place as ModelPlace, place_of}
 use Rattle.cs_model.specs.Step as model
-use Rattle.cs_model.specs.Step.{Ran as ModelRan}
+use Rattle.cs_model.specs.Step.{Ran as ModelRan, birth_limit}
 use Rattle.cs_model.specs.Built.{built_run}
 use Rattle.cs_core.specs.declared.run.Ending.{Ending}
 use Rattle.cs_core.specs.declared.run.Ending.TheVariants.{Steps, Idle, Stopped}
@@ -20,6 +21,10 @@ ending_of (Stopped reason) = model.Stopped reason
 
 abbrev pub place_by : Place → ModelPlace
 place_by p = record { process = p.process; context = p.context; pc = p.pc }
+
+-- how a run of n steps ends where no process is active behind the first ones of them and this birth is the next one
+abbrev pub ending_at_rest : ℕ → ℕ → ℕ → model.Ending
+ending_at_rest next steps n = if steps == n then model.Steps else (if nat_lt birth_limit next then model.Stopped why.BirthLimit else model.Idle)
 
 -- the run of the model from a state that is opened, without events
 abbrev pub run_of : Kept → ℕ → ModelRan

@@ -14,7 +14,7 @@ use Rattle.cs_model.specs.Step.{Message, Step, Steps, Stopped, do_send, shape_fa
 use Rattle.cs_model.specs.Built.{answers, built_step, is_built_number, is_built_send}
 use Rattle.cs_word.specs.declared.Oop.{Oop}
 use Rattle.cs_acts.specs.Names.{Store, name_of}
-use Rattle.cs_acts.specs.Ready.{IsReady}
+use Rattle.cs_acts.specs.Ready.{IsReady, IsSound}
 use Rattle.cs_core.specs.declared.step.StepEnd.{StepEnd}
 use Rattle.cs_core.specs.declared.step.StepEnd.TheVariants.{Active, Idle, Stopped as Stop, WriteFault}
 
@@ -36,18 +36,18 @@ step_at k output steps = built_step (state_at k output steps)
 abbrev pub Completes : Kept → List ℕ → Type 0
 Completes k bytes = (output : List ℕ) (steps : ℕ) → ((step_at k output steps).ending ≡ Steps) × ((step_at k output steps).state.run ≡ run_at (output ++ bytes) (steps + 1))
 
--- the state behind it is one that v keeps; or no process is active in it
+-- the state behind it is one that v keeps; or no process is active in it, and its next birth is that of v
 abbrev pub LeadsTo : Kept → Kept → Type 0
 LeadsTo k v = (output : List ℕ) (steps : ℕ) → Keeps v (step_at k output steps).state.kept
 
-abbrev pub LeadsToNone : Kept → Type 0
-LeadsToNone k = (output : List ℕ) (steps : ℕ) → is_idle (step_at k output steps).state.kept ≡ true
+abbrev pub LeadsToNone : Kept → Kept → Type 0
+LeadsToNone k v = (output : List ℕ) (steps : ℕ) → (is_idle (step_at k output steps).state.kept ≡ true) × ((step_at k output steps).state.kept.rest.next ≡ v.rest.next)
 
 -- A step from the state k, with what the sink tells before and behind it and with the world behind it. What is written is what the
 -- model writes; where the sink fails, it is a first part of that. A step that stops writes nothing.
 abbrev pub StepGives : Kept → Option (List ℕ) → Option (List ℕ) → Store → Kept → StepEnd → Type 0
 StepGives k old new s v Active = (bytes : List ℕ) × Appends old new bytes × Completes k bytes × LeadsTo k v × IsReady s v × (is_idle v ≡ false)
-StepGives k old new s v Idle = (bytes : List ℕ) × Appends old new bytes × Completes k bytes × LeadsToNone k
+StepGives k old new s v Idle = (bytes : List ℕ) × Appends old new bytes × Completes k bytes × LeadsToNone k v × IsSound s v
 StepGives k old new s v (Stop reason) = (new ≡ old) × ((output : List ℕ) (steps : ℕ) → (step_at k output steps).ending ≡ Stopped reason)
 StepGives k old new s v WriteFault = (bytes : List ℕ) × AppendsPart old new bytes × Completes k bytes
 
@@ -99,7 +99,7 @@ pub data TurnStops (t : Turn) (reason : Reason) : Type 0 where
 -- what a part of a step gives, with what the sink tells before and behind it and with the world behind it
 abbrev pub TurnGives : Turns → Option (List ℕ) → Option (List ℕ) → Store → Kept → StepEnd → Type 0
 TurnGives f old new s v Active = (bytes : List ℕ) × Appends old new bytes × AnswersIn f v bytes × IsReady s v × (shape_fault v ≡ None) × (is_idle v ≡ false)
-TurnGives f old new s v Idle = (bytes : List ℕ) × Appends old new bytes × AnswersIn f v bytes × (shape_fault v ≡ None) × (is_idle v ≡ true)
+TurnGives f old new s v Idle = (bytes : List ℕ) × Appends old new bytes × AnswersIn f v bytes × IsSound s v × (shape_fault v ≡ None) × (is_idle v ≡ true)
 TurnGives f old new s v (Stop reason) = (new ≡ old) × ((output : List ℕ) (steps : ℕ) → TurnStops (f output steps) reason)
 TurnGives f old new s v WriteFault = (bytes : List ℕ) × AppendsPart old new bytes × AnswersIn f v bytes × (shape_fault v ≡ None)
 

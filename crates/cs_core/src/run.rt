@@ -1,16 +1,15 @@
 //! A run of steps.
-ghost use Rattle.std.specs.Prelude.{◌≡◌, ◌==◌, ◌≤◌, false, if◌then◌else◌, OnErr, IfOk};
+ghost use Rattle.std.specs.Prelude.{◌≡◌, ◌≤◌, false, OnErr, IfOk};
 ghost use Rattle.cs_shelf.specs.Outside.{Rose};
 ghost use Rattle.cs_model.specs.Due.{is_idle};
 ghost use Rattle.cs_model.specs.Read.{IsRunning};
 ghost use Rattle.cs_model.specs.Ref.{birth_of};
 ghost use Rattle.cs_model.specs.Report.{no_place, place_of};
-ghost use Rattle.cs_model.specs.Step.{Idle, Steps};
 ghost use Rattle.cs_acts.specs.Names.{IsNamed, name_of};
 ghost use Rattle.cs_acts.specs.Ready.{IsSound};
-ghost use Rattle.cs_core.specs.Running.{RunFails, RunGives, ending_of, place_by};
+ghost use Rattle.cs_core.specs.Running.{RunFails, RunGives, ending_at_rest, ending_of, place_by};
 
-use crate::step::{StepEnd, step};
+use crate::step::{BIRTH_LIMIT, StepEnd, step};
 use cs_acts::World;
 use cs_acts::read::{active_process, nil, same};
 use cs_model::Stop;
@@ -113,13 +112,13 @@ pub fn run<W: World, K: Sink>(w: &mut W, n: u64, out: &mut K) -> Result<Ran, Fai
     ensures cause { OnErr result (Rose (K.fault_count out.old) (K.fault_count out.new)) }
 {
     if is_idle(w) {
-        return Ok(at_rest(0, n));
+        return Ok(at_rest(w, 0, n));
     }
     for steps in 0..n {
         let before = place_of(w);
         match step(w, out) {
             StepEnd::Active => {}
-            StepEnd::Idle => return Ok(at_rest(steps + 1, n)),
+            StepEnd::Idle => return Ok(at_rest(w, steps + 1, n)),
             StepEnd::Stopped(reason) => return Ok(Ran {
                 ending: Ending::Stopped(reason),
                 steps,
@@ -135,14 +134,23 @@ pub fn run<W: World, K: Sink>(w: &mut W, n: u64, out: &mut K) -> Result<Ran, Fai
     })
 }
 
-/// A run of `n` steps in which no process is active behind the first ones of them, so that no further one is done.
-fn at_rest(steps: u64, n: u64) -> Ran
+/// A run of `n` steps in which no process is active behind the first ones of them, so that no further bytecode is done. A further
+/// step stops where births are used up, which is looked at before the process is.
+fn at_rest<W: World>(w: &W, steps: u64, n: u64) -> Ran
+    requires { IsSound (W.stored w.now) (W.view w.now) }
     ensures steps { result.steps ≡ steps }
     ensures place { place_by result.place ≡ no_place }
-    ensures ending { ending_of result.ending ≡ (if steps == n then Steps else Idle) }
+    ensures ending { ending_of result.ending ≡ ending_at_rest (W.view w.now).rest.next steps n }
 {
+    let ending = if steps == n {
+        Ending::Steps
+    } else if w.roots().next_birth > BIRTH_LIMIT {
+        Ending::Stopped(Stop::BirthLimit)
+    } else {
+        Ending::Idle
+    };
     Ran {
-        ending: if steps == n { Ending::Steps } else { Ending::Idle },
+        ending,
         steps,
         place: NOWHERE,
     }

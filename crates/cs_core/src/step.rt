@@ -17,7 +17,7 @@ use cs_shelf::Sink;
 use cs_word::Oop;
 
 /// Births end so far below 2^62 that a step can't pass it.
-const BIRTH_LIMIT: u64 = (1 << 62) - 64;
+pub(crate) const BIRTH_LIMIT: u64 = (1 << 62) - 64;
 
 /// How a step ends.
 #[derive(Clone, Copy, PartialEq, Eq, Debug)]
@@ -95,9 +95,16 @@ fn send<W: World, K: Sink>(
     ensures cause { CausedByFault (K.fault_count out.old) (K.fault_count out.new) result }
 {
     match resolve(w, selector, args, above) {
-        Found::Primitive { number, .. } if args == 1 => try_primitive(w, out, number),
+        Found::Primitive { number, .. } => {
+            if args == 1 {
+                try_primitive(w, out, number)
+            } else {
+                StepEnd::Stopped(Stop::NotBuilt)
+            }
+        }
+        Found::Plain { .. } => StepEnd::Stopped(Stop::NotBuilt),
+        Found::Missing => StepEnd::Stopped(Stop::NotBuilt),
         Found::Stop(reason) => StepEnd::Stopped(reason),
-        _ => StepEnd::Stopped(Stop::NotBuilt),
     }
 }
 

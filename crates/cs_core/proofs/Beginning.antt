@@ -1,0 +1,132 @@
+-- How a step begins: what the code has read, and what it has done of the instruction.
+use Rattle.std.proofs.Common.{◌≡◌, ℕ, ◌+◌, ◌-◌, ◌<◌, ◌≤◌, Bool, true, false, refl, sym, ap, ap₂, subst, ◌∙◌, arith, Option, Some, None, List, length, option_map, nat_lt, nat_le, IfSome}
+use Rattle.std.specs.Prelude.{◌&&◌, if◌then◌else◌, slice_get, slice_index}
+use Rattle.std.proofs.lemmas.Bool.Decides.{nat_tests}
+use Rattle.cs_word.specs.declared.Oop.{Oop}
+use Rattle.cs_classes.specs.declared.Roots.{Roots}
+use Rattle.cs_model.specs.declared.instruction.Instr.{Instr}
+use Rattle.cs_model.specs.declared.instruction.Op.{Op}
+use Rattle.cs_model.specs.Ref.{Ref}
+use Rattle.cs_model.specs.Obj.{Obj, Ptr, Raw, Method, Ctx, bytecodes_in, first_pc, lies_in, literals_in}
+use Rattle.cs_model.specs.State.{IsHeld, Kept}
+use Rattle.cs_model.specs.Keeps.{Keeps}
+use Rattle.cs_model.specs.Alike.{Alike, IsHeldIf}
+use Rattle.cs_model.specs.Read.{IsRunning, bytecodes_of, literals_of, method_of, pc_of}
+use Rattle.cs_model.specs.Operation.{set_pc_of}
+use Rattle.cs_model.specs.Decode.{decode_at, len_of, op_of}
+use Rattle.cs_model.specs.Exec.{exec}
+use Rattle.cs_model.specs.End as ends
+use Rattle.cs_model.specs.End.{End, Out}
+use Rattle.cs_model.specs.Step.{birth_limit, instruction_at, return_in}
+use Rattle.cs_model.specs.Built.{is_built_byte}
+use Rattle.cs_model.proofs.Keeping.{Keeps-trans}
+use Rattle.cs_model.proofs.Executing.{exec_alike}
+use Rattle.cs_acts.specs.Names.{IsNamed, Store, name_of}
+use Rattle.cs_acts.specs.Ready.{Holds, IsSound}
+use Rattle.cs_acts.proofs.Held.{named_held}
+use Rattle.cs_code.specs.Built.{built_exec}
+use Rattle.cs_core.proofs.Thin.{Stays, Thin, thin_built, thin_instruction, thin_stays}
+use Rattle.cs_core.proofs.Turning.{Begins, effect}
+
+-- ---- births
+
+next_is : (s : Store) (k : Kept) → IsSound s k → k.rest.next ≡ s.roots.next_birth
+next_is s k h = ap (λ r. r.next) (sym h.holds.rest)
+
+beyond : (n m : ℕ) → 4611686018427387840 < n → m ≡ n → nat_lt birth_limit m ≡ true
+beyond n m h e = grind (arith, nat_tests)
+
+within : (n m : ℕ) → n ≤ 4611686018427387840 → m ≡ n → nat_lt birth_limit m ≡ false
+within n m h e = grind (arith, nat_tests)
+
+pub births_beyond : (s : Store) (k : Kept) (r : Roots) → IsSound s k → r ≡ s.roots → 4611686018427387840 < r.next_birth → nat_lt birth_limit k.rest.next ≡ true
+births_beyond s k r h is more = beyond r.next_birth k.rest.next more (next_is s k h ∙ ap (λ x. x.next_birth) (sym is))
+
+pub births_left : (s : Store) (k : Kept) (r : Roots) → IsSound s k → r ≡ s.roots → r.next_birth ≤ 4611686018427387840 → nat_lt birth_limit k.rest.next ≡ false
+births_left s k r h is few = within r.next_birth k.rest.next few (next_is s k h ∙ ap (λ x. x.next_birth) (sym is))
+
+-- ---- the byte
+
+pub byte_is : {o p : Option ℕ} {a b : Bool} → o ≡ p → a ≡ is_built_byte o → a ≡ b → is_built_byte p ≡ b
+byte_is e f h = sym (ap is_built_byte e) ∙ sym f ∙ h
+
+-- ---- the pc behind an instruction
+
+fitting : (bs : List ℕ) (at : ℕ) (i : Instr) → decode_at bs at ≡ Some i → at + i.len ≤ length bs
+unfolding decode_at
+fitting bs at i e = go (nat_le (at + len_of (slice_index bs at)) (length bs)) refl e
+  where
+    o : Option Op
+    o = op_of (slice_index bs at) (slice_index bs (at + 1)) (slice_index bs (at + 2)) (slice_index bs (at + 3))
+    len_is : (x : Option Op) → option_map (λ (y : Op). let j : Instr = record { op = y; len = len_of (slice_index bs at) } in j) x ≡ Some i → i.len ≡ len_of (slice_index bs at)
+    len_is None h = absurd (cc)
+    len_is (Some x) h = len_in h
+      where
+        len_if : Option Instr → ℕ
+        len_if None = 0
+        len_if (Some j) = j.len
+        len_in : Some (let j : Instr = record { op = x; len = len_of (slice_index bs at) } in j) ≡ Some i → i.len ≡ len_of (slice_index bs at)
+        len_in t = sym (ap len_if t)
+    go : (t : Bool) → nat_le (at + len_of (slice_index bs at)) (length bs) ≡ t
+        → (if t then option_map (λ (y : Op). let j : Instr = record { op = y; len = len_of (slice_index bs at) } in j) o else None) ≡ Some i → at + i.len ≤ length bs
+    go false p q = absurd (cc)
+    go true p q =
+        let fits : at + len_of (slice_index bs at) ≤ length bs = grind (arith, nat_tests) in
+        omega (arith, fits, len_is o q)
+
+between : (first count pc len : ℕ) → (nat_le first pc && nat_le pc (first + count)) ≡ true → pc - first + len ≤ count → (nat_le first (pc + len) && nat_le (pc + len) (first + count)) ≡ true
+between first count pc len h fits = go (nat_le first pc) (nat_le pc (first + count)) refl refl h
+  where
+    go : (a b : Bool) → nat_le first pc ≡ a → nat_le pc (first + count) ≡ b → (a && b) ≡ true → (nat_le first (pc + len) && nat_le (pc + len) (first + count)) ≡ true
+    go true true p q t =
+        let one : first ≤ pc = grind (arith, nat_tests, p) in
+        let left : nat_le first (pc + len) ≡ true = grind (arith, nat_tests) in
+        let right : nat_le (pc + len) (first + count) ≡ true = grind (arith, nat_tests) in
+        rw (left, right)
+    go false b p q t = absurd (cc)
+    go true false p q t = absurd (cc)
+
+lies_past : (o : Option Obj) (pc : ℕ) (i : Instr) → lies_in o pc ≡ true → decode_at (bytecodes_in o) (pc - first_pc (literals_in o)) ≡ Some i → lies_in o (pc + i.len) ≡ true
+lies_past None pc i h e = absurd (cc)
+lies_past (Some (Ptr class format hash slots)) pc i h e = absurd (cc)
+lies_past (Some (Raw class format hash bytes)) pc i h e = absurd (cc)
+lies_past (Some (Method class format hash header literals bytecodes)) pc i h e = between (first_pc literals) (length bytecodes) pc i.len h (fitting bytecodes (pc - first_pc literals) i e)
+lies_past (Some (Ctx c)) pc i h e = absurd (cc)
+
+pub lies_behind : (k : Kept) (i : Instr) → IsRunning k → instruction_at k ≡ Some i → lies_in (method_of k) (pc_of k + i.len) ≡ true
+unfolding instruction_at
+lies_behind k i h e = lies_past (method_of k) (pc_of k) i h.method e
+
+-- ---- what the instruction did
+
+pub record Executed (k : Kept) (i : Instr) (v : Kept) (e : End) : Type 0 where
+  pub end : (effect k i).end ≡ e
+  pub keeps : Keeps v (effect k i).state
+
+thin : (k : Kept) (i : Instr) → Begins k i → Thin i.op
+unfolding instruction_at
+thin k i h = thin_instruction (bytecodes_of k) (pc_of k - first_pc (literals_of k)) i h.byte h.instruction
+
+pub executed : (k u v : Kept) (i : Instr) (pc : ℕ) (e : End) → Begins k i → pc ≡ pc_of k + i.len → ((m : Kept) → Keeps k m → Keeps u (set_pc_of m pc)) → Keeps k k
+    → e ≡ (built_exec i.op u).end → Keeps v (built_exec i.op u).state → Executed k i v e
+executed k u v i pc e h at moved closed end keeps =
+    let start : Keeps u (set_pc_of k (pc_of k + i.len)) = subst (λ n. Keeps u (set_pc_of k n)) at (moved k closed) in
+    let a : Alike u (exec i.op u) (effect k i) = exec_alike i.op start in
+    let is : built_exec i.op u ≡ exec i.op u = thin_built i.op u (thin k i h) in
+    record {
+      end = sym a.end ∙ ap (λ (o : Out). o.end) (sym is) ∙ sym end;
+      keeps = Keeps-trans (subst (λ (o : Out). Keeps v o.state) is keeps) a.keeps;
+    }
+
+-- it doesn't return
+pub never_returns : (k : Kept) (i : Instr) (x : Ref) (local : Bool) → Begins k i → (effect k i).end ≡ ends.Return x local → ⊥
+never_returns k i x local h e =
+    let stays : return_in (effect k i).end ≡ None = thin_stays i.op (set_pc_of k (pc_of k + i.len)) (thin k i h) in
+    let none : return_in (ends.Return x local) ≡ None = sym (ap return_in e) ∙ stays in
+    cc
+
+-- ---- what a message names
+
+pub held_above : (s : Store) (k : Kept) (o : Option Oop) → Holds s k → IfSome o (λ x. IsNamed s x) → IsHeldIf k (option_map (λ x. name_of s x) o)
+held_above s k None h named = tt
+held_above s k (Some x) h named = named_held s k x h named
