@@ -53,7 +53,7 @@ unused_bytes format = if nat_le 16 format then unused_units format else 2 * unus
 abbrev pub has_shape : ℕ → ℕ → Bool
 has_shape format slots = (is_pointer_format format || is_raw_format format || is_method_format format)
     && (if format == 0 then slots == 0 else
-        (if format == 9 then slots % 2 == 0 else unused_units format == 0 || nat_lt 0 slots))
+    (if format == 9 then slots % 2 == 0 else unused_units format == 0 || nat_lt 0 slots))
 
 -- weak objects are read as ones with named and indexed fields, and ephemerons as ones with named fields
 abbrev pub plain_format : ℕ → ℕ
