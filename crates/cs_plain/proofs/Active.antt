@@ -1,19 +1,16 @@
 -- The active context of a world of heap contexts, and when such a world is sound.
-use Rattle.std.proofs.Common.{◌≡◌, ℕ, Bool, true, false, refl, sym, ap, subst, ◌∙◌, Option, Some, None, IsSome, is_some, unwrap_or, List, option_map, option_and_then, arith}
-use Rattle.std.specs.Prelude.{slice_get, if◌then◌else◌, ◌≤◌}
+use Rattle.std.proofs.Common.{◌≡◌, ℕ, Bool, true, false, refl, sym, ap, subst, ◌∙◌, Option, Some, None, IsSome, is_some, unwrap_or}
+use Rattle.std.specs.Prelude.{if◌then◌else◌, ◌≤◌}
 use Rattle.std.specs.FinMap.{get}
 use Rattle.cs_word.specs.declared.Oop.{Oop}
-use Rattle.cs_heap.specs.Object.{Object, birth_of, is_object, object_at, used}
+use Rattle.cs_heap.specs.Object.{Object, birth_of, object_at, used}
 use Rattle.cs_classes.specs.Meaning.{context_of, is_context, obj_of, objects_of, ref_of}
 use Rattle.cs_classes.specs.Sound.{IsWhole}
-use Rattle.cs_classes.proofs.Heaps.{birth_of-object_at, is_object-object_at, stands}
+use Rattle.cs_classes.proofs.Heaps.{birth_of-object_at, stands}
 use Rattle.cs_classes.proofs.Objects.{get-objects_of-element}
 use Rattle.cs_classes.proofs.Sorts.{context_is, obj_of-context}
 use Rattle.cs_classes.proofs.Wholes.{kept_of-closed, kept_of-roots}
-use Rattle.cs_model.specs.Ref as ref
 use Rattle.cs_model.specs.Obj.{Ctx, is_context_at}
-use Rattle.cs_model.specs.State as state
-use Rattle.cs_model.specs.Keeps.{Keeps}
 use Rattle.cs_model.specs.Read.{active_birth, active_context}
 use Rattle.cs_acts.specs.Ready.{IsReady, IsSound}
 use Rattle.cs_plain.specs.declared.PlainWorld.{PlainWorld}

@@ -4,3 +4,5 @@ mod Edits
 mod Written
 mod Writing
 mod Storing
+mod Opening
+mod Scheduled

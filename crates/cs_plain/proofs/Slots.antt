@@ -1,14 +1,13 @@
 -- What the slots of the active context are in the state.
-use Rattle.std.proofs.Common.{IsSome, IfSome, ◌≡◌, ℕ, ◌+◌, ◌-◌, ◌<◌, ◌≤◌, ◌^◌, Bool, true, false, refl, sym, ap, subst, ◌∙◌, Option, Some, None, unwrap_or, List, length, map, take, drop, length-take, length-drop, get_or, option_map, arith, rules}
+use Rattle.std.proofs.Common.{IsSome, IfSome, ◌≡◌, ℕ, ◌+◌, ◌-◌, ◌<◌, ◌≤◌, ◌^◌, Bool, true, false, refl, sym, ap, ◌∙◌, Option, Some, None, unwrap_or, List, length, map, take, drop, length-take, length-drop, get_or, option_map, arith}
 use Rattle.std.specs.Prelude.{if◌then◌else◌, ◌==◌, ◌||◌, slice_get, slice_index}
-use Rattle.std.specs.List.{AllPass}
 use Rattle.std.specs.Option.{option_map_or}
-use Rattle.std.proofs.lemmas.List.{get_or-drop, get_or-take, length-map}
+use Rattle.std.proofs.lemmas.List.{get_or-drop, get_or-take}
 use Rattle.std.proofs.lemmas.List.Elements.{All-get_or}
 use Rattle.std.proofs.lemmas.Bool.Decides.{nat_tests}
 use Rattle.std.proofs.lemmas.Option.{slice_get-map, slice_get-get_or}
 use Rattle.cs_word.specs.declared.Oop.{Oop}
-use Rattle.cs_heap.specs.Object.{Object, birth_of, object_at, slot_count_of, slot_of}
+use Rattle.cs_heap.specs.Object.{Object, object_at, slot_count_of, slot_of}
 use Rattle.cs_classes.specs.Meaning.{is_context, context_of, count_of, depth_in, ref_of}
 use Rattle.cs_classes.specs.Sound.{IsSoundObject, is_reference}
 use Rattle.cs_classes.proofs.Contexts.{depth_is}

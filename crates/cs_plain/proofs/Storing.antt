@@ -1,22 +1,19 @@
 -- A store into an object that is no context, and the closure of a context.
-use Rattle.std.proofs.Common.{◌≡◌, ℕ, ◌+◌, ◌*◌, ◌-◌, ◌/◌, ◌%◌, ◌<◌, ◌≤◌, Bool, true, false, refl, sym, ap, subst, ◌∙◌, Option, Some, None, unwrap_or, List, length, map, take, drop, length-take, length-drop, length-set, option_map, arith, ◌⊎◌, inl, inr}
-use Rattle.std.specs.Prelude.{◌&&◌, ◌==◌, if◌then◌else◌, nat_lt, nat_le, slice_set}
-use Rattle.std.specs.Option.{option_map_or}
+use Rattle.std.proofs.Common.{◌≡◌, ℕ, ◌+◌, ◌*◌, ◌-◌, ◌/◌, ◌%◌, ◌<◌, ◌≤◌, Bool, true, false, refl, sym, ap, subst, ◌∙◌, Some, List, length, map, drop, length-take, length-drop, length-set, arith}
+use Rattle.std.specs.Prelude.{◌&&◌, ◌==◌, if◌then◌else◌, nat_lt, nat_le}
 use Rattle.std.proofs.lemmas.List.{length-map}
 use Rattle.std.proofs.lemmas.Bool.Decides.{nat_tests}
 use Rattle.cs_word.specs.declared.Oop.{Oop}
 use Rattle.cs_word.specs.declared.Kind.{Kind}
 use Rattle.cs_word.specs.declared.Kind.TheVariants as kind
 use Rattle.cs_word.specs.Word.{kind_of, small_value}
-use Rattle.cs_heap.specs.Format.{is_method, is_pointers}
-use Rattle.cs_heap.specs.Object.{Object, birth_of, is_object, object_at, set_word, slot_count_of, with_slot}
+use Rattle.cs_heap.specs.Object.{Object, birth_of, is_object, object_at, set_word, with_slot}
 use Rattle.cs_classes.specs.Meaning.{code_in, header_in, is_context, kept_of, literals_in, method_of, obj_of, ref_of, ref_of_kind, used_bytes}
 use Rattle.cs_classes.specs.Sound.{is_reference, is_reference_kind}
 use Rattle.cs_classes.proofs.Heaps.{birth_of-object_at, is_object-object_at, object_there, set_word-IsEdit}
 use Rattle.cs_classes.proofs.Refs.{ref_of-object}
 use Rattle.cs_classes.proofs.Sorts.{AContext, AMethod, Bytes, Pointers, Sort, obj_of-bytes, obj_of-context, obj_of-method, obj_of-pointers, sort_of}
 use Rattle.cs_classes.proofs.Writes.{Does, does-set_literal, does-set_slot}
-use Rattle.cs_classes.proofs.Writes as writes
 use Rattle.cs_model.specs.Ref.{Ref}
 use Rattle.cs_model.specs.Ref as ref
 use Rattle.cs_model.specs.Obj.{Ctx, Method, Obj, Ptr, Raw, first_pc, lies_in, literal_count}
@@ -28,14 +25,13 @@ use Rattle.cs_model.specs.Read.{IsRunning}
 use Rattle.cs_model.specs.Operation.{edit_found, edit_object, store_of}
 use Rattle.cs_model.specs.Operation as operation
 use Rattle.cs_model.proofs.Operating.{store_moved}
-use Rattle.cs_model.proofs.Same.{Same, same}
 use Rattle.cs_acts.specs.Names.{IsNamed, name_of}
 use Rattle.cs_acts.specs.Ready.{IsReady, is_storable}
 use Rattle.cs_acts.proofs.Running.{running-put}
 use Rattle.cs_plain.specs.declared.PlainWorld.{PlainWorld}
 use Rattle.cs_plain.specs.View.{active_in, stored_of, view_of}
 use Rattle.cs_plain.proofs.Active.{meaning_there, sound_world}
-use Rattle.cs_plain.proofs.Edits.{Edited, edited}
+use Rattle.cs_plain.proofs.Edits.{edited}
 use Rattle.cs_plain.proofs.Written.{active-same, keeps_names, with_objects}
 use Rattle.cs_plain.proofs.Writing.{Writes, held_by}
 
@@ -48,7 +44,7 @@ pub record Storable (w : PlainWorld) (o : Oop) (i : ℕ) (v : ℕ) (x : Object) 
   pub lies : (pc : ℕ) → lies_in (Some (operation.with_slot i (ref_of w.heap.objects v) (obj_of (ref_of w.heap.objects) x))) pc ≡ lies_in (Some (obj_of (ref_of w.heap.objects) x)) pc
 
 -- an address is the word itself
-kind_address : (word a : ℕ) → kind_of word ≡ kind.Object a → a ≡ word
+pub kind_address : (word a : ℕ) → kind_of word ≡ kind.Object a → a ≡ word
 kind_address word a h = go (word % 2 == 1) (word % 4 == 2) (word % 8 == 0) h
   where
     go : (b c d : Bool) → (if b then kind.Small (small_value word) else (if c then kind.Character (word / 4) else (if d then kind.Object word else kind.Link word))) ≡ kind.Object a → a ≡ word

@@ -1,20 +1,19 @@
 -- The writes of a world, each as its operation on every state that the world keeps.
-use Rattle.std.proofs.Common.{◌≡◌, ℕ, pos, ◌+◌, ◌-◌, ◌<◌, ◌≤◌, ◌^◌, Bool, true, false, refl, sym, ap, subst, ◌∙◌, Option, Some, None, unwrap_or, List, length, arith}
+use Rattle.std.proofs.Common.{◌≡◌, ℕ, pos, ◌+◌, ◌-◌, ◌<◌, ◌^◌, Bool, true, false, refl, sym, ap, subst, ◌∙◌, Some, List, length, arith}
 use Rattle.std.specs.Prelude.{◌==◌, ◌||◌, is_some}
 use Rattle.cs_word.specs.declared.Oop.{Oop}
 use Rattle.cs_word.specs.Word.{small_word}
-use Rattle.cs_heap.specs.Object.{Memory, Object, object_at, set_word, with_object, with_slot}
+use Rattle.cs_heap.specs.Object.{Memory, Object, set_word, with_slot}
 use Rattle.cs_classes.specs.Meaning.{count_of, depth_in, ref_of}
-use Rattle.cs_classes.specs.Sound.{IsWhole, is_reference, nil_of}
+use Rattle.cs_classes.specs.Sound.{nil_of}
 use Rattle.cs_classes.proofs.Heaps.{set_word-IsEdit, with_object-twice}
 use Rattle.cs_classes.proofs.Refs.{count_of-small, is_reference-small, small_natural}
 use Rattle.cs_classes.proofs.Wholes.{ref_of-held}
 use Rattle.cs_classes.proofs.Writes.{Does, Holds, does-pop, does-push, does-set_pc, does-set_stack}
-use Rattle.cs_model.specs.Ref.{Ref}
-use Rattle.cs_model.specs.Obj.{Context, edit_context, lies_in, popped, pushed, stored, with_pc}
+use Rattle.cs_model.specs.Obj.{edit_context, lies_in, popped, pushed, stored, with_pc}
 use Rattle.cs_model.specs.State.{IsHeld, Kept}
 use Rattle.cs_model.specs.Keeps.{Keeps}
-use Rattle.cs_model.specs.Read.{active_context, depth_of, method_of, pc_of, size_of}
+use Rattle.cs_model.specs.Read.{depth_of, method_of, pc_of, size_of}
 use Rattle.cs_model.specs.Operation.{drop_of, edit_active, edit_object, push_of, set_pc_of, set_stack_of}
 use Rattle.cs_model.proofs.Same.{Same, is, same}
 use Rattle.cs_model.proofs.Operating.{drop_moved, push_moved, set_pc_moved, set_stack_moved}
@@ -24,8 +23,8 @@ use Rattle.cs_plain.specs.declared.PlainWorld.{PlainWorld}
 use Rattle.cs_plain.specs.View.{stored_of, view_of, active_in}
 use Rattle.cs_plain.proofs.Active.{Active}
 use Rattle.cs_plain.proofs.Edits.{Edited, edited}
-use Rattle.cs_plain.proofs.Slots.{depth_is_read, depth_within, size_is_read}
-use Rattle.cs_plain.proofs.Written.{Written, with_objects, written}
+use Rattle.cs_plain.proofs.Slots.{depth_is_read, size_is_read}
+use Rattle.cs_plain.proofs.Written.{with_objects, written}
 
 -- the operation on every state that is kept; then the world is ready, and words mean what they meant
 pub record Writes (w v : PlainWorld) (op : Kept → Kept) : Type 0 where

@@ -1,25 +1,23 @@
 -- What a write to the active context, or to another object, does to the state.
-use Rattle.std.proofs.Common.{◌≡◌, ℕ, Bool, true, false, refl, sym, ap, subst, ◌∙◌, Option, Some, None, unwrap_or, List, option_map, option_and_then}
+use Rattle.std.proofs.Common.{◌≡◌, ℕ, true, refl, sym, ap, subst, ◌∙◌, Option, Some, None, List}
 use Rattle.std.specs.Prelude.{◌≤◌}
 use Rattle.cs_word.specs.declared.Oop.{Oop}
-use Rattle.cs_heap.specs.Object.{Memory, Object, birth_of, object_at, used}
+use Rattle.cs_heap.specs.Object.{Object}
 use Rattle.cs_classes.specs.Meaning.{kept_of, ref_of}
-use Rattle.cs_classes.specs.Sound.{IsWhole}
 use Rattle.cs_classes.proofs.Heaps.{is_object-object_at}
 use Rattle.cs_classes.proofs.Refs.{ref_of-object}
 use Rattle.cs_classes.proofs.Writes.{Does}
 use Rattle.cs_model.specs.Ref.{Ref}
 use Rattle.cs_model.specs.Ref as ref
-use Rattle.cs_model.specs.Obj.{Context, Ctx, edit_context, lies_in}
-use Rattle.cs_model.specs.State as state
+use Rattle.cs_model.specs.Obj.{Context, edit_context, lies_in}
 use Rattle.cs_model.specs.State.{Kept}
-use Rattle.cs_model.specs.Read.{IsRunning, active_birth, active_context, method_of, pc_of}
+use Rattle.cs_model.specs.Read.{IsRunning, active_birth, active_context, method_of}
 use Rattle.cs_model.specs.Operation.{edit_active, edit_found, edit_object}
 use Rattle.cs_acts.specs.Names.{KeepsNames}
 use Rattle.cs_acts.specs.Ready.{IsReady}
 use Rattle.cs_acts.proofs.Running.{running-edit}
 use Rattle.cs_plain.specs.declared.PlainWorld.{PlainWorld}
-use Rattle.cs_plain.specs.View.{active_in, birth_at, stored_of, view_of}
+use Rattle.cs_plain.specs.View.{active_in, stored_of, view_of}
 use Rattle.cs_plain.proofs.Active.{Active, sound_world}
 use Rattle.cs_plain.proofs.Edits.{Edited}
 

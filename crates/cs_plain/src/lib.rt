@@ -71,35 +71,77 @@ fn count_word(count: u32) -> Oop
 }
 
 impl PlainWorld {
-    ghost use Rattle.cs_plain.specs.View.{stored_of, view_of};
+    ghost use Rattle.std.specs.Prelude.{IfOk, false, None};
+    ghost use Rattle.cs_classes.specs.Sound.{IsWhole};
+    ghost use Rattle.cs_model.specs.Read.{IsRunning};
+    ghost use Rattle.cs_model.specs.Due.{is_idle};
+    ghost use Rattle.cs_model.specs.Operation.{nil_of};
+    ghost use Rattle.cs_model.specs.Settle.{open_kept};
+    ghost use Rattle.cs_model.specs.Step.{shape_fault};
+    ghost use Rattle.cs_acts.specs.Names.{IsNamed, Names, name_of};
+    ghost use Rattle.cs_acts.specs.Ready.{IsSound};
+    ghost use Rattle.cs_plain.specs.View.{loaded_kept, stored_of, taken_of, view_of};
 
     /// Opens a loaded image: the active process gives its context to the machine. With no active process none is active.
-    pub fn new(_alloc: Global, loaded: Loaded) -> Result<PlainWorld, AllocError> {
+    ///
+    /// Where a process is active, the context that it gives must be live, at a pc that lies in its method.
+    pub fn new(_alloc: Global, loaded: Loaded) -> Result<PlainWorld, AllocError>
+        requires whole { IsWhole loaded.heap.objects loaded.classes loaded.roots }
+        requires running { is_idle (loaded_kept loaded) ≡ false → IsRunning (open_kept (loaded_kept loaded)) }
+        ensures view { IfOk result (λ w. view_of w ≡ open_kept (loaded_kept loaded)) }
+        ensures sound { IfOk result (λ w. IsSound (stored_of w) (view_of w)) }
+        ensures idle { IfOk result (λ w. is_idle (view_of w) ≡ is_idle (loaded_kept loaded)) }
+        ensures shape { IfOk result (λ w. shape_fault (view_of w) ≡ None) }
+        ensures ready { IfOk result (λ w. is_idle (view_of w) ≡ false → IsReady (stored_of w) (view_of w)) }
+    {
         let Loaded {
             heap,
             classes,
             roots,
         } = loaded;
+        // for what their clauses say: the heap is within its limit
+        let _used = heap.used_words();
+        let _limit = heap.limit_words();
         let mut world = PlainWorld {
             heap,
             classes,
             roots,
             active: None,
         };
-        if let Some(process) = active_process(&world) {
-            world.open(process);
-        }
+        world.open();
         Ok(world)
     }
 
-    /// Takes the context of the active process, unless that is nil.
-    fn open(&mut self, process: Oop) {
-        if !same(self, process, nil(self)) {
-            if let Some(context) = slot(self, process, PROCESS_SLOTS, SUSPENDED_CONTEXT) {
-                let nil = nil(self);
-                self.heap.set_slot(process, SUSPENDED_CONTEXT, nil);
-                self.active = Some(context);
+    /// Takes the context of the active process, if one is active.
+    #[tactic(auto, unfolding(cs_model::specs::Settle::open_kept))]
+    fn open(&mut self)
+        requires sound { IsSound (stored_of self.old) (view_of self.old) }
+        requires closed { self.old.active ≡ None }
+        requires running { is_idle (view_of self.old) ≡ false → IsRunning (open_kept (view_of self.old)) }
+        ensures view { view_of self.new ≡ open_kept (view_of self.old) }
+        ensures sound { IsSound (stored_of self.new) (view_of self.new) }
+    {
+        let nil = nil(self);
+        if let Some(process) = active_process(self) {
+            if !same(self, process, nil) {
+                self.take_context(process, nil);
             }
+        }
+    }
+
+    /// Takes the context that a process keeps, and leaves nil there.
+    fn take_context(&mut self, process: Oop, nil: Oop)
+        requires sound { IsSound (stored_of self.old) (view_of self.old) }
+        requires closed { self.old.active ≡ None }
+        requires named { IsNamed (stored_of self.old) process }
+        requires nil { Names (stored_of self.old) nil (nil_of (view_of self.old)) }
+        requires running { IsRunning (taken_of (view_of self.old) (name_of (stored_of self.old) process)) }
+        ensures view { view_of self.new ≡ taken_of (view_of self.old) (name_of (stored_of self.old) process) }
+        ensures sound { IsSound (stored_of self.new) (view_of self.new) }
+    {
+        if let Some(context) = slot(self, process, PROCESS_SLOTS, SUSPENDED_CONTEXT) {
+            self.heap.set_slot(process, SUSPENDED_CONTEXT, nil);
+            self.active = Some(context);
         }
     }
 

@@ -1,14 +1,12 @@
-use Rattle.std.proofs.Common.{Fits, w32, arith, pos, ap, sym, ◌∙◌, ◌≡◌, ◌<◌, ◌≤◌, ◌+◌, ◌-◌}
-use Rattle.cs_acts.specs.Names.{name_of}
+use Rattle.std.proofs.Common.{arith, ap, ◌∙◌, ◌-◌}
 use Rattle.cs_heap.specs.Object.{with_slot}
-use Rattle.cs_word.specs.Word.{small_word}
 use Rattle.cs_model.specs.Operation.{drop_of, nil_of}
 use Rattle.std.specs.Prelude.{slice_get, unwrap_or}
 use Rattle.cs_model.specs.Read.{stack_of}
-use Rattle.cs_plain.specs.View.{stored_of, view_of}
+use Rattle.cs_plain.specs.View.{view_of}
 use Rattle.cs_plain.proofs.Active.{active_is}
 use Rattle.cs_plain.proofs.Slots.{depth_within, few_slots, fields_within, slots_are}
-use Rattle.cs_plain.proofs.Writing.{Writes, along, writes-pop}
+use Rattle.cs_plain.proofs.Writing.{along, writes-pop}
 use Rattle.cs_plain.proofs.PlainWorldWorld.pop.Goals as goal
 
 pub count_word-requires : goal.count_word-requires

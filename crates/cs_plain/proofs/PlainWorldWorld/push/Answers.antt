@@ -1,13 +1,12 @@
-use Rattle.std.proofs.Common.{Fits, w32, arith, subst, pos, ap, sym, ◌∙◌, ◌≡◌, ◌<◌, ◌≤◌, ◌+◌, ◌-◌}
+use Rattle.std.proofs.Common.{arith, subst, ap, sym, ◌∙◌, ◌<◌, ◌+◌}
 use Rattle.cs_acts.specs.Names.{name_of}
-use Rattle.cs_heap.specs.Object.{slot_count_of, with_slot}
+use Rattle.cs_heap.specs.Object.{slot_count_of}
 use Rattle.cs_heap.proofs.Laws.{slot_count_of-with_slot}
-use Rattle.cs_word.specs.Word.{small_word}
 use Rattle.cs_model.specs.Operation.{push_of}
-use Rattle.cs_plain.specs.View.{stored_of, view_of}
+use Rattle.cs_plain.specs.View.{stored_of}
 use Rattle.cs_plain.proofs.Active.{active_is}
 use Rattle.cs_plain.proofs.Slots.{depth_within, few_slots, fields_within, size_is_read, slots_are}
-use Rattle.cs_plain.proofs.Writing.{Writes, along, twice, writes-push}
+use Rattle.cs_plain.proofs.Writing.{along, twice, writes-push}
 use Rattle.cs_plain.proofs.PlainWorldWorld.push.Goals as goal
 
 pub overflow_add-depth : goal.overflow_add-depth

@@ -1,4 +1,4 @@
-use Rattle.std.proofs.Common.{◌<◌, sym, subst, arith}
+use Rattle.std.proofs.Common.{arith}
 use Rattle.cs_plain.proofs.Active.{active_is}
 use Rattle.cs_plain.proofs.Slots.{fields_within, names_slot, receiver_is_read, slots_are}
 use Rattle.cs_plain.proofs.PlainWorldWorld.receiver.Goals as goal

@@ -1,12 +1,9 @@
-use Rattle.std.proofs.Common.{Fits, w32, arith, pos, ap, sym, ◌∙◌, ◌≡◌, ◌<◌, ◌≤◌, ◌+◌, ◌-◌}
-use Rattle.cs_acts.specs.Names.{name_of}
+use Rattle.std.proofs.Common.{arith, ap, ◌∙◌}
 use Rattle.cs_heap.specs.Object.{with_slot}
-use Rattle.cs_word.specs.Word.{small_word}
 use Rattle.cs_model.specs.Operation.{set_pc_of}
-use Rattle.cs_plain.specs.View.{stored_of, view_of}
 use Rattle.cs_plain.proofs.Active.{active_is}
 use Rattle.cs_plain.proofs.Slots.{fields_within, pc_within, slots_are}
-use Rattle.cs_plain.proofs.Writing.{Writes, along, writes-set_pc}
+use Rattle.cs_plain.proofs.Writing.{along, writes-set_pc}
 use Rattle.cs_plain.proofs.PlainWorldWorld.set_pc.Goals as goal
 
 pub count_word-requires : goal.count_word-requires

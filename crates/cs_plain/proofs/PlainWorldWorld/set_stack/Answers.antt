@@ -1,11 +1,10 @@
-use Rattle.std.proofs.Common.{Fits, w32, arith, pos, ap, sym, ◌∙◌, ◌≡◌, ◌<◌, ◌≤◌, ◌+◌, ◌-◌}
+use Rattle.std.proofs.Common.{arith}
 use Rattle.cs_acts.specs.Names.{name_of}
-use Rattle.cs_heap.specs.Object.{with_slot}
 use Rattle.cs_model.specs.Operation.{set_stack_of}
-use Rattle.cs_plain.specs.View.{stored_of, view_of}
+use Rattle.cs_plain.specs.View.{stored_of}
 use Rattle.cs_plain.proofs.Active.{active_is}
 use Rattle.cs_plain.proofs.Slots.{depth_within, few_slots, slots_are}
-use Rattle.cs_plain.proofs.Writing.{Writes, along, writes-set_stack}
+use Rattle.cs_plain.proofs.Writing.{along, writes-set_stack}
 use Rattle.cs_plain.proofs.PlainWorldWorld.set_stack.Goals as goal
 
 pub overflow_add-i : goal.overflow_add-i

@@ -1,6 +1,6 @@
-use Rattle.std.proofs.Common.{Fits, w32, arith}
+use Rattle.std.proofs.Common.{arith}
 use Rattle.cs_plain.proofs.Active.{active_is}
-use Rattle.cs_plain.proofs.Slots.{depth_within, fields_within, few_slots, names_slot, slots_are, stack_is_read}
+use Rattle.cs_plain.proofs.Slots.{depth_within, few_slots, names_slot, slots_are, stack_is_read}
 use Rattle.cs_plain.proofs.PlainWorldWorld.stack_at.Goals as goal
 
 pub overflow_add-i : goal.overflow_add-i

@@ -1,4 +1,4 @@
-use Rattle.std.proofs.Common.{ap, arith, ◌<◌, length, Option}
+use Rattle.std.proofs.Common.{ap, arith, length, Option}
 use Rattle.std.specs.Option.{option_map_or}
 use Rattle.cs_heap.specs.Object.{Object}
 use Rattle.cs_model.specs.Operation.{store_of}
