@@ -112,3 +112,6 @@ pub fn load(alloc: Global, bytes: &[u8], limit_words: u32) -> Result<Loaded, Ima
     let loaded = build(alloc, bytes, &file, &addresses, limit_words)?;
     Ok(loaded)
 }
+
+#[cfg(test)]
+mod tests;

@@ -1,0 +1,113 @@
+//! Loading a small image, whole and damaged.
+
+use crate::{ImageError, load};
+use byteorder::{ByteOrder, LittleEndian};
+
+/// The size of the small image: its header and a heap of 4,560 bytes.
+const SIZE: usize = 4624;
+
+/// The words of the small image that aren't 0, each with its place in the file. The old base is 0, and nil comes first, so
+/// that a word of 0 names nil.
+const WORDS: [(usize, u32); 43] = [
+    // the header: the heap's size, the special objects at 80, and 2^22 + 5 as the last hash
+    (0, 6521),
+    (4, 64),
+    (8, 4560),
+    (16, 80),
+    (20, 4_194_309),
+    // nil, false and true
+    (64, 32),
+    (80, 32),
+    (96, 32),
+    // the hidden object of words, and the root with one page
+    (112, 0x0a00_0010),
+    (116, 0x0200_0000),
+    (128, 0x0200_0010),
+    (132, 0x0100_0000),
+    (136, 456),
+    // 51 special objects, of which number 3 is the association
+    (144, 0x0200_0020),
+    (148, 0x3300_0000),
+    (164, 296),
+    // the association, and the scheduler without an active process
+    (360, 0x0100_0020),
+    (364, 0x0200_0000),
+    (372, 312),
+    (376, 0x0100_0020),
+    (380, 0x0200_0000),
+    // the classes of indices 1, 2, 32, 36 and 37
+    (392, 0x0100_0020),
+    (396, 0x0300_0001),
+    (416, 0x0100_0020),
+    (420, 0x0300_0002),
+    (440, 0x0100_0020),
+    (444, 0x0300_0020),
+    (464, 0x0100_0020),
+    (468, 0x0300_0024),
+    (488, 0x0100_0020),
+    (492, 0x0300_0025),
+    // the page: 1,024 slots in an overflow word, and its entries
+    (512, 1024),
+    (516, 0xff00_0000),
+    (520, 0x0200_0010),
+    (524, 0xff00_0000),
+    (532, 328),
+    (536, 352),
+    (540, 328),
+    (656, 376),
+    (672, 400),
+    (676, 424),
+    // window size and flags are kept
+    (88, 0),
+    (28, 7),
+];
+
+/// A word of the small image that is changed, and the fault that it has then.
+const DAMAGES: [(usize, u32, ImageError); 11] = [
+    (0, 6522, ImageError::BadFormat),
+    (4, 60, ImageError::BadHeaderSize),
+    (8, 4552, ImageError::BadLength),
+    (524, 0, ImageError::BadObject { at: 448 }),
+    (380, 0xff00_0000, ImageError::BadObject { at: 312 }),
+    (540, 352, ImageError::BadTable),
+    (396, 0x0300_0002, ImageError::BadTable),
+    (372, 316, ImageError::BadRef { at: 308 }),
+    (656, 0, ImageError::BadClass { at: 0 }),
+    (376, 0x0100_0024, ImageError::BadContext { at: 312 }),
+    (164, 0, ImageError::BadRoots),
+];
+
+fn put(bytes: &mut [u8], place: usize, word: u32) {
+    if place < bytes.len() && bytes.len() - place >= 4 {
+        LittleEndian::write_u32(&mut bytes[place..], word);
+    }
+}
+
+#[test]
+fn loads_a_small_image(rt: HostRuntime) {
+    let mut bytes = [0u8; SIZE];
+    for (place, word) in WORDS {
+        put(&mut bytes, place, word);
+    }
+    let loaded = load(rt.alloc(), &bytes, 4096).expect(&rt, "an image");
+    assert_eq!(rt; loaded.heap.used_words(), 104);
+    assert_eq!(rt; loaded.roots.next_birth, 11);
+    assert_eq!(rt; loaded.roots.last_hash, 5);
+    assert_eq!(rt; loaded.roots.special.0, 65584);
+    assert_eq!(rt; loaded.classes.entry(3), loaded.classes.entry(1));
+}
+
+#[test]
+fn tells_the_first_fault(rt: HostRuntime) {
+    let mut bytes = [0u8; SIZE];
+    for (place, word) in WORDS {
+        put(&mut bytes, place, word);
+    }
+    for (place, word, fault) in DAMAGES {
+        let mut damaged = bytes;
+        put(&mut damaged, place, word);
+        let told = load(rt.alloc(), &damaged, 4096).err();
+        assert!(rt; told == Some(fault));
+    }
+    assert!(rt; load(rt.alloc(), &[0; 63], 4096).err() == Some(ImageError::Short));
+}
