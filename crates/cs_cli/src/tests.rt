@@ -1,8 +1,9 @@
 //! Rows of the line and of the report, and the images that the tests run.
 
 use crate::line::parse;
-use crate::report::{Ending, Place, report};
+use crate::report::report;
 use crate::test_images::{ADDS, POPS_AN_EMPTY_STACK, image_of};
+use cs_core::run::{Ending, Place};
 use cs_model::Stop;
 use hex::FromHexError;
 use std::alloc::AllocError;
