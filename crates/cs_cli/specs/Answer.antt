@@ -55,8 +55,11 @@ refused_line = answering 2 (codes "cogstack: line\n")
 abbrev pub refused_image : Answer
 refused_image = answering 3 (codes "cogstack: image Refused\n")
 
+abbrev pub read_text : List ℕ → List ℕ
+read_text name = codes "cogstack: read " ++ name ++ codes "\n"
+
 abbrev pub failed_read : List ℕ → Answer
-failed_read name = answering 6 (codes "cogstack: read " ++ name ++ codes "\n")
+failed_read name = answering 6 (read_text name)
 
 abbrev pub no_memory : Answer
 no_memory = answering 8 (codes "cogstack: memory\n")
@@ -85,7 +88,7 @@ Printed a out status =
 
 -- The sink failed while n bytecodes were run from k. It took a first part of what the model writes up to some bytecode of them.
 pub record BreaksOff (k : Kept) (n : ℕ) (out : Writing) (status : ℕ) : Type 0 where
-  pub status : status ≡ write_failed
+  pub failed : status ≡ write_failed
   pub cause : Rose out.before out.behind
   pub part : RunFails k out.old out.new n
 
@@ -104,7 +107,7 @@ pub data IsRefused (bytes : List ℕ) : Type 0 where
 -- An image is open: these bytes describe the state k, before it was opened. Where the shelf tells a content, it is these bytes.
 pub record IsImage (content : Option (List ℕ)) (k : Kept) : Type 0 where
   pub bytes : List ℕ
-  pub content : IfSome content (λ told. bytes ≡ told)
+  pub told : IfSome content (λ held. bytes ≡ held)
   pub state : image_of bytes heap_limit ≡ Ok k
 
 -- ---- the call

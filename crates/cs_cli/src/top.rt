@@ -1,13 +1,14 @@
 //! The call that the program makes.
 
-ghost use Rattle.std.specs.Prelude.{◌≡◌, ◌++◌, ◌≤◌, ℕ, List, false, codes, length, map, string_bytes};
+ghost use Rattle.std.specs.Prelude.{◌≡◌, ◌++◌, ◌≤◌, ℕ, List, false, OnErr, OnOk, codes, length, map, string_bytes};
 ghost use Rattle.cs_model.specs.Due.{is_idle};
 ghost use Rattle.cs_model.specs.Line.{line_of};
 ghost use Rattle.cs_model.specs.Read.{IsRunning};
 ghost use Rattle.cs_acts.specs.Ready.{IsSound};
 ghost use Rattle.cs_core.specs.Running.{ending_of};
 ghost use Rattle.cs_plain.specs.View.{stored_of, view_of};
-ghost use Rattle.cs_cli.specs.Answer.{Answered, Printed, Reported, answering, failed_read, run_status};
+ghost use Rattle.cs_shelf.specs.Outside.{Appends, AppendsPart, Rose};
+ghost use Rattle.cs_cli.specs.Answer.{Answered, Printed, Reported, answering, failed_read, read_text, run_status};
 ghost use Rattle.cs_cli.specs.Opening.{Opens};
 
 use crate::line::parse;
@@ -15,7 +16,7 @@ use crate::report::report;
 use cs_core::run::{Ending, run};
 use cs_image::{ImageError, load};
 use cs_plain::PlainWorld;
-use cs_shelf::{ReadError, Shelf, Sink, read_whole, write_whole};
+use cs_shelf::{Failed, ReadError, Shelf, Sink, read_whole, write_whole};
 use std::alloc::Global;
 
 /// The longest image file, in bytes.
@@ -73,7 +74,9 @@ pub fn cogstack<S: Shelf, K: Sink>(
 
 /// Writes a text, and gives the status, or that of a failed write.
 fn print<K: Sink>(out: &mut K, status: u8, text: &str) -> u8
-    ensures { Printed (answering status text.now) (record { old = K.taken out.old; new = K.taken out.new; before = K.fault_count out.old; behind = K.fault_count out.new }) result }
+    ensures printed { Printed (answering status text.now)
+        (record { old = K.taken out.old; new = K.taken out.new; before = K.fault_count out.old; behind = K.fault_count out.new }) result }
+    ensures never_falls { K.fault_count out.old ≤ K.fault_count out.new }
 {
     match write_whole(out, text.as_bytes()) {
         Ok(()) => status,
@@ -83,12 +86,24 @@ fn print<K: Sink>(out: &mut K, status: u8, text: &str) -> u8
 
 /// Says that a name couldn't be read.
 fn print_read<K: Sink>(out: &mut K, name: &str) -> u8
-    ensures { Printed (failed_read name.now) (record { old = K.taken out.old; new = K.taken out.new; before = K.fault_count out.old; behind = K.fault_count out.new }) result }
+    ensures { Printed (failed_read name.now)
+        (record { old = K.taken out.old; new = K.taken out.new; before = K.fault_count out.old; behind = K.fault_count out.new }) result }
 {
-    if print(out, 0, "cogstack: read ") != 0 || print(out, 0, name) != 0 {
-        return WRITE_FAILED;
+    match write_read(out, name) {
+        Ok(()) => READ_FAILED,
+        Err(_) => WRITE_FAILED,
     }
-    print(out, READ_FAILED, "\n")
+}
+
+/// Writes that a name couldn't be read.
+fn write_read<K: Sink>(out: &mut K, name: &str) -> Result<(), Failed>
+    ensures ok { OnOk result (Appends (K.taken out.old) (K.taken out.new) (read_text name.now)) }
+    ensures err { OnErr result (AppendsPart (K.taken out.old) (K.taken out.new) (read_text name.now)) }
+    ensures cause { OnErr result (Rose (K.fault_count out.old) (K.fault_count out.new)) }
+{
+    write_whole(out, b"cogstack: read ")?;
+    write_whole(out, name.as_bytes())?;
+    write_whole(out, b"\n")
 }
 
 /// Reads, loads and opens an image.
@@ -104,9 +119,14 @@ fn open<S: Shelf>(alloc: Global, shelf: &mut S, file: &str) -> Result<PlainWorld
         Err(ReadError::NoMemory) => return Err(Refusal::Memory),
     };
     match load(alloc, bytes.as_slice(), HEAP_LIMIT) {
-        Ok(loaded) => PlainWorld::new(alloc, loaded).map_err(|_| Refusal::Memory),
-        Err(ImageError::NoMemory) => Err(Refusal::Memory),
-        Err(_) => Err(Refusal::Image),
+        Ok(loaded) => match PlainWorld::new(alloc, loaded) {
+            Ok(world) => Ok(world),
+            Err(_) => Err(Refusal::Memory),
+        },
+        Err(error) => match error {
+            ImageError::NoMemory => Err(Refusal::Memory),
+            _ => Err(Refusal::Image),
+        },
     }
 }
 
@@ -114,7 +134,8 @@ fn open<S: Shelf>(alloc: Global, shelf: &mut S, file: &str) -> Result<PlainWorld
 fn run_and_report<K: Sink>(world: PlainWorld, steps: u64, out: &mut K) -> u8
     requires sound { IsSound (stored_of world) (view_of world) }
     requires running { is_idle (view_of world) ≡ false → IsRunning (view_of world) }
-    ensures { Reported (view_of world) steps (record { old = K.taken out.old; new = K.taken out.new; before = K.fault_count out.old; behind = K.fault_count out.new }) result }
+    ensures { Reported (view_of world) steps
+        (record { old = K.taken out.old; new = K.taken out.new; before = K.fault_count out.old; behind = K.fault_count out.new }) result }
 {
     let mut world = world;
     let Ok(ran) = run(&mut world, steps, out) else {
