@@ -52,7 +52,7 @@ run_printed m e steps p a b c i j k answer text status he hs hp h le same_status
     let Q : ℕ → Type 0 = λ s. Printed (answering s text) (writing b c j k) status in
     let R : List ℕ → Type 0 = λ t. Printed (answering (run_status e) t) (writing b c j k) status in
     subst P (run_answer-by m e steps p he hs hp)
-        (printed_behind a b c i j k m.state.run.output (line_of e steps p) (run_status e) status h le (subst R same_text (subst Q same_status printed)))
+    (printed_behind a b c i j k m.state.run.output (line_of e steps p) (run_status e) status h le (subst R same_text (subst Q same_status printed)))
 
 pub answered_refused : (line : Option Said) (shelf : Reading) (out : Writing) (status : ℕ) → None ≡ line
     → Printed refused_line out status → Answered line shelf out status

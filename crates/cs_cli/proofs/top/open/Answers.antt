@@ -24,4 +24,4 @@ returns-clause-opens g c =
     let P : List ℕ → Type 0 = λ b. IfSome (g.S.Shelf.content c.args.shelf.now c.args.file.now) (λ held. b ≡ held) in
     let Q : Loaded → Type 0 = λ _. Unit {0} in
     refused_read _ c.as_slice.result.now (subst P (sym c.as_slice.ensures.value) c.in-Ok.ensures.whole)
-        (refused_by Q c.as_slice.result.now c.in-Err.error c.in_default.not-NoMemory c.in-Err.ensures.fault)
+    (refused_by Q c.as_slice.result.now c.in-Err.error c.in_default.not-NoMemory c.in-Err.ensures.fault)
