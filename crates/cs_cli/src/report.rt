@@ -6,9 +6,10 @@
 ghost use Rattle.std.specs.Prelude.{◌≡◌, ◌≤◌, ◌+◌, ◌++◌, length};
 ghost use Rattle.arrayvec.specs.ArrayString.{array_string_len};
 ghost use Rattle.cs_model.specs.Report.{ending_text, line_of, number_text, reason_text};
-ghost use Rattle.cs_cli.specs.Meaning.{ending_of, place_of};
+ghost use Rattle.cs_core.specs.Running.{ending_of, place_by};
 
 use arrayvec::ArrayString;
+use cs_core::run::{Ending, Place};
 use cs_model::Stop;
 use itoa::Buffer;
 
@@ -16,37 +17,11 @@ use itoa::Buffer;
 /// numbers of at most 20 digits.
 pub const LONGEST_REPORT: usize = 132;
 
-/// How a run ends.
-#[derive(Clone, Copy, PartialEq, Eq, Debug)]
-pub enum Ending {
-    /// The steps that were asked for are done.
-    Steps,
-    /// The image quits.
-    Quit,
-    /// No process is active and no event is left.
-    Idle,
-    /// A step stops, and the run stands before it.
-    Stopped(Stop),
-}
-
-/// Where a run stands.
-///
-/// All three are `None` where no process is active.
-#[derive(Clone, Copy, PartialEq, Eq, Debug)]
-pub struct Place {
-    /// The birth of the active process.
-    pub process: Option<u64>,
-    /// The birth of the active context.
-    pub context: Option<u64>,
-    /// The active context's pc, which counts the bytes of its method from 1 on, header and literals too.
-    pub pc: Option<u32>,
-}
-
 /// The text of the report: how a run ended, how many bytecodes it completed, and where it stands.
 ///
 /// It takes no memory.
 pub fn report(ending: Ending, steps: u64, place: &Place) -> ArrayString<LONGEST_REPORT>
-    ensures { result.bytes ≡ line_of (ending_of ending) steps (place_of place.now) }
+    ensures { result.bytes ≡ line_of (ending_of ending) steps (place_by place.now) }
 {
     let mut text = ArrayString::new();
     text.push_str("\n");
@@ -67,7 +42,6 @@ fn push_ending(text: &mut ArrayString<LONGEST_REPORT>, ending: Ending)
 {
     match ending {
         Ending::Steps => text.push_str("Steps"),
-        Ending::Quit => text.push_str("Quit"),
         Ending::Idle => text.push_str("Idle"),
         Ending::Stopped(reason) => {
             text.push_str("Stopped ");

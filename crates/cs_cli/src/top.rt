@@ -1,12 +1,23 @@
 //! The call that the program makes.
-use crate::line::{Line, parse};
-use crate::report::{Ending, Place, report};
-use cs_acts::Loaded;
-use cs_core::{Place as CorePlace, Ran, RunEnd, run};
+
+ghost use Rattle.std.specs.Prelude.{◌≡◌, ◌≤◌, ℕ, List, false, OnErr, OnOk, length, map, string_bytes};
+ghost use Rattle.cs_model.specs.Due.{is_idle};
+ghost use Rattle.cs_model.specs.Line.{line_of};
+ghost use Rattle.cs_model.specs.Read.{IsRunning};
+ghost use Rattle.cs_acts.specs.Ready.{IsSound};
+ghost use Rattle.cs_core.specs.Running.{ending_of};
+ghost use Rattle.cs_plain.specs.View.{stored_of, view_of};
+ghost use Rattle.cs_shelf.specs.Outside.{Appends, AppendsPart, Rose};
+ghost use Rattle.cs_cli.specs.Answer.{Answered, Printed, Reported, answering, failed_read, read_text, run_status};
+ghost use Rattle.cs_cli.specs.Opening.{Opens};
+
+use crate::line::parse;
+use crate::report::report;
+use cs_core::run::{Ending, run};
 use cs_image::{ImageError, load};
 use cs_plain::PlainWorld;
 use cs_shelf::{Failed, ReadError, Shelf, Sink, read_whole, write_whole};
-use std::alloc::{AllocError, Global};
+use std::alloc::Global;
 
 /// The longest image file, in bytes.
 const LONGEST_IMAGE: usize = 536_870_912;
@@ -28,6 +39,7 @@ const WRITE_FAILED: u8 = 7;
 const NO_MEMORY: u8 = 8;
 
 /// Why no run begins.
+#[derive(Clone, Copy)]
 enum Refusal {
     /// The image has a fault.
     Image,
@@ -43,7 +55,12 @@ pub fn cogstack<S: Shelf, K: Sink>(
     words: &[String],
     shelf: &mut S,
     out: &mut K,
-) -> u8 {
+) -> u8
+    ensures answered { Answered (line_of (map string_bytes words.now))
+        (record { content = S.content shelf.old; before = S.fault_count shelf.old; behind = S.fault_count shelf.new; last = S.last_fault shelf.new })
+        (record { old = K.taken out.old; new = K.taken out.new; before = K.fault_count out.old; behind = K.fault_count out.new }) result }
+    ensures contents { (name : List ℕ) → S.content shelf.new name ≡ S.content shelf.old name }
+{
     let Some(line) = parse(words) else {
         return print(out, BAD_LINE, "cogstack: line\n");
     };
@@ -56,7 +73,11 @@ pub fn cogstack<S: Shelf, K: Sink>(
 }
 
 /// Writes a text, and gives the status, or that of a failed write.
-fn print<K: Sink>(out: &mut K, status: u8, text: &str) -> u8 {
+fn print<K: Sink>(out: &mut K, status: u8, text: &str) -> u8
+    ensures printed { Printed (answering status text.now)
+        (record { old = K.taken out.old; new = K.taken out.new; before = K.fault_count out.old; behind = K.fault_count out.new }) result }
+    ensures never_falls { K.fault_count out.old ≤ K.fault_count out.new }
+{
     match write_whole(out, text.as_bytes()) {
         Ok(()) => status,
         Err(_) => WRITE_FAILED,
@@ -64,15 +85,33 @@ fn print<K: Sink>(out: &mut K, status: u8, text: &str) -> u8 {
 }
 
 /// Says that a name couldn't be read.
-fn print_read<K: Sink>(out: &mut K, name: &str) -> u8 {
-    if print(out, 0, "cogstack: read ") != 0 || print(out, 0, name) != 0 {
-        return WRITE_FAILED;
+fn print_read<K: Sink>(out: &mut K, name: &str) -> u8
+    ensures { Printed (failed_read name.now)
+        (record { old = K.taken out.old; new = K.taken out.new; before = K.fault_count out.old; behind = K.fault_count out.new }) result }
+{
+    match write_read(out, name) {
+        Ok(()) => READ_FAILED,
+        Err(_) => WRITE_FAILED,
     }
-    print(out, READ_FAILED, "\n")
+}
+
+/// Writes that a name couldn't be read.
+fn write_read<K: Sink>(out: &mut K, name: &str) -> Result<(), Failed>
+    ensures ok { OnOk result (Appends (K.taken out.old) (K.taken out.new) (read_text name.now)) }
+    ensures err { OnErr result (AppendsPart (K.taken out.old) (K.taken out.new) (read_text name.now)) }
+    ensures cause { OnErr result (Rose (K.fault_count out.old) (K.fault_count out.new)) }
+{
+    write_whole(out, b"cogstack: read ")?;
+    write_whole(out, name.as_bytes())?;
+    write_whole(out, b"\n")
 }
 
 /// Reads, loads and opens an image.
-fn open<S: Shelf>(alloc: Global, shelf: &mut S, file: &str) -> Result<PlainWorld, Refusal> {
+fn open<S: Shelf>(alloc: Global, shelf: &mut S, file: &str) -> Result<PlainWorld, Refusal>
+    requires name { length file.now ≤ 4096 }
+    ensures opens { Opens file.now (record { content = S.content shelf.old; before = S.fault_count shelf.old; behind = S.fault_count shelf.new; last = S.last_fault shelf.new }) result }
+    ensures contents { (name : List ℕ) → S.content shelf.new name ≡ S.content shelf.old name }
+{
     let bytes = match read_whole(alloc, shelf, file, LONGEST_IMAGE) {
         Ok(bytes) => bytes,
         Err(ReadError::TooLong) => return Err(Refusal::Image),
@@ -80,27 +119,38 @@ fn open<S: Shelf>(alloc: Global, shelf: &mut S, file: &str) -> Result<PlainWorld
         Err(ReadError::NoMemory) => return Err(Refusal::Memory),
     };
     match load(alloc, bytes.as_slice(), HEAP_LIMIT) {
-        Ok(loaded) => PlainWorld::new(alloc, loaded).map_err(|_| Refusal::Memory),
-        Err(ImageError::NoMemory) => Err(Refusal::Memory),
-        Err(_) => Err(Refusal::Image),
+        Ok(loaded) => match PlainWorld::new(alloc, loaded) {
+            Ok(world) => Ok(world),
+            Err(_) => Err(Refusal::Memory),
+        },
+        Err(error) => match error {
+            ImageError::NoMemory => Err(Refusal::Memory),
+            _ => Err(Refusal::Image),
+        },
     }
 }
 
 /// Runs an image, and reports where it comes to.
-fn run_and_report<K: Sink>(world: PlainWorld, steps: u64, out: &mut K) -> u8 {
+fn run_and_report<K: Sink>(world: PlainWorld, steps: u64, out: &mut K) -> u8
+    requires sound { IsSound (stored_of world) (view_of world) }
+    requires running { is_idle (view_of world) ≡ false → IsRunning (view_of world) }
+    ensures { Reported (view_of world) steps
+        (record { old = K.taken out.old; new = K.taken out.new; before = K.fault_count out.old; behind = K.fault_count out.new }) result }
+{
     let mut world = world;
     let Ok(ran) = run(&mut world, steps, out) else {
         return WRITE_FAILED;
     };
-    let (status, ending) = match ran.end {
-        RunEnd::Steps => (0, Ending::Steps),
-        RunEnd::Idle => (0, Ending::Idle),
-        RunEnd::Stopped(reason) => (STOPPED, Ending::Stopped(reason)),
-    };
-    let place = Place {
-        process: ran.place.process,
-        context: ran.place.context,
-        pc: ran.place.pc,
-    };
-    print(out, status, report(ending, ran.steps, &place).as_str())
+    let text = report(ran.ending, ran.steps, &ran.place);
+    print(out, status_of(ran.ending), text.as_str())
+}
+
+/// The status of a run that ends so.
+fn status_of(ending: Ending) -> u8
+    ensures { result ≡ run_status (ending_of ending) }
+{
+    match ending {
+        Ending::Steps | Ending::Idle => 0,
+        Ending::Stopped(_) => STOPPED,
+    }
 }

@@ -1,0 +1,37 @@
+-- Why an image is refused.
+use Rattle.std.proofs.Common.{◌≡◌, ℕ, List, Option, Some, None, IfSome, Err, IsErr, refl, subst}
+use Rattle.cs_model.specs.Image.{fault_of, image_of}
+use Rattle.cs_model.specs.ImageFault.{ImageFault}
+use Rattle.cs_image.specs.Answer.{HasBirthSection, Told}
+use Rattle.cs_image.specs.declared.error.ImageError.{ImageError}
+use Rattle.cs_image.specs.declared.error.ImageError.TheVariants as error
+use Rattle.cs_cli.specs.Answer.{IsRefused, heap_limit}
+use Rattle.cs_cli.specs.Answer as answer
+
+faulty : (bytes : List ℕ) (f : ImageFault) → fault_of bytes heap_limit ≡ Some f → IsRefused bytes
+unfolding image_of
+faulty bytes f h = answer.fault (rw h refl)
+
+-- an error that isn't want of memory
+pub refused_by : {X : Type 0} (P : X → Type 0) (bytes : List ℕ) (e : ImageError) → (e ≡ error.NoMemory → ⊥) → Told (HasBirthSection bytes) (fault_of bytes heap_limit) P (Err e)
+    → IsRefused bytes
+refused_by P bytes error.TooLong other h = faulty bytes _ h
+refused_by P bytes error.Short other h = faulty bytes _ h
+refused_by P bytes error.BadFormat other h = faulty bytes _ h
+refused_by P bytes error.BadHeaderSize other h = faulty bytes _ h
+refused_by P bytes error.BadLength other h = faulty bytes _ h
+refused_by P bytes (error.BadObject at) other h = faulty bytes _ h
+refused_by P bytes error.OverLimit other h = faulty bytes _ h
+refused_by P bytes error.BadTable other h = faulty bytes _ h
+refused_by P bytes (error.BadRef at) other h = faulty bytes _ h
+refused_by P bytes (error.BadClass at) other h = faulty bytes _ h
+refused_by P bytes (error.BadContext at) other h = faulty bytes _ h
+refused_by P bytes error.BadRoots other h = faulty bytes _ h
+refused_by P bytes error.BadBirths other h = faulty bytes _ h
+refused_by P bytes error.HasBirths other h = answer.births h
+refused_by P bytes error.NoMemory other h = absurd (other refl)
+
+-- where the shelf tells a content, it is what was read
+pub refused_read : (content : Option (List ℕ)) (bytes : List ℕ) → IfSome content (λ held. bytes ≡ held) → IsRefused bytes → IfSome content IsRefused
+refused_read None bytes same h = tt
+refused_read (Some held) bytes same h = let P : List ℕ → Type 0 = λ b. IsRefused b in subst P same h

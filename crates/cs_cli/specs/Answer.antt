@@ -1,0 +1,125 @@
+-- What the program answers to the words behind its name, and what it prints.
+use Rattle.std.specs.Prelude.{◌≡◌, ◌⊎◌, ℕ, ◌<◌, List, ◌++◌, length, codes, Option, Some, None, Ok, IfSome, IsErr}
+use Rattle.cs_shelf.specs.Outside.{Appends, AppendsPart, Fault, Rose, read_fault}
+use Rattle.cs_model.specs.State.{Kept}
+use Rattle.cs_model.specs.Image.{image_of}
+use Rattle.cs_model.specs.Settle.{open_kept}
+use Rattle.cs_model.specs.Line.{Said, line_of}
+use Rattle.cs_model.specs.Step as model
+use Rattle.cs_model.specs.Report.{report_of}
+use Rattle.cs_image.specs.Answer.{HasBirthSection}
+use Rattle.cs_core.specs.Running.{RunFails, run_of}
+
+-- the words of 4 bytes that the heap of the machine may have
+abbrev pub heap_limit : ℕ
+heap_limit = 16777216
+
+-- the bytes that an image may have
+abbrev pub longest_image : ℕ
+longest_image = 536870912
+
+-- ---- the outside, before the call and behind it
+
+-- what a shelf tells: the contents at entry, its counts of faults before and behind, and the fault that came last
+pub record Reading : Type 0 where
+  pub content : List ℕ → Option (List ℕ)
+  pub before : ℕ
+  pub behind : ℕ
+  pub last : Fault
+
+-- a read of this name failed
+pub record ReadFailed (shelf : Reading) (name : List ℕ) : Type 0 where
+  pub rose : Rose shelf.before shelf.behind
+  pub last : shelf.last ≡ read_fault name
+
+-- what a sink tells: what it had taken and what it has taken behind, and its counts of faults before and behind
+pub record Writing : Type 0 where
+  pub old : Option (List ℕ)
+  pub new : Option (List ℕ)
+  pub before : ℕ
+  pub behind : ℕ
+
+-- ---- answers
+
+-- a status, and all that is printed
+pub record Answer : Type 0 where
+  pub status : ℕ
+  pub text : List ℕ
+
+abbrev pub answering : ℕ → List ℕ → Answer
+answering status text = record { status = status; text = text }
+
+abbrev pub refused_line : Answer
+refused_line = answering 2 (codes "cogstack: line\n")
+
+abbrev pub refused_image : Answer
+refused_image = answering 3 (codes "cogstack: image Refused\n")
+
+abbrev pub read_text : List ℕ → List ℕ
+read_text name = codes "cogstack: read " ++ name ++ codes "\n"
+
+abbrev pub failed_read : List ℕ → Answer
+failed_read name = answering 6 (read_text name)
+
+abbrev pub no_memory : Answer
+no_memory = answering 8 (codes "cogstack: memory\n")
+
+abbrev pub run_status : model.Ending → ℕ
+run_status model.Steps = 0
+run_status model.Quit = 0
+run_status model.Idle = 0
+run_status (model.Stopped reason) = 1
+
+-- the answer of a run: what it wrote, and the report right behind that
+abbrev pub run_answer : model.Ran → Answer
+run_answer m = answering (run_status m.ending) (m.state.run.output ++ report_of m.state m.ending)
+
+-- ---- what is printed
+
+-- the status of a failed write
+abbrev pub write_failed : ℕ
+write_failed = 7
+
+-- All of an answer is printed, and nothing else, and its status is given; or the sink failed, and took a first part of it.
+abbrev pub Printed : Answer → Writing → ℕ → Type 0
+Printed a out status =
+    ((status ≡ a.status) × Appends out.old out.new a.text)
+    ⊎ ((status ≡ write_failed) × Rose out.before out.behind × AppendsPart out.old out.new a.text)
+
+-- The sink failed while n bytecodes were run from k. It took a first part of what the model writes up to some bytecode of them.
+pub record BreaksOff (k : Kept) (n : ℕ) (out : Writing) (status : ℕ) : Type 0 where
+  pub failed : status ≡ write_failed
+  pub cause : Rose out.before out.behind
+  pub part : RunFails k out.old out.new n
+
+-- n bytecodes from k are run and reported
+abbrev pub Reported : Kept → ℕ → Writing → ℕ → Type 0
+Reported k n out status = Printed (run_answer (run_of k n)) out status ⊎ BreaksOff k n out status
+
+-- ---- images
+
+-- an image is refused: it is too long, a birth section follows its heap, or it has a fault
+pub data IsRefused (bytes : List ℕ) : Type 0 where
+  too_long : longest_image < length bytes → IsRefused bytes
+  births : HasBirthSection bytes → IsRefused bytes
+  fault : IsErr (image_of bytes heap_limit) → IsRefused bytes
+
+-- An image is open: these bytes describe the state k, before it was opened. Where the shelf tells a content, it is these bytes.
+pub record IsImage (content : Option (List ℕ)) (k : Kept) : Type 0 where
+  pub bytes : List ℕ
+  pub told : IfSome content (λ held. bytes ≡ held)
+  pub state : image_of bytes heap_limit ≡ Ok k
+
+-- ---- the call
+
+-- what the call answers to a line that is read
+pub data AnsweredTo (said : Said) (shelf : Reading) (out : Writing) (status : ℕ) : Type 0 where
+  read : ReadFailed shelf said.file → Printed (failed_read said.file) out status → AnsweredTo said shelf out status
+  image : IfSome (shelf.content said.file) IsRefused → Printed refused_image out status → AnsweredTo said shelf out status
+  ran : (k : Kept) → IsImage (shelf.content said.file) k → Reported (open_kept k) said.steps out status → AnsweredTo said shelf out status
+  memory : Printed no_memory out status → AnsweredTo said shelf out status
+
+-- What the call answers to its words. Memory may be wanted at any place behind the line; all else is as said.
+abbrev pub Answered : Option Said → Reading → Writing → ℕ → Type 0
+Answered None shelf out status = Printed refused_line out status
+Answered (Some said) shelf out status = AnsweredTo said shelf out status
