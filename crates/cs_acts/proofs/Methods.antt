@@ -239,7 +239,7 @@ module _ (os : List Object) (o : Option Obj) (w : ℕ) (m : IsMethodAt os o w) w
   first_is : first_pc (map (ref_of os) (literals_in m.object.words)) ≡ 4 * (count + 1) + 1
   first_is = omega (arith, length-literals os o w m, length-map (literals_in m.object.words) (ref_of os))
 
-  code_byte : (j : ℕ) → j < length codes → get_or codes j 0 ≡ byte_of os w (4 * (count + 1) + j)
+  pub code_byte : (j : ℕ) → j < length codes → get_or codes j 0 ≡ byte_of os w (4 * (count + 1) + j)
   code_byte j h =
       let within : j < 4 * length (code_in m.object.words) - unused_bytes m.object.format = omega (arith, h, length-bytecodes os o w m) in
       get_or-take (4 * length (code_in m.object.words) - unused_bytes m.object.format) (bytes_of (code_in m.object.words)) j 0 within

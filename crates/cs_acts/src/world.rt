@@ -1,5 +1,5 @@
 //! The trait of all worlds.
-ghost use Rattle.std.specs.Prelude.{◌≡◌, ◌<◌, ◌-◌, ℕ, true, IsSome, IfSome, Option, Some, slice_get, unwrap_or};
+ghost use Rattle.std.specs.Prelude.{◌≡◌, ◌<◌, ◌≤◌, ◌-◌, ℕ, true, IsSome, IfSome, Option, Some, slice_get, unwrap_or};
 ghost use Rattle.cs_model.specs.Obj.{lies_in};
 ghost use Rattle.cs_model.specs.State.{Kept, object_of};
 ghost use Rattle.cs_model.specs.Keeps.{Keeps};
@@ -79,10 +79,11 @@ pub trait World {
         ensures ready { IsReady (stored self.new) (view self.new) }
         ensures names { KeepsNames (stored self.old) (stored self.new) };
 
-    /// How many values the active stack holds.
+    /// How many values the active stack holds: at most its size.
     fn depth(&self) -> u32
         requires { IsReady (stored self.now) (view self.now) }
-        ensures { result ≡ depth_of (view self.now) };
+        ensures value { result ≡ depth_of (view self.now) }
+        ensures fits { result ≤ size_of (view self.now) };
 
     /// How many values the active stack may hold: 16 or 56.
     fn size(&self) -> u32

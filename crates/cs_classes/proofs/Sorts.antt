@@ -2,6 +2,7 @@
 use Rattle.std.proofs.Common.{◌≡◌, ℕ, zero, suc, ◌<◌, ◌≤◌, Bool, true, false, List, [], ◌∷◌, length, map, take, drop, refl, ap, sym, ◌∙◌, arith, get_or, ap₂, subst}
 use Rattle.std.specs.List.{AllPass}
 use Rattle.std.proofs.lemmas.Bool.Decides.{nat_tests}
+use Rattle.std.proofs.lemmas.List.Elements.{All-drop, All-take}
 use Rattle.cs_heap.specs.Format.{is_method, is_pointers}
 use Rattle.cs_heap.specs.Object.{Object}
 use Rattle.cs_model.specs.Ref.{Ref}
@@ -80,20 +81,6 @@ pub map_alike : (p : ℕ → Bool) (r s : ℕ → Ref) → ((w : ℕ) → p w �
 map_alike p r s h [] all = refl
 map_alike p r s h (w ∷ ws) all = ap₂ (λ (a : Ref) (rest : List Ref). a ∷ rest) (h w (all 0 0 (omega arith))) (map_alike p r s h ws (λ k d l. all (suc k) d (omega (arith, l))))
 
-pub pass_take : (p : ℕ → Bool) (n : ℕ) (ws : List ℕ) → AllPass p ws → AllPass p (take n ws)
-pass_take p zero ws all = λ k d l. absurd (omega (arith, l))
-pass_take p (suc n) [] all = all
-pass_take p (suc n) (w ∷ ws) all = at (pass_take p n ws (λ j e m. all (suc j) e (omega (arith, m))))
-  where
-    at : AllPass p (take n ws) → (k d : ℕ) → k < length (take (suc n) (w ∷ ws)) → p (get_or (take (suc n) (w ∷ ws)) k d) ≡ true
-    at rest zero d l = all 0 d (omega arith)
-    at rest (suc k) d l = rest k d (omega (arith, l))
-
-pub pass_drop : (p : ℕ → Bool) (n : ℕ) (ws : List ℕ) → AllPass p ws → AllPass p (drop n ws)
-pass_drop p zero ws all = all
-pass_drop p (suc n) [] all = all
-pass_drop p (suc n) (w ∷ ws) all = pass_drop p n ws (λ j e m. all (suc j) e (omega (arith, m)))
-
 pub context_alike : (p : ℕ → Bool) (r s : ℕ → Ref) → ((w : ℕ) → p w ≡ true → r w ≡ s w) → (hash : ℕ) (ws : List ℕ) → 6 ≤ length ws → AllPass p ws → context_of r hash ws ≡ context_of s hash ws
 unfolding context_of
 context_alike p r s h hash ws enough all = λ i. record {
@@ -103,7 +90,7 @@ context_alike p r s h hash ws enough all = λ i. record {
   method = h (get_or ws 3 0) (all 3 0 (omega (arith, enough))) i;
   closure = h (get_or ws 4 0) (all 4 0 (omega (arith, enough))) i;
   receiver = h (get_or ws 5 0) (all 5 0 (omega (arith, enough))) i;
-  stack = map_alike p r s h (take (depth_in ws) (drop 6 ws)) (pass_take p (depth_in ws) (drop 6 ws) (pass_drop p 6 ws all)) i;
+  stack = map_alike p r s h (take (depth_in ws) (drop 6 ws)) (All-take (λ (w : ℕ). p w ≡ true) (depth_in ws) (drop 6 ws) (All-drop (λ (w : ℕ). p w ≡ true) 6 ws all)) i;
   size = (context_of r hash ws).size;
 }
 

@@ -13,10 +13,12 @@ use Rattle.cs_word.specs.Word.{kind_of}
 use Rattle.std.proofs.lemmas.Bool.{cases_eq}
 use Rattle.std.proofs.lemmas.List.{length-append}
 use Rattle.cs_heap.specs.Object.{Object, at_index, birth_of, is_object, object_at, with_object}
+use Rattle.std.proofs.lemmas.List.Elements.{All-drop, All-take}
 use Rattle.cs_heap.proofs.Laws.{is_object-old, is_object-with_object, length-with_object}
 use Rattle.cs_model.specs.Ref.{Ref}
 use Rattle.cs_model.specs.Ref as ref
 use Rattle.cs_model.specs.Obj.{Obj}
+use Rattle.cs_model.specs.Keeps.{Keeps}
 use Rattle.cs_model.specs.State.{IsHeld, Kept, NamesHeld, RestHeld, put, with_rest}
 use Rattle.cs_model.specs.Operation.{add_of, edit_found, edit_object}
 use Rattle.cs_model.specs.Instance.{with_class, with_last_hash}
@@ -26,7 +28,7 @@ use Rattle.cs_classes.specs.Sound.{IsSound, IsSoundObject, IsWhole, is_reference
 use Rattle.cs_classes.proofs.Heaps.{object_there, element_within, IsEdit, birth_at-with_object, birth_of-object_at, birth_of-push, birth_of-with_object, is_object-object_at, slice_get-at_index_other, slice_get-at_index_same, slice_get-push, stands, with_object-stands}
 use Rattle.cs_classes.proofs.Objects.{IsFresh, get-objects_of, get-objects_of-element, objects_of-comes, objects_of-push, objects_of-with_object}
 use Rattle.cs_classes.proofs.Refs.{nil_of-push, nil_of-with_object, ref_of-push}
-use Rattle.cs_classes.proofs.Sorts.{AContext, AMethod, Bytes, Pointers, Sort, obj_of-alike, obj_of-bytes, obj_of-context, obj_of-method, obj_of-pointers, pass_drop, pass_take, references-method, references-pointers, sort_of}
+use Rattle.cs_classes.proofs.Sorts.{AContext, AMethod, Bytes, Pointers, Sort, obj_of-alike, obj_of-bytes, obj_of-context, obj_of-method, obj_of-pointers, references-method, references-pointers, sort_of}
 use Rattle.cs_classes.proofs.Sounds.{sound-push, sound-with_object, whole_context}
 
 -- ---- the class table
@@ -258,7 +260,7 @@ obj_of-held os table roots active x sound s = go (sort_of x)
           method = word 3 (omega arith);
           closure = word 4 (omega arith);
           receiver = word 5 (omega arith);
-          stack = all_held os table roots active sound (take (depth_in x.words) (drop 6 x.words)) (pass_take (is_reference os) (depth_in x.words) (drop 6 x.words) (pass_drop (is_reference os) 6 x.words whole.references));
+          stack = all_held os table roots active sound (take (depth_in x.words) (drop 6 x.words)) (All-take (λ (v : ℕ). is_reference os v ≡ true) (depth_in x.words) (drop 6 x.words) (All-drop (λ (v : ℕ). is_reference os v ≡ true) 6 x.words whole.references));
         })
     go (Pointers o p) = subst held (sym (obj_of-pointers (ref_of os) x o p))
         (all_held os table roots active sound x.words (subst (AllPass (is_reference os)) (references-pointers x p) s.references))
@@ -317,3 +319,14 @@ whole-last_hash os table roots hash w = record {
 pub kept_of-last_hash : (os : List Object) (table : FinMap nat_cmp ℕ) (roots : Roots) (active : Option ℕ) (hash : ℕ)
     → kept_of os table (record roots { last_hash = hash }) active ≡ with_rest (with_last_hash hash (kept_of os table roots active).rest) (kept_of os table roots active)
 kept_of-last_hash os table roots active hash = refl
+
+-- so the kept parts keep themselves
+pub kept_of-keeps : (os : List Object) (table : FinMap nat_cmp ℕ) (roots : Roots) (active : Option ℕ) → IsWhole os table roots
+    → ((i : ℕ) → active ≡ Some i → IsHeld (kept_of os table roots active) (ref.Obj i)) → Keeps (kept_of os table roots active) (kept_of os table roots active)
+kept_of-keeps os table roots active w running = record {
+  same = λ i o h. h;
+  whole = λ i o h e. h;
+  closed = λ i o h. kept_of-closed os table roots active i o w.heap h;
+  roots = kept_of-roots os table roots active w running;
+  rest = refl;
+}

@@ -2,17 +2,17 @@
 --
 -- The premises are what the code knows of the object x at an address a: that it stands there, its sort, and that a word
 -- that is stored is a reference. Each law says that the heap is whole again, and what its kept parts are.
-use Rattle.std.proofs.Common.{◌≡◌, ℕ, pos, ◌+◌, ◌-◌, ◌*◌, ◌/◌, ◌%◌, ◌^◌, ◌<◌, ◌≤◌, true, false, List, length, take, set, Option, Some, refl, ap, subst, sym, ◌∙◌, arith, map, drop}
+use Rattle.std.proofs.Common.{◌≡◌, ℕ, pos, ◌+◌, ◌-◌, ◌*◌, ◌/◌, ◌%◌, ◌^◌, ◌<◌, ◌≤◌, true, false, List, length, take, set, Option, Some, refl, ap, subst, sym, ◌∙◌, arith, map, drop, option_map}
 use Rattle.std.specs.Prelude.{slice_index, unwrap_or, is_some, ◌==◌, ◌||◌, IsTrue}
 use Rattle.std.specs.Option.{option_map_or}
 use Rattle.std.specs.Ordering.{nat_cmp}
-use Rattle.std.specs.FinMap.{FinMap}
+use Rattle.std.specs.FinMap.{FinMap, get}
 use Rattle.std.proofs.lemmas.Bool.{or_right}
 use Rattle.std.proofs.lemmas.Bool.Decides.{nat_tests}
 use Rattle.std.proofs.lemmas.List.{length-set}
 use Rattle.cs_word.specs.Word.{small_word}
 use Rattle.cs_heap.specs.Format.{is_method, is_pointers}
-use Rattle.cs_heap.specs.Object.{Object, birth_of, object_at, set_word, slot_of, with_byte, with_hash, with_object, with_slot}
+use Rattle.cs_heap.specs.Object.{Object, birth_of, class_of, format_of, hash_of, is_object, slot_count_of, object_at, set_word, slot_of, with_byte, with_hash, with_object, with_slot}
 use Rattle.cs_heap.specs.Object as heap
 use Rattle.cs_model.specs.Ref.{Ref}
 use Rattle.cs_model.specs.Obj.{Context, Obj, edit_context, literal_count, popped, pushed, stored, with_pc, with_stack}
@@ -20,9 +20,10 @@ use Rattle.cs_model.specs.State.{Kept}
 use Rattle.cs_model.specs.Operation.{edit_object, store_byte_of, store_of}
 use Rattle.cs_model.specs.Operation as operation
 use Rattle.cs_classes.specs.declared.Roots.{Roots}
-use Rattle.cs_classes.specs.Meaning.{context_of, count_of, depth_in, header_in, is_context, kept_of, obj_of, ref_of}
+use Rattle.cs_classes.specs.Meaning.{context_of, count_of, depth_in, header_in, is_context, kept_of, obj_of, objects_of, ref_of}
 use Rattle.cs_classes.specs.Sound.{IsSoundObject, IsWhole, is_reference, nil_of}
-use Rattle.cs_classes.proofs.Heaps.{IsEdit, is_object-object_at, set_word-IsEdit, with_object-twice}
+use Rattle.cs_classes.proofs.Heaps.{IsEdit, is_object-object_at, object_there, set_word-IsEdit, with_object-twice}
+use Rattle.cs_classes.proofs.Objects.{get-objects_of}
 use Rattle.cs_classes.proofs.Refs.{count_of-small, is_reference-small, ref_of-object, small_natural}
 use Rattle.cs_classes.proofs.Edits.{obj_of-hash, obj_of-set_byte, obj_of-set_code, obj_of-set_literal, obj_of-set_word}
 use Rattle.cs_classes.proofs.Contexts.{context_of-closure, context_of-lower, context_of-method, context_of-pc, context_of-push, context_of-receiver, context_of-sender, context_of-stack, context_of-stackp, depth_is, obj_of-edit_context}
@@ -38,6 +39,31 @@ pub record Does (os us : List Object) (table : FinMap nat_cmp ℕ) (roots : Root
 pub record Holds (os : List Object) (table : FinMap nat_cmp ℕ) (roots : Roots) (a : ℕ) (x : Object) : Type 0 where
   pub whole : IsWhole os table roots
   pub there : object_at os a ≡ Some x
+
+-- the object at an address, and what the heap answers of it
+pub record Known (os : List Object) (table : FinMap nat_cmp ℕ) (roots : Roots) (a : ℕ) : Type 0 where
+  pub object : Object
+  pub holds : Holds os table roots a object
+  pub class : class_of os a ≡ object.class
+  pub format : format_of os a ≡ object.format
+  pub hash : hash_of os a ≡ object.hash
+  pub count : slot_count_of os a ≡ length object.words
+  pub slot : (i : ℕ) → slot_of os a i ≡ slice_index object.words i
+  pub meaning : get (objects_of os) (birth_of os a) ≡ Some (obj_of (ref_of os) object)
+
+pub known : (os : List Object) (table : FinMap nat_cmp ℕ) (roots : Roots) (a : ℕ) → IsWhole os table roots → is_object os a ≡ true → Known os table roots a
+known os table roots a w h =
+    let x = object_there os a h in
+    record {
+      object = x.0;
+      holds = record { whole = w; there = x.1 };
+      class = ap (λ (o : Option Object). option_map_or (λ (y : Object). y.class) o 0) x.1;
+      format = ap (λ (o : Option Object). option_map_or (λ (y : Object). y.format) o 0) x.1;
+      hash = ap (λ (o : Option Object). option_map_or (λ (y : Object). y.hash) o 0) x.1;
+      count = ap (λ (o : Option Object). option_map_or (λ (y : Object). length y.words) o 0) x.1;
+      slot = λ i. ap (λ (o : Option Object). option_map_or (λ (y : Object). slice_index y.words i) o 0) x.1;
+      meaning = get-objects_of os a w.heap h ∙ ap (option_map (obj_of (ref_of os))) x.1;
+    }
 
 slots_at_most : (n : ℕ) → (n == 22 || n == 62) ≡ true → n ≤ 62
 slots_at_most n h = grind (arith, nat_tests)

@@ -1,12 +1,12 @@
 -- What is read is the same in a state that keeps another one, and in that one; and what is read is there.
-use Rattle.std.proofs.Common.{◌≡◌, ℕ, Bool, Some, List}
+use Rattle.std.proofs.Common.{◌≡◌, ◌∙◌, ℕ, Bool, Option, Some, List, sym, ap}
 use Rattle.std.specs.Prelude.{slice_get}
 use Rattle.std.specs.List.{AllByRecursion}
-use Rattle.cs_model.specs.Ref.{Ref}
+use Rattle.cs_model.specs.Ref.{Ref, birth_of}
 use Rattle.cs_model.specs.Ref as ref
-use Rattle.cs_model.specs.Obj.{Context}
+use Rattle.cs_model.specs.Obj.{Context, Ctx, lies_in}
 use Rattle.cs_model.specs.State.{Kept, object_at, object_of, slots_of, special_at, scheduler_of, active_process, is_nil, IsHeld, ContextHeld}
-use Rattle.cs_model.specs.Read.{class_of, active_birth, active_context, stack_of, depth_of, size_of, pc_of, receiver_of, method_of, literals_of, bytecodes_of}
+use Rattle.cs_model.specs.Read.{IsRunning, class_of, active_birth, active_context, stack_of, depth_of, size_of, pc_of, receiver_of, method_of, literals_of, bytecodes_of}
 use Rattle.cs_model.specs.Operation.{nil_of}
 use Rattle.cs_model.specs.Number.{boolean}
 use Rattle.cs_model.specs.Context.{context_get, accepts}
@@ -19,10 +19,11 @@ use Rattle.cs_model.specs.PrimProcess.{is_semaphore}
 use Rattle.cs_model.specs.Instance.{class_index_for, hash_of}
 use Rattle.cs_model.specs.Due.{is_idle}
 use Rattle.cs_model.specs.Step.{instruction_at}
+use Rattle.cs_model.specs.Report.{place_at, no_place, place_of}
 use Rattle.cs_model.specs.Keeps.{Keeps}
 use Rattle.cs_model.specs.Alike.{SoughtHeld}
-use Rattle.cs_model.proofs.Same.{same, equal, holds, option_equal, option_holds, is}
-use Rattle.cs_model.proofs.Reading.{Has, nil_same, boolean_same, is_nil_same, object_at_same, object_of_same, slots_of_same, special_at_same, scheduler_same, active_process_same, class_of_same, active_birth_same, active_ref_same, active_context_same, slice_same, stack_same, depth_same, size_same, pc_same, receiver_same, method_same, literals_same, bytecodes_same}
+use Rattle.cs_model.proofs.Same.{Same, same, SameOption, none, some, Any, two, if_same, equal, holds, option_equal, option_holds, is}
+use Rattle.cs_model.proofs.Reading.{rest_same, Has, nil_same, boolean_same, is_nil_same, object_at_same, object_of_same, slots_of_same, special_at_same, scheduler_same, active_process_same, class_of_same, active_birth_same, active_ref_same, active_context_same, slice_same, stack_same, depth_same, size_same, pc_same, receiver_same, method_same, literals_same, bytecodes_same}
 use Rattle.cs_model.proofs.Fields.{context_get_same, accepts_same}
 use Rattle.cs_model.proofs.Making.{class_index_for_same, hash_of_same}
 use Rattle.cs_model.proofs.Entering.{can_evaluate_same}
@@ -146,8 +147,16 @@ is_idle-kept v m k = equal (is_idle_same k)
 pub instruction_at-kept : (v m : Kept) → Keeps v m → instruction_at m ≡ instruction_at v
 instruction_at-kept v m k = option_equal (instruction_at_same k)
 
+place_at_same : {v m : Kept} {o p : Option Ref} → Keeps v m → SameOption (IsHeld v) o p → Same Any (place_at v o) (place_at m p)
+place_at_same k none = is no_place
+place_at_same k (some p h) = if_same (is_nil_same k (is p)) (is no_place) (two (λ r c. record { process = birth_of p; context = r.active; pc = c.pc }) (rest_same k) (active_context_same k))
+
+pub place_of-kept : (v m : Kept) → Keeps v m → place_of m ≡ place_of v
+unfolding place_of
+place_of-kept v m k = equal (place_at_same k (active_process_same k))
+
 -- what is read of a state that is kept
-pub ruleset reads_kept = (object_at-kept, object_of-kept, slots_of-kept, slot_or_none-kept, special_at-kept, nil_of-kept, is_nil-kept, boolean-kept, class_of-kept, active_birth-kept, active_context-kept, stack_of-kept, depth_of-kept, size_of-kept, pc_of-kept, receiver_of-kept, method_of-kept, literals_of-kept, bytecodes_of-kept, scheduler_of-kept, active_process-kept, literal_at-kept, variable_value-kept, context_get-kept, accepts-kept, class_index_for-kept, hash_of-kept, can_evaluate-kept, lookup-kept, sender_birth-kept, senders_to-kept, home-kept, is_marked-kept, is_live-kept, is_semaphore-kept, is_idle-kept, instruction_at-kept)
+pub ruleset reads_kept = (object_at-kept, object_of-kept, slots_of-kept, slot_or_none-kept, special_at-kept, nil_of-kept, is_nil-kept, boolean-kept, class_of-kept, active_birth-kept, active_context-kept, stack_of-kept, depth_of-kept, size_of-kept, pc_of-kept, receiver_of-kept, method_of-kept, literals_of-kept, bytecodes_of-kept, scheduler_of-kept, active_process-kept, literal_at-kept, variable_value-kept, context_get-kept, accepts-kept, class_index_for-kept, hash_of-kept, can_evaluate-kept, lookup-kept, sender_birth-kept, senders_to-kept, home-kept, is_marked-kept, is_live-kept, is_semaphore-kept, is_idle-kept, instruction_at-kept, place_of-kept)
 
 -- ---- what is there
 
@@ -207,3 +216,18 @@ context_get-held v c i x k h e = option_holds (context_get_same k (same c h) i) 
 
 -- what is read of a closed state
 pub ruleset reads_held = (special_at-held, class_of-held, slots_of-held, slot_or_none-held, scheduler_of-held, active_process-held, literal_at-held, variable_value-held, stack_at-held, nil_of-held, active_ref-held, active_context-held, stack_of-held, receiver_of-held, literals_of-held, boolean-held, lookup-held, context_get-held)
+
+-- ---- where a context is active
+
+pub IsRunning-kept : (v m : Kept) → Keeps v m → IsRunning v → IsRunning m
+IsRunning-kept v m k running =
+    let birth = active_birth-kept v m k in
+    let context = active_context-kept v m k in
+    let pc = pc_of-kept v m k in
+    let method = method_of-kept v m k in
+    record {
+      known = ap (λ r. r.active) (sym k.rest) ∙ running.known ∙ ap (λ i. Some i) (sym birth);
+      found = ap (object_at m) birth ∙ k.same (active_birth v) (Ctx (active_context v)) running.found ∙ ap (λ c. Some (Ctx c)) (sym context);
+      live = ap (λ c. c.pc) context ∙ running.live ∙ ap (λ n. Some n) (sym pc);
+      method = ap (λ o. lies_in o (pc_of m)) method ∙ ap (lies_in (method_of v)) pc ∙ running.method;
+    }

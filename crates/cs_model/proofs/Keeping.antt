@@ -1,12 +1,12 @@
 -- What a state keeps, it keeps after the same write to both.
-use Rattle.std.proofs.Common.{◌≡◌, ℕ, Bool, true, false, refl, sym, ap, subst, ◌∙◌, Option, Some, None, IsSome, List, [], ◌∷◌, inl, inr, if◌then◌else◌}
+use Rattle.std.proofs.Common.{◌≡◌, ℕ, Bool, true, false, refl, sym, ap, subst, ◌∙◌, Option, Some, None, IsSome, is_some, List, [], ◌∷◌, inl, inr, if◌then◌else◌}
 use Rattle.std.specs.List.{AllByRecursion}
 use Rattle.std.specs.FinMap.{get}
 use Rattle.cs_model.specs.Ref.{Ref, Small, Char}
 use Rattle.cs_model.specs.Ref as ref
 use Rattle.cs_model.specs.Obj.{Obj, Context, Ptr, Raw, Method, Ctx, is_context}
 use Rattle.cs_model.specs.State.{Kept, Rest, object_at, put, with_rest, IsHeld, ContextHeld, NamesHeld, RestHeld}
-use Rattle.cs_model.specs.Keeps.{Keeps, Grows}
+use Rattle.cs_model.specs.Keeps.{Keeps, SameKept, Grows}
 use Rattle.cs_model.specs.Operation.{edit_found}
 use Rattle.cs_model.proofs.Objects.{object_at-put_same, object_at-put_other, rest-put, at_put, held-put}
 use Rattle.cs_model.proofs.Same.{Same, same, Any}
@@ -73,6 +73,33 @@ Keeps-trans j k = record {
   roots = j.roots;
   rest = j.rest ∙ k.rest;
 }
+
+-- keeping sees of a state its objects and its rest alone
+
+pub grows-same : {u v : Kept} → SameKept u v → Grows v u
+grows-same e = record { held = λ i h. ap is_some (e.objects i) ∙ h }
+
+pub Keeps-left : {u v m : Kept} → SameKept u v → Keeps v m → Keeps u m
+Keeps-left e k = record {
+  same = λ i o h. k.same i o (sym (e.objects i) ∙ h);
+  whole = λ i o h not_context. e.objects i ∙ k.whole i o h not_context;
+  closed = λ i o h. NamesHeld-grows (grows-same e) o (k.closed i o (sym (e.objects i) ∙ h));
+  roots = RestHeld-grows (grows-same e) e.rest k.roots;
+  rest = e.rest ∙ k.rest;
+}
+
+pub Keeps-right : {v m n : Kept} → Keeps v m → SameKept m n → Keeps v n
+Keeps-right k e = record {
+  same = λ i o h. sym (e.objects i) ∙ k.same i o h;
+  whole = λ i o h not_context. k.whole i o (e.objects i ∙ h) not_context;
+  closed = k.closed;
+  roots = k.roots;
+  rest = k.rest ∙ e.rest;
+}
+
+-- a closed state that has lost contexts alone
+pub Keeps-lost : {u v : Kept} → Keeps u u → ((i : ℕ) (o : Obj) → object_at u i ≡ Some o → object_at v i ≡ Some o) → ((i : ℕ) (o : Obj) → object_at v i ≡ Some o → is_context o ≡ false → object_at u i ≡ Some o) → u.rest ≡ v.rest → Keeps u v
+Keeps-lost c agree lacks e = record { same = agree; whole = lacks; closed = c.closed; roots = c.roots; rest = e }
 
 -- the same object is put into both at the same birth
 pub Keeps-put : {v m : Kept} → Keeps v m → (i : ℕ) (o : Obj) → NamesHeld v o → Keeps (put v i o) (put m i o)

@@ -26,3 +26,6 @@ pub mod Building
 pub mod Agreeing
 pub mod Surviving
 pub mod Whole
+pub mod Lasting
+pub mod Settling
+pub mod Editing

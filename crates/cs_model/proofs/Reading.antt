@@ -11,6 +11,7 @@ use Rattle.cs_model.specs.Read.{index_of_class, class_index_of, class_of, blank,
 use Rattle.cs_model.specs.Operation.{nil_of}
 use Rattle.cs_model.specs.Number.{boolean}
 use Rattle.cs_model.specs.Keeps.{Keeps, Grows}
+use Rattle.cs_model.specs.Alike.{IsHeldIf}
 use Rattle.cs_model.proofs.Same.{Same, same, SameOption, none, some, Any, same_by, some_by, of, value, of_option, two, and_then_same, or_same, at_index}
 use Rattle.cs_model.proofs.Keeping.{IsHeld-grows, all-grows}
 
@@ -19,6 +20,10 @@ pub record AllHeld (v : Kept) (xs : List Ref) : Type 0 where
 
 pub listed : (v : Kept) (xs : List Ref) → AllByRecursion (IsHeld v) xs → Same (AllHeld v) xs xs
 listed v xs h = same xs (record { all = h })
+
+pub held_if : {v m : Kept} → Keeps v m → (o : Option Ref) → IsHeldIf v o → SameOption (IsHeld v) o o
+held_if k None h = none
+held_if k (Some x) h = some x h
 
 -- an object is at the birth
 abbrev pub Has : Kept → ℕ → Type 0

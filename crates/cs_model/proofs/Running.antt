@@ -1,16 +1,16 @@
 -- Settling is alike, and so are the primitives that see the whole state.
-use Rattle.std.proofs.Common.{◌≡◌, ℕ, ◌==◌, ◌||◌, ℤ, int_lt, Bool, true, false, refl, sym, subst, ◌∙◌, Option, Some, None, List, [], ◌∷◌, if◌then◌else◌}
+use Rattle.std.proofs.Common.{ℕ, ◌==◌, ◌||◌, ℤ, int_lt, Bool, true, false, refl, Option, Some, None, List, [], ◌∷◌, if◌then◌else◌}
 use Rattle.cs_model.specs.Ref.{Ref, Small, small_of, index_of}
-use Rattle.cs_model.specs.State.{Kept, Run, Timer, IsHeld}
+use Rattle.cs_model.specs.State.{Kept, Run, IsHeld}
 use Rattle.cs_model.specs.PrimObject.{byte_string, small_count}
 use Rattle.cs_model.specs.Settle.{open_at, open_if, open_kept, settle_if, settle_kept}
 use Rattle.cs_model.specs.PrimRun.{Result, result, fails, counted, forget, forgotten, with_end, snapshot_prim, quit_prim, clock_prim, with_timer, arm, timer_prim, small_byte, or_bytes, bytes_to_write, written, write_prim, with_input, read_from, read_prim}
 use Rattle.cs_model.specs.End.{End, Out, out, given}
 use Rattle.cs_model.specs.End as ends
-use Rattle.cs_model.specs.Keeps.{Keeps, Grows, TimerHeld}
+use Rattle.cs_model.specs.Keeps.{Keeps}
 use Rattle.cs_model.specs.Alike.{Alike, EndHeld, AlikeResult}
 use Rattle.cs_model.proofs.Same.{Same, same, SameOption, none, some, Any, is, value, two, and_then_same, plain, option_is}
-use Rattle.cs_model.proofs.Keeping.{Moved, moved, unmoved, choose_moved, IsHeld-grows}
+use Rattle.cs_model.proofs.Keeping.{Moved, moved, unmoved, choose_moved}
 use Rattle.cs_model.proofs.Reading.{Has, up, nil_same, true_same, false_same, is_nil_same, object_of_same, slots_of_same, slice_same, active_process_same, active_ref_same}
 use Rattle.cs_model.proofs.Operating.{store_moved, resume_moved, suspend_moved}
 use Rattle.cs_model.proofs.Combining.{fail_alike, moved_alike, behind}
@@ -53,21 +53,11 @@ forgotten_moved k = forget_moved k (active_process_same k)
 
 -- ---- what is composed
 
-pub timer_up : {v t : Kept} {r : Run} → Grows v t → TimerHeld v r → TimerHeld t r
-timer_up g h = record { semaphore = λ armed e. IsHeld-grows g armed.semaphore (h.semaphore armed e) }
+pub result_alike : {v : Kept} {a b : Out} → Alike v a b → (r : Run) → AlikeResult v (result a r) (result b r)
+result_alike h r = record { out = h; run = refl; snapshot = tt }
 
--- a timer that is armed as before
-pub timer_as : {v : Kept} {r q : Run} → TimerHeld v r → q.timer ≡ r.timer → TimerHeld v q
-timer_as h e = record { semaphore = λ armed f. h.semaphore armed (sym e ∙ f) }
-
-pub timer_off : {v : Kept} {q : Run} → q.timer ≡ None → TimerHeld v q
-timer_off e = record { semaphore = λ armed f. absurd (cc) }
-
-pub result_alike : {v : Kept} {a b : Out} → Alike v a b → (r : Run) → TimerHeld v r → AlikeResult v (result a r) (result b r)
-result_alike h r timer = record { out = h; run = refl; timer = timer_up h.grows timer; snapshot = tt }
-
-pub fails_alike : {v m : Kept} → Keeps v m → (r : Run) → TimerHeld v r → AlikeResult v (fails (record { kept = v; run = r })) (fails (record { kept = m; run = r }))
-fails_alike k r timer = result_alike (fail_alike k) r timer
+pub fails_alike : {v m : Kept} → Keeps v m → (r : Run) → AlikeResult v (fails (record { kept = v; run = r })) (fails (record { kept = m; run = r }))
+fails_alike k r = result_alike (fail_alike k) r
 
 pub if_result : {v : Kept} {P : Bool → Type 0} {c d : Bool} {a b x y : Result} → Same P c d → AlikeResult v a b → AlikeResult v x y → AlikeResult v (if c then a else x) (if d then b else y)
 if_result (same true h) s t = s
@@ -77,67 +67,63 @@ pub given_result : {v : Kept} {A : Type 0} {P : A → Type 0} {o p : Option A} {
 given_result f g none n s = n
 given_result f g (some x h) n s = s x h
 
-counted_alike : {v m : Kept} {a b : Result} → Keeps v m → (r : Run) → TimerHeld v r → (wanted args : ℕ) → AlikeResult v a b → AlikeResult v (counted (record { kept = v; run = r }) wanted args a) (counted (record { kept = m; run = r }) wanted args b)
-counted_alike k r timer wanted args h = if_result (is (wanted == args)) h (fails_alike k r timer)
+counted_alike : {v m : Kept} {a b : Result} → Keeps v m → (r : Run) → (wanted args : ℕ) → AlikeResult v a b → AlikeResult v (counted (record { kept = v; run = r }) wanted args a) (counted (record { kept = m; run = r }) wanted args b)
+counted_alike k r wanted args h = if_result (is (wanted == args)) h (fails_alike k r)
 
 with_end_alike : {v : Kept} {a b : Out} → (e : End) → Alike v a b → EndHeld a.state e → Alike v (with_end e a) (with_end e b)
 with_end_alike e h held = record { end = refl; count = h.count; keeps = h.keeps; grows = h.grows; held = held }
 
 -- ---- the primitives
 
-pub snapshot_alike : {v m : Kept} → Keeps v m → (r : Run) → TimerHeld v r → (args : ℕ) → AlikeResult v (snapshot_prim (record { kept = v; run = r }) args) (snapshot_prim (record { kept = m; run = r }) args)
+pub snapshot_alike : {v m : Kept} → Keeps v m → (r : Run) → (args : ℕ) → AlikeResult v (snapshot_prim (record { kept = v; run = r }) args) (snapshot_prim (record { kept = m; run = r }) args)
 unfolding snapshot_prim
-snapshot_alike k r timer args =
+snapshot_alike k r args =
     let f = forgotten_moved k in
     let o = behind f (answer_alike f.keeps 0 (up f.grows (false_same k))) in
     let s = answered_moved k 0 (true_same k) in
-    counted_alike k r timer 0 args (if_result (is r.snapping)
-    (record { out = with_end_alike ends.Snapshot o tt; run = refl; timer = timer_up o.grows timer; snapshot = (settle_moved s.keeps).keeps })
-    (fails_alike k r timer))
+    counted_alike k r 0 args (if_result (is r.snapping)
+    (record { out = with_end_alike ends.Snapshot o tt; run = refl; snapshot = (settle_moved s.keeps).keeps })
+    (fails_alike k r))
 
-pub quit_alike : {v m : Kept} → Keeps v m → (r : Run) → TimerHeld v r → (args : ℕ) → AlikeResult v (quit_prim (record { kept = v; run = r }) args) (quit_prim (record { kept = m; run = r }) args)
+pub quit_alike : {v m : Kept} → Keeps v m → (r : Run) → (args : ℕ) → AlikeResult v (quit_prim (record { kept = v; run = r }) args) (quit_prim (record { kept = m; run = r }) args)
 unfolding quit_prim
-quit_alike k r timer args = counted_alike k r timer 0 args (result_alike (with_end_alike ends.Quit (answer_alike k 0 (prim_receiver_same k 0)) tt) r timer)
+quit_alike k r args = counted_alike k r 0 args (result_alike (with_end_alike ends.Quit (answer_alike k 0 (prim_receiver_same k 0)) tt) r)
 
-pub clock_alike : {v m : Kept} → Keeps v m → (r : Run) → TimerHeld v r → (args : ℕ) → AlikeResult v (clock_prim (record { kept = v; run = r }) args) (clock_prim (record { kept = m; run = r }) args)
+pub clock_alike : {v m : Kept} → Keeps v m → (r : Run) → (args : ℕ) → AlikeResult v (clock_prim (record { kept = v; run = r }) args) (clock_prim (record { kept = m; run = r }) args)
 unfolding clock_prim
-clock_alike k r timer args = counted_alike k r timer 0 args (result_alike (answer_alike k 0 (same (Small r.clock) tt)) r timer)
+clock_alike k r args = counted_alike k r 0 args (result_alike (answer_alike k 0 (same (Small r.clock) tt)) r)
 
--- what the timer primitive leaves was an answer's state
+-- behind an answer
 arm_alike : {v m t u : Kept} {x y : Ref} → Keeps v m → (r : Run) → Moved v t u → Same (IsHeld v) x y → (moment : ℤ) →
     AlikeResult v (arm (record { kept = v; run = r }) t x moment) (arm (record { kept = m; run = r }) u y moment)
-arm_alike {v} {m} {t} {u} k r s (same x h) moment =
-    if_result (is_nil_same k (is x)) (result_alike (moved_alike s (same ends.Answer tt)) (with_timer None r) (timer_off refl))
+arm_alike k r s (same x h) moment =
+    if_result (is_nil_same k (is x)) (result_alike (moved_alike s (same ends.Answer tt)) (with_timer None r))
     (if_result (is (int_lt r.clock moment))
-    (result_alike (moved_alike s (same ends.Answer tt)) (with_timer (Some (record { semaphore = x; moment = moment })) r)
-    (record { semaphore = λ armed e. subst (λ o. semaphore_held o) e h }))
-    (result_alike (answered_alike (behind s (signal_alike s.keeps (up s.grows (same x h))))) (with_timer None r) (timer_off refl))) where
-      semaphore_held : Option Timer → Type 0
-      semaphore_held None = Unit {0}
-      semaphore_held (Some armed) = IsHeld v armed.semaphore
+    (result_alike (moved_alike s (same ends.Answer tt)) (with_timer (Some (record { semaphore = x; moment = moment })) r))
+    (result_alike (answered_alike (behind s (signal_alike s.keeps (up s.grows (same x h))))) (with_timer None r)))
 
-pub timer_alike : {v m : Kept} → Keeps v m → (r : Run) → TimerHeld v r → (args : ℕ) → AlikeResult v (timer_prim (record { kept = v; run = r }) args) (timer_prim (record { kept = m; run = r }) args)
+pub timer_alike : {v m : Kept} → Keeps v m → (r : Run) → (args : ℕ) → AlikeResult v (timer_prim (record { kept = v; run = r }) args) (timer_prim (record { kept = m; run = r }) args)
 unfolding timer_prim
-timer_alike k r timer args =
-    counted_alike k r timer 2 args (given_result _ _ (plain (value small_of (argument_same k 2 1))) (fails_alike k r timer) (λ moment a.
+timer_alike k r args =
+    counted_alike k r 2 args (given_result _ _ (plain (value small_of (argument_same k 2 1))) (fails_alike k r) (λ moment a.
     if_result (two (λ a b. a || b) (is_nil_same k (argument_same k 2 0)) (is_semaphore_same k (argument_same k 2 0)))
     (arm_alike k r (answered_moved k 2 (prim_receiver_same k 2)) (argument_same k 2 0) moment)
-    (fails_alike k r timer)))
+    (fails_alike k r)))
 
 bytes_to_write_same : {v m : Kept} {x y : Ref} → Keeps v m → Same (IsHeld v) x y → SameOption Any (bytes_to_write v x) (bytes_to_write m y)
 unfolding bytes_to_write
 bytes_to_write_same k s = plain (two (λ o x. or_bytes (byte_string o) (small_byte (index_of x))) (option_is (object_of_same k s)) s)
 
-pub write_alike : {v m : Kept} → Keeps v m → (r : Run) → TimerHeld v r → (args : ℕ) → AlikeResult v (write_prim (record { kept = v; run = r }) args) (write_prim (record { kept = m; run = r }) args)
+pub write_alike : {v m : Kept} → Keeps v m → (r : Run) → (args : ℕ) → AlikeResult v (write_prim (record { kept = v; run = r }) args) (write_prim (record { kept = m; run = r }) args)
 unfolding write_prim
-write_alike k r timer args =
-    counted_alike k r timer 1 args (given_result _ _ (bytes_to_write_same k (argument_same k 1 0)) (fails_alike k r timer) (λ bytes a.
-    result_alike (answer_alike k 1 (prim_receiver_same k 1)) (written bytes r) (timer_as timer refl)))
+write_alike k r args =
+    counted_alike k r 1 args (given_result _ _ (bytes_to_write_same k (argument_same k 1 0)) (fails_alike k r) (λ bytes a.
+    result_alike (answer_alike k 1 (prim_receiver_same k 1)) (written bytes r)))
 
-read_from_alike : {v m : Kept} → Keeps v m → (r : Run) → TimerHeld v r → (input : List ℕ) → AlikeResult v (read_from (record { kept = v; run = r }) input) (read_from (record { kept = m; run = r }) input)
-read_from_alike k r timer [] = result_alike (answer_alike k 0 (nil_same k)) r timer
-read_from_alike k r timer (b ∷ input) = result_alike (answer_alike k 0 (same (small_count b) tt)) (with_input input r) (timer_as timer refl)
+read_from_alike : {v m : Kept} → Keeps v m → (r : Run) → (input : List ℕ) → AlikeResult v (read_from (record { kept = v; run = r }) input) (read_from (record { kept = m; run = r }) input)
+read_from_alike k r [] = result_alike (answer_alike k 0 (nil_same k)) r
+read_from_alike k r (b ∷ input) = result_alike (answer_alike k 0 (same (small_count b) tt)) (with_input input r)
 
-pub read_alike : {v m : Kept} → Keeps v m → (r : Run) → TimerHeld v r → (args : ℕ) → AlikeResult v (read_prim (record { kept = v; run = r }) args) (read_prim (record { kept = m; run = r }) args)
+pub read_alike : {v m : Kept} → Keeps v m → (r : Run) → (args : ℕ) → AlikeResult v (read_prim (record { kept = v; run = r }) args) (read_prim (record { kept = m; run = r }) args)
 unfolding read_prim
-read_alike k r timer args = counted_alike k r timer 0 args (read_from_alike k r timer r.input)
+read_alike k r args = counted_alike k r 0 args (read_from_alike k r r.input)

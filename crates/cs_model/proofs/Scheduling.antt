@@ -1,16 +1,19 @@
 -- The operations on processes, semaphores and their lists are alike.
-use Rattle.std.proofs.Common.{ℕ, zero, suc, ℤ, pos, ◌+ℤ◌, ◌-ℤ◌, int_lt, Option, Some, None, is_some, List, [], ◌∷◌, option_and_then}
+use Rattle.std.proofs.Common.{◌≡◌, refl, sym, ap, subst, true, false, ℕ, zero, suc, ℤ, pos, ◌+ℤ◌, ◌-ℤ◌, int_lt, Option, Some, None, is_some, List, [], ◌∷◌, option_and_then}
+use Rattle.std.specs.Prelude.{slice_get}
 use Rattle.std.specs.List.{AllByRecursion}
 use Rattle.cs_model.specs.declared.stop.Stop.TheVariants as why
-use Rattle.cs_model.specs.Ref.{Ref, Small, same_ref, small_of, index_of}
-use Rattle.cs_model.specs.State.{Kept, slots_of, IsHeld}
+use Rattle.cs_model.specs.Ref as ref
+use Rattle.cs_model.specs.Ref.{Ref, Small, Char, same_ref, small_of, index_of}
+use Rattle.cs_model.specs.Obj.{Obj, Ptr, Raw, Method, Ctx, is_context, slots_in, at_least}
+use Rattle.cs_model.specs.State.{Kept, object_at, slots_of, IsHeld}
 use Rattle.cs_model.specs.Process.{next_link, suspended_context, priority, my_list, first_link, last_link, excess_signals, process_slots, semaphore_slots, list_slots, slot_or_none, with_slot_of, with_scheduler, with_active_process, lists_of, list_at, if_list, list_of_process, with_list_of, link_last, add_last, link_past, is_same, end_at, unlinked, take_out, with_first, give_context, start_at, start, stop_running, Highest, Waiting, AllEmpty, NoList, if_waiting, or_lower, highest_of, none_active, start_highest, start_next, with_priority, preempt, resume, one_more, signal, wait_behind, wait, suspend_active, list_links, Place, At, NotThere, NoProcess, TooFar, find_link, leave_list, suspend_other, suspend, give_way_to, give_way}
 use Rattle.cs_model.specs.End.{Out}
 use Rattle.cs_model.specs.Keeps.{Keeps}
 use Rattle.cs_model.specs.Alike.{Alike, IsHeldIf}
 use Rattle.cs_model.proofs.Same.{Same, same, SameOption, none, some, Any, is, of_option, two, and_then_same, or_same, if_same, if_option, option_is, any_option, some_same}
-use Rattle.cs_model.proofs.Keeping.{Moved, moved, unmoved, choose_moved}
-use Rattle.cs_model.proofs.Reading.{AllHeld, Has, up, nil_same, is_nil_same, object_of_same, slots_in_same, slots_of_same, slice_same, scheduler_same, active_process_same, active_ref_same}
+use Rattle.cs_model.proofs.Keeping.{kept_context, Moved, moved, unmoved, choose_moved}
+use Rattle.cs_model.proofs.Reading.{held_if, AllHeld, Has, up, nil_same, is_nil_same, object_of_same, slots_in_same, slots_of_same, slice_same, scheduler_same, active_process_same, active_ref_same}
 use Rattle.cs_model.proofs.Operating.{store_moved, resume_moved, suspend_moved}
 use Rattle.cs_model.proofs.Combining.{fail_alike, done_alike, stop_alike, behind, looked_alike, given_alike, if_alike, and_then_alike}
 use Rattle.cs_model.proofs.Searching.{context_birth_same, is_live_same}
@@ -181,6 +184,35 @@ signal_alike k s =
     if_alike (is_nil_same k (is first)) (one_more_alike k s (of_option (λ o. option_and_then (λ x. small_of x) o) (slot_same k semaphore_slots excess_signals s)))
     (with_first_alike _ _ k s (λ t u p r g. resume_alike r.keeps g)))
 
+-- a reference that v lacks names a context of m, or nothing: neither is a semaphore
+none_both : {A : Type 0} (P : A → Type 0) (o p : Option A) → o ≡ None → p ≡ None → SameOption P o p
+none_both P o p e f = subst (λ q. SameOption P q p) (sym e) (subst (λ q. SameOption P None q) (sym f) none)
+
+no_slots : (n : ℕ) (o : Option Obj) → ((p : Obj) → o ≡ Some p → is_context p ≡ true) → at_least n (slots_in o) ≡ None
+no_slots n None h = refl
+no_slots n (Some (Ptr class format hash slots)) h = let e : false ≡ true = h (Ptr class format hash slots) refl in absurd (cc)
+no_slots n (Some (Raw class format hash bytes)) h = refl
+no_slots n (Some (Method class format hash header literals bytecodes)) h = refl
+no_slots n (Some (Ctx c)) h = refl
+
+signal_absent : {v m : Kept} → Keeps v m → (i : ℕ) → object_at v i ≡ None → Alike v (signal v (ref.Obj i)) (signal m (ref.Obj i))
+unfolding signal slots_of
+signal_absent {v} {m} k i lacks =
+    let first = λ (o : Option (List Ref)). option_and_then (λ slots. slice_get slots first_link) o in
+    let mine : at_least semaphore_slots (slots_in (object_at v i)) ≡ None = ap (λ o. at_least semaphore_slots (slots_in o)) lacks in
+    let its : at_least semaphore_slots (slots_in (object_at m i)) ≡ None = no_slots semaphore_slots (object_at m i) (λ p e. kept_context k i p lacks e) in
+    given_alike _ _ (none_both (λ x. ⊥) _ _ (ap first mine) (ap first its)) (stop_alike k why.BadProcess) (λ x h. absurd h)
+
+-- so a signal needs no premise
+pub signal_any : {v m : Kept} → Keeps v m → (x : Ref) → Alike v (signal v x) (signal m x)
+signal_any k (Small a) = signal_alike k (same (Small a) tt)
+signal_any k (Char c) = signal_alike k (same (Char c) tt)
+signal_any {v} {m} k (ref.Obj i) =
+    elim (object_at v i) as (λ o. object_at v i ≡ o → Alike v (signal v (ref.Obj i)) (signal m (ref.Obj i))) [
+      | None ↦ λ e. signal_absent k i e
+      | Some o ↦ λ e. signal_alike k (same (ref.Obj i) (ap is_some e))
+    ] refl
+
 wait_behind_alike : {v m : Kept} {x y : Ref} → Keeps v m → Same (IsHeld v) x y → Alike v (wait_behind v x) (wait_behind m y)
 wait_behind_alike k s =
     with_active_alike _ _ k (λ running h.
@@ -205,10 +237,6 @@ PlaceHeld v (At before) = IsHeldIf v before
 PlaceHeld v NotThere = Unit {0}
 PlaceHeld v NoProcess = Unit {0}
 PlaceHeld v TooFar = Unit {0}
-
-held_if : {v m : Kept} → Keeps v m → (o : Option Ref) → IsHeldIf v o → SameOption (IsHeld v) o o
-held_if k None h = none
-held_if k (Some x) h = some x h
 
 at_same : {v m : Kept} {o p : Option Ref} → Keeps v m → SameOption (IsHeld v) o p → Same (PlaceHeld v) (At o) (At p)
 at_same k none = same (At None) tt

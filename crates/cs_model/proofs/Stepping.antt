@@ -14,17 +14,17 @@ use Rattle.cs_model.specs.Due.{Happened}
 use Rattle.cs_model.specs.Step.{Message, message_in, return_in, primitive_in, call_in, is_fail, counting, arguments_of, or_enter, try_performed, tried, try_primitive, sent, do_send, do_call, returned, do_return, followed, instruction_at, obey, bytecode, is_ref, is_process, process_fault, shape_fault, Ending, Steps, Quit, Idle, Stopped, Step, stops, next_step, is_left, ends_with, completed, finish, birth_limit, add_count, ready, stop_in, after_due, step, Ran, saved, go_on, run_by, run}
 use Rattle.cs_model.specs.End.{End, Out, Count, out, stop, no_count, plus, given}
 use Rattle.cs_model.specs.End as ends
-use Rattle.cs_model.specs.Keeps.{Keeps, Grows, TimerHeld, KeepsState}
+use Rattle.cs_model.specs.Keeps.{Keeps, Grows, KeepsState}
 use Rattle.cs_model.specs.Alike.{Alike, EndHeld, IsHeldIf, AlikeResult, AlikeHappened, AlikeStep, AlikeRan, KeepsIf, AllKeep}
 use Rattle.cs_model.proofs.Same.{Same, same, SameOption, none, some, Any, is, value, of_option, two, same_by, plain}
 use Rattle.cs_model.proofs.Keeping.{Moved, unmoved, choose_moved, grows-trans}
-use Rattle.cs_model.proofs.Reading.{rest_same, is_nil_same, slots_of_same, special_at_same, scheduler_same, active_process_same, object_of_same, bytecodes_same, literals_same, pc_same}
+use Rattle.cs_model.proofs.Reading.{held_if, rest_same, is_nil_same, slots_of_same, special_at_same, scheduler_same, active_process_same, object_of_same, bytecodes_same, literals_same, pc_same}
 use Rattle.cs_model.proofs.Operating.{set_pc_moved, suspend_moved}
 use Rattle.cs_model.proofs.Combining.{behind, left, end_same, count_same, counting_alike, stop_alike}
 use Rattle.cs_model.proofs.Executing.{exec_alike}
 use Rattle.cs_model.proofs.Sending.{enter_alike, send_alike}
 use Rattle.cs_model.proofs.Returning.{back_alike}
-use Rattle.cs_model.proofs.Running.{timer_up, timer_as, result_alike, if_result, given_result}
+use Rattle.cs_model.proofs.Running.{result_alike, if_result, given_result}
 use Rattle.cs_model.proofs.Tables.{prim_alike}
 use Rattle.cs_model.proofs.Happening.{is_idle_same, run_same, due_alike}
 
@@ -79,7 +79,7 @@ primitive_in_same v (same (ends.Stopped reason) h) = none
 
 -- what is alike from behind an Out on is alike from before it on, and what was counted before counts too
 counting_result : {v : Kept} {a b : Out} {x y : Result} → Alike v a b → AlikeResult a.state x y → AlikeResult v (counting a.count x) (counting b.count y)
-counting_result {v} {a} {b} {x} {y} h r = record { out = counting_alike (count_same h) (behind (left h) r.out); run = r.run; timer = r.timer; snapshot = r.snapshot }
+counting_result {v} {a} {b} {x} {y} h r = record { out = counting_alike (count_same h) (behind (left h) r.out); run = r.run; snapshot = r.snapshot }
 
 enter_at : {v m : Kept} {x y : Ref} {n l : ℕ} → Keeps v m → Same (IsHeld v) x y → Same Any n l → Alike v (enter_out v x n true) (enter_out m y l true)
 enter_at k s (same n a) = enter_alike k s n true
@@ -87,76 +87,71 @@ enter_at k s (same n a) = enter_alike k s n true
 arguments_same : {v m : Kept} {x y : Ref} → Keeps v m → Same (IsHeld v) x y → Same Any (arguments_of v x) (arguments_of m y)
 arguments_same k s = of_option (λ o. argument_count (header_in o)) (object_of_same k s)
 
-prim_at : {v m : Kept} {n l : ℕ} → Keeps v m → (r : Run) → TimerHeld v r → (number : ℕ) → Same Any n l → AlikeResult v (prim number n (record { kept = v; run = r })) (prim number l (record { kept = m; run = r }))
-prim_at k r timer number (same n a) = prim_alike k r timer number n
+prim_at : {v m : Kept} {n l : ℕ} → Keeps v m → (r : Run) → (number : ℕ) → Same Any n l → AlikeResult v (prim number n (record { kept = v; run = r })) (prim number l (record { kept = m; run = r }))
+prim_at k r number (same n a) = prim_alike k r number n
 
-or_enter_alike : {v m : Kept} {x y : Ref} {a b : Result} → Keeps v m → (r : Run) → TimerHeld v r → Same (IsHeld v) x y → AlikeResult v a b → AlikeResult v (or_enter (record { kept = v; run = r }) x a) (or_enter (record { kept = m; run = r }) y b)
-or_enter_alike k r timer s h = if_result (value is_fail (end_same h.out)) (result_alike (enter_at k s (arguments_same k s)) r timer) h
+or_enter_alike : {v m : Kept} {x y : Ref} {a b : Result} → Keeps v m → (r : Run) → Same (IsHeld v) x y → AlikeResult v a b → AlikeResult v (or_enter (record { kept = v; run = r }) x a) (or_enter (record { kept = m; run = r }) y b)
+or_enter_alike k r s h = if_result (value is_fail (end_same h.out)) (result_alike (enter_at k s (arguments_same k s)) r) h
 
-try_performed_alike : {v m : Kept} {x y : Ref} {r q : Run} → Keeps v m → Same (TimerHeld v) r q → Same (IsHeld v) x y → (number : ℕ) → AlikeResult v (try_performed (record { kept = v; run = r }) x number) (try_performed (record { kept = m; run = q }) y number)
+try_performed_alike : {v m : Kept} {x y : Ref} {r q : Run} → Keeps v m → Same Any r q → Same (IsHeld v) x y → (number : ℕ) → AlikeResult v (try_performed (record { kept = v; run = r }) x number) (try_performed (record { kept = m; run = q }) y number)
 unfolding try_performed
-try_performed_alike k (same r timer) s number =
-    if_result (is (is_perform number)) (result_alike (enter_at k s (arguments_same k s)) r timer) (or_enter_alike k r timer s (prim_at k r timer number (arguments_same k s)))
+try_performed_alike k (same r a) s number =
+    if_result (is (is_perform number)) (result_alike (enter_at k s (arguments_same k s)) r) (or_enter_alike k r s (prim_at k r number (arguments_same k s)))
 
 -- the run parts of two results
-result_run : {v : Kept} {a b : Result} → AlikeResult v a b → Same (TimerHeld a.out.state) a.run b.run
-result_run {v} {a} {b} h = same_by (TimerHeld a.out.state) a.run b.run (sym h.run) h.timer
+result_run : {v : Kept} {a b : Result} → AlikeResult v a b → Same Any a.run b.run
+result_run {v} {a} {b} h = same_by Any a.run b.run (sym h.run) tt
 
-tried_alike : {v m : Kept} {x y : Ref} {a b : Result} → Keeps v m → (r : Run) → TimerHeld v r → Same (IsHeld v) x y → AlikeResult v a b → AlikeResult v (tried (record { kept = v; run = r }) x a) (tried (record { kept = m; run = r }) y b)
-tried_alike {a = a} k r timer s h =
-    given_result _ _ (primitive_in_same a.out.state (end_same h.out)) (or_enter_alike k r timer s h) (λ p g. counting_result h.out (try_performed_alike h.out.keeps (result_run h) (same p.0 g) p.1))
+tried_alike : {v m : Kept} {x y : Ref} {a b : Result} → Keeps v m → (r : Run) → Same (IsHeld v) x y → AlikeResult v a b → AlikeResult v (tried (record { kept = v; run = r }) x a) (tried (record { kept = m; run = r }) y b)
+tried_alike {a = a} k r s h =
+    given_result _ _ (primitive_in_same a.out.state (end_same h.out)) (or_enter_alike k r s h) (λ p g. counting_result h.out (try_performed_alike h.out.keeps (result_run h) (same p.0 g) p.1))
 
-pub try_primitive_alike : {v m : Kept} {x y : Ref} → Keeps v m → (r : Run) → TimerHeld v r → Same (IsHeld v) x y → (number : ℕ) → AlikeResult v (try_primitive (record { kept = v; run = r }) x number) (try_primitive (record { kept = m; run = r }) y number)
+pub try_primitive_alike : {v m : Kept} {x y : Ref} → Keeps v m → (r : Run) → Same (IsHeld v) x y → (number : ℕ) → AlikeResult v (try_primitive (record { kept = v; run = r }) x number) (try_primitive (record { kept = m; run = r }) y number)
 unfolding try_primitive
-try_primitive_alike k r timer s number = tried_alike k r timer s (prim_at k r timer number (arguments_same k s))
+try_primitive_alike k r s number = tried_alike k r s (prim_at k r number (arguments_same k s))
 
 -- ---- sends and returns
 
-sent_alike : {v : Kept} {a b : Out} → (r : Run) → TimerHeld v r → Alike v a b → AlikeResult v (sent r a) (sent r b)
-sent_alike {a = a} r timer h =
-    given_result _ _ (primitive_in_same a.state (end_same h)) (result_alike h r timer) (λ p g. counting_result h (try_primitive_alike h.keeps r (timer_up h.grows timer) (same p.0 g) p.1))
+sent_alike : {v : Kept} {a b : Out} → (r : Run) → Alike v a b → AlikeResult v (sent r a) (sent r b)
+sent_alike {a = a} r h =
+    given_result _ _ (primitive_in_same a.state (end_same h)) (result_alike h r) (λ p g. counting_result h (try_primitive_alike h.keeps r (same p.0 g) p.1))
 
-pub do_send_alike : {v m : Kept} {x y : Ref} {o p : Option Ref} → Keeps v m → (r : Run) → TimerHeld v r → Same (IsHeld v) x y → (args : ℕ) → SameOption (IsHeld v) o p → AlikeResult v (do_send r v x args o) (do_send r m y args p)
+pub do_send_alike : {v m : Kept} {x y : Ref} {o p : Option Ref} → Keeps v m → (r : Run) → Same (IsHeld v) x y → (args : ℕ) → SameOption (IsHeld v) o p → AlikeResult v (do_send r v x args o) (do_send r m y args p)
 unfolding do_send
-do_send_alike k r timer s args above = sent_alike r timer (send_alike k s args above)
+do_send_alike k r s args above = sent_alike r (send_alike k s args above)
 
-do_call_alike : {v m : Kept} → Keeps v m → (r : Run) → TimerHeld v r → (special args : ℕ) → AlikeResult v (do_call r v special args) (do_call r m special args)
-do_call_alike k r timer special args =
-    given_result _ _ (special_at_same k special) (result_alike (stop_alike k why.BadSpecial) r timer) (λ selector h. do_send_alike k r timer (same selector h) args none)
+do_call_alike : {v m : Kept} → Keeps v m → (r : Run) → (special args : ℕ) → AlikeResult v (do_call r v special args) (do_call r m special args)
+do_call_alike k r special args =
+    given_result _ _ (special_at_same k special) (result_alike (stop_alike k why.BadSpecial) r) (λ selector h. do_send_alike k r (same selector h) args none)
 
-returned_alike : {v : Kept} {a b : Out} → (r : Run) → TimerHeld v r → Alike v a b → AlikeResult v (returned r a) (returned r b)
-returned_alike r timer h =
-    given_result _ _ (plain (value call_in (end_same h))) (result_alike h r timer) (λ c g. counting_result h (do_call_alike h.keeps r (timer_up h.grows timer) c.0 c.1))
+returned_alike : {v : Kept} {a b : Out} → (r : Run) → Alike v a b → AlikeResult v (returned r a) (returned r b)
+returned_alike r h =
+    given_result _ _ (plain (value call_in (end_same h))) (result_alike h r) (λ c g. counting_result h (do_call_alike h.keeps r c.0 c.1))
 
-pub do_return_alike : {v m : Kept} {x y : Ref} → Keeps v m → (r : Run) → TimerHeld v r → Same (IsHeld v) x y → (local : Bool) → AlikeResult v (do_return r v x local) (do_return r m y local)
+pub do_return_alike : {v m : Kept} {x y : Ref} → Keeps v m → (r : Run) → Same (IsHeld v) x y → (local : Bool) → AlikeResult v (do_return r v x local) (do_return r m y local)
 unfolding do_return
-do_return_alike k r timer s local = returned_alike r timer (back_alike k s local)
+do_return_alike k r s local = returned_alike r (back_alike k s local)
 
 -- ---- the bytecode
 
-pub above_held : {v m : Kept} → Keeps v m → (o : Option Ref) → IsHeldIf v o → SameOption (IsHeld v) o o
-above_held k None h = none
-above_held k (Some x) h = some x h
-
-followed_alike : {v : Kept} {a b : Out} → (r : Run) → TimerHeld v r → Alike v a b → AlikeResult v (followed r a) (followed r b)
-followed_alike {a = a} r timer h =
-    let later = timer_up h.grows timer in
+followed_alike : {v : Kept} {a b : Out} → (r : Run) → Alike v a b → AlikeResult v (followed r a) (followed r b)
+followed_alike {a = a} r h =
     given_result _ _ (message_in_same a.state (end_same h))
-    (given_result _ _ (return_in_same a.state (end_same h)) (result_alike h r timer) (λ p g. counting_result h (do_return_alike h.keeps r later (same p.0 g) p.1)))
-    (λ p g. counting_result h (do_send_alike h.keeps r later (same p.selector g.0) p.args (above_held h.keeps p.above g.1)))
+    (given_result _ _ (return_in_same a.state (end_same h)) (result_alike h r) (λ p g. counting_result h (do_return_alike h.keeps r (same p.0 g) p.1)))
+    (λ p g. counting_result h (do_send_alike h.keeps r (same p.selector g.0) p.args (held_if h.keeps p.above g.1)))
 
 pub instruction_at_same : {v m : Kept} → Keeps v m → SameOption Any (instruction_at v) (instruction_at m)
 unfolding instruction_at
 instruction_at_same k = plain (two decode_at (bytecodes_same k) (two (λ pc xs. pc - first_pc xs) (pc_same k) (literals_same k)))
 
-obey_alike : {v m : Kept} → Keeps v m → (r : Run) → TimerHeld v r → (i : Instr) → AlikeResult v (obey (record { kept = v; run = r }) i) (obey (record { kept = m; run = r }) i)
-obey_alike k r timer i =
+obey_alike : {v m : Kept} → Keeps v m → (r : Run) → (i : Instr) → AlikeResult v (obey (record { kept = v; run = r }) i) (obey (record { kept = m; run = r }) i)
+obey_alike k r i =
     let s = set_pc_moved k (value (λ pc. pc + i.len) (pc_same k)) in
-    followed_alike r timer (behind s (exec_alike i.op s.keeps))
+    followed_alike r (behind s (exec_alike i.op s.keeps))
 
-pub bytecode_alike : {v m : Kept} → Keeps v m → (r : Run) → TimerHeld v r → AlikeResult v (bytecode (record { kept = v; run = r })) (bytecode (record { kept = m; run = r }))
+pub bytecode_alike : {v m : Kept} → Keeps v m → (r : Run) → AlikeResult v (bytecode (record { kept = v; run = r })) (bytecode (record { kept = m; run = r }))
 unfolding bytecode
-bytecode_alike k r timer = given_result _ _ (instruction_at_same k) (result_alike (stop_alike k why.BadCode) r timer) (λ i a. obey_alike k r timer i)
+bytecode_alike k r = given_result _ _ (instruction_at_same k) (result_alike (stop_alike k why.BadCode) r) (λ i a. obey_alike k r i)
 
 -- ---- the end of a step
 
@@ -172,7 +167,7 @@ process_fault_same : {v m : Kept} {o p : Option Ref} → Keeps v m → SameOptio
 process_fault_same k none = is (Some why.BadSpecial)
 process_fault_same k (some p h) = choose_fault (is_nil_same k (is p)) (is None) (choose_fault (is_process_same k (same p h)) (is None) (is (Some why.BadProcess)))
 
-shape_fault_same : {v m : Kept} → Keeps v m → SameOption Any (shape_fault v) (shape_fault m)
+pub shape_fault_same : {v m : Kept} → Keeps v m → SameOption Any (shape_fault v) (shape_fault m)
 unfolding shape_fault
 shape_fault_same k = plain (process_fault_same k (active_process_same k))
 
@@ -189,7 +184,7 @@ ends_with_alike {v} {a} {b} e h =
     record {
       ending = refl;
       count = counted (is_left_same h.out.keeps) (count_same h.out);
-      state = record { kept = w.keeps; run = ap next_step h.run; timer = timer_as (timer_up w.grows h.timer) refl };
+      state = record { kept = w.keeps; run = ap next_step h.run };
       grows = grows-trans h.out.grows w.grows;
       snapshot = h.snapshot;
     } where
@@ -226,7 +221,7 @@ finish_case k h (same ends.Snapshot a) = completed_alike k Steps h
 finish_case k h (same (ends.Stopped reason) a) = stops_alike k (count_same h.out) reason
 
 result_behind : {v t u : Kept} {a b : Result} → Moved v t u → AlikeResult t a b → AlikeResult v a b
-result_behind s h = record { out = behind s h.out; run = h.run; timer = h.timer; snapshot = h.snapshot }
+result_behind s h = record { out = behind s h.out; run = h.run; snapshot = h.snapshot }
 
 add_count_alike : {v : Kept} {a b : Step} {n l : Count} → Same Any n l → AlikeStep v a b → AlikeStep v (add_count n a) (add_count l b)
 add_count_alike (same n s) h = record { ending = h.ending; count = ap (plus n) h.count; state = h.state; grows = h.grows; snapshot = h.snapshot }
@@ -235,8 +230,8 @@ add_count_alike (same n s) h = record { ending = h.ending; count = ap (plus n) h
 
 pub bytecode_of_state : {s t : State} → KeepsState s t → AlikeResult s.kept (bytecode s) (bytecode t)
 bytecode_of_state {s} {t} k = with_run k.kept (run_same k) where
-  with_run : {v m : Kept} {r q : Run} → Keeps v m → Same (TimerHeld v) r q → AlikeResult v (bytecode (record { kept = v; run = r })) (bytecode (record { kept = m; run = q }))
-  with_run k (same r timer) = bytecode_alike k r timer
+  with_run : {v m : Kept} {r q : Run} → Keeps v m → Same Any r q → AlikeResult v (bytecode (record { kept = v; run = r })) (bytecode (record { kept = m; run = q }))
+  with_run k (same r a) = bytecode_alike k r
 
 ready_alike : {s t : State} {a b : Happened} → KeepsState s t → AlikeHappened s.kept a b → AlikeStep s.kept (ready s a) (ready t b)
 ready_alike {s} {t} {a} {b} k h =

@@ -23,7 +23,7 @@ use Rattle.cs_model.specs.Keeps.{Keeps, Grows}
 use Rattle.cs_model.specs.Alike.{Alike, IsHeldIf, AlikeMade, AlikeHashed}
 use Rattle.cs_model.proofs.Same.{same, is}
 use Rattle.cs_model.proofs.Keeping.{put_moved}
-use Rattle.cs_model.proofs.Reading.{Has, listed}
+use Rattle.cs_model.proofs.Reading.{held_if, Has, listed}
 use Rattle.cs_model.proofs.Operating.{put_active_moved, set_pc_moved, push_moved, drop_moved, set_stack_moved, store_moved, store_byte_moved, add_moved, enter_moved, kill_moved, kill_all_moved, resume_moved, suspend_moved, leave_moved, cut_to_moved}
 use Rattle.cs_model.proofs.Fields.{context_put_moved}
 use Rattle.cs_model.proofs.Making.{SameMade, makes, refused, full, SameHashed, hashes, no_class, none_left, instantiate_same, behavior_hash_same, take_index_moved, hash_given_moved}
@@ -31,12 +31,11 @@ use Rattle.cs_model.proofs.Entering.{enter_block_moved, enter_block_alike}
 use Rattle.cs_model.proofs.Executing.{push_alike, fill_moved, jump_alike, send_selector_alike, special_send_alike, exec_alike}
 use Rattle.cs_model.proofs.Sending.{enter_alike, invoke_alike, not_understood_alike, send_alike, perform_alike, perform_with_arguments_alike, execute_method_alike, spread_moved}
 use Rattle.cs_model.proofs.Returning.{call_with_alike, cannot_return_alike, unwind_alike, local_alike, nonlocal_alike, back_alike}
-use Rattle.cs_model.proofs.Scheduling.{add_last_alike, take_out_moved, start_alike, stop_running_moved, start_next_alike, resume_alike, signal_alike, wait_alike, suspend_active_alike, suspend_other_alike, suspend_alike, give_way_alike}
+use Rattle.cs_model.proofs.Scheduling.{add_last_alike, take_out_moved, start_alike, stop_running_moved, start_next_alike, resume_alike, signal_any, wait_alike, suspend_active_alike, suspend_other_alike, suspend_alike, give_way_alike}
 use Rattle.cs_model.proofs.Answering.{answer_alike}
 use Rattle.cs_model.proofs.Running.{settle_moved, open_moved, forgotten_moved}
 use Rattle.cs_model.proofs.Tables.{kept_prim_alike}
 use Rattle.cs_model.proofs.Happening.{signal_external_alike}
-use Rattle.cs_model.proofs.Stepping.{above_held}
 
 -- ---- operations
 
@@ -179,10 +178,10 @@ pub grows-stop_running : (v : Kept) (p : Ref) → Keeps v v → Grows v (stop_ru
 grows-stop_running v p k = (stop_running_moved k (is p)).grows
 
 pub Keeps-take_out : (v m : Kept) (list p : Ref) (before : Option Ref) → Keeps v m → IsHeld v list → IsHeld v p → IsHeldIf v before → Keeps (take_out v list p before) (take_out m list p before)
-Keeps-take_out v m list p before k g h b = (take_out_moved k (same list g) (same p h) (above_held k before b)).keeps
+Keeps-take_out v m list p before k g h b = (take_out_moved k (same list g) (same p h) (held_if k before b)).keeps
 
 pub grows-take_out : (v : Kept) (list p : Ref) (before : Option Ref) → Keeps v v → IsHeld v list → IsHeld v p → IsHeldIf v before → Grows v (take_out v list p before)
-grows-take_out v list p before k g h b = (take_out_moved k (same list g) (same p h) (above_held k before b)).grows
+grows-take_out v list p before k g h b = (take_out_moved k (same list g) (same p h) (held_if k before b)).grows
 
 pub Keeps-settle : (v m : Kept) → Keeps v m → Keeps (settle_kept v) (settle_kept m)
 Keeps-settle v m k = (settle_moved k).keeps
@@ -256,7 +255,7 @@ pub not_understood-alike : (v m : Kept) (x : Ref) (args : ℕ) → Keeps v m →
 not_understood-alike v m x args k h = not_understood_alike k (same x h) args
 
 pub send-alike : (v m : Kept) (x : Ref) (args : ℕ) (above : Option Ref) → Keeps v m → IsHeld v x → IsHeldIf v above → Alike v (send v x args above) (send m x args above)
-send-alike v m x args above k h g = send_alike k (same x h) args (above_held k above g)
+send-alike v m x args above k h g = send_alike k (same x h) args (held_if k above g)
 
 pub perform-alike : (v m : Kept) (args : ℕ) → Keeps v m → Alike v (perform v args) (perform m args)
 perform-alike v m args k = perform_alike k args
@@ -297,8 +296,8 @@ start_next-alike v m k = start_next_alike k
 pub resume-alike : (v m : Kept) (p : Ref) → Keeps v m → IsHeld v p → Alike v (resume v p) (resume m p)
 resume-alike v m p k h = resume_alike k (same p h)
 
-pub signal-alike : (v m : Kept) (x : Ref) → Keeps v m → IsHeld v x → Alike v (signal v x) (signal m x)
-signal-alike v m x k h = signal_alike k (same x h)
+pub signal-alike : (v m : Kept) (x : Ref) → Keeps v m → Alike v (signal v x) (signal m x)
+signal-alike v m x k = signal_any k x
 
 pub wait-alike : (v m : Kept) (x : Ref) → Keeps v m → IsHeld v x → Alike v (wait v x) (wait m x)
 wait-alike v m x k h = wait_alike k (same x h)

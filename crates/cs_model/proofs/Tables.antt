@@ -2,7 +2,7 @@
 use Rattle.std.proofs.Common.{ℕ, ◌==◌, ◌&&◌, nat_lt, nat_le}
 use Rattle.cs_model.specs.State.{Kept, Run}
 use Rattle.cs_model.specs.PrimTable.{object_prim, context_prim, process_prim, perform_prim, is_perform, is_process_number, is_context_number, kept_prim, prim}
-use Rattle.cs_model.specs.Keeps.{Keeps, TimerHeld}
+use Rattle.cs_model.specs.Keeps.{Keeps}
 use Rattle.cs_model.specs.Alike.{Alike, AlikeResult}
 use Rattle.cs_model.proofs.Same.{is}
 use Rattle.cs_model.proofs.Combining.{fail_alike, if_alike}
@@ -81,13 +81,13 @@ kept_prim_alike k number args =
     (if_alike (is (is_context_number number)) (context_prim_alike k number args)
     (object_prim_alike k number args))))
 
-pub prim_alike : {v m : Kept} → Keeps v m → (r : Run) → TimerHeld v r → (number args : ℕ) → AlikeResult v (prim number args (record { kept = v; run = r })) (prim number args (record { kept = m; run = r }))
+pub prim_alike : {v m : Kept} → Keeps v m → (r : Run) → (number args : ℕ) → AlikeResult v (prim number args (record { kept = v; run = r })) (prim number args (record { kept = m; run = r }))
 unfolding prim
-prim_alike k r timer number args =
-    if_result (is (number == 97)) (snapshot_alike k r timer args)
-    (if_result (is (number == 113)) (quit_alike k r timer args)
-    (if_result (is (number == 135)) (clock_alike k r timer args)
-    (if_result (is (number == 136)) (timer_alike k r timer args)
-    (if_result (is (number == 900)) (write_alike k r timer args)
-    (if_result (is (number == 901)) (read_alike k r timer args)
-    (result_alike (kept_prim_alike k number args) r timer))))))
+prim_alike k r number args =
+    if_result (is (number == 97)) (snapshot_alike k r args)
+    (if_result (is (number == 113)) (quit_alike k r args)
+    (if_result (is (number == 135)) (clock_alike k r args)
+    (if_result (is (number == 136)) (timer_alike k r args)
+    (if_result (is (number == 900)) (write_alike k r args)
+    (if_result (is (number == 901)) (read_alike k r args)
+    (result_alike (kept_prim_alike k number args) r))))))

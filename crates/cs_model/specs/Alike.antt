@@ -2,7 +2,7 @@
 use Rattle.std.specs.Prelude.{◌≡◌, Option, Some, None, List, [], ◌∷◌}
 use Rattle.cs_model.specs.Ref.{Ref}
 use Rattle.cs_model.specs.State.{Kept, IsHeld}
-use Rattle.cs_model.specs.Keeps.{Keeps, Grows, TimerHeld, KeepsState}
+use Rattle.cs_model.specs.Keeps.{Keeps, Grows, KeepsState}
 use Rattle.cs_model.specs.End.{End, Out, Count}
 use Rattle.cs_model.specs.End as ends
 use Rattle.cs_model.specs.Instance.{Made, New, NotInstantiable, TableFull, Hashed, Hash, NotAClass, NoneLeft}
@@ -50,7 +50,6 @@ KeepsIf (Some v) (Some m) = Keeps v m
 pub record AlikeResult (v : Kept) (a b : Result) : Type 0 where
   pub out : Alike v a.out b.out
   pub run : a.run ≡ b.run
-  pub timer : TimerHeld a.out.state a.run
   pub snapshot : KeepsIf a.snapshot b.snapshot
 
 -- what events give

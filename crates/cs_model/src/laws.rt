@@ -1,4 +1,4 @@
-//! Laws of keeping.
+//! Laws of keeping, and of settling a state and opening it again.
 //!
 //! One state keeps another where it lacks nothing of it but contexts that nothing in it names. A representation of the machine
 //! need not have the whole state of the model; it is enough that it keeps it. What is read of both is the same, the same done to
@@ -9,12 +9,13 @@
 //! is the law. A state is closed where it keeps itself, which is where all that it names is there.
 ghost use Rattle.std.specs.Prelude.{◌≡◌, ℕ, ℤ, Bool, Option, Some, List, IsSome};
 ghost use Rattle.std.specs.List.{AllByRecursion};
+ghost use Rattle.cs_model.specs.declared.event.Event.{Event};
 ghost use Rattle.cs_model.specs.declared.instruction.Op.{Op};
 ghost use Rattle.cs_model.specs.Ref.{Ref};
 ghost use Rattle.cs_model.specs.Obj.{Obj, Context};
-ghost use Rattle.cs_model.specs.State.{Kept, Run, State, IsHeld, ContextHeld, NamesHeld, object_at, object_of, put, slots_of, special_at, scheduler_of, active_process};
-ghost use Rattle.cs_model.specs.Read.{class_of, active_context, method_of, literals_of, bytecodes_of};
-ghost use Rattle.cs_model.specs.Keeps.{Keeps, Grows, TimerHeld, KeepsState};
+ghost use Rattle.cs_model.specs.State.{Kept, Run, State, IsHeld, IsValid, ContextHeld, NamesHeld, object_at, object_of, put, slots_of, special_at, scheduler_of, active_process};
+ghost use Rattle.cs_model.specs.Read.{IsRunning, class_of, active_context, method_of, literals_of, bytecodes_of};
+ghost use Rattle.cs_model.specs.Keeps.{Keeps, SameKept, Grows, KeepsState};
 ghost use Rattle.cs_model.specs.Alike.{Alike, AlikeResult, AlikeHappened, AlikeStep, AlikeRan, AlikeMade, AlikeHashed, IsHeldIf, KeepsIf, AllKeep, SoughtHeld};
 ghost use Rattle.cs_model.specs.Operation.{set_pc_of, push_of, drop_of, set_stack_of, store_of, store_byte_of, add_of, enter_of, kill_of, resume_of, suspend_of, leave_of, cut_to_of};
 ghost use Rattle.cs_model.specs.Context.{context_get, accepts, context_put};
@@ -26,10 +27,12 @@ ghost use Rattle.cs_model.specs.Send.{enter_out, invoke, not_understood, send, p
 ghost use Rattle.cs_model.specs.Return.{senders_to, home, back, local_out, nonlocal_out, cannot_return_out, unwind_out};
 ghost use Rattle.cs_model.specs.Process.{add_last, start, start_next, resume, signal, wait, suspend, give_way};
 ghost use Rattle.cs_model.specs.PrimAnswer.{answer};
+ghost use Rattle.cs_model.specs.PrimRun.{forgotten};
 ghost use Rattle.cs_model.specs.PrimTable.{kept_prim, prim};
-ghost use Rattle.cs_model.specs.Settle.{settle_kept, open_kept};
+ghost use Rattle.cs_model.specs.Settle.{settle_kept, open_kept, opened, settled, new_run};
 ghost use Rattle.cs_model.specs.Due.{signal_external, is_idle, due};
-ghost use Rattle.cs_model.specs.Step.{instruction_at, try_primitive, do_send, do_return, bytecode, step, run};
+ghost use Rattle.cs_model.specs.Step.{Ending, instruction_at, try_primitive, do_send, do_return, bytecode, step, run};
+ghost use Rattle.cs_model.specs.Report.{place_of, report_of};
 ghost use Rattle.cs_model.specs.Built.{built_step, built_run};
 
 /// An object that is put at a birth is there, and nothing else changes.
@@ -39,10 +42,18 @@ pub fn a_write_stands()
     ensures rest { (k : Kept) (i : ℕ) (o : Obj) → (put k i o).rest ≡ k.rest }
 {}
 
-/// A state that keeps another one keeps itself, and all that this one keeps.
+/// A state that keeps another one keeps itself, and all that this one keeps. States with the same objects and the same rest stand
+/// for each other.
 pub fn keeping_is_transitive()
     ensures itself { (v m : Kept) → Keeps v m → Keeps v v }
     ensures transitive { (u v m : Kept) → Keeps u v → Keeps v m → Keeps u m }
+    ensures left { (u v m : Kept) → SameKept u v → Keeps v m → Keeps u m }
+    ensures right { (v m n : Kept) → Keeps v m → SameKept m n → Keeps v n }
+{}
+
+/// A valid state keeps itself.
+pub fn a_valid_state_is_closed()
+    ensures { (s : State) → IsValid s → KeepsState s s }
 {}
 
 /// What is read of a state by references that it holds is the same in each state that it keeps.
@@ -67,6 +78,13 @@ pub fn keeping_agrees_in_reads()
     ensures home { (v m : Kept) (i : ℕ) → Keeps v m → IsSome (object_at v i) → home m i ≡ home v i }
     ensures is_idle { (v m : Kept) → Keeps v m → is_idle m ≡ is_idle v }
     ensures instruction_at { (v m : Kept) → Keeps v m → instruction_at m ≡ instruction_at v }
+    ensures running { (v m : Kept) → Keeps v m → IsRunning v → IsRunning m }
+{}
+
+/// The report of a run is the same for each state that is kept, and so is the place where the run stands.
+pub fn keeping_agrees_in_reports()
+    ensures place { (v m : Kept) → Keeps v m → place_of m ≡ place_of v }
+    ensures report { (s t : State) (e : Ending) → KeepsState s t → report_of t e ≡ report_of s e }
 {}
 
 /// What is read of a closed state is there. A state is closed where it keeps itself.
@@ -131,6 +149,18 @@ pub fn what_was_held_still_is()
     ensures open { (v : Kept) → Keeps v v → Grows v (open_kept v) }
 {}
 
+/// A run begins alike.
+pub fn keeping_survives_opening()
+    ensures { (v m : Kept) (events : List Event) (snapping : Bool) → Keeps v m → KeepsState (opened v events snapping) (opened m events snapping) }
+{}
+
+/// A valid state that is settled and opened again is as it was, but for the slot in which its active process keeps a context:
+/// that is nil, as it is while a process runs. The run begins anew.
+pub fn opening_undoes_settling()
+    ensures kept { (s : State) (events : List Event) (snapping : Bool) → IsValid s → SameKept (opened (settled s) events snapping).kept (forgotten s.kept) }
+    ensures run { (k : Kept) (events : List Event) (snapping : Bool) → (opened k events snapping).run ≡ new_run events snapping }
+{}
+
 /// Instances are made alike, and classes get the same index.
 pub fn keeping_survives_a_making()
     ensures instance { (v m : Kept) (x : Ref) (size : ℕ) → Keeps v m → IsHeld v x → AlikeMade v (instantiate v x size) (instantiate m x size) }
@@ -156,7 +186,7 @@ pub fn keeping_survives_a_send()
     ensures performed { (v m : Kept) (args : ℕ) → Keeps v m → Alike v (perform v args) (perform m args) }
     ensures with_arguments { (v m : Kept) → Keeps v m → Alike v (perform_with_arguments v) (perform_with_arguments m) }
     ensures executed { (v m : Kept) → Keeps v m → Alike v (execute_method v) (execute_method m) }
-    ensures whole { (v m : Kept) (r : Run) (x : Ref) (args : ℕ) (above : Option Ref) → Keeps v m → TimerHeld v r → IsHeld v x → IsHeldIf v above → AlikeResult v (do_send r v x args above) (do_send r m x args above) }
+    ensures whole { (v m : Kept) (r : Run) (x : Ref) (args : ℕ) (above : Option Ref) → Keeps v m → IsHeld v x → IsHeldIf v above → AlikeResult v (do_send r v x args above) (do_send r m x args above) }
 {}
 
 /// A return ends alike: to the sender, to the sender of the home, or to what is told of it.
@@ -166,7 +196,7 @@ pub fn keeping_survives_a_return()
     ensures nonlocal { (v m : Kept) (x : Ref) → Keeps v m → IsHeld v x → Alike v (nonlocal_out v x) (nonlocal_out m x) }
     ensures refused { (v m : Kept) (x : Ref) → Keeps v m → IsHeld v x → Alike v (cannot_return_out v x) (cannot_return_out m x) }
     ensures unwound { (v m : Kept) (x : Ref) (mark : ℕ) → Keeps v m → IsHeld v x → IsSome (object_at v mark) → Alike v (unwind_out v x mark) (unwind_out m x mark) }
-    ensures whole { (v m : Kept) (r : Run) (x : Ref) (local : Bool) → Keeps v m → TimerHeld v r → IsHeld v x → AlikeResult v (do_return r v x local) (do_return r m x local) }
+    ensures whole { (v m : Kept) (r : Run) (x : Ref) (local : Bool) → Keeps v m → IsHeld v x → AlikeResult v (do_return r v x local) (do_return r m x local) }
 {}
 
 /// Each operation on processes, semaphores and their lists ends alike.
@@ -175,7 +205,7 @@ pub fn keeping_survives_a_switch()
     ensures started { (v m : Kept) (p : Ref) → Keeps v m → IsHeld v p → Alike v (start v p) (start m p) }
     ensures next { (v m : Kept) → Keeps v m → Alike v (start_next v) (start_next m) }
     ensures resumed { (v m : Kept) (p : Ref) → Keeps v m → IsHeld v p → Alike v (resume v p) (resume m p) }
-    ensures signalled { (v m : Kept) (x : Ref) → Keeps v m → IsHeld v x → Alike v (signal v x) (signal m x) }
+    ensures signalled { (v m : Kept) (x : Ref) → Keeps v m → Alike v (signal v x) (signal m x) }
     ensures waited { (v m : Kept) (x : Ref) → Keeps v m → IsHeld v x → Alike v (wait v x) (wait m x) }
     ensures suspended { (v m : Kept) (p : Ref) → Keeps v m → IsHeld v p → Alike v (suspend v p) (suspend m p) }
     ensures yielded { (v m : Kept) → Keeps v m → Alike v (give_way v) (give_way m) }

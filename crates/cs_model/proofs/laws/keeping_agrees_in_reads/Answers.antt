@@ -1,5 +1,5 @@
 -- The law keeping agrees in reads.
-use Rattle.cs_model.proofs.Agreeing.{object_at-kept, object_of-kept, slots_of-kept, special_at-kept, class_of-kept, active_context-kept, method_of-kept, literals_of-kept, bytecodes_of-kept, scheduler_of-kept, active_process-kept, context_get-kept, accepts-kept, can_evaluate-kept, hash_of-kept, lookup-kept, senders_to-kept, home-kept, is_idle-kept, instruction_at-kept}
+use Rattle.cs_model.proofs.Agreeing.{IsRunning-kept, object_at-kept, object_of-kept, slots_of-kept, special_at-kept, class_of-kept, active_context-kept, method_of-kept, literals_of-kept, bytecodes_of-kept, scheduler_of-kept, active_process-kept, context_get-kept, accepts-kept, can_evaluate-kept, hash_of-kept, lookup-kept, senders_to-kept, home-kept, is_idle-kept, instruction_at-kept}
 use Rattle.cs_model.proofs.laws.keeping_agrees_in_reads.Goals as goal
 
 pub returns-clause-object_at : goal.returns-clause-object_at
@@ -61,3 +61,6 @@ returns-clause-is_idle c = is_idle-kept
 
 pub returns-clause-instruction_at : goal.returns-clause-instruction_at
 returns-clause-instruction_at c = instruction_at-kept
+
+pub returns-clause-running : goal.returns-clause-running
+returns-clause-running c = IsRunning-kept

@@ -1,13 +1,18 @@
 use Rattle.std.proofs.Common.{ap, unwrap_or, ◌∙◌, arith}
 use Rattle.cs_classes.specs.Meaning.{count_of}
 use Rattle.cs_plain.proofs.Active.{active_is}
-use Rattle.cs_plain.proofs.Slots.{depth_is_read, fields_within, slot_is, slots_are}
+use Rattle.cs_plain.proofs.Slots.{depth_is_read, depth_within, fields_within, size_is_read, slot_is, slots_are}
 use Rattle.cs_plain.proofs.PlainWorldWorld.depth.Goals as goal
 
 pub slot-requires : goal.slot-requires
 slot-requires c = let a = active_is _ _ c.requires c.active_context.ensures in omega (arith, slots_are c.requires a.1, fields_within c.requires a.1)
 
-pub returns : goal.returns
-returns c =
+pub returns-clause-value : goal.returns-clause-value
+returns-clause-value c =
     let a = active_is _ _ c.requires c.active_context.ensures in
     c.count.ensures ∙ ap (λ n. unwrap_or (count_of n) 0) (c.slot.ensures ∙ slot_is c.requires a.1 2) ∙ depth_is_read c.requires a.1
+
+pub returns-clause-fits : goal.returns-clause-fits
+returns-clause-fits c =
+    let a = active_is _ _ c.requires c.active_context.ensures in
+    omega (arith, returns-clause-value c, depth_within c.requires a.1, size_is_read c.requires a.1)

@@ -14,7 +14,7 @@ use Rattle.cs_plain.proofs.PlainWorldWorld.pop.Goals as goal
 pub count_word-requires : goal.count_word-requires
 count_word-requires c =
     let a = active_is _ _ c.requires.ready c.active_context-context.ensures in
-    omega (arith, c.depth-depth.ensures, depth_within c.requires.ready a.1, few_slots c.requires.ready a.1)
+    omega (arith, c.depth-depth.ensures.value, depth_within c.requires.ready a.1, few_slots c.requires.ready a.1)
 
 pub set_slot-requires : goal.set_slot-requires
 set_slot-requires c =
@@ -22,18 +22,18 @@ set_slot-requires c =
     omega (arith, slots_are c.requires.ready a.1, fields_within c.requires.ready a.1)
 
 pub returns-clause-state : goal.returns-clause-state
-returns-clause-state c m k = (along c.args.self.now _ _ (λ m. drop_of m 1) (c.set_slot.ensures ∙ ap (λ v. record c.args.self.now.heap { objects = with_slot c.args.self.now.heap.objects c.active_context-context.result.0 2 v }) c.count_word.ensures) (writes-pop c.requires.ready (active_is _ _ c.requires.ready c.active_context-context.ensures).1 c.depth-depth.result c.depth-depth.ensures)).state m k
+returns-clause-state c m k = (along c.args.self.now _ _ (λ m. drop_of m 1) (c.set_slot.ensures ∙ ap (λ v. record c.args.self.now.heap { objects = with_slot c.args.self.now.heap.objects c.active_context-context.result.0 2 v }) c.count_word.ensures) (writes-pop c.requires.ready (active_is _ _ c.requires.ready c.active_context-context.ensures).1 c.depth-depth.result c.depth-depth.ensures.value)).state m k
 
 pub returns-clause-ready : goal.returns-clause-ready
-returns-clause-ready c = (along c.args.self.now _ _ (λ m. drop_of m 1) (c.set_slot.ensures ∙ ap (λ v. record c.args.self.now.heap { objects = with_slot c.args.self.now.heap.objects c.active_context-context.result.0 2 v }) c.count_word.ensures) (writes-pop c.requires.ready (active_is _ _ c.requires.ready c.active_context-context.ensures).1 c.depth-depth.result c.depth-depth.ensures)).ready
+returns-clause-ready c = (along c.args.self.now _ _ (λ m. drop_of m 1) (c.set_slot.ensures ∙ ap (λ v. record c.args.self.now.heap { objects = with_slot c.args.self.now.heap.objects c.active_context-context.result.0 2 v }) c.count_word.ensures) (writes-pop c.requires.ready (active_is _ _ c.requires.ready c.active_context-context.ensures).1 c.depth-depth.result c.depth-depth.ensures.value)).ready
 
 pub returns-clause-names : goal.returns-clause-names
-returns-clause-names c = (along c.args.self.now _ _ (λ m. drop_of m 1) (c.set_slot.ensures ∙ ap (λ v. record c.args.self.now.heap { objects = with_slot c.args.self.now.heap.objects c.active_context-context.result.0 2 v }) c.count_word.ensures) (writes-pop c.requires.ready (active_is _ _ c.requires.ready c.active_context-context.ensures).1 c.depth-depth.result c.depth-depth.ensures)).names
+returns-clause-names c = (along c.args.self.now _ _ (λ m. drop_of m 1) (c.set_slot.ensures ∙ ap (λ v. record c.args.self.now.heap { objects = with_slot c.args.self.now.heap.objects c.active_context-context.result.0 2 v }) c.count_word.ensures) (writes-pop c.requires.ready (active_is _ _ c.requires.ready c.active_context-context.ensures).1 c.depth-depth.result c.depth-depth.ensures.value)).names
 
 pub returns-clause-value : goal.returns-clause-value
 returns-clause-value c =
     let named = returns-clause-names c c.stack_at-value.result c.stack_at-value.ensures.sound in
     record {
       sound = named.sound;
-      is = named.is ∙ c.stack_at-value.ensures.is ∙ ap (λ d. unwrap_or (slice_get (stack_of (view_of c.args.self.now)) (d - 1)) (nil_of (view_of c.args.self.now))) c.depth-depth.ensures;
+      is = named.is ∙ c.stack_at-value.ensures.is ∙ ap (λ d. unwrap_or (slice_get (stack_of (view_of c.args.self.now)) (d - 1)) (nil_of (view_of c.args.self.now))) c.depth-depth.ensures.value;
     }

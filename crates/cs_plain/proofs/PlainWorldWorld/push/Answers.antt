@@ -13,22 +13,22 @@ use Rattle.cs_plain.proofs.PlainWorldWorld.push.Goals as goal
 pub overflow_add-depth : goal.overflow_add-depth
 overflow_add-depth c =
     let a = active_is _ _ c.requires.ready c.active_context-context.ensures in
-    omega (arith, c.depth-depth.ensures, depth_within c.requires.ready a.1, few_slots c.requires.ready a.1)
+    omega (arith, c.depth-depth.ensures.value, depth_within c.requires.ready a.1, few_slots c.requires.ready a.1)
 
 pub set_slot-requires : goal.set_slot-requires
 set_slot-requires c =
     let a = active_is _ _ c.requires.ready c.active_context-context.ensures in
-    omega (arith, c.requires.fits, size_is_read c.requires.ready a.1, slots_are c.requires.ready a.1, fields_within c.requires.ready a.1, c.depth-depth.ensures, depth_within c.requires.ready a.1, few_slots c.requires.ready a.1)
+    omega (arith, c.requires.fits, size_is_read c.requires.ready a.1, slots_are c.requires.ready a.1, fields_within c.requires.ready a.1, c.depth-depth.ensures.value, depth_within c.requires.ready a.1, few_slots c.requires.ready a.1)
 
 pub overflow_add-depth-2 : goal.overflow_add-depth-2
 overflow_add-depth-2 c =
     let a = active_is _ _ c.requires.ready c.active_context-context.ensures in
-    omega (arith, c.depth-depth.ensures, depth_within c.requires.ready a.1, few_slots c.requires.ready a.1)
+    omega (arith, c.depth-depth.ensures.value, depth_within c.requires.ready a.1, few_slots c.requires.ready a.1)
 
 pub count_word-requires : goal.count_word-requires
 count_word-requires c =
     let a = active_is _ _ c.requires.ready c.active_context-context.ensures in
-    omega (arith, c.depth-depth.ensures, depth_within c.requires.ready a.1, few_slots c.requires.ready a.1)
+    omega (arith, c.depth-depth.ensures.value, depth_within c.requires.ready a.1, few_slots c.requires.ready a.1)
 
 pub set_slot-requires-2 : goal.set_slot-requires-2
 set_slot-requires-2 c =
@@ -38,10 +38,10 @@ set_slot-requires-2 c =
     subst (λ n. 2 < n) (sym (same ∙ count ∙ slots_are c.requires.ready a.1)) (omega (arith, fields_within c.requires.ready a.1))
 
 pub returns-clause-state : goal.returns-clause-state
-returns-clause-state c m k = (along c.args.self.now _ _ (λ m. push_of m (name_of (stored_of c.args.self.now) c.args.v)) (twice c.args.self.now.heap c.set_slot.new.self c.set_slot-2.new.self _ _ _ _ _ _ c.set_slot.ensures c.set_slot-2.ensures c.count_word.ensures) (writes-push c.requires.ready (active_is _ _ c.requires.ready c.active_context-context.ensures).1 c.args.v c.depth-depth.result c.depth-depth.ensures c.requires.fits c.requires.named)).state m k
+returns-clause-state c m k = (along c.args.self.now _ _ (λ m. push_of m (name_of (stored_of c.args.self.now) c.args.v)) (twice c.args.self.now.heap c.set_slot.new.self c.set_slot-2.new.self _ _ _ _ _ _ c.set_slot.ensures c.set_slot-2.ensures c.count_word.ensures) (writes-push c.requires.ready (active_is _ _ c.requires.ready c.active_context-context.ensures).1 c.args.v c.depth-depth.result c.depth-depth.ensures.value c.requires.fits c.requires.named)).state m k
 
 pub returns-clause-ready : goal.returns-clause-ready
-returns-clause-ready c = (along c.args.self.now _ _ (λ m. push_of m (name_of (stored_of c.args.self.now) c.args.v)) (twice c.args.self.now.heap c.set_slot.new.self c.set_slot-2.new.self _ _ _ _ _ _ c.set_slot.ensures c.set_slot-2.ensures c.count_word.ensures) (writes-push c.requires.ready (active_is _ _ c.requires.ready c.active_context-context.ensures).1 c.args.v c.depth-depth.result c.depth-depth.ensures c.requires.fits c.requires.named)).ready
+returns-clause-ready c = (along c.args.self.now _ _ (λ m. push_of m (name_of (stored_of c.args.self.now) c.args.v)) (twice c.args.self.now.heap c.set_slot.new.self c.set_slot-2.new.self _ _ _ _ _ _ c.set_slot.ensures c.set_slot-2.ensures c.count_word.ensures) (writes-push c.requires.ready (active_is _ _ c.requires.ready c.active_context-context.ensures).1 c.args.v c.depth-depth.result c.depth-depth.ensures.value c.requires.fits c.requires.named)).ready
 
 pub returns-clause-names : goal.returns-clause-names
-returns-clause-names c = (along c.args.self.now _ _ (λ m. push_of m (name_of (stored_of c.args.self.now) c.args.v)) (twice c.args.self.now.heap c.set_slot.new.self c.set_slot-2.new.self _ _ _ _ _ _ c.set_slot.ensures c.set_slot-2.ensures c.count_word.ensures) (writes-push c.requires.ready (active_is _ _ c.requires.ready c.active_context-context.ensures).1 c.args.v c.depth-depth.result c.depth-depth.ensures c.requires.fits c.requires.named)).names
+returns-clause-names c = (along c.args.self.now _ _ (λ m. push_of m (name_of (stored_of c.args.self.now) c.args.v)) (twice c.args.self.now.heap c.set_slot.new.self c.set_slot-2.new.self _ _ _ _ _ _ c.set_slot.ensures c.set_slot-2.ensures c.count_word.ensures) (writes-push c.requires.ready (active_is _ _ c.requires.ready c.active_context-context.ensures).1 c.args.v c.depth-depth.result c.depth-depth.ensures.value c.requires.fits c.requires.named)).names

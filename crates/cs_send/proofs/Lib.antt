@@ -1,0 +1,4 @@
+mod Methods
+mod Lookups
+mod Resolving
+pub mod Sends

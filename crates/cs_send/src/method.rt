@@ -1,0 +1,101 @@
+//! What a send reads of a method: the number of its arguments, and its primitive.
+ghost use Rattle.std.specs.Prelude.{◌≡◌, ◌<◌, ◌≤◌, ◌+◌, ◌*◌, ◌-◌, IsSome, IsTrue, Some};
+ghost use Rattle.cs_heap.specs.Format.{is_method};
+ghost use Rattle.cs_heap.specs.Object.{format_of, is_object, slot_count_of};
+ghost use Rattle.cs_classes.specs.Meaning.{count_of, unused_bytes};
+ghost use Rattle.cs_model.specs.Obj.{argument_count, bytecodes_in, header_in, literal_count, number_in, primitive_number};
+ghost use Rattle.cs_model.specs.State.{object_of};
+ghost use Rattle.cs_acts.specs.Names.{name_of};
+ghost use Rattle.cs_acts.specs.Ready.{IsSound};
+ghost use Rattle.cs_send.specs.Primitive.{number_between};
+ghost use Rattle.cs_send.specs.Resolved.{IsMethodNamed};
+
+use cs_acts::World;
+use cs_heap::Heap;
+use cs_word::{Kind, Oop};
+
+/// The bytecode that a method with a primitive begins with.
+const CALL_PRIMITIVE: u8 = 139;
+
+/// The lowest format of methods, which says that all bytes of their last slot are used; each one more, that one more isn't.
+const METHOD: u32 = 24;
+
+/// How many arguments a method takes: bits 24 to 27 of its header.
+pub(crate) fn argument_count<W: World>(w: &W, method: Oop) -> u32
+    requires sound { IsSound (W.stored w.now) (W.view w.now) }
+    requires method { IsMethodNamed (W.stored w.now) (W.view w.now) method }
+    ensures { result ≡ argument_count (header_in (object_of (W.view w.now) (name_of (W.stored w.now) method))) }
+{
+    header(w, method) / (1 << 24) % (1 << 4)
+}
+
+/// The primitive of a method; None exactly where bit 16 of its header isn't set, or its bytecodes begin with none.
+pub(crate) fn primitive<W: World>(w: &W, method: Oop) -> Option<u32>
+    requires sound { IsSound (W.stored w.now) (W.view w.now) }
+    requires method { IsMethodNamed (W.stored w.now) (W.view w.now) method }
+    ensures { result ≡ primitive_number (header_in (object_of (W.view w.now) (name_of (W.stored w.now) method))) (bytecodes_in (object_of (W.view w.now) (name_of (W.stored w.now) method))) }
+{
+    let header = header(w, method);
+    if header / (1 << 16) % 2 == 1 {
+        first_number(w, method, 4 * (header % (1 << 15) + 1))
+    } else {
+        None
+    }
+}
+
+/// The primitive that the bytecodes of a method begin with. They begin at this byte of it, behind its header and its literals.
+fn first_number<W: World>(w: &W, method: Oop, first: u32) -> Option<u32>
+    requires sound { IsSound (W.stored w.now) (W.view w.now) }
+    requires method { IsMethodNamed (W.stored w.now) (W.view w.now) method }
+    requires first { first ≡ 4 * (literal_count (header_in (object_of (W.view w.now) (name_of (W.stored w.now) method))) + 1) }
+    ensures { result ≡ number_in (bytecodes_in (object_of (W.view w.now) (name_of (W.stored w.now) method))) }
+{
+    let heap = w.heap();
+    number_between(heap, method, first, byte_count(heap, method))
+}
+
+/// The number behind the bytecode 139, the lower byte first, where these three bytes are before the end.
+fn number_between(heap: &Heap, method: Oop, first: u32, end: u32) -> Option<u32>
+    requires first { first < 4294967292 }
+    requires end { end ≤ 4 * slot_count_of heap.now.objects method.0 }
+    ensures { result ≡ number_between heap.now.objects method.0 first end }
+{
+    if first + 3 <= end && heap.byte(method, first) == CALL_PRIMITIVE {
+        let low = u32::from(heap.byte(method, first + 1));
+        let high = u32::from(heap.byte(method, first + 2));
+        Some(low + 256 * high)
+    } else {
+        None
+    }
+}
+
+/// How many bytes a method has, its header and literals included.
+fn byte_count(heap: &Heap, method: Oop) -> u32
+    requires object { IsTrue (is_object heap.now.objects method.0) }
+    requires slots { 0 < slot_count_of heap.now.objects method.0 }
+    requires format { IsTrue (is_method (format_of heap.now.objects method.0)) }
+    ensures { result ≡ 4 * slot_count_of heap.now.objects method.0 - unused_bytes (format_of heap.now.objects method.0) }
+{
+    4 * heap.slot_count(method) - (u32::from(heap.format(method)) - METHOD)
+}
+
+/// The header of a method, which its first slot holds.
+fn header<W: World>(w: &W, method: Oop) -> u32
+    requires sound { IsSound (W.stored w.now) (W.view w.now) }
+    requires method { IsMethodNamed (W.stored w.now) (W.view w.now) method }
+    ensures { result ≡ header_in (object_of (W.view w.now) (name_of (W.stored w.now) method)) }
+{
+    count(w.heap().slot(method, 0))
+}
+
+/// The number that a word is.
+#[tactic(auto, unfolding(cs_classes::specs::Meaning::count_of))]
+fn count(word: Oop) -> u32
+    requires { IsSome (count_of word.0) }
+    ensures { count_of word.0 ≡ Some result }
+{
+    let Kind::Small(number) = word.kind() else {
+        unreachable!();
+    };
+    number as u32
+}
