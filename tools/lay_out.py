@@ -8,8 +8,8 @@ the tests of the program stand on. The product has a builder of its own, in prov
     lay_out.py --rattle TEXT       prints the image as rows of a Rattle constant, for tests
 
 Builder text has one item a line; words stand apart by one space or more, and empty lines and lines
-that begin with `#` are skipped. A reference is a number, `$code`, `nil`, `true`, `false`, `#symbol`,
-`@name`, `@CLASS.dict`, `@CLASS.values` or `@CLASS>>SELECTOR`.
+that begin with `#` are skipped. A reference is a number, `$code`, `nil`, `true`, `false`,
+`#symbol`, `@name`, `@CLASS.dict`, `@CLASS.values` or `@CLASS>>SELECTOR`.
 
     class NAME SUPER FORMAT FIELDS
     object NAME CLASS REF ..
@@ -41,8 +41,9 @@ FIRST_TEXT_CLASS = 52
 # name, class index, format of instances, fields of instances
 CLASSES = [
     ("Object", 32, 0, 0), ("Class", 33, 1, 4), ("UndefinedObject", 34, 0, 0), ("False", 35, 0, 0),
-    ("Context", 36, 3, 6), ("BlockClosure", 37, 3, 3), ("True", 38, 0, 0), ("SmallInteger", 1, 7, 0),
-    ("Character", 2, 7, 0), ("Array", 39, 2, 0), ("ByteString", 40, 16, 0), ("Symbol", 41, 16, 0),
+    ("Context", 36, 3, 6), ("BlockClosure", 37, 3, 3), ("True", 38, 0, 0),
+    ("SmallInteger", 1, 7, 0), ("Character", 2, 7, 0), ("Array", 39, 2, 0),
+    ("ByteString", 40, 16, 0), ("Symbol", 41, 16, 0),
     ("ByteArray", 42, 16, 0), ("CompiledMethod", 43, 24, 0), ("Message", 44, 1, 3),
     ("Process", 45, 1, 4), ("Semaphore", 46, 1, 3), ("LinkedList", 47, 1, 2),
     ("ProcessorScheduler", 48, 1, 2), ("Association", 49, 1, 2), ("MethodDictionary", 50, 3, 2),
@@ -52,8 +53,8 @@ CONTEXT = 36
 READ_AS = {4: 3, 5: 1}  # weak and ephemeron instances are made as what they are read as
 
 SPECIAL_SELECTORS = (
-    r"+ - < > <= >= = ~= * / \\ @ bitShift: // bitAnd: bitOr: at: at:put: size next nextPut: atEnd == "
-    "class blockCopy: value value: do: new new: x y").split()
+    r"+ - < > <= >= = ~= * / \\ @ bitShift: // bitAnd: bitOr: at: at:put: size next nextPut: atEnd "
+    "== class blockCopy: value value: do: new new: x y").split()
 
 SPECIAL_SLOTS = 51
 SPECIAL_CLASSES = {7: "Array", 12: "Point", 15: "Message", 18: "Semaphore"}
@@ -61,7 +62,7 @@ SPECIAL_SYMBOLS = {
     20: "doesNotUnderstand:", 21: "cannotReturn:", 25: "mustBeBoolean",
     48: "aboutToReturn:through:", 50: "attemptToAssign:withIndex:",
 }
-SCHEDULER, SELECTORS = 3, 23  # the special slots of the scheduler's association and of the selectors
+SCHEDULER, SELECTORS = 3, 23  # the special slots of the scheduler and of the selectors
 
 
 class LayoutError(Exception):
@@ -99,6 +100,8 @@ class Small:
 
 
 class Character:
+    """A Character."""
+
     def __init__(self, code):
         self.code = code
 
@@ -157,7 +160,8 @@ class Method(Object):
 
     def __init__(self, header, args, temps, size, has_primitive):
         super().__init__(43, 24, [header])
-        self.args, self.temps, self.stack_size, self.has_primitive = args, temps, size, has_primitive
+        self.args, self.temps, self.stack_size = args, temps, size
+        self.has_primitive = has_primitive
 
     def first_pc(self):
         return 4 * len(self.slots) + 1
@@ -171,8 +175,8 @@ PLAIN = {
     "dup": 136, "thisContext": 137,
 }
 
-# the one-byte form as its first code and how many there are, the two-byte form as its code and kind,
-# and the operation of code 132
+# the one-byte form as its first code and how many there are, the two-byte form as its code and
+# kind, and the operation of code 132
 INDEXED = {
     "pushRcvr": ((0, 16), (128, 0), 2), "pushTemp": ((16, 16), (128, 1), None),
     "pushLit": ((32, 32), (128, 2), 3), "pushLitVar": ((64, 32), (128, 3), 4),
@@ -292,8 +296,9 @@ class Image:
         lists = Object(39, 2, self.lists)
         self.scheduler = Object(48, 1, [lists, self.nil])
         association = Object(49, 1, [self.nil, self.scheduler])
-        self.objects = [self.specials, self.selectors, association, self.scheduler, lists, *self.lists]
-        self.symbols, self.classes, self.named = {}, {}, {}
+        self.objects = [self.specials, self.selectors, association, self.scheduler, lists]
+        self.objects += self.lists
+        self.symbols, self.classes, self.processes, self.named = {}, {}, {}, {}
         self.later = []  # what is done once all names are known: (line, what)
         self.is_active = False
         self.add_classes()
@@ -302,7 +307,8 @@ class Image:
     def add_classes(self):
         for name, index, form, fields in CLASSES:
             above = {"Object": None, "Symbol": "ByteString"}.get(name, "Object")
-            self.add_class(Class(name, index, form, fields, self.classes[above] if above else self.nil))
+            superclass = self.classes[above] if above else self.nil
+            self.add_class(Class(name, index, form, fields, superclass))
 
     def add_class(self, class_):
         self.classes[class_.name] = self.named[class_.name] = class_
@@ -384,7 +390,8 @@ class Image:
         class_ = self.class_named(class_name)
         form, count = class_.instance_form, len(references)
         check(form <= 5 and class_.index != CONTEXT, "no object of this class: " + class_name)
-        check(count == 0 if form == 0 else form == 2 or count >= class_.fields, "the slots don't fit")
+        fits = count == 0 if form == 0 else form == 2 or count >= class_.fields
+        check(fits, "the slots don't fit")
         made = Object(class_.index, READ_AS.get(form, form))
         self.name(name, made)
         self.objects.append(made)
@@ -421,7 +428,8 @@ class Image:
         method.raw = assembler.finish()
         literals = len(method.slots) - 1
         check(literals < 2**15, "too many literals")
-        method.slots[0] = Small(literals | bool(more) << 16 | is_large << 17 | temps << 18 | args << 24)
+        flags = bool(more) << 16 | is_large << 17
+        method.slots[0] = Small(literals | flags | temps << 18 | args << 24)
 
     def read_body_line(self, line, method, assembler, first, rest):
         if first == "lit" and len(rest) == 1:
@@ -441,11 +449,12 @@ class Image:
         context.slots += [self.nil] * method.stack_size
         process = Object(45, 1, [self.nil, context, Small(number(priority, 1, 8)), self.nil])
         self.name(name, process)
+        self.processes[name] = process
         self.objects += [context, process]
 
     def process_named(self, name):
-        check(name in self.named and self.named[name].class_index == 45, "an unknown process: " + name)
-        return self.named[name]
+        check(name in self.processes, "an unknown process: " + name)
+        return self.processes[name]
 
     def read_special(self, line, words):
         k, word = words
@@ -513,9 +522,10 @@ class Image:
         """The bytes of the image: header, heap, and the class table's pages at the heap's end."""
         entries = {class_.index: class_ for class_ in self.classes.values()}
         entries[3] = entries[1]
-        last = max(entries) // PAGE_SLOTS
-        pages = [Object(HIDDEN, 2, [entries.get(PAGE_SLOTS * p + i, self.nil) for i in range(PAGE_SLOTS)])
-                 for p in range(last + 1)]
+        pages = []
+        for first in range(0, max(entries) + 1, PAGE_SLOTS):
+            page = [entries.get(first + i, self.nil) for i in range(PAGE_SLOTS)]
+            pages.append(Object(HIDDEN, 2, page))
         root = Object(HIDDEN, 2, pages + [self.nil] * (ROOT_SLOTS - len(pages)))
         words_object = Object(HIDDEN, 10, raw=bytes(8))
         heap, at = [*self.words, words_object, root, *self.objects, *pages], 0
@@ -554,7 +564,7 @@ ROW_BYTES = 40
 
 
 def rows_of(image):
-    """The image as rows: how many nil words, and the bytes behind them up to the next run of nils."""
+    """The image as rows: how many nil words, and the bytes behind them up to more nils."""
     rows, nils, piece = [], 0, b""
     for at in range(0, len(image), 4):
         word = image[at:at + 4]
