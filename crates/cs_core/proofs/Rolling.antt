@@ -16,7 +16,7 @@ use Rattle.cs_model.specs.End.{End, given, no_count}
 use Rattle.cs_model.specs.End as ends
 use Rattle.cs_model.specs.PrimRun.{Result}
 use Rattle.cs_model.specs.Due.{Happened, due, due_of, happened, is_idle}
-use Rattle.cs_model.specs.Step.{Ending, Steps, Quit, Idle, Stopped, Step, Ran, go_on, one_more, run_by, stops, step, ready, after_due, stop_in, finish, finish_of, completed, ends_with, add_count, shape_fault, birth_limit, idle, bytecode, with_kept}
+use Rattle.cs_model.specs.Step.{saved_fault, Ending, Steps, Quit, Idle, Stopped, Step, Ran, go_on, one_more, run_by, stops, step, ready, after_due, stop_in, finish, finish_of, completed, ends_with, add_count, shape_fault, birth_limit, idle, bytecode, with_kept}
 use Rattle.cs_model.specs.Built.{built_step, is_built, is_built_bytecode}
 use Rattle.cs_model.specs.Report.{no_place, place_of}
 use Rattle.cs_model.proofs.Keeping.{Keeps-trans}
@@ -79,7 +79,7 @@ finish_back s r (ends.Call special args) = completed_back s Steps r (λ reason x
 finish_back s r ends.Answer = completed_back s Steps r (λ reason x. cc)
 finish_back s r ends.Fail = completed_back s Steps r (λ reason x. cc)
 finish_back s r ends.Quit = completed_back s Quit r (λ reason x. cc)
-finish_back s r ends.Snapshot = completed_back s Steps r (λ reason x. cc)
+finish_back s r ends.Snapshot = given_back s (saved_fault r.snapshot) (completed s Steps r) (λ reason. stops s r.out.count reason) (completed_back s Steps r (λ reason x. cc)) (λ a reason x. refl)
 finish_back s r (ends.Stopped why) = λ reason x. refl
 
 ready_back : (s : State) (h : Happened) → Back s (ready s h)
