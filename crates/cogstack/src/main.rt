@@ -1,33 +1,43 @@
-//! The program: a virtual machine for Smalltalk images.
+//! A virtual machine for Smalltalk images: the program.
+//!
+//! It ends with the status that the words behind its name lead to, and with 12 where the system can't
+//! give them, or with 8 where memory for them is refused; then it prints nothing.
 #![tactic(auto)]
+
+ghost use Rattle.std.specs.Prelude.{◌≡◌, ◌≢◌};
+ghost use Rattle.std.specs.IoError.{error_kind};
 
 use cs_cli::cogstack;
 use cs_shelf::{FileShelf, OutSink};
-use std::alloc::AllocError;
+use std::io::ErrorKind;
 use std::process::ExitCode;
+use std::{env, io};
 
-/// The words couldn't be had.
-const NO_WORDS: u8 = 12;
+/// The words behind the program's name.
+fn words(rt: &HostRuntime) -> io::Result<Vec<String>> {
+    let words = env::args(rt)?.skip(1).collect(rt.alloc())?;
+    Ok(words)
+}
 
-/// Memory for the words is refused.
-const NO_MEMORY: u8 = 8;
-
-/// The words behind the program's name; None where the runtime can't give them.
-fn words(rt: &HostRuntime) -> Option<Result<Vec<String>, AllocError>> {
-    let alloc = rt.alloc();
-    match std::env::args(rt) {
-        Ok(args) => Some(args.skip(1).collect(alloc)),
-        Err(_) => None,
+/// The status where the words can't be had.
+fn status_of(error: &io::Error) -> u8
+    ensures memory { error_kind error.now ≡ ErrorKind.OutOfMemory → result ≡ 8 }
+    ensures other { error_kind error.now ≢ ErrorKind.OutOfMemory → result ≡ 12 }
+{
+    match error.kind() {
+        ErrorKind::OutOfMemory => 8,
+        _ => 12,
     }
 }
 
 fn main(rt: HostRuntime) -> ExitCode {
-    let words = match words(&rt) {
-        Some(Ok(words)) => words,
-        Some(Err(_)) => return ExitCode::from(NO_MEMORY),
-        None => return ExitCode::from(NO_WORDS),
+    let status = match words(&rt) {
+        Ok(words) => {
+            let mut shelf = FileShelf::new(&rt);
+            let mut out = OutSink::new(&rt);
+            cogstack(rt.alloc(), words.as_slice(), &mut shelf, &mut out)
+        }
+        Err(error) => status_of(&error),
     };
-    let mut shelf = FileShelf::new(&rt);
-    let mut out = OutSink::new(&rt);
-    ExitCode::from(cogstack(rt.alloc(), words.as_slice(), &mut shelf, &mut out))
+    ExitCode::from(status)
 }

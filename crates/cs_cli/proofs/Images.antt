@@ -1,5 +1,5 @@
 -- Why an image is refused.
-use Rattle.std.proofs.Common.{◌≡◌, ℕ, List, Option, Some, None, IfSome, Err, IsErr, refl, subst}
+use Rattle.std.proofs.Common.{◌≡◌, ℕ, List, Option, Some, None, IfSome, Err, refl, subst}
 use Rattle.cs_model.specs.Image.{fault_of, image_of}
 use Rattle.cs_model.specs.ImageFault.{ImageFault}
 use Rattle.cs_image.specs.Answer.{HasBirthSection, Told}

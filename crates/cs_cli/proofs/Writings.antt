@@ -1,11 +1,10 @@
 -- Texts that are written one behind another, and the answer of a run.
-use Rattle.std.proofs.Common.{◌≡◌, ◌⊎◌, inl, inr, ℕ, ◌+◌, ◌<◌, ◌≤◌, List, ◌++◌, take, length, length-append, Option, Some, None, Result, Ok, Err, OnOk, OnErr, sym, ap, ◌∙◌, subst, arith}
+use Rattle.std.proofs.Common.{◌≡◌, inl, inr, ℕ, ◌+◌, ◌≤◌, List, ◌++◌, take, length, length-append, Option, Some, None, Result, Ok, Err, OnOk, OnErr, sym, ap, ◌∙◌, subst, arith}
 use Rattle.std.proofs.Math.Seq.{take-append-add}
 use Rattle.std.proofs.lemmas.List.{take-append-le}
 use Rattle.cs_shelf.specs.Outside.{Appends, AppendsPart, Rose}
 use Rattle.cs_shelf.proofs.Appending.{appends_then}
 use Rattle.cs_model.specs.Line.{Said}
-use Rattle.cs_model.specs.State.{Kept}
 use Rattle.cs_model.specs.Step.{Ending, Ran}
 use Rattle.cs_model.specs.Report.{Place, line_of, place_of, report_of}
 use Rattle.cs_cli.specs.Answer.{Answer, AnsweredTo, Answered, Printed, Reading, Writing, answering, refused_line, run_answer, run_status}

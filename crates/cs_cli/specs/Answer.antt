@@ -4,7 +4,7 @@ use Rattle.cs_shelf.specs.Outside.{Appends, AppendsPart, Fault, Rose, read_fault
 use Rattle.cs_model.specs.State.{Kept}
 use Rattle.cs_model.specs.Image.{image_of}
 use Rattle.cs_model.specs.Settle.{open_kept}
-use Rattle.cs_model.specs.Line.{Said, line_of}
+use Rattle.cs_model.specs.Line.{Said}
 use Rattle.cs_model.specs.Step as model
 use Rattle.cs_model.specs.Report.{report_of}
 use Rattle.cs_image.specs.Answer.{HasBirthSection}

@@ -1,6 +1,6 @@
 -- How a step begins: what the code has read, and what it has done of the instruction.
-use Rattle.std.proofs.Common.{◌≡◌, ℕ, ◌+◌, ◌-◌, ◌<◌, ◌≤◌, Bool, true, false, refl, sym, ap, ap₂, subst, ◌∙◌, arith, Option, Some, None, List, length, option_map, nat_lt, nat_le, IfSome}
-use Rattle.std.specs.Prelude.{◌&&◌, if◌then◌else◌, slice_get, slice_index}
+use Rattle.std.proofs.Common.{◌≡◌, ℕ, ◌+◌, ◌-◌, ◌<◌, ◌≤◌, Bool, true, false, refl, sym, ap, subst, ◌∙◌, arith, Option, Some, None, List, length, option_map, nat_lt, nat_le, IfSome}
+use Rattle.std.specs.Prelude.{◌&&◌, if◌then◌else◌, slice_index}
 use Rattle.std.proofs.lemmas.Bool.Decides.{nat_tests}
 use Rattle.cs_word.specs.declared.Oop.{Oop}
 use Rattle.cs_classes.specs.declared.Roots.{Roots}
@@ -8,7 +8,7 @@ use Rattle.cs_model.specs.declared.instruction.Instr.{Instr}
 use Rattle.cs_model.specs.declared.instruction.Op.{Op}
 use Rattle.cs_model.specs.Ref.{Ref}
 use Rattle.cs_model.specs.Obj.{Obj, Ptr, Raw, Method, Ctx, bytecodes_in, first_pc, lies_in, literals_in}
-use Rattle.cs_model.specs.State.{IsHeld, Kept}
+use Rattle.cs_model.specs.State.{Kept}
 use Rattle.cs_model.specs.Keeps.{Keeps}
 use Rattle.cs_model.specs.Alike.{Alike, IsHeldIf}
 use Rattle.cs_model.specs.Read.{IsRunning, bytecodes_of, literals_of, method_of, pc_of}
@@ -25,7 +25,7 @@ use Rattle.cs_acts.specs.Names.{IsNamed, Store, name_of}
 use Rattle.cs_acts.specs.Ready.{Holds, IsSound}
 use Rattle.cs_acts.proofs.Held.{named_held}
 use Rattle.cs_code.specs.Built.{built_exec}
-use Rattle.cs_core.proofs.Thin.{Stays, Thin, thin_built, thin_instruction, thin_stays}
+use Rattle.cs_core.proofs.Thin.{Thin, thin_built, thin_instruction, thin_stays}
 use Rattle.cs_core.proofs.Turning.{Begins, effect}
 
 -- ---- births
@@ -58,6 +58,7 @@ fitting bs at i e = go (nat_le (at + len_of (slice_index bs at)) (length bs)) re
   where
     o : Option Op
     o = op_of (slice_index bs at) (slice_index bs (at + 1)) (slice_index bs (at + 2)) (slice_index bs (at + 3))
+
     len_is : (x : Option Op) → option_map (λ (y : Op). let j : Instr = record { op = y; len = len_of (slice_index bs at) } in j) x ≡ Some i → i.len ≡ len_of (slice_index bs at)
     len_is None h = absurd (cc)
     len_is (Some x) h = len_in h
@@ -65,8 +66,10 @@ fitting bs at i e = go (nat_le (at + len_of (slice_index bs at)) (length bs)) re
         len_if : Option Instr → ℕ
         len_if None = 0
         len_if (Some j) = j.len
+
         len_in : Some (let j : Instr = record { op = x; len = len_of (slice_index bs at) } in j) ≡ Some i → i.len ≡ len_of (slice_index bs at)
         len_in t = sym (ap len_if t)
+
     go : (t : Bool) → nat_le (at + len_of (slice_index bs at)) (length bs) ≡ t
         → (if t then option_map (λ (y : Op). let j : Instr = record { op = y; len = len_of (slice_index bs at) } in j) o else None) ≡ Some i → at + i.len ≤ length bs
     go false p q = absurd (cc)

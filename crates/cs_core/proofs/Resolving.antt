@@ -1,5 +1,5 @@
 -- What a send that was resolved comes to in the model.
-use Rattle.std.proofs.Common.{◌≡◌, ℕ, Bool, true, false, refl, sym, ap, subst, ◌∙◌, Option, Some, None}
+use Rattle.std.proofs.Common.{◌≡◌, ℕ, Bool, true, false, refl, ap, subst, ◌∙◌, Option, Some, None}
 use Rattle.std.specs.Prelude.{if◌then◌else◌, ◌==◌, ◌&&◌, nat_lt}
 use Rattle.std.proofs.Common.{arith}
 use Rattle.std.proofs.lemmas.Bool.Decides.{nat_tests}
@@ -16,7 +16,7 @@ use Rattle.cs_model.specs.End.{Out, stop}
 use Rattle.cs_model.specs.Send.{begins_at, look_from, offer, invoke, send_found, send}
 use Rattle.cs_model.specs.PrimRun.{Result}
 use Rattle.cs_model.specs.PrimTable.{prim}
-use Rattle.cs_model.specs.Step.{Message, with_kept, sent, do_send, is_fail, primitive_in, try_primitive, tried, or_enter, arguments_of}
+use Rattle.cs_model.specs.Step.{Message, with_kept, sent, do_send, is_fail, primitive_in, try_primitive, tried, arguments_of}
 use Rattle.cs_model.specs.Built.{answers, is_built_number, is_built_method, is_built_found, is_built_send}
 use Rattle.cs_send.specs.Resolved.{Resolved, Offered, Plain, Missing, Stops, resolve_method, resolve_found, resolve_of}
 use Rattle.cs_send.specs.Resolved as resolved
@@ -45,9 +45,11 @@ stopped_method r k method args reason e = go (argument_count (header_in (object_
   where
     number : Option ℕ
     number = primitive_number (header_in (object_of k method)) (bytecodes_in (object_of k method))
+
     none : (o : Option ℕ) → resolved.tried method o ≡ Stops reason → ⊥
     none None h = cc
     none (Some n) h = cc
+
     go : (b : Bool) → (if b then resolved.tried method number else Stops why.BadArgs) ≡ Stops reason
         → IsStopped (if b then is_built_number number && answers (with_kept k r) args number else true) (sent r (if b then offer k method args number else stop why.BadArgs k)) reason
     go true h = absurd (none number h)
@@ -66,6 +68,7 @@ stopped_send r k m reason e = go (nat_lt m.args (depth_of k)) e
   where
     l : Sought
     l = look_from k m.selector (begins_at k m.args m.above)
+
     go : (b : Bool) → (if b then resolve_found k m.args l else Stops why.StackUnder) ≡ Stops reason
         → IsStopped (if b then is_built_found (with_kept k r) m.args l else true) (sent r (if b then send_found k m.selector m.args l else stop why.StackUnder k)) reason
     go true h = stopped_found r k m.selector m.args l reason h
@@ -88,6 +91,7 @@ unbuilt_send r k m h = go (nat_lt m.args (depth_of k)) (look_from k m.selector (
     method x true None e = refl
     method x true (Some n) e = absurd e
     method x false o e = absurd e
+
     go : (b : Bool) (l : Sought) → IsUnbuilt (if b then resolve_found k m.args l else Stops why.StackUnder)
         → (if b then is_built_found (with_kept k r) m.args l else true) ≡ false
     go true (sought.Method x) e = method x (argument_count (header_in (object_of k x)) == m.args) (primitive_number (header_in (object_of k x)) (bytecodes_in (object_of k x))) e

@@ -286,7 +286,7 @@ append_part old now new xs ys h g =
     let first : take (length xs) (xs ++ ys) ≡ xs = take_at xs ys (length xs) refl in
     let rest : drop (length xs) (xs ++ ys) ≡ ys = drop_at xs ys (length xs) refl in
     let parts : take (length xs + g.0) (xs ++ ys) ≡ xs ++ take g.0 ys =
-      take-add (length xs) g.0 (xs ++ ys) ∙ ap (λ (zs : List ℕ). zs ++ take g.0 (drop (length xs) (xs ++ ys))) first ∙ ap (λ (zs : List ℕ). xs ++ take g.0 zs) rest in
+    take-add (length xs) g.0 (xs ++ ys) ∙ ap (λ (zs : List ℕ). zs ++ take g.0 (drop (length xs) (xs ++ ys))) first ∙ ap (λ (zs : List ℕ). xs ++ take g.0 zs) rest in
     (length xs + g.0, below, subst (λ (zs : List ℕ). Appends old new zs) (sym parts) (appends_then old now new xs (take g.0 ys) h g.2))
 
 pub fails : {k : Kept} {old now new : Option (List ℕ)} {i : ℕ} {s : Store} {v : Kept} (t : Store) (w : Kept) (n : ℕ) → i < n → Stands k old now i s v → StepGives v now new t w how.WriteFault → RunFails k old new n

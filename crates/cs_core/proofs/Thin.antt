@@ -1,15 +1,14 @@
 -- The instructions of the codes that are built: which they are, and that none of them returns.
-use Rattle.std.proofs.Common.{◌≡◌, ◌⊎◌, inl, inr, ℕ, ◌+◌, ◌*◌, ◌<◌, ◌≤◌, Bool, true, false, refl, sym, ap, ap₂, subst, ◌∙◌, arith, Option, Some, None, List, length, option_map, nat_lt, nat_le}
+use Rattle.std.proofs.Common.{◌≡◌, ℕ, ◌+◌, ◌<◌, ◌≤◌, Bool, true, false, refl, sym, ap, subst, arith, Option, Some, None, List, length, option_map, nat_lt, nat_le}
 use Rattle.std.specs.Prelude.{ℤ, pos, ◌-ℤ◌, ◌+ℤ◌, ◌*ℤ◌, ◌-◌, ◌/◌, ◌%◌, if◌then◌else◌, ◌==◌, ◌&&◌, ◌||◌, slice_get, slice_index}
 use Rattle.std.proofs.lemmas.Bool.Decides.{nat_tests}
 use Rattle.std.proofs.lemmas.Grind.{common_steps}
-use Rattle.cs_model.specs.declared.stop.Stop.{Stop}
 use Rattle.cs_model.specs.declared.instruction.Instr.{Instr}
 use Rattle.cs_model.specs.declared.instruction.Op.{Op}
 use Rattle.cs_model.specs.declared.instruction.Op.TheVariants as op
 use Rattle.cs_model.specs.Ref.{Ref}
 use Rattle.cs_model.specs.State.{Kept}
-use Rattle.cs_model.specs.Decode.{variable, constant, extended, jump, send, op_of, decode_at, len_of}
+use Rattle.cs_model.specs.Decode.{variable, constant, jump, send, op_of, decode_at, len_of}
 use Rattle.std.proofs.lemmas.Option.{slice_get-get_or}
 use Rattle.cs_model.specs.declared.stop.Stop.TheVariants as why
 use Rattle.cs_model.specs.Read.{stack_of, depth_of, size_of}
@@ -41,6 +40,7 @@ thin_variable code above below = go (nat_lt code 32) refl
   where
     first : nat_lt code 16 ≡ false
     first = grind arith
+
     go : (t : Bool) → nat_lt code 32 ≡ t → Thin (variable code)
     go true e = let is : variable code ≡ op.PushTemp (code - 16) = rw (first, e) in subst Thin (sym is) (temporary (code - 16))
     go false e =
@@ -139,6 +139,7 @@ thin_instruction bs at i h e = go (nat_le (at + len_of (slice_index bs at)) (len
   where
     o : Option Op
     o = op_of (slice_index bs at) (slice_index bs (at + 1)) (slice_index bs (at + 2)) (slice_index bs (at + 3))
+
     go : (t : Bool) → nat_le (at + len_of (slice_index bs at)) (length bs) ≡ t
         → (if t then option_map (λ (x : Op). let j : Instr = record { op = x; len = len_of (slice_index bs at) } in j) o else None) ≡ Some i → Thin i.op
     go false p q = absurd (cc)

@@ -1,5 +1,5 @@
 -- What the primitives that are built come to, and a send that offers one.
-use Rattle.std.proofs.Common.{◌≡◌, ◌⊎◌, inl, inr, ℕ, ◌+◌, ◌-◌, ◌<◌, Bool, true, false, refl, sym, ap, ap₂, subst, ◌∙◌, Option, Some, None, List, length, [], ◌∷◌, ◌++◌, option_map, option_and_then, nat_lt, arith}
+use Rattle.std.proofs.Common.{◌≡◌, ℕ, ◌-◌, Bool, true, false, refl, sym, ap, ap₂, subst, ◌∙◌, Option, Some, None, List, length, [], ◌++◌, option_and_then, nat_lt, arith}
 use Rattle.std.specs.Prelude.{◌==◌, ◌&&◌, ◌||◌, if◌then◌else◌, not, slice_get, unwrap_or}
 use Rattle.std.proofs.lemmas.List.{append-nil}
 use Rattle.std.proofs.lemmas.Bool.Decides.{nat_tests}
@@ -17,9 +17,8 @@ use Rattle.cs_model.specs.End as ends
 use Rattle.cs_model.specs.End.{out}
 use Rattle.cs_model.specs.PrimAnswer.{answer, argument, fail, receiver}
 use Rattle.cs_model.specs.PrimNumber.{number_prim}
-use Rattle.cs_model.specs.PrimRun.{Result, bytes_to_write, fails, result, write_prim, written}
+use Rattle.cs_model.specs.PrimRun.{Result, bytes_to_write, fails, result, write_prim}
 use Rattle.cs_model.specs.PrimTable.{kept_prim, prim}
-use Rattle.cs_model.specs.Due.{is_idle}
 use Rattle.cs_model.proofs.Same.{option_equal}
 use Rattle.cs_model.proofs.Stepping.{shape_fault_same}
 use Rattle.cs_model.specs.Step.{Message, is_fail, primitive_in, shape_fault, with_kept}
@@ -27,7 +26,7 @@ use Rattle.cs_model.specs.Built.{answers, is_built_number}
 use Rattle.cs_acts.specs.Names.{Store}
 use Rattle.cs_acts.specs.Ready.{IsReady}
 use Rattle.cs_send.specs.Resolved.{Offered, Stops, resolve_of}
-use Rattle.cs_core.specs.Stepped.{CausedByFault, EndsBy, IsAnswer, AnswersIn, Turn, TurnStops, unbuilt, stopped, lost, Turns, TurnGives, run_at, sending, state_at, trying}
+use Rattle.cs_core.specs.Stepped.{CausedByFault, EndsBy, AnswersIn, TurnStops, unbuilt, stopped, lost, Turns, TurnGives, run_at, sending, state_at, trying}
 use Rattle.cs_core.specs.declared.step.StepEnd.{StepEnd}
 use Rattle.cs_core.specs.declared.step.StepEnd.TheVariants.{Active, Idle, Stopped as Stop, WriteFault}
 use Rattle.cs_core.proofs.Resolving.{IsFinal, IsOffered, IsUnbuilt, offered_send, stopped_send, unbuilt_send}
@@ -42,9 +41,12 @@ ends_by : (f : Turns) (v : Kept) (bytes : List ℕ) (old new : Option (List ℕ)
     → EndsBy v e → TurnGives f old new s v e
 ends_by f v bytes old new s Active a ready told same b = (bytes, told, a, ready, b.0, b.1)
 ends_by f v bytes old new s Idle a ready told same b = (bytes, told, a, ready.sound, b.0, b.1)
-ends_by f v bytes old new s (Stop reason) a ready told same b = (same reason refl, λ output steps.
-    let t = a output steps in
-    lost t.built t.end (shape_kept v (f output steps).result.out.state t.state ∙ b))
+ends_by f v bytes old new s (Stop reason) a ready told same b = (
+  same reason refl,
+  λ output steps.
+      let t = a output steps in
+      lost t.built t.end (shape_kept v (f output steps).result.out.state t.state ∙ b),
+)
 ends_by f v bytes old new s WriteFault a ready told same b = absurd b
 
 -- ---- the sum
@@ -128,9 +130,12 @@ write_fails k v bytes old new s WriteFault a by goes told = absurd by
 
 -- where the step stops at its end, nothing is written
 pub write_lost : (k v : Kept) (bytes : List ℕ) (old : Option (List ℕ)) (s : Store) (reason : Reason) → AnswersIn (trying k 900) v bytes → EndsBy v (Stop reason) → TurnGives (trying k 900) old old s v (Stop reason)
-write_lost k v bytes old s reason a by = (refl, λ output steps.
-    let t = a output steps in
-    lost t.built t.end (shape_kept v (trying k 900 output steps).result.out.state t.state ∙ by))
+write_lost k v bytes old s reason a by = (
+  refl,
+  λ output steps.
+      let t = a output steps in
+      lost t.built t.end (shape_kept v (trying k 900 output steps).result.out.state t.state ∙ by),
+)
 
 pub no_write : (k : Kept) (y : Ref) (s : Store) (v : Kept) (old : Option (List ℕ)) → from_top 0 (stack_of k) ≡ Some y → bytes_to_write k y ≡ None → TurnGives (trying k 900) old old s v (Stop why.NotBuilt)
 no_write k y s v old q h = (refl, λ output steps. unbuilt (ap (λ (p : Result). true && not (is_fail p.out.end)) (prim_no_write k y (run_at output steps) q h)) refl)
@@ -164,6 +169,7 @@ offered_gives k m method number old new s v e offer one gives = go e gives
         let o = offered_turn k m method number output steps offer one in
         let f = final_answer (trying k number output steps).result t.end in
         record { built = o.built ∙ t.built; end = o.end f ∙ t.end; state = subst (Keeps v) (sym (o.state f)) t.state; run = o.run f ∙ t.run }
+
     stop : (reason : Reason) (output : List ℕ) (steps : ℕ) → TurnStops (trying k number output steps) reason → TurnStops (sending k m output steps) reason
     stop reason output steps (unbuilt b is) = unbuilt ((offered_turn k m method number output steps offer one).built ∙ b) is
     stop reason output steps (stopped b end) =
@@ -173,6 +179,7 @@ offered_gives k m method number old new s v e offer one gives = go e gives
         let o = offered_turn k m method number output steps offer one in
         let f = final_answer (trying k number output steps).result end in
         lost (o.built ∙ b) (o.end f ∙ end) (ap shape_fault (o.state f) ∙ fault)
+
     go : (e : StepEnd) → TurnGives (trying k number) old new s v e → TurnGives (sending k m) old new s v e
     go Active (bytes, told, a, ready, shape, active) = (bytes, told, over bytes a, ready, shape, active)
     go Idle (bytes, told, a, sound, shape, idle) = (bytes, told, over bytes a, sound, shape, idle)
@@ -193,8 +200,10 @@ fails_else s args number other = go (number == 1) (number == 900) refl refl
   where
     sum : is_fail (prim 1 args s).out.end ≡ true
     sum = sum_fails s args other
+
     write : is_fail (prim 900 args s).out.end ≡ true
     write = write_fails_else s args other
+
     go : (a b : Bool) → (number == 1) ≡ a → (number == 900) ≡ b → ((a || b) && answers s args (Some number)) ≡ false
     go true b p q = let is : number ≡ 1 = grind (arith, nat_tests, p) in ap not (ap (λ n. is_fail (prim n args s).out.end) is ∙ sum)
     go false true p q = let is : number ≡ 900 = grind (arith, nat_tests, q) in ap not (ap (λ n. is_fail (prim n args s).out.end) is ∙ write)
@@ -202,13 +211,19 @@ fails_else s args number other = go (number == 1) (number == 900) refl refl
 
 pub else_gives : (k : Kept) (m : Message) (method : Ref) (number : ℕ) (s : Store) (v : Kept) (old : Option (List ℕ)) → resolve_of k m.selector m.args m.above ≡ Offered method number → (1 == m.args) ≡ false
     → TurnGives (sending k m) old old s v (Stop why.NotBuilt)
-else_gives k m method number s v old offer other = (refl, λ output steps. unbuilt
-    ((offered_send (run_at output steps) k m method number offer).built ∙ fails_else (state_at k output steps) m.args number other) refl)
+else_gives k m method number s v old offer other = (
+  refl,
+  λ output steps. unbuilt
+      ((offered_send (run_at output steps) k m method number offer).built ∙ fails_else (state_at k output steps) m.args number other) refl,
+)
 
 pub stops_gives : (k : Kept) (m : Message) (reason : Reason) (s : Store) (v : Kept) (old : Option (List ℕ)) → resolve_of k m.selector m.args m.above ≡ Stops reason → TurnGives (sending k m) old old s v (Stop reason)
-stops_gives k m reason s v old e = (refl, λ output steps.
-    let d = stopped_send (run_at output steps) k m reason e in
-    stopped d.built d.end)
+stops_gives k m reason s v old e = (
+  refl,
+  λ output steps.
+      let d = stopped_send (run_at output steps) k m reason e in
+      stopped d.built d.end,
+)
 
 pub unbuilt_gives : (k : Kept) (m : Message) (s : Store) (v : Kept) (old : Option (List ℕ)) → IsUnbuilt (resolve_of k m.selector m.args m.above) → TurnGives (sending k m) old old s v (Stop why.NotBuilt)
 unbuilt_gives k m s v old h = (refl, λ output steps. unbuilt (unbuilt_send (run_at output steps) k m h) refl)

@@ -1,5 +1,5 @@
 -- From the parts of a step to the whole step.
-use Rattle.std.proofs.Common.{◌≡◌, ℕ, ◌+◌, ◌-◌, Bool, true, false, refl, sym, ap, ap₂, subst, ◌∙◌, Option, Some, None, List, [], ◌∷◌, ◌++◌, option_map, nat_lt}
+use Rattle.std.proofs.Common.{◌≡◌, ℕ, ◌+◌, ◌-◌, Bool, true, false, refl, sym, ap, ap₂, subst, ◌∙◌, Option, Some, None, List, [], ◌++◌, nat_lt}
 use Rattle.std.specs.Prelude.{◌==◌, if◌then◌else◌, not, slice_get}
 use Rattle.cs_shelf.specs.Outside.{Appends}
 use Rattle.cs_model.specs.declared.stop.Stop.{Stop as Reason}
@@ -30,8 +30,8 @@ use Rattle.cs_model.proofs.Reading.{depth_same, held_if, object_of_same}
 use Rattle.cs_model.proofs.Sending.{begins_at_same, look_from_same}
 use Rattle.cs_model.proofs.Tables.{prim_alike}
 use Rattle.cs_model.proofs.Stepping.{MessageHeld, do_send_alike, shape_fault_same}
-use Rattle.cs_model.specs.Step.{completed, ends_with, finish, Message, Step, Ending, Steps, Stopped, add_count, birth_limit, bytecode, counting, do_send, finish_of, followed, instruction_at, is_fail, message_in, next_step, return_in, shape_fault, step, stops, with_kept}
-use Rattle.cs_model.specs.Built.{answers, built_step, is_built, is_built_found, is_built_method, is_built_number, is_built_at, is_built_byte, is_built_bytecode, is_built_end, is_built_send}
+use Rattle.cs_model.specs.Step.{completed, ends_with, finish, Message, Step, Steps, Stopped, add_count, birth_limit, bytecode, counting, do_send, finish_of, followed, instruction_at, is_fail, next_step, shape_fault, step, stops, with_kept}
+use Rattle.cs_model.specs.Built.{answers, built_step, is_built, is_built_found, is_built_method, is_built_number, is_built_byte, is_built_bytecode, is_built_end, is_built_send}
 use Rattle.cs_acts.specs.Names.{Store}
 use Rattle.cs_acts.specs.Ready.{IsReady}
 use Rattle.cs_core.specs.Stepped.{Completes, EndsBy, IsAnswer, AnswersIn, LeadsTo, LeadsToNone, StepGives, Turn, TurnStops, unbuilt, stopped, lost, Turns, TurnGives, run_at, sending, state_at, step_at}
@@ -201,9 +201,10 @@ leads_to_none : (k : Kept) (i : Instr) (v : Kept) (bytes : List ℕ) → Begins 
 leads_to_none k i v bytes h d shape idle output steps =
     let t = model_turn k i output steps in
     let c = ended_completed (state_at k output steps) t v (run_at (output ++ bytes) steps) (d output steps) shape in
-    let is : (step_at k output steps).state.kept ≡ without_context t.result.out.state = ap (λ (p : Step). p.state.kept) (begun k i output steps h) ∙ c.state in
-    (ap is_idle is ∙ idle_stays t.result.out.state (idle_kept v t.result.out.state (d output steps).state ∙ idle),
-     ap (λ (k : Kept). k.rest.next) is ∙ next_stays t.result.out.state ∙ sym (ap (λ (r : Rest). r.next) (d output steps).state.rest))
+    let is : (step_at k output steps).state.kept ≡ without_context t.result.out.state = ap (λ (p : Step). p.state.kept) (begun k i output steps h) ∙ c.state in (
+      ap is_idle is ∙ idle_stays t.result.out.state (idle_kept v t.result.out.state (d output steps).state ∙ idle),
+      ap (λ (k : Kept). k.rest.next) is ∙ next_stays t.result.out.state ∙ sym (ap (λ (r : Rest). r.next) (d output steps).state.rest),
+    )
 
 stops_by : (k : Kept) (i : Instr) (reason : Reason) → Begins k i → ((output : List ℕ) (steps : ℕ) → (ended (state_at k output steps) (model_turn k i output steps)).ending ≡ Stopped reason)
     → (output : List ℕ) (steps : ℕ) → (step_at k output steps).ending ≡ Stopped reason
@@ -228,6 +229,7 @@ done_gives k i s v old e h end keeps ready by = go e by
           state = subst (λ (p : Result). Keeps v p.out.state) (sym is) keeps;
           run = ap (λ (p : Result). p.run) is ∙ ap (λ o. run_at o steps) (sym (append-nil output));
         }
+
     go : (e : StepEnd) → EndsBy v e → StepGives k old old s v e
     go Active b = ([], nothing_told old, completes k i v [] h done b.0, leads_to k i v [] h done b.0 b.1, ready, b.1)
     go Idle b = ([], nothing_told old, completes k i v [] h done b.0, leads_to_none k i v [] h done b.0 b.1, ready.sound)
@@ -312,10 +314,12 @@ send_gives k i u m old new s v e h end keeps held gives = go e gives
     over bytes a output steps =
         subst (λ t. IsDone t v (run_at (output ++ bytes) steps)) (sym (sends_turn k i m output steps end))
         (answer_over (sending u m output steps) (send_turn k i m output steps) v (run_at (output ++ bytes) steps) (sends_same k i u m output steps keeps held) (a output steps))
+
     stop : (reason : Reason) → ((output : List ℕ) (steps : ℕ) → TurnStops (sending u m output steps) reason) → (output : List ℕ) (steps : ℕ) → (step_at k output steps).ending ≡ Stopped reason
     stop reason f = stops_by k i reason h (λ output steps.
         subst (λ t. (ended (state_at k output steps) t).ending ≡ Stopped reason) (sym (sends_turn k i m output steps end))
         (stop_over (state_at k output steps) (sending u m output steps) (send_turn k i m output steps) reason (sends_same k i u m output steps keeps held) (f output steps)))
+
     go : (e : StepEnd) → TurnGives (sending u m) old new s v e → StepGives k old new s v e
     go Active (bytes, told, a, ready, shape, active) = (bytes, told, completes k i v bytes h (over bytes a) shape, leads_to k i v bytes h (over bytes a) shape active, ready, active)
     go Idle (bytes, told, a, sound, shape, idle) = (bytes, told, completes k i v bytes h (over bytes a) shape, leads_to_none k i v bytes h (over bytes a) shape idle, sound)

@@ -1,5 +1,5 @@
 use Rattle.std.proofs.Common.{subst, sym}
-use Rattle.cs_core.specs.Stepped.{CausedByFault, TurnGives, trying}
+use Rattle.cs_core.specs.Stepped.{TurnGives, trying}
 use Rattle.cs_core.proofs.step.try_primitive.Goals as goal
 
 pub returns-in-1-clause-gives : goal.returns-in-1-clause-gives
