@@ -8,7 +8,7 @@ use Rattle.cs_model.specs.Line.{Said}
 use Rattle.cs_model.specs.Step as model
 use Rattle.cs_model.specs.Report.{report_of}
 use Rattle.cs_image.specs.Answer.{HasBirthSection}
-use Rattle.cs_core.specs.Running.{RunFails, run_of}
+use Rattle.cs_core.specs.Running.{run_of}
 
 -- the words of 4 bytes that the heap of the machine may have
 abbrev pub heap_limit : ℕ
@@ -86,15 +86,9 @@ Printed a out status =
     ((status ≡ a.status) × Appends out.old out.new a.text)
     ⊎ ((status ≡ write_failed) × Rose out.before out.behind × AppendsPart out.old out.new a.text)
 
--- The sink failed while n bytecodes were run from k. It took a first part of what the model writes up to some bytecode of them.
-pub record BreaksOff (k : Kept) (n : ℕ) (out : Writing) (status : ℕ) : Type 0 where
-  pub failed : status ≡ write_failed
-  pub cause : Rose out.before out.behind
-  pub part : RunFails k out.old out.new n
-
 -- n bytecodes from k are run and reported
 abbrev pub Reported : Kept → ℕ → Writing → ℕ → Type 0
-Reported k n out status = Printed (run_answer (run_of k n)) out status ⊎ BreaksOff k n out status
+Reported k n out status = Printed (run_answer (run_of k n)) out status
 
 -- ---- images
 

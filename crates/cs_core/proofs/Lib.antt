@@ -9,4 +9,5 @@ pub mod Places
 pub mod Rolling
 pub mod Turning
 pub mod Trying
+mod Growing
 pub mod Beginning

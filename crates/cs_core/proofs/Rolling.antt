@@ -27,6 +27,7 @@ use Rattle.cs_acts.specs.Ready.{IsReady, IsSound}
 use Rattle.cs_core.specs.declared.step.StepEnd.TheVariants as how
 use Rattle.cs_core.specs.declared.run.Ran.{Ran as Report}
 use Rattle.cs_core.specs.Stepped.{StepGives, run_at, state_at, step_at}
+use Rattle.cs_core.proofs.Growing.{part_of_more, run_writes}
 use Rattle.cs_core.specs.Running.{RunGives, RunFails, run_of, ending_of, ending_at_rest, place_by}
 use Rattle.cs_core.proofs.Places.{idle_place}
 
@@ -293,7 +294,9 @@ pub fails : {k : Kept} {old now new : Option (List ℕ)} {i : ℕ} {s : Store} {
 fails {k = k} {old = old} {now = now} {new = new} {i = i} t w n below h g =
     let f = follows h in
     let output : (run_of k (i + 1)).state.run.output ≡ h.output ++ g.0 = ap (λ (q : Run). q.output) (f.run ∙ (g.2 h.output i).1) in
-    (i, below, subst (λ (bytes : List ℕ). AppendsPart old new bytes) (sym output) (append_part old now new h.output g.0 h.written g.1))
+    let part : AppendsPart old new (run_of k (i + 1)).state.run.output = subst (λ (bytes : List ℕ). AppendsPart old new bytes) (sym output) (append_part old now new h.output g.0 h.written g.1) in
+    let later = run_writes (i + 1) (n - (i + 1)) n (state_at k [] 0) refl (omega (arith, below)) in
+    part_of_more old new (run_of k (i + 1)).state.run.output later.more (run_of k n).state.run.output later.output part
 
 pub finishes : {k : Kept} {old now : Option (List ℕ)} {i : ℕ} {s : Store} {v : Kept} (n : ℕ) (r : Report) → i ≡ n → Stands k old now i s v
     → r.steps ≡ n → place_of v ≡ place_by r.place → ending_of r.ending ≡ Steps → RunGives k old now n r

@@ -1,5 +1,5 @@
 -- What a run gives, beside the run of the model.
-use Rattle.std.specs.Prelude.{◌≡◌, ℕ, ◌+◌, ◌<◌, ◌==◌, nat_lt, if◌then◌else◌, List, [], Option}
+use Rattle.std.specs.Prelude.{◌≡◌, ℕ, ◌==◌, nat_lt, if◌then◌else◌, List, [], Option}
 use Rattle.cs_shelf.specs.Outside.{Appends, AppendsPart}
 use Rattle.cs_model.specs.declared.stop.Stop.TheVariants as why
 use Rattle.cs_model.specs.State.{Kept}
@@ -37,6 +37,6 @@ pub record RunGives (k : Kept) (old new : Option (List ℕ)) (n : ℕ) (r : Ran)
   pub place : place_of (run_of k n).state.kept ≡ place_by r.place
   pub written : Appends old new (run_of k n).state.run.output
 
--- where the sink fails, a first part was written of what the model writes up to some step
+-- where the sink fails, a first part was written of what the model writes in so many steps
 abbrev pub RunFails : Kept → Option (List ℕ) → Option (List ℕ) → ℕ → Type 0
-RunFails k old new n = (i : ℕ) × (i < n) × AppendsPart old new (run_of k (i + 1)).state.run.output
+RunFails k old new n = AppendsPart old new (run_of k n).state.run.output
