@@ -1,4 +1,8 @@
+pub mod Full
+pub mod Layout
 pub mod Names
 pub mod Ready
 pub mod Reading
+pub mod Room
 pub mod Shaped
+pub mod Targets

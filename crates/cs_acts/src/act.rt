@@ -11,3 +11,12 @@ pub enum Act {
     /// None: no context is active, or a sender is nil.
     Gone,
 }
+
+/// Why a world refuses a call.
+#[derive(Clone, Copy, Debug, PartialEq, Eq)]
+pub enum Full {
+    /// The words of all objects and contexts would exceed the heap limit.
+    Heap,
+    /// Every stack page is used, and the new frame does not fit on the active one.
+    Stack,
+}

@@ -10,7 +10,7 @@ mod shape;
 mod words;
 mod world;
 
-pub use act::Act;
+pub use act::{Act, Full};
 pub use cs_classes::{Loaded, Roots};
 pub use shape::{Shape, shape_of};
 pub use world::World;

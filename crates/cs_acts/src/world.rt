@@ -1,16 +1,19 @@
 //! The trait of all worlds.
-ghost use Rattle.std.specs.Prelude.{◌≡◌, ◌<◌, ◌≤◌, ◌-◌, ℕ, true, IsSome, IfSome, Option, Some, slice_get, unwrap_or};
-ghost use Rattle.cs_model.specs.Obj.{lies_in};
-ghost use Rattle.cs_model.specs.State.{Kept, object_of};
-ghost use Rattle.cs_model.specs.Keeps.{Keeps};
-ghost use Rattle.cs_model.specs.Read.{active_context, depth_of, method_of, pc_of, receiver_of, size_of, stack_of};
-ghost use Rattle.cs_model.specs.Operation.{nil_of, pop_of, push_of, set_pc_of, set_stack_of, store_of};
-ghost use Rattle.cs_model.specs.Return.{closure_at};
+ghost use Rattle.std.specs.Prelude.{◌≡◌, ◌<◌, ◌≤◌, ◌-◌, ℕ, true, not, IfErr, IsSome, IsSomeAnd, IfSome, OnOk, Option, None, Some, slice_get, unwrap_or};
+ghost use Rattle.cs_model.specs.Obj.{context_in, lies_in};
+ghost use Rattle.cs_model.specs.State.{Kept, object_at, object_of};
+ghost use Rattle.cs_model.specs.Keeps.{Keeps, SameKept};
+ghost use Rattle.cs_model.specs.Read.{active_birth, active_context, depth_of, method_of, pc_of, receiver_of, size_of, stack_of};
+ghost use Rattle.cs_model.specs.Operation.{enter_of, leave_of, nil_of, pop_of, push_of, set_pc_of, set_stack_of, store_of};
+ghost use Rattle.cs_model.specs.Return.{closure_at, has_room, is_live, sender_birth};
 ghost use Rattle.cs_acts.specs.declared.act.Act.{Act};
+ghost use Rattle.cs_acts.specs.Full.{CausesFull};
+ghost use Rattle.cs_acts.specs.Layout.{IsLaidOut, LaidBy, Layout, entered, left};
 ghost use Rattle.cs_acts.specs.Names.{IsNamed, KeepsNames, Names, Store, name_of};
 ghost use Rattle.cs_acts.specs.Ready.{IsReady, IsSound, is_storable};
+ghost use Rattle.cs_acts.specs.Targets.{CanArrive, CanEnter, method_in};
 
-use crate::Act;
+use crate::{Act, Full};
 use cs_classes::{Classes, Roots};
 use cs_heap::Heap;
 use cs_word::Oop;
@@ -27,6 +30,8 @@ pub trait World {
 
     ghost act: { Self → Act → Option ℕ };
 
+    ghost layout: { Self → Option Layout };
+
     /// The heap, for reading.
     fn heap(&self) -> &Heap
         ensures { result.now ≡ (stored self.now).memory };
@@ -42,7 +47,8 @@ pub trait World {
     /// The active context; Gone exactly where none is active.
     fn active(&self) -> Act
         requires { IsSound (stored self.now) (view self.now) }
-        ensures { act self.now result ≡ (view self.now).rest.active };
+        ensures active { act self.now result ≡ (view self.now).rest.active }
+        ensures laid { IsLaidOut (stored self.now) (view self.now) (layout self.now) };
 
     /// The birth of the context that an act stands for.
     fn act_birth(&self, a: Act) -> u64
@@ -55,6 +61,30 @@ pub trait World {
         requires sound { IsSound (stored self.now) (view self.now) }
         requires stands { IsSome (act self.now a) }
         ensures { IfSome (act self.now a) (λ birth. Names (stored self.now) result (closure_at (view self.now) birth)) };
+
+    /// The method of the context that an act stands for.
+    fn act_method(&self, a: Act) -> Oop
+        requires sound { IsSound (stored self.now) (view self.now) }
+        requires stands { IsSome (act self.now a) }
+        ensures { IfSome (act self.now a) (λ birth. Names (stored self.now) result (method_in (nil_of (view self.now)) (context_in (object_at (view self.now) birth)))) };
+
+    /// Whether the context that an act stands for is live: it has a pc.
+    fn act_live(&self, a: Act) -> bool
+        requires sound { IsSound (stored self.now) (view self.now) }
+        requires stands { IsSome (act self.now a) }
+        ensures { IfSome (act self.now a) (λ birth. result ≡ is_live (view self.now) birth) };
+
+    /// Whether the stack of the context that an act stands for holds as many values as its size.
+    fn act_full(&self, a: Act) -> bool
+        requires sound { IsSound (stored self.now) (view self.now) }
+        requires stands { IsSome (act self.now a) }
+        ensures { IfSome (act self.now a) (λ birth. not result ≡ has_room (context_in (object_at (view self.now) birth))) };
+
+    /// The sender of the context that an act stands for; Gone exactly where that is nil.
+    fn sender_act(&self, a: Act) -> Act
+        requires sound { IsSound (stored self.now) (view self.now) }
+        requires stands { IsSome (act self.now a) }
+        ensures { IfSome (act self.now a) (λ birth. act self.now result ≡ sender_birth (view self.now) birth) };
 
     /// The receiver of the active context.
     fn receiver(&self) -> Oop
@@ -76,6 +106,8 @@ pub trait World {
         requires ready { IsReady (stored self.old) (view self.old) }
         requires lies { lies_in (method_of (view self.old)) pc ≡ true }
         ensures state { (m : Kept) → Keeps (view self.old) m → Keeps (view self.new) (set_pc_of m pc) }
+        ensures exact { layout self.old ≡ None → SameKept (view self.new) (set_pc_of (view self.old) pc) }
+        ensures layout { layout self.new ≡ layout self.old }
         ensures ready { IsReady (stored self.new) (view self.new) }
         ensures names { KeepsNames (stored self.old) (stored self.new) };
 
@@ -102,6 +134,8 @@ pub trait World {
         requires there { i < depth_of (view self.old) }
         requires named { IsNamed (stored self.old) v }
         ensures state { (m : Kept) → Keeps (view self.old) m → Keeps (view self.new) (set_stack_of m i (name_of (stored self.old) v)) }
+        ensures exact { layout self.old ≡ None → SameKept (view self.new) (set_stack_of (view self.old) i (name_of (stored self.old) v)) }
+        ensures layout { layout self.new ≡ layout self.old }
         ensures ready { IsReady (stored self.new) (view self.new) }
         ensures names { KeepsNames (stored self.old) (stored self.new) };
 
@@ -112,6 +146,8 @@ pub trait World {
         requires object { IsNamed (stored self.old) o }
         requires named { IsNamed (stored self.old) v }
         ensures state { (m : Kept) → Keeps (view self.old) m → Keeps (view self.new) (store_of m (name_of (stored self.old) o) i (name_of (stored self.old) v)) }
+        ensures exact { layout self.old ≡ None → SameKept (view self.new) (store_of (view self.old) (name_of (stored self.old) o) i (name_of (stored self.old) v)) }
+        ensures layout { layout self.new ≡ layout self.old }
         ensures ready { IsReady (stored self.new) (view self.new) }
         ensures names { KeepsNames (stored self.old) (stored self.new) };
 
@@ -121,6 +157,8 @@ pub trait World {
         requires fits { depth_of (view self.old) < size_of (view self.old) }
         requires named { IsNamed (stored self.old) v }
         ensures state { (m : Kept) → Keeps (view self.old) m → Keeps (view self.new) (push_of m (name_of (stored self.old) v)) }
+        ensures exact { layout self.old ≡ None → SameKept (view self.new) (push_of (view self.old) (name_of (stored self.old) v)) }
+        ensures layout { layout self.new ≡ layout self.old }
         ensures ready { IsReady (stored self.new) (view self.new) }
         ensures names { KeepsNames (stored self.old) (stored self.new) };
 
@@ -130,6 +168,37 @@ pub trait World {
         requires there { 0 < depth_of (view self.old) }
         ensures value { Names (stored self.new) result (unwrap_or (slice_get (stack_of (view self.old)) (depth_of (view self.old) - 1)) (nil_of (view self.old))) }
         ensures state { (m : Kept) → Keeps (view self.old) m → Keeps (view self.new) (pop_of m) }
+        ensures exact { layout self.old ≡ None → SameKept (view self.new) (pop_of (view self.old)) }
+        ensures layout { layout self.new ≡ layout self.old }
         ensures ready { IsReady (stored self.new) (view self.new) }
         ensures names { KeepsNames (stored self.old) (stored self.new) };
+
+    /// Enters a method: receiver and arguments leave the active stack, and a new context is active, with the old one as its
+    /// sender. It begins at the first pc of the method, or with `skip` behind its three bytes that name a primitive.
+    ///
+    /// A refusal ends the run, so nothing is said of the world behind it.
+    fn enter(&mut self, method: Oop, args: u32, skip: bool) -> Result<(), Full>
+        requires ready { IsReady (stored self.old) (view self.old) }
+        requires named { IsNamed (stored self.old) method }
+        requires fits { CanEnter (view self.old) (name_of (stored self.old) method) args skip }
+        ensures state { OnOk result ((m : Kept) → Keeps (view self.old) m → Keeps (view self.new) (enter_of m (name_of (stored self.old) method) args skip)) }
+        ensures exact { OnOk result (layout self.old ≡ None → SameKept (view self.new) (enter_of (view self.old) (name_of (stored self.old) method) args skip)) }
+        ensures layout { OnOk result (LaidBy (entered (view self.old) (view self.old).rest.next) (layout self.old) (layout self.new)) }
+        ensures ready { OnOk result (IsReady (stored self.new) (view self.new)) }
+        ensures names { OnOk result (KeepsNames (stored self.old) (stored self.new)) }
+        ensures full { IfErr result (CausesFull (stored self.new) (layout self.old) (view self.old) 0 (enter_of (view self.old) (name_of (stored self.old) method) args skip)) };
+
+    /// Returns a value: the active context dies, its sender is active, and the value is pushed there.
+    ///
+    /// A refusal ends the run, so nothing is said of the world behind it.
+    fn leave(&mut self, v: Oop) -> Result<(), Full>
+        requires ready { IsReady (stored self.old) (view self.old) }
+        requires named { IsNamed (stored self.old) v }
+        requires target { IsSomeAnd (sender_birth (view self.old) (active_birth (view self.old))) (CanArrive (view self.old)) }
+        ensures state { OnOk result ((m : Kept) → Keeps (view self.old) m → Keeps (view self.new) (leave_of m (name_of (stored self.old) v))) }
+        ensures exact { OnOk result (layout self.old ≡ None → SameKept (view self.new) (leave_of (view self.old) (name_of (stored self.old) v))) }
+        ensures layout { OnOk result (IfSome (sender_birth (view self.old) (active_birth (view self.old))) (λ target. LaidBy (left target) (layout self.old) (layout self.new))) }
+        ensures ready { OnOk result (IsReady (stored self.new) (view self.new)) }
+        ensures names { OnOk result (KeepsNames (stored self.old) (stored self.new)) }
+        ensures full { IfErr result (CausesFull (stored self.new) (layout self.old) (view self.old) 0 (leave_of (view self.old) (name_of (stored self.old) v))) };
 }

@@ -1,0 +1,27 @@
+-- What entering and leaving an activation ask for.
+use Rattle.std.specs.Prelude.{◌≡◌, ◌≢◌, ℕ, ◌<◌, Bool, true, false, Option, Some, None}
+use Rattle.cs_word.specs.declared.Oop.{Oop}
+use Rattle.cs_model.specs.Ref.{Ref}
+use Rattle.cs_model.specs.Obj.{Context, argument_count, bytecodes_in, context_in, header_in, is_method, primitive_number}
+use Rattle.cs_model.specs.State.{Kept, object_at, object_of}
+use Rattle.cs_model.specs.Read.{active_birth, depth_of}
+use Rattle.cs_model.specs.Return.{has_room, is_live, sender_birth}
+
+-- A reference is a method that takes so many arguments, they are there with the receiver, and with `skip` it has a primitive.
+pub record CanEnter (k : Kept) (x : Ref) (args : ℕ) (skip : Bool) : Type 0 where
+  pub method : is_method (object_of k x) ≡ true
+  pub count : argument_count (header_in (object_of k x)) ≡ args
+  pub there : args < depth_of k
+  pub marked : skip ≡ true → primitive_number (header_in (object_of k x)) (bytecodes_in (object_of k x)) ≢ None
+  pub births : k.rest.next < 4611686018427387904
+
+-- A context that isn't the active one is live and has room for a value.
+pub record CanArrive (k : Kept) (target : ℕ) : Type 0 where
+  pub live : is_live k target ≡ true
+  pub other : target ≢ active_birth k
+  pub room : has_room (context_in (object_at k target)) ≡ true
+
+-- the method of a context
+abbrev pub method_in : Ref → Option Context → Ref
+method_in nil None = nil
+method_in nil (Some c) = c.method
