@@ -169,3 +169,16 @@ context_asked os v = go (is_object os v.0) refl
         let class : class_of os v.0 ≡ x.0.class = ap (λ (y : Option Object). option_map_or (λ (z : Object). z.class) y 0) x.1 in
         ap₂ (λ (b : Bool) (n : ℕ). b && n == context_class) e class ∙ some x.0 (is_context x.0) ∙ ap (λ o. is_some (birth_in o)) (sym x.1)
     go false e = ap (λ b. b && class_of os v.0 == context_class) e ∙ ap (λ o. is_some (birth_in o)) (sym (gone (index_of os v.0) e))
+
+-- the sender of the context, where that is one
+pub sender_read : {w : PlainWorld} {a : Oop} {x : Object} → IsSound (stored_of w) (view_of w) → ContextAt w a x → (v : Oop) → v.0 ≡ slot_of w.heap.objects a.0 0
+    → birth_at w.heap.objects v ≡ sender_birth (view_of w) x.birth
+unfolding context_of
+sender_read {w} {a} {x} sound at v read =
+    let names = word_named sound at v 0 (ref_of w.heap.objects (slice_index x.words 0)) (omega arith) read refl in
+    context_named w v sound names.sound ∙ ap (context_birth (view_of w)) names.is
+    ∙ sym (ap (option_and_then (λ (c : Context). context_birth (view_of w) c.sender)) (context_is sound at))
+
+pub none_asked : (o : Option ℕ) → is_some o ≡ false → ◌≡◌ {A = Option ℕ} None o
+none_asked None e = refl
+none_asked (Some i) e = absurd (cc)

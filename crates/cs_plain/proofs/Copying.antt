@@ -1,5 +1,5 @@
 -- What a copy of slots leaves.
-use Rattle.std.proofs.Common.{◌≡◌, ℕ, zero, suc, ◌+◌, refl, ap, ◌∙◌, List}
+use Rattle.std.proofs.Common.{◌≡◌, ℕ, zero, suc, ◌+◌, refl, ap, ◌∙◌, List, arith}
 use Rattle.cs_heap.specs.Object.{Memory, Object, slot_count_of, slot_of, with_slot}
 use Rattle.cs_heap.proofs.Laws.{slot_count_of-with_slot}
 use Rattle.cs_plain.specs.Storing.{copied}
@@ -15,8 +15,9 @@ count-in g h from at to n b e = ap (λ (m : Memory). slot_count_of m.objects b) 
 
 -- one more is copied
 pub copied-more : (h g k : Memory) (from at to n v : ℕ) → g ≡ record h { objects = copied h.objects from at to n } → v ≡ slot_of g.objects from (at + n)
-    → k ≡ record g { objects = with_slot g.objects to (6 + n) v } → k ≡ record h { objects = copied h.objects from at to (suc n) }
+    → k ≡ record g { objects = with_slot g.objects to (6 + n) v } → k ≡ record h { objects = copied h.objects from at to (n + 1) }
 unfolding copied
 copied-more h g k from at to n v before read stored =
     stored ∙ ap (λ (w : ℕ). record g { objects = with_slot g.objects to (6 + n) w }) read
     ∙ ap (λ (m : Memory). record m { objects = with_slot m.objects to (6 + n) (slot_of m.objects from (at + n)) }) before
+    ∙ ap (λ (j : ℕ). record h { objects = copied h.objects from at to j }) (omega arith)

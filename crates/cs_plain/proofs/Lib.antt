@@ -10,3 +10,4 @@ mod Scheduled
 mod Copying
 mod Words
 mod Acts
+mod Leaving

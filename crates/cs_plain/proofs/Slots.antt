@@ -70,6 +70,10 @@ module _ {w : PlainWorld} {a : Oop} {x : Object} (ready : IsReady (stored_of w) 
   unfolding context_of
   receiver_is_read = ap (λ (c : Context). c.receiver) active.is
 
+  pub sender_is_read : ref_of w.heap.objects (slice_index x.words 0) ≡ (active_context (view_of w)).sender
+  unfolding context_of
+  sender_is_read = ap (λ (c : Context). c.sender) active.is
+
   pub method_is_read : ref_of w.heap.objects (slice_index x.words 3) ≡ (active_context (view_of w)).method
   unfolding context_of
   method_is_read = ap (λ (c : Context). c.method) active.is

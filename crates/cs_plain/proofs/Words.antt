@@ -105,8 +105,14 @@ some_slot format (suc n) h p = inr (omega arith)
 
 -- a slot stands behind the literals of a method where bytes are unused
 code_slot : (unused count long : ℕ) → count + (if nat_lt 0 unused then 1 else 0) < long → (unused ≡ 0) ⊎ (0 < long - (1 + count))
-code_slot zero count long h = inl refl
-code_slot (suc n) count long h = let more : count + 1 < long = h in inr (omega (arith, more))
+code_slot unused count long h = go (nat_lt 0 unused) refl h
+  where
+    none : nat_lt 0 unused ≡ false → unused ≡ 0
+    none e = grind (arith, nat_tests)
+
+    go : (b : Bool) → nat_lt 0 unused ≡ b → count + (if b then 1 else 0) < long → (unused ≡ 0) ⊎ (0 < long - (1 + count))
+    go true e l = inr (omega (arith, l))
+    go false e l = inl (none e)
 
 pub words_of-sound : (os : List Object) (x : Object) → IsSoundObject os x → words_of (obj_of (ref_of os) x) ≡ size (length x.words)
 unfolding context_of

@@ -43,6 +43,15 @@ pub active-same : (os us : List Object) (active : Option Oop) → Edited os us �
 active-same os us None same = refl
 active-same os us (Some a) same = same.births a
 
+pub written_view : (w : PlainWorld) (a : Oop) (x : Object) (us : List Object) (g : Context → Context) → IsReady (stored_of w) (view_of w) → Active w a x
+    → Does w.heap.objects us w.classes w.roots (λ k. edit_object k (ref_of w.heap.objects a.0) (edit_context g))
+    → Edited w.heap.objects us → view_of (with_objects w us) ≡ edit_active (view_of w) g
+written_view w a x us g ready active does same =
+    let os = w.heap.objects in
+    let name : ref_of os a.0 ≡ ref.Obj (active_birth (view_of w)) = ref_of-object os a.0 (is_object-object_at os a.0 x active.there) ∙ ap (λ b. ref.Obj b) (sym active.birth) in
+    ap (kept_of us w.classes w.roots) (active-same os us w.active same) ∙ does.kept (active_in os w.active)
+    ∙ ap (λ r. edit_object (view_of w) r (edit_context g)) name ∙ edit_object-active (view_of w) g ready.running
+
 pub written : (w : PlainWorld) (a : Oop) (x : Object) (us : List Object) (g : Context → Context) (pc : ℕ)
     → IsReady (stored_of w) (view_of w) → Active w a x
     → Does w.heap.objects us w.classes w.roots (λ k. edit_object k (ref_of w.heap.objects a.0) (edit_context g))
@@ -52,11 +61,7 @@ pub written : (w : PlainWorld) (a : Oop) (x : Object) (us : List Object) (g : Co
     → Written w (with_objects w us) g
 unfolding method_of
 written w a x us g pc ready active does same at method lies =
-    let os = w.heap.objects in
-    let name : ref_of os a.0 ≡ ref.Obj (active_birth (view_of w)) = ref_of-object os a.0 (is_object-object_at os a.0 x active.there) ∙ ap (λ b. ref.Obj b) (sym active.birth) in
-    let view : view_of (with_objects w us) ≡ edit_active (view_of w) g =
-    ap (kept_of us w.classes w.roots) (active-same os us w.active same) ∙ does.kept (active_in os w.active)
-    ∙ ap (λ r. edit_object (view_of w) r (edit_context g)) name ∙ edit_object-active (view_of w) g ready.running in
+    let view = written_view w a x us g ready active does same in
     let kept : KeepsPcs (edit_active (view_of w) g) = pcs-edit_active (view_of w) g ready.running ready.sound.pcs (lies_there (g (active_context (view_of w))) at method) in
     record {
       view = view;
