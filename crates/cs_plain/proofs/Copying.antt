@@ -20,4 +20,7 @@ unfolding copied
 copied-more h g k from at to n v before read stored =
     stored ∙ ap (λ (w : ℕ). record g { objects = with_slot g.objects to (6 + n) w }) read
     ∙ ap (λ (m : Memory). record m { objects = with_slot m.objects to (6 + n) (slot_of m.objects from (at + n)) }) before
-    ∙ ap (λ (j : ℕ). record h { objects = copied h.objects from at to j }) (omega arith)
+    ∙ ap (λ (j : ℕ). record h { objects = copied h.objects from at to j }) (later n)
+  where
+    later : (n : ℕ) → suc n ≡ n + 1
+    later n = omega arith

@@ -34,7 +34,7 @@ use Rattle.cs_acts.specs.Targets.{CanArrive}
 use Rattle.cs_plain.specs.declared.PlainWorld.{PlainWorld}
 use Rattle.cs_plain.specs.Storing.{buried}
 use Rattle.cs_plain.specs.View.{active_in, birth_at, stored_of, view_of}
-use Rattle.cs_plain.proofs.Active.{Active, sound_world}
+use Rattle.cs_plain.proofs.Active.{Active, active_is, sound_world}
 use Rattle.cs_plain.proofs.Acts.{context_named}
 use Rattle.cs_plain.proofs.Edits.{Edited, edited}
 use Rattle.cs_plain.proofs.Pcs.{KeepsPcs, pcs-edit_active, pcs-rest, running}
@@ -203,6 +203,15 @@ module _ {w : PlainWorld} {a : Oop} {x : Object} (ready : IsReady (stored_of w) 
 -- the heap that the code has
 pub left_world : (w : PlainWorld) (a sender : Oop) (h : Memory) → h ≡ record w.heap { objects = buried w.heap.objects a.0 } → Left w (with_left w a sender) → Left w (record w { heap = h; active = Some sender })
 left_world w a sender h e done = subst (λ (g : Memory). Left w (record w { heap = g; active = Some sender })) (sym e) done
+
+pub leaving : (w : PlainWorld) (a sender : Oop) (h : Memory) → (ready : IsReady (stored_of w) (view_of w)) → w.active ≡ Some a → sender.0 ≡ slot_of w.heap.objects a.0 0
+    → h ≡ record w.heap { objects = buried w.heap.objects a.0 } → IsSomeAnd (sender_birth (view_of w) (active_birth (view_of w))) (CanArrive (view_of w))
+    → Left w (record w { heap = h; active = Some sender })
+leaving w a sender h ready known read e target = go (sender_birth (view_of w) (active_birth (view_of w))) refl target
+  where
+    go : (o : Option ℕ) → sender_birth (view_of w) (active_birth (view_of w)) ≡ o → IsSomeAnd o (CanArrive (view_of w)) → Left w (record w { heap = h; active = Some sender })
+    go None is t = absurd t
+    go (Some i) is t = left_world w a sender h e (left_at ready (active_is w a ready known).1 sender read i is t)
 
 -- ---- and the value is pushed
 

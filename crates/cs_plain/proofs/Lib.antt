@@ -11,3 +11,5 @@ mod Copying
 mod Words
 mod Acts
 mod Leaving
+mod Framing
+mod Entering

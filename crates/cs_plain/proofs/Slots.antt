@@ -84,7 +84,7 @@ module _ {w : PlainWorld} {a : Oop} {x : Object} (ready : IsReady (stored_of w) 
   pub depth_within : depth_of (view_of w) ≤ length x.words - 6
   depth_within = omega (arith, depth_is_read, whole_active.depth)
 
-  stack_words : stack_of (view_of w) ≡ map (ref_of w.heap.objects) (take (depth_in x.words) (drop 6 x.words))
+  pub stack_words : stack_of (view_of w) ≡ map (ref_of w.heap.objects) (take (depth_in x.words) (drop 6 x.words))
   unfolding context_of
   stack_words = ap (λ (c : Context). c.stack) (sym active.is)
 
