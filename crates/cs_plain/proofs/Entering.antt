@@ -3,7 +3,7 @@ use Rattle.std.proofs.Common.{◌≡◌, ◌≢◌, ℕ, pos, zero, suc, ◌+◌
 use Rattle.std.specs.Prelude.{◌==◌, ◌||◌, ◌&&◌, if◌then◌else◌, slice_get, nat_le, IsTrue}
 use Rattle.std.specs.List.{AllPass}
 use Rattle.std.specs.FinMap.{get}
-use Rattle.std.proofs.lemmas.Bool.{false≢true, or_right}
+use Rattle.std.proofs.lemmas.Bool.{eqb-true, false≢true, or_right}
 use Rattle.std.proofs.lemmas.Bool.Decides.{nat_tests}
 use Rattle.std.proofs.lemmas.List.{append_assoc, drop-map, drop-take, length-append, length-map, length-replicate, map-append, take-replicate}
 use Rattle.std.proofs.lemmas.List.Elements.{All-append, All-cons, All-drop, All-replicate, All-take}
@@ -13,7 +13,7 @@ use Rattle.cs_word.specs.declared.Kind.{Kind}
 use Rattle.cs_word.specs.declared.Kind.TheVariants as kind
 use Rattle.cs_word.specs.Word.{kind_of, small_word}
 use Rattle.cs_heap.specs.Format as format
-use Rattle.cs_heap.specs.Object.{Memory, Object, base, birth_of, is_object, new_object, next_address, object_at, size, used, with_slot}
+use Rattle.cs_heap.specs.Object.{Memory, Object, base, birth_of, header_address, is_object, new_object, next_address, object_at, size, used, with_slot}
 use Rattle.cs_heap.proofs.Laws.{object_at-new, used-pushed}
 use Rattle.cs_classes.specs.declared.Roots.{Roots}
 use Rattle.cs_classes.specs.Meaning.{context_of, count_of, depth_in, header_in, is_context, kept_of, literals_in, obj_of, objects_of, ref_of, ref_of_kind, used_bytes, code_in}
@@ -174,6 +174,11 @@ map_replicate : (f : ℕ → Ref) (n b : ℕ) → map f (replicate n b) ≡ repl
 map_replicate f zero b = refl
 map_replicate f (suc n) b = ap (λ us. f b ∷ us) (map_replicate f n b)
 
+six_named : (p : ℕ → Bool) (a b c d e f : ℕ) (rest : List ℕ) → p a ≡ true → p b ≡ true → p c ≡ true → p d ≡ true → p e ≡ true → p f ≡ true → AllPass p rest → AllPass p (a ∷ b ∷ c ∷ d ∷ e ∷ f ∷ rest)
+six_named p a b c d e f rest ha hb hc hd he hf all =
+    let P : ℕ → Type 0 = λ v. p v ≡ true in
+    All-cons P a (b ∷ c ∷ d ∷ e ∷ f ∷ rest) ha (All-cons P b (c ∷ d ∷ e ∷ f ∷ rest) hb (All-cons P c (d ∷ e ∷ f ∷ rest) hc (All-cons P d (e ∷ f ∷ rest) hd (All-cons P e (f ∷ rest) he (All-cons P f rest hf all)))))
+
 -- the world in which a new context is active
 abbrev pub with_entered : PlainWorld → List Object → Oop → PlainWorld
 with_entered w us new = record w { heap = record w.heap { objects = us }; roots = after_birth w.roots; active = Some new }
@@ -288,8 +293,8 @@ module _ {w : PlainWorld} {a : Oop} {x : Object} (ready : IsReady (stored_of w) 
   words_named : AllPass (is_reference w.heap.objects) new.words
   words_named =
       let P : ℕ → Type 0 = λ v. is_reference w.heap.objects v ≡ true in
-      All-cons P _ _ sender_named (All-cons P _ _ pc_named (All-cons P _ _ stackp_named (All-cons P _ _ method_named (All-cons P _ _ base_named (All-cons P _ _ writes.receiver.sound
-      (All-append P part (replicate (context_size header - args) base) part_named (All-replicate P (context_size header - args) base base_named)))))))
+      six_named (is_reference w.heap.objects) _ _ _ _ _ _ _ sender_named pc_named stackp_named method_named base_named writes.receiver.sound
+      (All-append P part (replicate (context_size header - args) base) part_named (All-replicate P (context_size header - args) base base_named))
 
   -- ---- what it is
 
@@ -363,5 +368,80 @@ module _ {w : PlainWorld} {a : Oop} {x : Object} (ready : IsReady (stored_of w) 
 
   -- ---- the whole
 
+  class_there : is_some (get w.classes 36) ≡ true
+  class_there = let s = stands w.heap.objects a.0 x active.there in
+      subst (λ n. is_some (get w.classes n) ≡ true) (eqb-true x.class 36 active.context) (ready.sound.holds.whole.indices s.0 x s.1.element)
+
   made : Makes old new w.classes w.roots (λ k. Ctx (method_context (view_of w) (name_of (stored_of w) m) args skip (active_context (view_of w))))
-  made = makes old_whole new _ refl ? new_sound (λ active. new_is)
+  made = makes old_whole new _ refl class_there new_sound (λ active. new_is)
+
+  abbrev entered : Kept
+  entered = enter_of (view_of w) (name_of (stored_of w) m) args skip
+
+  kept : kept_of all w.classes (after_birth w.roots) (Some w.roots.next_birth) ≡ entered
+  unfolding add_of put enter_of enter_with drop_of
+  kept =
+      let o : Obj = Ctx (method_context (view_of w) (name_of (stored_of w) m) args skip (active_context (view_of w))) in
+      made.kept (Some w.roots.next_birth)
+      ∙ ap (λ t. add_of (with_rest (activate (Some w.roots.next_birth) t.rest) t) o) dropped.view
+
+  words : used all ≡ used w.heap.objects + size (6 + context_size header)
+  words = used-pushed old new ∙ ap₂ (λ (n l : ℕ). n + size l) edit.words words_long
+
+  -- the words of the state behind it
+  pub entered_words : words_of_state entered ≡ used w.heap.objects + size (6 + context_size header)
+  entered_words = ap words_of_state (sym kept) ∙ words_of-kept all w (after_birth w.roots) (Some w.roots.next_birth) made.whole ∙ words
+
+  dropped_is : view_of (with_objects w old) ≡ drop_of (view_of w) (args + 1)
+  unfolding drop_of
+  dropped_is = dropped.view
+
+  -- the method stays where the old context is written
+  lies_behind : PcLies (drop_of (view_of w) (args + 1)) (method_context (view_of w) (name_of (stored_of w) m) args skip (active_context (view_of w)))
+  unfolding drop_of
+  lies_behind pc e =
+      let is : entry_pc (object_of (view_of w) (name_of (stored_of w) m)) skip ≡ pc = cc in
+      lies_still (view_of w) (active_birth (view_of w)) (Ctx (popped (args + 1) (active_context (view_of w))))
+      (no_place (state.object_at (view_of w) (active_birth (view_of w))) (active_context (view_of w)) (Ctx (popped (args + 1) (active_context (view_of w)))) ready.running.found) (name_of (stored_of w) m) pc
+      (subst (λ n. lies_in (object_of (view_of w) (name_of (stored_of w) m)) n ≡ true) (sym entry_is ∙ is) lies)
+
+  entered_pcs : KeepsPcs entered
+  unfolding enter_of enter_with
+  entered_pcs =
+      let d : Kept = drop_of (view_of w) (args + 1) in
+      let next : ℕ = w.roots.next_birth in
+      let c : Context = method_context (view_of w) (name_of (stored_of w) m) args skip (active_context (view_of w)) in
+      let fresh : state.object_at d next ≡ None =
+      ap (λ t. state.object_at t next) (sym (dropped_is)) ∙ get-objects_of-fresh old next (next_is_fresh old w.classes w.roots old_whole) in
+      pcs-rest (entered).rest (put d next (Ctx c)) (pcs-put d next (Ctx c) (subst KeepsPcs dropped_is dropped.ready.sound.pcs)
+      (λ pc l. absurd (let no : lies_in None pc ≡ true = ap (λ o. lies_in o pc) (sym fresh) ∙ l in cc))
+      (λ e is. subst (PcLies d) (same c e is) (lies_behind)))
+    where
+      same : (c e : Context) → Ctx c ≡ Ctx e → c ≡ e
+      same c e h = cc
+
+  -- ---- the world
+
+  pub entered_view : (v : Oop) → v.0 ≡ next_address w.heap.objects (6 + context_size header) → view_of (with_entered w all v) ≡ entered
+  entered_view v h =
+      let next : v.0 ≡ next_address old (length new.words) = h ∙ ap₂ next_at (sym edit.words) (sym words_long) in
+      let birth : birth_at all v ≡ Some w.roots.next_birth = ap birth_in (object_at-new old new v.0 next) in
+      ap (kept_of all w.classes (after_birth w.roots)) birth ∙ kept
+    where
+      next_at : ℕ → ℕ → ℕ
+      next_at u n = header_address (base + 4 * u) n
+
+  pub entered_names : (v : Oop) → KeepsNames (stored_of w) (stored_of (with_entered w all v))
+  entered_names v = λ o h. record { sound = refers o.0 h; is = refer_is o.0 h }
+
+  pub entered_ready : (v : Oop) → v.0 ≡ next_address w.heap.objects (6 + context_size header) → used w.heap.objects + size (6 + context_size header) ≤ w.heap.limit
+      → IsReady (stored_of (with_entered w all v)) (view_of (with_entered w all v))
+  unfolding enter_of enter_with
+  entered_ready v h room =
+      let view = entered_view v h in
+      let d : Kept = drop_of (view_of w) (args + 1) in
+      let c : Context = method_context (view_of w) (name_of (stored_of w) m) args skip (active_context (view_of w)) in
+      record {
+        sound = sound_world (with_entered w all v) made.whole (omega (arith, words, room)) ready.sound.holds.most (subst KeepsPcs (sym view) entered_pcs);
+        running = subst IsRunning (sym view) (running entered w.roots.next_birth c _ refl (object_at-put_same d w.roots.next_birth (Ctx c)) refl entered_pcs);
+      }

@@ -13,3 +13,4 @@ mod Acts
 mod Leaving
 mod Framing
 mod Entering
+mod Entered
