@@ -1,5 +1,5 @@
 -- What is read of a context by its address.
-use Rattle.std.proofs.Common.{IsSome, IfSome, ◌≡◌, ℕ, ◌-◌, ◌<◌, ◌≤◌, Bool, true, false, refl, sym, ap, ap₂, subst, ◌∙◌, Option, Some, None, is_some, unwrap_or, List, length, option_and_then, arith}
+use Rattle.std.proofs.Common.{IsSome, IfSome, ◌≡◌, ℕ, ◌-◌, ◌<◌, Bool, true, false, refl, sym, ap, ap₂, subst, ◌∙◌, Option, Some, None, is_some, unwrap_or, List, length, option_and_then, arith}
 use Rattle.std.specs.Prelude.{◌==◌, ◌&&◌, if◌then◌else◌, not, nat_le, nat_lt, slice_get, slice_index}
 use Rattle.std.specs.Option.{option_map_or}
 use Rattle.std.proofs.lemmas.List.Elements.{All-get_or}
@@ -9,7 +9,7 @@ use Rattle.cs_word.specs.declared.Kind.{Kind}
 use Rattle.cs_word.specs.declared.Kind.TheVariants as kind
 use Rattle.cs_word.specs.Word.{kind_of}
 use Rattle.cs_heap.specs.Object.{Object, birth_of, class_of, index_of, is_object, object_at, slot_count_of, slot_of}
-use Rattle.cs_classes.specs.Meaning.{context_of, count_of, depth_in, is_context, obj_of, objects_of, ref_of, ref_of_kind}
+use Rattle.cs_classes.specs.Meaning.{context_of, count_of, is_context, obj_of, ref_of, ref_of_kind}
 use Rattle.cs_classes.specs.Sound.{is_reference, is_reference_kind}
 use Rattle.cs_classes.proofs.Contexts.{depth_is}
 use Rattle.cs_classes.proofs.Heaps.{birth_of-object_at, object_there}
@@ -24,7 +24,7 @@ use Rattle.cs_model.specs.State.{Kept, object_of}
 use Rattle.cs_model.specs.Operation.{nil_of}
 use Rattle.cs_model.specs.Return.{closure_at, closure_in, context_birth, has_room, is_live, sender_birth}
 use Rattle.cs_acts.specs.Names.{Names, name_of}
-use Rattle.cs_acts.specs.Reading.{is_context_at, object_named, object_of_kind}
+use Rattle.cs_acts.specs.Reading.{is_context_at, object_of_kind}
 use Rattle.cs_acts.specs.Ready.{IsSound}
 use Rattle.cs_acts.specs.Targets.{method_in}
 use Rattle.cs_acts.proofs.Named.{Nowhere, Place, There, place}
@@ -48,15 +48,18 @@ context_at w a sound some = go (object_at w.heap.objects a.0) refl some
   where
     is : (x : Object) (c : Bool) → is_context x ≡ c → object_at w.heap.objects a.0 ≡ Some x → IsSome (if c then Some x.birth else None) → (x : Object) × ContextAt w a x
     is x false o e s = absurd (cc)
-    is x true o e s = (x, record {
-      there = e;
-      context = o;
-      birth = ap birth_in e ∙ ap (λ c. if c then Some x.birth else None) o;
-      means = meaning_there w a.0 x sound.holds.whole e ∙ ap (λ y. Some y) (obj_of-context (ref_of w.heap.objects) x o);
-      whole = whole_context w.heap.objects x (sound_at w.heap.objects a.0 x sound.holds.whole.heap e) o;
-      count = ap (λ (y : Option Object). option_map_or (λ (z : Object). length z.words) y 0) e;
-      slot = λ i. ap (λ (y : Option Object). option_map_or (λ (z : Object). slice_index z.words i) y 0) e;
-    })
+    is x true o e s = (
+      x,
+      record {
+        there = e;
+        context = o;
+        birth = ap birth_in e ∙ ap (λ c. if c then Some x.birth else None) o;
+        means = meaning_there w a.0 x sound.holds.whole e ∙ ap (λ y. Some y) (obj_of-context (ref_of w.heap.objects) x o);
+        whole = whole_context w.heap.objects x (sound_at w.heap.objects a.0 x sound.holds.whole.heap e) o;
+        count = ap (λ (y : Option Object). option_map_or (λ (z : Object). length z.words) y 0) e;
+        slot = λ i. ap (λ (y : Option Object). option_map_or (λ (z : Object). slice_index z.words i) y 0) e;
+      },
+    )
 
     go : (y : Option Object) → object_at w.heap.objects a.0 ≡ y → IsSome (birth_in y) → (x : Object) × ContextAt w a x
     go None e s = absurd (cc)

@@ -1,5 +1,5 @@
 -- Entering as the code does it: what its calls ask for, and what its writes amount to.
-use Rattle.std.proofs.Common.{◌≡◌, ℕ, pos, ◌+◌, ◌*◌, ◌-◌, ◌<◌, ◌≤◌, Bool, true, false, refl, sym, ap, ap₂, subst, ◌∙◌, Option, Some, None, unwrap_or, List, [], ◌∷◌, ◌++◌, length, arith}
+use Rattle.std.proofs.Common.{◌≡◌, ℕ, pos, ◌+◌, ◌*◌, ◌-◌, ◌<◌, ◌≤◌, Bool, true, refl, sym, ap, ap₂, subst, ◌∙◌, Some, None, unwrap_or, List, [], ◌∷◌, ◌++◌, length, arith}
 use Rattle.std.specs.Prelude.{if◌then◌else◌, slice_get}
 use Rattle.cs_word.specs.declared.Oop.{Oop}
 use Rattle.cs_word.specs.Word.{small_word}
@@ -12,21 +12,20 @@ use Rattle.cs_model.specs.Obj.{argument_count, context_size, literal_count, temp
 use Rattle.cs_model.specs.State.{Kept, object_of}
 use Rattle.cs_model.specs.Keeps.{Keeps}
 use Rattle.cs_model.specs.Read.{depth_of, stack_of}
-use Rattle.cs_model.specs.Operation.{enter_of, nil_of, receiver_below}
+use Rattle.cs_model.specs.Operation.{enter_of, nil_of}
 use Rattle.cs_model.proofs.Operating.{enter_moved}
 use Rattle.cs_acts.specs.Full.{IsFullHeap}
 use Rattle.cs_acts.specs.Names.{IsNamed, KeepsNames, Names, name_of}
 use Rattle.cs_acts.specs.Ready.{IsReady}
-use Rattle.cs_acts.specs.Room.{words_of_state}
 use Rattle.cs_acts.specs.Targets.{CanEnter}
-use Rattle.cs_acts.proofs.Methods.{IsMethodAt, header_is, slots_fit}
+use Rattle.cs_acts.proofs.Methods.{header_is, slots_fit}
 use Rattle.cs_plain.specs.declared.Fields.{Fields}
 use Rattle.cs_plain.specs.declared.PlainWorld.{PlainWorld}
 use Rattle.cs_plain.specs.Storing.{copied, with_fields}
 use Rattle.cs_plain.specs.View.{stored_of, view_of}
 use Rattle.cs_plain.proofs.Active.{Active, active_is}
 use Rattle.cs_plain.proofs.Entering.{Header, IsFields, entered_names, entered_ready, entered_view, entered_words, header_at, method_at, with_entered}
-use Rattle.cs_plain.proofs.Framing.{frame_is, frame_of, frame_words, framed}
+use Rattle.cs_plain.proofs.Framing.{frame_is, frame_words, framed}
 use Rattle.cs_plain.proofs.Slots.{depth_is_read, depth_within, few_slots, fields_within, slots_are}
 use Rattle.cs_plain.proofs.Writing.{held_by}
 

@@ -1,21 +1,19 @@
 -- Entering: a new context is active, with the old one as its sender.
 use Rattle.std.proofs.Common.{◌≡◌, ◌≢◌, ℕ, pos, zero, suc, ◌+◌, ◌*◌, ◌/◌, ◌-◌, ◌%◌, ◌<◌, ◌≤◌, ◌^◌, Bool, true, false, refl, sym, ap, ap₂, subst, ◌∙◌, Option, Some, None, is_some, unwrap_or, List, [], ◌∷◌, ◌++◌, length, map, take, drop, replicate, get_or, length-take, length-drop, arith}
-use Rattle.std.specs.Prelude.{◌==◌, ◌||◌, ◌&&◌, if◌then◌else◌, slice_get, nat_le, IsTrue}
+use Rattle.std.specs.Prelude.{◌==◌, ◌||◌, ◌&&◌, if◌then◌else◌, nat_le, IsTrue}
 use Rattle.std.specs.List.{AllPass}
 use Rattle.std.specs.FinMap.{get}
 use Rattle.std.proofs.lemmas.Bool.{eqb-true, false≢true, or_right}
 use Rattle.std.proofs.lemmas.Bool.Decides.{nat_tests}
-use Rattle.std.proofs.lemmas.List.{append_assoc, drop-map, drop-take, length-append, length-map, length-replicate, map-append, take-replicate}
+use Rattle.std.proofs.lemmas.List.{drop-map, drop-take, length-append, length-map, length-replicate, map-append, take-replicate}
 use Rattle.std.proofs.lemmas.List.Elements.{All-append, All-cons, All-drop, All-replicate, All-take}
 use Rattle.std.proofs.Math.Seq.{take-append-add}
 use Rattle.cs_word.specs.declared.Oop.{Oop}
 use Rattle.cs_word.specs.declared.Kind.{Kind}
 use Rattle.cs_word.specs.declared.Kind.TheVariants as kind
 use Rattle.cs_word.specs.Word.{kind_of, small_word}
-use Rattle.cs_heap.specs.Format as format
-use Rattle.cs_heap.specs.Object.{Memory, Object, base, birth_of, header_address, is_object, new_object, next_address, object_at, size, used, with_slot}
+use Rattle.cs_heap.specs.Object.{Object, base, birth_of, header_address, is_object, new_object, next_address, object_at, size, used, with_slot}
 use Rattle.cs_heap.proofs.Laws.{object_at-new, used-pushed}
-use Rattle.cs_classes.specs.declared.Roots.{Roots}
 use Rattle.cs_classes.specs.Meaning.{context_of, count_of, depth_in, header_in, is_context, kept_of, literals_in, obj_of, objects_of, ref_of, ref_of_kind, used_bytes, code_in}
 use Rattle.cs_classes.specs.Meaning as meaning
 use Rattle.cs_classes.specs.Sound.{IsSoundObject, IsWhole, is_reference, is_reference_kind, nil_of}
@@ -26,19 +24,17 @@ use Rattle.cs_classes.proofs.Refs.{count_of-small, is_reference-object, is_refer
 use Rattle.cs_classes.proofs.Sorts.{AContext, AMethod, Bytes, Pointers, Sort, map_alike, obj_of-bytes, obj_of-context, obj_of-method, obj_of-pointers, sort_of}
 use Rattle.cs_classes.proofs.Sounds.{sound_at}
 use Rattle.cs_classes.proofs.Wholes.{after_birth, next_is_fresh}
-use Rattle.cs_classes.proofs.Writes.{Does, does-pop}
+use Rattle.cs_classes.proofs.Writes.{does-pop}
 use Rattle.cs_model.specs.Ref.{Ref}
 use Rattle.cs_model.specs.Ref as ref
 use Rattle.cs_model.specs.Obj.{Context, Ctx, Method, Obj, Ptr, Raw, argument_count, bytecodes_in, context_size, first_pc, has_primitive, is_header, lies_between, lies_in, literal_count, number_in, popped, primitive_number, temporary_count}
 use Rattle.cs_model.specs.Obj as obj
 use Rattle.cs_model.specs.State as state
 use Rattle.cs_model.specs.State.{Kept, PcLies, object_of, put, with_rest}
-use Rattle.cs_model.specs.Keeps.{Keeps}
 use Rattle.cs_model.specs.Read.{IsRunning, active_birth, active_context, depth_of, stack_of}
 use Rattle.cs_model.specs.Operation.{activate, add_of, drop_of, enter_of, enter_with, entry_pc, last_values, method_context, receiver_below}
 use Rattle.cs_model.specs.Operation as operation
 use Rattle.cs_model.proofs.Objects.{object_at-put_same}
-use Rattle.cs_model.proofs.Operating.{enter_moved}
 use Rattle.cs_acts.specs.Names.{IsNamed, KeepsNames, Names, name_of}
 use Rattle.cs_acts.specs.Ready.{IsReady, IsSound}
 use Rattle.cs_acts.specs.Room.{words_of_state}
@@ -47,16 +43,15 @@ use Rattle.cs_acts.proofs.Methods.{IsMethodAt, length-literals, parts}
 use Rattle.cs_acts.proofs.Sizes.{pc_small}
 use Rattle.cs_plain.specs.declared.Fields.{Fields}
 use Rattle.cs_plain.specs.declared.PlainWorld.{PlainWorld}
-use Rattle.cs_plain.specs.View.{active_in, birth_at, birth_in, stored_of, view_of}
+use Rattle.cs_plain.specs.View.{birth_at, birth_in, stored_of, view_of}
 use Rattle.cs_plain.proofs.Active.{Active, meaning_there, sound_world}
 use Rattle.cs_plain.proofs.Edits.{Edited, edited}
-use Rattle.cs_plain.proofs.Framing.{drop-drop, frame_is, frame_of, frame_words}
+use Rattle.cs_plain.proofs.Framing.{drop-drop, frame_words}
 use Rattle.cs_plain.proofs.Pcs.{KeepsPcs, lies_still, no_place, pcs-put, pcs-rest, running}
-use Rattle.cs_plain.proofs.Slots.{depth_is_read, depth_within, fields_within, few_slots, stack_words, whole_active}
+use Rattle.cs_plain.proofs.Slots.{depth_is_read, stack_words, whole_active}
 use Rattle.cs_plain.proofs.Storing.{kind_address}
 use Rattle.cs_plain.proofs.Words.{words_of-kept}
-use Rattle.cs_plain.proofs.Writing.{held_by}
-use Rattle.cs_plain.proofs.Written.{Written, keeps_names, with_objects, written}
+use Rattle.cs_plain.proofs.Written.{Written, with_objects, written}
 
 -- ---- the method
 

@@ -1,5 +1,5 @@
 -- The heap behind the writes that make a context: one object more at its end, and the words of that object.
-use Rattle.std.proofs.Common.{◌≡◌, ℕ, zero, suc, ◌+◌, ◌-◌, ◌<◌, ◌≤◌, Bool, true, refl, sym, ap, ◌∙◌, Option, Some, List, [], ◌∷◌, ◌++◌, length, take, drop, replicate, get_or, set, length-take, length-drop, arith}
+use Rattle.std.proofs.Common.{◌≡◌, ℕ, zero, suc, ◌+◌, ◌-◌, ◌<◌, ◌≤◌, true, refl, sym, ap, ◌∙◌, Option, Some, List, [], ◌∷◌, ◌++◌, length, take, drop, replicate, get_or, set, length-take, length-drop, arith}
 use Rattle.std.specs.Prelude.{slice_index}
 use Rattle.std.specs.Option.{option_map_or}
 use Rattle.std.proofs.lemmas.List.{append_assoc, drop-replicate, get_or-drop, length-replicate, length-set, set-append_right, take_more}

@@ -1,11 +1,10 @@
 -- Leaving: the active context dies, and its sender is active.
-use Rattle.std.proofs.Common.{◌≡◌, ◌≢◌, ℕ, pos, ◌+◌, ◌-◌, ◌<◌, ◌≤◌, ◌^◌, Bool, true, false, refl, sym, ap, subst, ◌∙◌, Option, Some, None, is_some, unwrap_or, List, [], length, set, option_and_then, arith, IsSomeAnd}
-use Rattle.std.specs.Prelude.{◌==◌, ◌||◌, slice_index, nat_lt, IsTrue}
+use Rattle.std.proofs.Common.{◌≡◌, ℕ, pos, ◌<◌, ◌≤◌, ◌^◌, true, refl, sym, ap, subst, ◌∙◌, Option, Some, None, is_some, unwrap_or, List, [], length, set, option_and_then, arith, IsSomeAnd}
+use Rattle.std.specs.Prelude.{◌==◌, nat_lt}
 use Rattle.std.specs.FinMap.{nat_cmp-IsAntisymmetric, same_map}
 use Rattle.std.specs.Cmp.{nat_cmp_total}
 use Rattle.std.proofs.lemmas.Bool.{eq-eqb, or_left, or_right}
 use Rattle.std.proofs.lemmas.Bool.Decides.{nat_tests}
-use Rattle.std.proofs.lemmas.List.{length-set}
 use Rattle.cs_word.specs.declared.Oop.{Oop}
 use Rattle.cs_word.specs.Word.{small_word}
 use Rattle.cs_heap.specs.Object.{Memory, Object, base, set_word, slot_of, with_object, with_slot}
@@ -16,16 +15,15 @@ use Rattle.cs_classes.proofs.Contexts.{by_six, obj_of-edit_context}
 use Rattle.cs_classes.proofs.Heaps.{IsEdit, set_word-IsEdit, with_object-twice}
 use Rattle.cs_classes.proofs.Makings.{nil_is_object, ref_of-nil}
 use Rattle.cs_classes.proofs.Refs.{count_of-small, is_reference-object, is_reference-small, small_natural}
-use Rattle.cs_classes.proofs.Sounds.{IsContextWrite, sound-set_context}
+use Rattle.cs_classes.proofs.Sounds.{sound-set_context}
 use Rattle.cs_classes.proofs.Writes.{Does, does-edit}
 use Rattle.cs_model.specs.Ref.{Ref, birth_of}
-use Rattle.cs_model.specs.Ref as ref
 use Rattle.cs_model.specs.Obj.{Context, Ctx, Method, Obj, Ptr, Raw, context_in, dead, edit_context}
-use Rattle.cs_model.specs.State.{Kept, object_at, put}
+use Rattle.cs_model.specs.State.{Kept, object_at}
 use Rattle.cs_model.specs.Keeps.{Keeps, SameKept}
 use Rattle.cs_model.specs.Read.{IsRunning, active_birth, active_context, blank, depth_of, size_of}
 use Rattle.cs_model.specs.Return.{context_at, context_birth, has_room, sender_birth}
-use Rattle.cs_model.specs.Operation.{dead_object, edit_active, edit_found, edit_object, kill_of, leave_of, push_of, resume_of}
+use Rattle.cs_model.specs.Operation.{dead_object, edit_found, edit_object, kill_of, leave_of, push_of, resume_of}
 use Rattle.cs_model.proofs.Objects.{object_at-put_other}
 use Rattle.cs_model.proofs.Operating.{leave_moved}
 use Rattle.cs_acts.specs.Names.{IsNamed, KeepsNames, Names, name_of}
@@ -33,13 +31,13 @@ use Rattle.cs_acts.specs.Ready.{IsReady}
 use Rattle.cs_acts.specs.Targets.{CanArrive}
 use Rattle.cs_plain.specs.declared.PlainWorld.{PlainWorld}
 use Rattle.cs_plain.specs.Storing.{buried}
-use Rattle.cs_plain.specs.View.{active_in, birth_at, stored_of, view_of}
+use Rattle.cs_plain.specs.View.{birth_at, stored_of, view_of}
 use Rattle.cs_plain.proofs.Active.{Active, active_is, sound_world}
 use Rattle.cs_plain.proofs.Acts.{context_named}
 use Rattle.cs_plain.proofs.Edits.{Edited, edited}
 use Rattle.cs_plain.proofs.Pcs.{KeepsPcs, pcs-edit_active, pcs-rest, running}
 use Rattle.cs_plain.proofs.Slots.{fields_within, names_slot, sender_is_read, sound_active}
-use Rattle.cs_plain.proofs.Writing.{held_by, same_kept}
+use Rattle.cs_plain.proofs.Writing.{held_by}
 use Rattle.cs_plain.proofs.Written.{keeps_names, with_objects, written_view}
 
 -- ---- a context dies

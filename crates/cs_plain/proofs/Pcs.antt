@@ -1,13 +1,13 @@
 -- The contexts of a state keep their pcs where objects are written or made; and a context that keeps its pc runs.
-use Rattle.std.proofs.Common.{◌≡◌, ◌≢◌, ◌⊎◌, inl, inr, ℕ, ◌+◌, ◌*◌, ◌-◌, true, false, refl, sym, ap, subst, ◌∙◌, Option, Some, None, unwrap_or, List, length}
+use Rattle.std.proofs.Common.{◌≡◌, ◌≢◌, ◌⊎◌, inl, inr, ℕ, ◌+◌, ◌*◌, ◌-◌, true, refl, sym, ap, subst, ◌∙◌, Option, Some, None, unwrap_or, length}
 use Rattle.std.proofs.lemmas.Bool.Decides.{eqb_tells}
 use Rattle.std.proofs.lemmas.List.{length-set}
 use Rattle.cs_model.specs.Ref.{Ref, Small, Char}
 use Rattle.cs_model.specs.Ref as ref
-use Rattle.cs_model.specs.Obj.{Obj, Context, Ptr, Raw, Method, Ctx, context_in, dead, lies_between, lies_in}
+use Rattle.cs_model.specs.Obj.{Obj, Context, Ptr, Raw, Method, Ctx, context_in, lies_between, lies_in}
 use Rattle.cs_model.specs.State.{Kept, PcLies, Rest, object_at, object_of, put, with_rest}
 use Rattle.cs_model.specs.Read.{IsRunning, active_birth, active_context, blank, method_of, pc_of}
-use Rattle.cs_model.specs.Operation.{dead_object, edit_active, edit_found, edit_object, kill_of, store_of, with_slot}
+use Rattle.cs_model.specs.Operation.{edit_active, edit_found, store_of, with_slot}
 use Rattle.cs_model.proofs.Objects.{at_put, object_at-put_other, object_at-put_same}
 
 abbrev pub KeepsPcs : Kept → Type 0

@@ -1,30 +1,27 @@
 -- What the slots of the active context are in the state.
-use Rattle.std.proofs.Common.{IsSome, IfSome, ◌≡◌, ℕ, ◌+◌, ◌-◌, ◌<◌, ◌≤◌, ◌^◌, Bool, true, false, refl, sym, ap, ◌∙◌, Option, Some, None, unwrap_or, List, length, map, take, drop, length-take, length-drop, get_or, option_map, arith}
-use Rattle.std.specs.Prelude.{if◌then◌else◌, ◌==◌, ◌||◌, slice_get, slice_index}
+use Rattle.std.proofs.Common.{◌≡◌, ℕ, ◌+◌, ◌-◌, ◌<◌, ◌≤◌, ◌^◌, true, sym, ap, ◌∙◌, Option, Some, unwrap_or, List, length, map, take, drop, length-take, length-drop, get_or, option_map, arith}
+use Rattle.std.specs.Prelude.{◌==◌, ◌||◌, slice_get, slice_index}
 use Rattle.std.specs.Option.{option_map_or}
 use Rattle.std.proofs.lemmas.List.{get_or-drop, get_or-take}
 use Rattle.std.proofs.lemmas.List.Elements.{All-get_or}
 use Rattle.std.proofs.lemmas.Bool.Decides.{nat_tests}
 use Rattle.std.proofs.lemmas.Option.{slice_get-map, slice_get-get_or}
 use Rattle.cs_word.specs.declared.Oop.{Oop}
-use Rattle.cs_heap.specs.Object.{Object, object_at, slot_count_of, slot_of}
-use Rattle.cs_classes.specs.Meaning.{is_context, context_of, count_of, depth_in, ref_of}
+use Rattle.cs_heap.specs.Object.{Object, slot_count_of, slot_of}
+use Rattle.cs_classes.specs.Meaning.{context_of, count_of, depth_in, ref_of}
 use Rattle.cs_classes.specs.Sound.{IsSoundObject, is_reference}
 use Rattle.cs_classes.proofs.Contexts.{depth_is}
-use Rattle.cs_classes.proofs.Sorts.{obj_of-context}
 use Rattle.cs_classes.proofs.Sounds.{IsWholeContext, sound_at, whole_context}
 use Rattle.cs_model.specs.Ref.{Ref}
-use Rattle.cs_model.specs.Obj.{Context, context_in, lies_in}
+use Rattle.cs_model.specs.Obj.{Context, lies_in}
 use Rattle.cs_model.specs.State.{object_of}
 use Rattle.cs_model.specs.Read.{active_context, depth_of, method_of, pc_of, size_of, stack_of}
 use Rattle.cs_acts.specs.Names.{Names}
-use Rattle.cs_model.specs.Operation.{nil_of}
-use Rattle.cs_model.specs.Return.{closure_at, closure_in}
-use Rattle.cs_acts.specs.Ready.{IsReady, IsSound}
+use Rattle.cs_acts.specs.Ready.{IsReady}
 use Rattle.cs_acts.proofs.Sizes.{pc_small}
 use Rattle.cs_plain.specs.declared.PlainWorld.{PlainWorld}
-use Rattle.cs_plain.specs.View.{birth_at, birth_in, stored_of, view_of}
-use Rattle.cs_plain.proofs.Active.{Active, meaning_there}
+use Rattle.cs_plain.specs.View.{stored_of, view_of}
+use Rattle.cs_plain.proofs.Active.{Active}
 
 slots_at_most : (n : ℕ) → (n == 22 || n == 62) ≡ true → n ≤ 62
 slots_at_most n h = grind (arith, nat_tests)

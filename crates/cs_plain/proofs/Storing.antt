@@ -140,7 +140,7 @@ writes-store w o v i x ready named value s =
       exact = same_kept _ _ view;
       ready = record {
         sound = sound_world (with_objects w us) does.whole (subst (λ n. n ≤ w.heap.limit) (sym edit.words) ready.sound.holds.within) ready.sound.holds.most
-        (subst KeepsPcs (sym view) (pcs-store (view_of w) (name_of (stored_of w) o) i (name_of (stored_of w) v) ready.sound.pcs));
+            (subst KeepsPcs (sym view) (pcs-store (view_of w) (name_of (stored_of w) o) i (name_of (stored_of w) v) ready.sound.pcs));
         running = subst IsRunning (sym (view ∙ put_is)) running;
       };
       names = keeps_names w us edit;

@@ -1,20 +1,19 @@
 -- The words of a state are the words of the heap in which all of it stands.
-use Rattle.std.proofs.Common.{◌≡◌, ◌≢◌, ◌⊎◌, inl, inr, ℕ, zero, suc, ◌+◌, ◌*◌, ◌/◌, ◌-◌, ◌<◌, ◌≤◌, Bool, true, false, cond, refl, sym, ap, ap₂, subst, ◌∙◌, Option, Some, None, List, [], ◌∷◌, length, map, take, drop, length-take, length-drop, arith}
-use Rattle.std.specs.Prelude.{◌==◌, ◌||◌, ◌&&◌, if◌then◌else◌, slice_get, nat_le, nat_lt}
-use Rattle.std.specs.FinMap.{find, get, get-from_entries}
+use Rattle.std.proofs.Common.{◌≡◌, ◌⊎◌, inl, inr, ℕ, zero, suc, ◌+◌, ◌*◌, ◌/◌, ◌-◌, ◌<◌, Bool, true, false, refl, sym, ap, ap₂, subst, ◌∙◌, Option, Some, None, List, [], ◌∷◌, length, drop, length-take, length-drop, arith}
+use Rattle.std.specs.Prelude.{if◌then◌else◌, slice_get, nat_lt}
+use Rattle.std.specs.FinMap.{find, get-from_entries}
 use Rattle.std.specs.Cmp.{nat_cmp_total}
-use Rattle.std.specs.Ordering.{eq_by_cmp, nat_cmp}
+use Rattle.std.specs.Ordering.{nat_cmp}
 use Rattle.std.proofs.lemmas.Bool.{cases_eq}
 use Rattle.std.proofs.lemmas.Bool.Decides.{nat_tests}
 use Rattle.std.proofs.lemmas.List.{length-map}
-use Rattle.cs_heap.specs.Format.{format_allows, is_method, is_pointers}
+use Rattle.cs_heap.specs.Format.{format_allows, is_pointers}
 use Rattle.cs_heap.specs.Object.{Object, size, used}
 use Rattle.cs_heap.proofs.Places.{used-cons}
-use Rattle.cs_model.specs.Ref.{Ref}
 use Rattle.cs_model.specs.Obj.{Obj, literal_count, words_of}
 use Rattle.cs_model.specs.State.{Kept, object_at}
 use Rattle.cs_classes.specs.declared.Roots.{Roots}
-use Rattle.cs_classes.specs.Meaning.{bytes_of, code_in, context_of, header_in, is_context, kept_of, literals_in, obj_of, objects_of, ref_of, unused_bytes, used_bytes}
+use Rattle.cs_classes.specs.Meaning.{bytes_of, code_in, context_of, header_in, kept_of, literals_in, obj_of, objects_of, ref_of, unused_bytes, used_bytes}
 use Rattle.cs_classes.specs.Sound.{IsSoundObject, IsWhole}
 use Rattle.cs_classes.proofs.Objects.{AreApart, IsFresh, entries_by}
 use Rattle.cs_classes.proofs.Sorts.{AContext, AMethod, Bytes, Pointers, Sort, obj_of-bytes, obj_of-context, obj_of-method, obj_of-pointers, sort_of}

@@ -1,4 +1,4 @@
-use Rattle.std.proofs.Common.{◌≡◌, ap, arith, refl, ◌∙◌}
+use Rattle.std.proofs.Common.{ap, arith, refl, ◌∙◌}
 use Rattle.cs_plain.specs.Storing.{copied}
 use Rattle.cs_plain.proofs.Copying.{copied-more, count-in}
 use Rattle.cs_plain.proofs.copy_slots.Goals as goal

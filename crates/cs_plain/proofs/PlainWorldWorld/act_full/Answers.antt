@@ -13,8 +13,11 @@ slot-requires c = field_within c.args.self.now c.in-Context.context 2 c.requires
 
 pub overflow_sub-result : goal.overflow_sub-result
 overflow_sub-result c =
-    omega (arith, c.slot_count.ensures.value,
-    field_within c.args.self.now c.in-Context.context 5 c.requires.sound (subst (λ a. IsSome (act_of c.args.self.now a)) c.in-Context.is c.requires.stands) (omega arith))
+    omega (
+      arith,
+      c.slot_count.ensures.value,
+      field_within c.args.self.now c.in-Context.context 5 c.requires.sound (subst (λ a. IsSome (act_of c.args.self.now a)) c.in-Context.is c.requires.stands) (omega arith),
+    )
 
 pub returns : goal.returns
 returns c =

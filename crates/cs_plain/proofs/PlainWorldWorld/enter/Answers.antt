@@ -1,4 +1,4 @@
-use Rattle.std.proofs.Common.{◌≡◌, ◌+◌, ◌-◌, pos, arith, refl, ◌∙◌}
+use Rattle.std.proofs.Common.{◌+◌, ◌-◌, pos, arith, refl}
 use Rattle.std.proofs.lemmas.Bool.{false≢true}
 use Rattle.cs_word.specs.Word.{small_word}
 use Rattle.cs_heap.specs.Object.{new_object}
@@ -29,33 +29,45 @@ overflow_add-left-3 c = omega (arith, depth_few c.args.self.now c.args.method c.
 
 pub copy_slots-requires-clause-from : goal.copy_slots-requires-clause-from
 copy_slots-requires-clause-from c =
-    omega (arith, args_below c.args.self.now c.args.method c.active_context-sender.result c.args.args c.args.skip c.requires.ready c.requires.named c.requires.fits c.active_context-sender.ensures c.depth-depth.result c.depth-depth.ensures.value c.slot.result.0 c.count-header.result c.slot.ensures c.count-header.ensures,
-    sender_slots c.args.self.now c.args.method c.active_context-sender.result c.args.args c.args.skip c.requires.ready c.requires.named c.requires.fits c.active_context-sender.ensures c.depth-depth.result c.depth-depth.ensures.value c.slot.result.0 c.count-header.result c.slot.ensures c.count-header.ensures,
-    count-old c.args.self.now.heap c.allocate.new.self (new_object 36 3 c.context_slots.result c.args.self.now.roots.next_birth) c.active_context-sender.result.0 c.in-Ok.ensures.added (sender_there c.args.self.now c.args.method c.active_context-sender.result c.args.args c.args.skip c.requires.ready c.requires.named c.requires.fits c.active_context-sender.ensures c.depth-depth.result c.depth-depth.ensures.value c.slot.result.0 c.count-header.result c.slot.ensures c.count-header.ensures),
-    count-fields c.allocate.new.self c.write_fields.new.heap c.in-Ok.context.0 c.active_context-sender.result.0 (record { sender = c.active_context-sender.result; pc = c.count_word.result; stackp = c.count_word-2.result; method = c.args.method; receiver = c.stack_at.result }) c.write_fields.ensures)
+    omega (
+      arith,
+      args_below c.args.self.now c.args.method c.active_context-sender.result c.args.args c.args.skip c.requires.ready c.requires.named c.requires.fits c.active_context-sender.ensures c.depth-depth.result c.depth-depth.ensures.value c.slot.result.0 c.count-header.result c.slot.ensures c.count-header.ensures,
+      sender_slots c.args.self.now c.args.method c.active_context-sender.result c.args.args c.args.skip c.requires.ready c.requires.named c.requires.fits c.active_context-sender.ensures c.depth-depth.result c.depth-depth.ensures.value c.slot.result.0 c.count-header.result c.slot.ensures c.count-header.ensures,
+      count-old c.args.self.now.heap c.allocate.new.self (new_object 36 3 c.context_slots.result c.args.self.now.roots.next_birth) c.active_context-sender.result.0 c.in-Ok.ensures.added (sender_there c.args.self.now c.args.method c.active_context-sender.result c.args.args c.args.skip c.requires.ready c.requires.named c.requires.fits c.active_context-sender.ensures c.depth-depth.result c.depth-depth.ensures.value c.slot.result.0 c.count-header.result c.slot.ensures c.count-header.ensures),
+      count-fields c.allocate.new.self c.write_fields.new.heap c.in-Ok.context.0 c.active_context-sender.result.0 (record { sender = c.active_context-sender.result; pc = c.count_word.result; stackp = c.count_word-2.result; method = c.args.method; receiver = c.stack_at.result }) c.write_fields.ensures,
+    )
 
 pub copy_slots-requires-clause-to : goal.copy_slots-requires-clause-to
 copy_slots-requires-clause-to c =
-    omega (arith, c.context_slots.ensures,
-    args_fit c.args.self.now c.args.method c.active_context-sender.result c.args.args c.args.skip c.requires.ready c.requires.named c.requires.fits c.active_context-sender.ensures c.depth-depth.result c.depth-depth.ensures.value c.slot.result.0 c.count-header.result c.slot.ensures c.count-header.ensures,
-    count-new c.args.self.now.heap c.allocate.new.self c.in-Ok.context.0 36 3 c.context_slots.result c.args.self.now.roots.next_birth c.in-Ok.ensures.added c.in-Ok.ensures.address,
-    count-fields c.allocate.new.self c.write_fields.new.heap c.in-Ok.context.0 c.in-Ok.context.0 (record { sender = c.active_context-sender.result; pc = c.count_word.result; stackp = c.count_word-2.result; method = c.args.method; receiver = c.stack_at.result }) c.write_fields.ensures)
+    omega (
+      arith,
+      c.context_slots.ensures,
+      args_fit c.args.self.now c.args.method c.active_context-sender.result c.args.args c.args.skip c.requires.ready c.requires.named c.requires.fits c.active_context-sender.ensures c.depth-depth.result c.depth-depth.ensures.value c.slot.result.0 c.count-header.result c.slot.ensures c.count-header.ensures,
+      count-new c.args.self.now.heap c.allocate.new.self c.in-Ok.context.0 36 3 c.context_slots.result c.args.self.now.roots.next_birth c.in-Ok.ensures.added c.in-Ok.ensures.address,
+      count-fields c.allocate.new.self c.write_fields.new.heap c.in-Ok.context.0 c.in-Ok.context.0 (record { sender = c.active_context-sender.result; pc = c.count_word.result; stackp = c.count_word-2.result; method = c.args.method; receiver = c.stack_at.result }) c.write_fields.ensures,
+    )
 
 pub copy_slots-requires-clause-few : goal.copy_slots-requires-clause-few
 copy_slots-requires-clause-few c =
-    omega (arith, sender_few c.args.self.now c.args.method c.active_context-sender.result c.args.args c.args.skip c.requires.ready c.requires.named c.requires.fits c.active_context-sender.ensures c.depth-depth.result c.depth-depth.ensures.value c.slot.result.0 c.count-header.result c.slot.ensures c.count-header.ensures,
-    count-old c.args.self.now.heap c.allocate.new.self (new_object 36 3 c.context_slots.result c.args.self.now.roots.next_birth) c.active_context-sender.result.0 c.in-Ok.ensures.added (sender_there c.args.self.now c.args.method c.active_context-sender.result c.args.args c.args.skip c.requires.ready c.requires.named c.requires.fits c.active_context-sender.ensures c.depth-depth.result c.depth-depth.ensures.value c.slot.result.0 c.count-header.result c.slot.ensures c.count-header.ensures),
-    count-fields c.allocate.new.self c.write_fields.new.heap c.in-Ok.context.0 c.active_context-sender.result.0 (record { sender = c.active_context-sender.result; pc = c.count_word.result; stackp = c.count_word-2.result; method = c.args.method; receiver = c.stack_at.result }) c.write_fields.ensures)
+    omega (
+      arith,
+      sender_few c.args.self.now c.args.method c.active_context-sender.result c.args.args c.args.skip c.requires.ready c.requires.named c.requires.fits c.active_context-sender.ensures c.depth-depth.result c.depth-depth.ensures.value c.slot.result.0 c.count-header.result c.slot.ensures c.count-header.ensures,
+      count-old c.args.self.now.heap c.allocate.new.self (new_object 36 3 c.context_slots.result c.args.self.now.roots.next_birth) c.active_context-sender.result.0 c.in-Ok.ensures.added (sender_there c.args.self.now c.args.method c.active_context-sender.result c.args.args c.args.skip c.requires.ready c.requires.named c.requires.fits c.active_context-sender.ensures c.depth-depth.result c.depth-depth.ensures.value c.slot.result.0 c.count-header.result c.slot.ensures c.count-header.ensures),
+      count-fields c.allocate.new.self c.write_fields.new.heap c.in-Ok.context.0 c.active_context-sender.result.0 (record { sender = c.active_context-sender.result; pc = c.count_word.result; stackp = c.count_word-2.result; method = c.args.method; receiver = c.stack_at.result }) c.write_fields.ensures,
+    )
 
 pub count_word-requires-3 : goal.count_word-requires-3
 count_word-requires-3 c = omega (arith, depth_few c.args.self.now c.args.method c.active_context-sender.result c.args.args c.args.skip c.requires.ready c.requires.named c.requires.fits c.active_context-sender.ensures c.depth-depth.result c.depth-depth.ensures.value c.slot.result.0 c.count-header.result c.slot.ensures c.count-header.ensures)
 
 pub set_slot-requires : goal.set_slot-requires
 set_slot-requires c =
-    omega (arith, sender_slots c.args.self.now c.args.method c.active_context-sender.result c.args.args c.args.skip c.requires.ready c.requires.named c.requires.fits c.active_context-sender.ensures c.depth-depth.result c.depth-depth.ensures.value c.slot.result.0 c.count-header.result c.slot.ensures c.count-header.ensures,
-    count-old c.args.self.now.heap c.allocate.new.self (new_object 36 3 c.context_slots.result c.args.self.now.roots.next_birth) c.active_context-sender.result.0 c.in-Ok.ensures.added (sender_there c.args.self.now c.args.method c.active_context-sender.result c.args.args c.args.skip c.requires.ready c.requires.named c.requires.fits c.active_context-sender.ensures c.depth-depth.result c.depth-depth.ensures.value c.slot.result.0 c.count-header.result c.slot.ensures c.count-header.ensures),
-    count-fields c.allocate.new.self c.write_fields.new.heap c.in-Ok.context.0 c.active_context-sender.result.0 (record { sender = c.active_context-sender.result; pc = c.count_word.result; stackp = c.count_word-2.result; method = c.args.method; receiver = c.stack_at.result }) c.write_fields.ensures,
-    count-in c.copy_slots.new.heap c.write_fields.new.heap c.active_context-sender.result.0 (6 + (c.depth-depth.result - (c.args.args + 1)) + 1) c.in-Ok.context.0 c.args.args c.active_context-sender.result.0 c.copy_slots.ensures)
+    omega (
+      arith,
+      sender_slots c.args.self.now c.args.method c.active_context-sender.result c.args.args c.args.skip c.requires.ready c.requires.named c.requires.fits c.active_context-sender.ensures c.depth-depth.result c.depth-depth.ensures.value c.slot.result.0 c.count-header.result c.slot.ensures c.count-header.ensures,
+      count-old c.args.self.now.heap c.allocate.new.self (new_object 36 3 c.context_slots.result c.args.self.now.roots.next_birth) c.active_context-sender.result.0 c.in-Ok.ensures.added (sender_there c.args.self.now c.args.method c.active_context-sender.result c.args.args c.args.skip c.requires.ready c.requires.named c.requires.fits c.active_context-sender.ensures c.depth-depth.result c.depth-depth.ensures.value c.slot.result.0 c.count-header.result c.slot.ensures c.count-header.ensures),
+      count-fields c.allocate.new.self c.write_fields.new.heap c.in-Ok.context.0 c.active_context-sender.result.0 (record { sender = c.active_context-sender.result; pc = c.count_word.result; stackp = c.count_word-2.result; method = c.args.method; receiver = c.stack_at.result }) c.write_fields.ensures,
+      count-in c.copy_slots.new.heap c.write_fields.new.heap c.active_context-sender.result.0 (6 + (c.depth-depth.result - (c.args.args + 1)) + 1) c.in-Ok.context.0 c.args.args c.active_context-sender.result.0 c.copy_slots.ensures,
+    )
 
 pub returns-clause-state : goal.returns-clause-state
 returns-clause-state c m k =

@@ -1,6 +1,6 @@
 use Rattle.std.proofs.Common.{Some, arith, refl}
 use Rattle.cs_plain.proofs.Active.{active_is}
-use Rattle.cs_plain.proofs.Leaving.{left_exact, left_state, left_world, leaving, names_both}
+use Rattle.cs_plain.proofs.Leaving.{left_exact, left_state, leaving, names_both}
 use Rattle.cs_plain.proofs.Slots.{fields_within, slots_are}
 use Rattle.cs_plain.proofs.Writing.{same_kept}
 use Rattle.cs_plain.proofs.PlainWorldWorld.leave.Goals as goal

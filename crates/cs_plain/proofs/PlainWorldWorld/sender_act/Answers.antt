@@ -1,4 +1,4 @@
-use Rattle.std.proofs.Common.{◌≡◌, ℕ, IfSome, IsSome, None, Option, ap, arith, subst, sym, ◌∙◌, is_some}
+use Rattle.std.proofs.Common.{◌≡◌, ℕ, IfSome, IsSome, None, Option, arith, subst, sym, ◌∙◌}
 use Rattle.cs_model.specs.Return.{sender_birth}
 use Rattle.cs_plain.specs.View.{act_of, birth_at, view_of}
 use Rattle.cs_plain.proofs.Acts.{context_asked, context_at, field_within, none_asked, of_birth, sender_read}
