@@ -29,3 +29,4 @@ pub mod Whole
 pub mod Lasting
 pub mod Settling
 pub mod Editing
+pub mod Leading
