@@ -30,3 +30,4 @@ pub mod Lasting
 pub mod Settling
 pub mod Editing
 pub mod Leading
+pub mod LeadCombining
