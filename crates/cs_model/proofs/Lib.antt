@@ -31,3 +31,4 @@ pub mod Settling
 pub mod Editing
 pub mod Leading
 pub mod LeadCombining
+pub mod LeadOperation
