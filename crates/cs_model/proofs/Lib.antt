@@ -32,3 +32,7 @@ pub mod Editing
 pub mod Leading
 pub mod LeadCombining
 pub mod LeadOperation
+pub mod LeadAnswer
+pub mod LeadIdle
+pub mod LeadInstance
+pub mod LeadSwitch
