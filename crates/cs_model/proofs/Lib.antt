@@ -32,3 +32,5 @@ pub mod Editing
 pub mod Leading
 pub mod LeadCombining
 pub mod LeadOperation
+pub mod LeadEntering
+pub mod LeadFields
