@@ -36,3 +36,5 @@ pub mod LeadAnswer
 pub mod LeadIdle
 pub mod LeadInstance
 pub mod LeadSwitch
+pub mod LeadEntering
+pub mod LeadFields
