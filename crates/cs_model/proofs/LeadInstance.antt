@@ -16,7 +16,7 @@ use Rattle.cs_model.proofs.LeadOperation.{context_lies, no_context_lies, with_ha
 
 -- ---- indices
 
-abbrev NotHidden : Index → Type 0
+abbrev pub NotHidden : Index → Type 0
 NotHidden (IndexAt index) = index ≢ 16
 NotHidden NoIndex = Unit {0}
 NotHidden NoneFree = Unit {0}
@@ -48,7 +48,7 @@ by_hash_not_hidden k birth hash hidden =
       some_none : Some i ≡ None → ⊥
       some_none g = cc
 
-class_index_for-not_hidden : (k : Kept) (x : Ref) → get k.rest.classes 16 ≡ None → NotHidden (class_index_for k x)
+pub class_index_for-not_hidden : (k : Kept) (x : Ref) → get k.rest.classes 16 ≡ None → NotHidden (class_index_for k x)
 unfolding class_index_for
 class_index_for-not_hidden k (Small a) hidden = tt
 class_index_for-not_hidden k (Char c) hidden = tt
@@ -93,12 +93,12 @@ take_index_goes {k} n (ref.Obj i) index r h seen =
 
 -- ---- instances
 
-and_true : (a b : Bool) → (a && b) ≡ true → (a ≡ true) × (b ≡ true)
+pub and_true : (a b : Bool) → (a && b) ≡ true → (a ≡ true) × (b ≡ true)
 and_true true true e = (refl, refl)
 and_true true false e = absurd (cc)
 and_true false b e = absurd (cc)
 
-shown_index : (index : ℕ) → nat_lt 3 index ≡ true → index ≢ 16 → is_class_index index ≡ true
+pub shown_index : (index : ℕ) → nat_lt 3 index ≡ true → index ≢ 16 → is_class_index index ≡ true
 shown_index index h seen = grind (arith, nat_tests, h, seen)
 
 if_index : (b : Bool) (o p : Obj) → is_class_index (class_index_in o) ≡ true → is_class_index (class_index_in p) ≡ true → is_class_index (class_index_in (if b then o else p)) ≡ true
@@ -138,7 +138,7 @@ make_with_goes {k} class shape size (IndexAt index) r h seen =
     (new_instance_index (nil_of k) index (shape / 65536) (shape % 65536) size (shown_index index (and_true (nat_lt 3 index) _ e).0 seen))
     (new_instance_lies _ (nil_of k) index (shape / 65536) (shape % 65536) size)))
 
-shape_slots : (k : Kept) (class : Ref) (shape : ℕ) → shape_of k class ≡ Some shape → IsSome (slots_of k 3 class)
+pub shape_slots : (k : Kept) (class : Ref) (shape : ℕ) → shape_of k class ≡ Some shape → IsSome (slots_of k 3 class)
 shape_slots k class shape e = go (slots_of k 3 class) e where
   go : (o : Option (List Ref)) → option_and_then (λ slots. option_and_then (λ x. index_of x) (slice_get slots 2)) o ≡ Some shape → IsSome o
   go None f = absurd (cc)

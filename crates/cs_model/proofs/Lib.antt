@@ -38,3 +38,5 @@ pub mod LeadInstance
 pub mod LeadSwitch
 pub mod LeadEntering
 pub mod LeadFields
+pub mod LeadElement
+pub mod LeadObject
