@@ -75,8 +75,8 @@ runs_settled r = record { idle = λ e p h. absurd (none_active (sym (ap is_some 
 
 pub record Anything (k : Kept) : Type 0 where
 
--- What holds of the state at an end: P where all is done, a context is active where a message or a value is on its way, and what
--- stands at the end of a step.
+-- What holds of the state at an end: P where all is done, a context is active where a message or a value is on its way or a primitive
+-- refuses, and what stands at the end of a step.
 abbrev pub EndFits : (Kept → Type 0) → Kept → End → Type 0
 EndFits P k ends.Done = P k
 EndFits P k (ends.Send selector args above) = Runs k
@@ -85,7 +85,7 @@ EndFits P k ends.Entered = Settled k
 EndFits P k (ends.Primitive method number) = Runs k × HasPrimitive k method
 EndFits P k (ends.Call special args) = Runs k
 EndFits P k ends.Answer = Settled k
-EndFits P k ends.Fail = Unit {0}
+EndFits P k ends.Fail = Runs k
 EndFits P k ends.Quit = Settled k
 EndFits P k ends.Snapshot = Settled k
 EndFits P k (ends.Stopped reason) = Unit {0}
@@ -111,8 +111,8 @@ stop_leading s reason = record { leads = leads_itself s; fits = tt }
 pub stop_behind : {P : Kept → Type 0} {k t : Kept} → Leads k t → (reason : Stop) → Leading P k (stop reason t)
 stop_behind l reason = record { leads = l; fits = tt }
 
-pub fail_leading : {P : Kept → Type 0} {k : Kept} → Sound k → Leading P k (out ends.Fail k)
-fail_leading s = record { leads = leads_itself s; fits = tt }
+pub fail_leading : {P : Kept → Type 0} {k : Kept} → Ready k → Leading P k (out ends.Fail k)
+fail_leading r = record { leads = leads_itself r.sound; fits = r.runs }
 
 pub behind : {P : Kept → Type 0} {k t : Kept} {o : Out} → Leads k t → Leading P t o → Leading P k o
 behind l h = record { leads = leads_trans l h.leads; fits = h.fits }

@@ -34,3 +34,8 @@ pub mod LeadCombining
 pub mod LeadOperation
 pub mod LeadEntering
 pub mod LeadFields
+pub mod LeadAnswer
+pub mod LeadIdle
+pub mod LeadInstance
+pub mod LeadSwitch
+pub mod LeadExecuting
