@@ -39,3 +39,5 @@ pub mod LeadIdle
 pub mod LeadInstance
 pub mod LeadSwitch
 pub mod LeadExecuting
+pub mod LeadSending
+pub mod LeadReturning
