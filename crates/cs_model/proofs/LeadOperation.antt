@@ -68,7 +68,7 @@ pub record Mild (f : Obj → Obj) (o : Obj) : Type 0 where
   pub pc : pc_in (Some (f o)) ≡ pc_in (Some o)
   pub lies : (k : Kept) → PcsLie k o → PcsLie k (f o)
 
-mild_itself : (f : Obj → Obj) (o : Obj) → f o ≡ o → Mild f o
+pub mild_itself : (f : Obj → Obj) (o : Obj) → f o ≡ o → Mild f o
 mild_itself f o e = record {
   like = subst (λ p. Like o p) (sym e) (like_itself o);
   pc = ap (λ p. pc_in (Some p)) e;

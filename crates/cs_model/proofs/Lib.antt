@@ -32,6 +32,8 @@ pub mod Editing
 pub mod Leading
 pub mod LeadCombining
 pub mod LeadOperation
+pub mod LeadEntering
+pub mod LeadFields
 pub mod LeadAnswer
 pub mod LeadIdle
 pub mod LeadInstance
@@ -40,3 +42,6 @@ pub mod LeadEntering
 pub mod LeadFields
 pub mod LeadElement
 pub mod LeadObject
+pub mod LeadExecuting
+pub mod LeadSending
+pub mod LeadReturning
