@@ -141,7 +141,7 @@ if_leading true s t = s refl
 if_leading false s t = t refl
 
 -- an end other than Done speaks of no P
-other_end : (P Q : Kept → Type 0) (k : Kept) (e : End) → is_done e ≡ false → EndFits P k e → EndFits Q k e
+pub other_end : (P Q : Kept → Type 0) (k : Kept) (e : End) → is_done e ≡ false → EndFits P k e → EndFits Q k e
 other_end P Q k ends.Done h f = absurd (cc)
 other_end P Q k (ends.Send selector args above) h f = f
 other_end P Q k (ends.Return value local) h f = f
@@ -154,7 +154,7 @@ other_end P Q k ends.Quit h f = f
 other_end P Q k ends.Snapshot h f = f
 other_end P Q k (ends.Stopped reason) h f = f
 
-done_end : (P : Kept → Type 0) (k : Kept) (e : End) → is_done e ≡ true → EndFits P k e → P k
+pub done_end : (P : Kept → Type 0) (k : Kept) (e : End) → is_done e ≡ true → EndFits P k e → P k
 done_end P k ends.Done h f = f
 done_end P k (ends.Send selector args above) h f = absurd (cc)
 done_end P k (ends.Return value local) h f = absurd (cc)

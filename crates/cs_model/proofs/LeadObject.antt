@@ -4,7 +4,7 @@ use Rattle.std.specs.Prelude.{slice_get}
 use Rattle.std.proofs.lemmas.Bool.Decides.{nat_tests}
 use Rattle.cs_model.specs.Ref.{Ref, Small, Char, birth_of, index_of, same_ref}
 use Rattle.cs_model.specs.Ref as ref
-use Rattle.cs_model.specs.Obj.{Obj, Context, Ptr, Raw, Method, Ctx, class_index_in, context_class, is_context, is_header, literal_count, words_of}
+use Rattle.cs_model.specs.Obj.{Obj, Context, Ptr, Raw, Method, Ctx, class_index_in, context_class, is_context, at_least, is_header, literal_count, words_of}
 use Rattle.cs_model.specs.State.{Kept, object_at, object_of, slots_of, special_at, is_class_index}
 use Rattle.cs_model.specs.Read.{class_of}
 use Rattle.cs_model.specs.Operation.{add_of, next_ref, nil_of, store_of, store_byte_of}
@@ -20,6 +20,7 @@ use Rattle.cs_model.proofs.Leading.{Sound, PcsLie}
 use Rattle.cs_model.proofs.LeadCombining.{Ready, Goes, goes_itself, goes_trans, ready_behind, Leading, fail_leading, behind, made_leading, looked_leading, given_leading, if_leading}
 use Rattle.cs_model.proofs.LeadOperation.{context_lies, no_context_lies, store_goes, store_byte_goes, add_goes}
 use Rattle.cs_model.proofs.LeadFields.{context_put_goes}
+use Rattle.cs_model.proofs.LeadExecuting.{Fills, fill_goes}
 use Rattle.cs_model.proofs.LeadAnswer.{answer_leading, answer_behind, with_count_leading, answer_if_leading, answer_in_leading}
 use Rattle.cs_model.proofs.LeadInstance.{and_true, shown_index, shape_slots, NotHidden, class_index_for-not_hidden, take_index_goes, MadeGoes, instantiate_goes, HashedGoes, behavior_hash_goes, hash_given_goes}
 use Rattle.cs_model.proofs.LeadElement.{GoesIf, goes_none, goes_some, if_goes_some, map_goes, and_then_goes_if, with_element_goes, copy_elements_goes}
@@ -79,6 +80,27 @@ unfolding new_size_prim
 new_size_leading {k = k} args r =
     with_count_leading 1 args r (given_leading (index_of (argument k 1 0)) _ (fail_leading r) (λ size e.
     answer_made_leading 1 (instantiate k (receiver k 1) size) r (instantiate_goes (receiver k 1) size r)))
+
+-- an object with two slots has some
+wide_fills : (k : Kept) (p : Ref) (slots values : List Ref) → slots_of k 2 p ≡ Some slots → Fills (object_of k p) values
+unfolding slots_of
+wide_fills k p slots values e = record { none = λ h. absurd (none_some (sym (ap (at_least 2) h) ∙ e)) } where
+  none_some : None ≡ Some slots → ⊥
+  none_some f = cc
+
+point_made_leading : {P : Kept → Type 0} {k : Kept} (m : Made) → Ready k → MadeGoes k m → Leading P k (point_made k m)
+point_made_leading NotInstantiable r h = fail_leading r
+point_made_leading TableFull r h = fail_leading r
+point_made_leading {k = k} (New t p words) r h =
+    given_leading (slots_of t 2 p) _ (fail_leading r) (λ slots e.
+    made_leading words (answer_behind 1 p (goes_trans h (fill_goes p (point_slots (receiver k 1) (argument k 1 0) slots) (ready_behind h) (wide_fills t p slots _ e)))))
+
+pub point_leading : {P : Kept → Type 0} {k : Kept} (args : ℕ) → Ready k → Leading P k (point_prim k args)
+unfolding point_prim
+point_leading {k = k} args r =
+    with_count_leading 1 args r (if_leading (is_some (small_operands k))
+    (λ e. given_leading (special_at k point_class) _ (fail_leading r) (λ class f. point_made_leading (instantiate k class 0) r (instantiate_goes class 0 r)))
+    (λ e. fail_leading r))
 
 -- ---- slots
 

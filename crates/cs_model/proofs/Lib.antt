@@ -38,10 +38,9 @@ pub mod LeadAnswer
 pub mod LeadIdle
 pub mod LeadInstance
 pub mod LeadSwitch
-pub mod LeadEntering
-pub mod LeadFields
 pub mod LeadElement
 pub mod LeadObject
 pub mod LeadExecuting
 pub mod LeadSending
 pub mod LeadReturning
+pub mod LeadProcess
