@@ -1,12 +1,11 @@
 -- What the answers of primitives lead to.
-use Rattle.std.proofs.Common.{◌≡◌, ℕ, ◌+◌, ◌==◌, true, false, refl, Option, Some, None, option_and_then, option_map}
+use Rattle.std.proofs.Common.{◌≡◌, ℕ, ◌+◌, ◌==◌, refl, Option, Some, None, option_and_then, option_map}
 use Rattle.cs_model.specs.Ref.{Ref}
 use Rattle.cs_model.specs.State.{Kept}
-use Rattle.cs_model.specs.Operation.{drop_of}
-use Rattle.cs_model.specs.PrimAnswer.{fail, answer, answer_if, with_count}
+use Rattle.cs_model.specs.PrimAnswer.{answer, answer_if, with_count}
 use Rattle.cs_model.specs.PrimNumber.{number_prim}
 use Rattle.cs_model.specs.PrimObject.{answer_in}
-use Rattle.cs_model.specs.End.{Out, given}
+use Rattle.cs_model.specs.End.{Out}
 use Rattle.cs_model.proofs.LeadCombining.{Ready, Goes, goes_trans, ready_behind, runs_settled, Leading, fail_leading, behind, given_leading, if_leading}
 use Rattle.cs_model.proofs.LeadOperation.{push_goes, drop_goes}
 

@@ -1,8 +1,8 @@
 -- What an operation leads to, and one lemma for each way in which definitions are composed.
-use Rattle.std.proofs.Common.{◌≡◌, ℕ, Bool, true, false, refl, sym, ap, subst, ◌∙◌, Option, Some, None, IsSome, is_some, unwrap_or, if◌then◌else◌}
+use Rattle.std.proofs.Common.{◌≡◌, ℕ, Bool, true, false, refl, sym, ap, ◌∙◌, Option, Some, None, IsSome, is_some, unwrap_or, if◌then◌else◌}
 use Rattle.cs_model.specs.declared.stop.Stop.{Stop}
 use Rattle.cs_model.specs.Ref.{Ref}
-use Rattle.cs_model.specs.Obj.{Obj, Context, Ptr, Raw, Method, Ctx, context_in, header_in, bytecodes_in, primitive_number}
+use Rattle.cs_model.specs.Obj.{Obj, Ptr, Raw, Method, Ctx, context_in, header_in, bytecodes_in, primitive_number}
 use Rattle.cs_model.specs.State.{Kept, object_at, object_of, active_process, is_nil}
 use Rattle.cs_model.specs.Read.{blank, active_birth, active_context}
 use Rattle.cs_model.specs.End.{End, Out, Count, out, done, stop, counting, made, made_context, looked, given, is_done, and_then}

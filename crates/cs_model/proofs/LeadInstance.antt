@@ -1,16 +1,16 @@
 -- Where classes get indices and instances are made: no index is that of a hidden class, and no context becomes a class.
-use Rattle.std.proofs.Common.{◌≡◌, ◌≢◌, ℕ, zero, suc, ◌+◌, ◌≤◌, ◌/◌, ◌%◌, ◌*◌, ◌==◌, ◌&&◌, not, Bool, true, false, refl, sym, ap, subst, ◌∙◌, Option, Some, None, IsSome, is_some, List, nat_lt, option_and_then, if◌then◌else◌, inl, inr, arith, rules}
+use Rattle.std.proofs.Common.{◌≡◌, ◌≢◌, ℕ, zero, suc, ◌+◌, ◌≤◌, ◌/◌, ◌%◌, ◌==◌, ◌&&◌, Bool, true, false, refl, sym, ap, subst, ◌∙◌, Option, Some, None, IsSome, is_some, List, nat_lt, option_and_then, if◌then◌else◌, inl, inr, arith, rules}
 use Rattle.std.specs.FinMap.{FinMap, get, gets}
 use Rattle.std.specs.Prelude.{slice_get}
 use Rattle.std.specs.Ordering.{nat_cmp}
 use Rattle.std.proofs.lemmas.Bool.Decides.{eqb_tells, nat_tests}
 use Rattle.cs_model.specs.Ref.{Ref, Small, Char, birth_of, index_of}
 use Rattle.cs_model.specs.Ref as ref
-use Rattle.cs_model.specs.Obj.{Obj, Context, Ptr, Raw, Method, Ctx, hash_in, class_index_in, context_class, slots_in, context_in, at_least}
-use Rattle.cs_model.specs.State.{Kept, Rest, object_at, object_of, slots_of, with_rest, is_class_index, IsLive}
-use Rattle.cs_model.specs.Operation.{edit_object, with_hash, add_of, nil_of}
-use Rattle.cs_model.specs.Instance.{Index, IndexAt, NoIndex, NoneFree, taken, lowest_free, first_free_index, free_indices, is_entry, index_by_hash, index_of_object, class_index_for, with_class, enter_class, take_index, Made, New, NotInstantiable, TableFull, is_instance_index, is_instance_shape, new_context, new_instance, new_raw, pointer_format, unit_bytes, make_with, make_shaped, shape_of, instantiate, Hashed, Hash, NotAClass, NoneLeft, hashed, behavior_hash, next_hash, with_last_hash, hash_or_zero, hash_of, hash_given}
-use Rattle.cs_model.proofs.Leading.{Sound, Plain, Leads, leads_trans, plain_on, PcsLie, rest_leads}
+use Rattle.cs_model.specs.Obj.{Obj, Ptr, Raw, Method, Ctx, hash_in, class_index_in, context_class, slots_in, context_in, at_least}
+use Rattle.cs_model.specs.State.{Kept, Rest, object_at, slots_of, with_rest, is_class_index}
+use Rattle.cs_model.specs.Operation.{edit_object, with_hash, nil_of}
+use Rattle.cs_model.specs.Instance.{Index, IndexAt, NoIndex, NoneFree, taken, lowest_free, first_free_index, free_indices, is_entry, index_by_hash, index_of_object, class_index_for, with_class, enter_class, take_index, Made, New, NotInstantiable, TableFull, is_instance_index, is_instance_shape, new_context, new_instance, make_with, make_shaped, shape_of, instantiate, Hashed, Hash, NotAClass, NoneLeft, hashed, behavior_hash, next_hash, with_last_hash, hash_given}
+use Rattle.cs_model.proofs.Leading.{Plain, plain_on, PcsLie, rest_leads}
 use Rattle.cs_model.proofs.LeadCombining.{Ready, Goes, goes_itself, goes_trans, goes_by, ready_behind}
 use Rattle.cs_model.proofs.LeadOperation.{context_lies, no_context_lies, with_hash_mild, edit_object_leads, edit_object-rest, add_goes}
 

@@ -1,17 +1,16 @@
 -- What becomes of a state by each operation.
-use Rattle.std.proofs.Common.{◌≡◌, ℕ, zero, suc, ◌+◌, ◌-◌, ◌*◌, ◌<◌, ◌≤◌, ◌==◌, ◌||◌, Bool, true, false, refl, sym, ap, subst, ◌∙◌, Option, Some, None, IsSome, is_some, List, [], ◌∷◌, length, inl, inr, arith, unwrap_or, option_and_then}
-use Rattle.std.specs.FinMap.{get}
+use Rattle.std.proofs.Common.{◌≡◌, ℕ, zero, suc, ◌+◌, ◌-◌, ◌*◌, ◌<◌, true, false, refl, sym, ap, subst, ◌∙◌, Option, Some, None, IsSome, is_some, List, [], ◌∷◌, length, inl, inr, arith, unwrap_or}
 use Rattle.std.specs.Prelude.{slice_set}
 use Rattle.std.proofs.lemmas.Bool.Decides.{eqb_tells}
 use Rattle.cs_model.specs.Ref.{Ref, Small, Char, birth_of}
 use Rattle.cs_model.specs.Ref as ref
-use Rattle.cs_model.specs.Obj.{Obj, Context, Ptr, Raw, Method, Ctx, is_context, class_index_in, lies_in, lies_between, first_pc, slots_in, context_in, is_method, with_pc, pushed, popped, stored, edit_context, dead}
-use Rattle.cs_model.specs.State.{Kept, Rest, object_at, object_of, put, with_rest, PcLies, is_class_index, IsLive}
+use Rattle.cs_model.specs.Obj.{Obj, Context, Ptr, Raw, Method, Ctx, is_context, class_index_in, lies_in, lies_between, first_pc, slots_in, context_in, with_pc, pushed, popped, stored, edit_context}
+use Rattle.cs_model.specs.State.{Kept, object_at, object_of, put, PcLies, is_class_index, IsLive}
 use Rattle.cs_model.specs.Read.{blank, active_birth, active_context, method_of}
-use Rattle.cs_model.specs.Operation.{put_active, edit_active, set_pc_of, push_of, drop_of, set_stack_of, edit_found, edit_at, edit_object, with_slot, with_byte, with_hash, store_of, store_byte_of, with_next, add_of, activate, resume_of, suspend_of}
+use Rattle.cs_model.specs.Operation.{put_active, edit_active, set_pc_of, push_of, drop_of, set_stack_of, edit_found, edit_object, with_slot, with_byte, with_hash, store_of, store_byte_of, add_of, activate, resume_of, suspend_of}
 use Rattle.cs_model.proofs.Objects.{object_at-put_same, object_at-put_other, at_put, rest-put}
-use Rattle.cs_model.proofs.Leading.{Plain, Sound, Becomes, becomes_itself, becomes_by, becomes_new, becomes_of, Like, like_itself, like_context, Stays, Leads, leads_itself, leads_trans, pc_lies_on, plain_on, PcsLie, pc_in, put_leads, rest_leads}
-use Rattle.cs_model.proofs.LeadCombining.{Runs, Ready, Goes, goes_itself, goes_trans, goes_by, ready_behind, active_known, active_found, active_live}
+use Rattle.cs_model.proofs.Leading.{Sound, Becomes, becomes_by, becomes_new, Like, like_itself, like_context, Stays, Leads, leads_itself, pc_lies_on, plain_on, PcsLie, pc_in, put_leads, rest_leads}
+use Rattle.cs_model.proofs.LeadCombining.{Ready, Goes, goes_by, active_found, active_live}
 
 -- ---- the active context
 

@@ -1,10 +1,10 @@
 -- What holds of a state at every moment, also within a step, and what becomes of a state on the way.
-use Rattle.std.proofs.Common.{◌≡◌, ◌≢◌, ℕ, ◌+◌, ◌<◌, ◌≤◌, Bool, true, false, refl, sym, ap, subst, ◌∙◌, Option, Some, None, IsSome, is_some, List, [], inl, inr, arith, option_and_then}
+use Rattle.std.proofs.Common.{◌≡◌, ℕ, ◌<◌, ◌≤◌, true, refl, sym, ap, subst, ◌∙◌, Option, Some, None, IsSome, is_some, [], inl, inr, arith, option_and_then}
 use Rattle.std.specs.FinMap.{get}
 use Rattle.std.proofs.lemmas.Bool.Decides.{eqb_tells}
 use Rattle.cs_model.specs.Ref.{Ref, Small, Char}
 use Rattle.cs_model.specs.Ref as ref
-use Rattle.cs_model.specs.Obj.{Obj, Context, Ptr, Raw, Method, Ctx, is_context, class_index_in, lies_in, slots_in, context_in, is_method}
+use Rattle.cs_model.specs.Obj.{Obj, Context, Ctx, class_index_in, lies_in, slots_in, context_in, is_method}
 use Rattle.cs_model.specs.State.{Kept, Rest, object_at, object_of, put, with_rest, PcLies, is_class_index, IsLive}
 use Rattle.cs_model.proofs.Objects.{object_at-put_same, object_at-put_other, at_put}
 

@@ -41,3 +41,4 @@ pub mod LeadSwitch
 pub mod LeadExecuting
 pub mod LeadSending
 pub mod LeadReturning
+pub mod LeadUnwinding
