@@ -44,3 +44,4 @@ pub mod LeadExecuting
 pub mod LeadSending
 pub mod LeadReturning
 pub mod LeadProcess
+pub mod LeadUnwinding
