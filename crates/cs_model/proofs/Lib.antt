@@ -44,4 +44,5 @@ pub mod LeadExecuting
 pub mod LeadSending
 pub mod LeadReturning
 pub mod LeadProcess
-pub mod LeadUnwinding
+pub mod LeadRun
+pub mod LeadTable
