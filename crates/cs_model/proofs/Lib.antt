@@ -42,3 +42,4 @@ pub mod LeadExecuting
 pub mod LeadSending
 pub mod LeadReturning
 pub mod LeadUnwinding
+pub mod LeadDecoding
