@@ -46,3 +46,5 @@ pub mod LeadReturning
 pub mod LeadProcess
 pub mod LeadRun
 pub mod LeadTable
+pub mod LeadUnwinding
+pub mod LeadDecoding
