@@ -47,6 +47,11 @@ process_alike {k} {t} a =
     ∙ ap (λ o. option_and_then (λ x. second_of t x) o) (behind_alike a (special_at k 3))
     ∙ behind_alike a (option_and_then (λ x. second_of k x) (special_at k 3))
 
+-- which context is active doesn't matter
+pub process_suspended : (k : Kept) → active_process (suspend_of k) ≡ active_process k
+unfolding suspend_of
+process_suspended k = process_alike (record { special = refl; third = λ i. refl; second = λ i. refl })
+
 -- ---- a store
 
 -- what is read of each object alike before and behind an edit is read alike of the states

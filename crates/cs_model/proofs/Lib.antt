@@ -48,3 +48,4 @@ pub mod LeadRun
 pub mod LeadTable
 pub mod LeadUnwinding
 pub mod LeadDecoding
+pub mod LeadEvent
