@@ -1,12 +1,12 @@
 -- The pc behind an instruction lies in the method, since an instruction is there only with all its bytes.
-use Rattle.std.proofs.Common.{◌≡◌, ℕ, ◌+◌, ◌-◌, ◌≤◌, ◌==◌, Bool, true, false, refl, sym, ap, subst, ◌∙◌, Option, Some, None, IsSome, is_some, List, [], length, arith, nat_lt, nat_le, unwrap_or, option_map, if◌then◌else◌}
+use Rattle.std.proofs.Common.{◌≡◌, ℕ, ◌+◌, ◌-◌, ◌≤◌, ◌==◌, Bool, true, false, refl, sym, ap, ◌∙◌, Option, Some, None, IsSome, is_some, List, [], length, arith, nat_lt, nat_le, unwrap_or, option_map, if◌then◌else◌}
 use Rattle.std.specs.Prelude.{slice_index}
 use Rattle.std.proofs.lemmas.Bool.{leb-true}
 use Rattle.cs_model.specs.declared.instruction.Instr.{Instr}
 use Rattle.cs_model.specs.declared.instruction.Op.{Op}
-use Rattle.cs_model.specs.Obj.{Obj, Context, Ptr, Raw, Method, Ctx, first_pc, literals_in, bytecodes_in, lies_in, lies_between, slots_in, context_in}
+use Rattle.cs_model.specs.Obj.{Obj, Context, Ptr, Raw, Method, Ctx, first_pc, literals_in, bytecodes_in, lies_in, slots_in, context_in}
 use Rattle.cs_model.specs.State.{Kept, object_at, object_of}
-use Rattle.cs_model.specs.Read.{blank, active_birth, active_context, pc_of, method_of, literals_of, bytecodes_of}
+use Rattle.cs_model.specs.Read.{blank, active_context, pc_of, method_of, literals_of, bytecodes_of}
 use Rattle.cs_model.specs.Operation.{set_pc_of}
 use Rattle.cs_model.specs.Decode.{decode_at, len_of, op_of}
 use Rattle.cs_model.specs.Exec.{exec}
@@ -14,7 +14,7 @@ use Rattle.cs_model.specs.Step.{instruction_at}
 use Rattle.cs_model.proofs.Leading.{Sound}
 use Rattle.cs_model.proofs.LeadCombining.{Runs, Ready, ready_behind, active_live, Leading, behind}
 use Rattle.cs_model.proofs.LeadOperation.{active_lies, set_pc_goes}
-use Rattle.cs_model.proofs.LeadEntering.{and_left, and_right, lies_between_by}
+use Rattle.cs_model.proofs.LeadEntering.{and_left, lies_between_by}
 use Rattle.cs_model.proofs.LeadExecuting.{exec_leading}
 
 -- an instruction has a byte
@@ -50,9 +50,9 @@ decoded_fits bytes at len o i one e = go (nat_le (at + len) (length bytes)) refl
 
   go : (b : Bool) → nat_le (at + len) (length bytes) ≡ b → (if b then option_map (instr_of len) o else None) ≡ Some i → Fits bytes at i
   go true h f =
-    let same : i.len ≡ len = mapped o f in
-    let fits : at + len ≤ length bytes = leb-true (at + len) (length bytes) h in
-    record { all = omega (arith, same, fits); one = omega (arith, same, one) }
+      let same : i.len ≡ len = mapped o f in
+      let fits : at + len ≤ length bytes = leb-true (at + len) (length bytes) h in
+      record { all = omega (arith, same, fits); one = omega (arith, same, one) }
   go false h f = absurd (cc)
 
 decode_fits : (bytes : List ℕ) (at : ℕ) (i : Instr) → decode_at bytes at ≡ Some i → Fits bytes at i

@@ -1,23 +1,23 @@
 -- Entering methods and blocks, and leaving them: what becomes of a state.
-use Rattle.std.proofs.Common.{◌≡◌, ℕ, ◌+◌, ◌-◌, ◌==◌, ◌&&◌, ◌||◌, Bool, true, false, refl, sym, ap, subst, ◌∙◌, Option, Some, None, IsSome, is_some, List, [], ◌∷◌, length, arith, nat_le, unwrap_or, inl, inr, ap₂, ◌≤◌, if◌then◌else◌}
+use Rattle.std.proofs.Common.{◌≡◌, ℕ, ◌+◌, ◌==◌, ◌&&◌, ◌||◌, Bool, true, false, refl, sym, ap, subst, ◌∙◌, Option, Some, None, IsSome, is_some, List, [], ◌∷◌, length, arith, nat_le, unwrap_or, inl, inr, ap₂, ◌≤◌, if◌then◌else◌}
 use Rattle.std.specs.Prelude.{slice_get}
 use Rattle.std.proofs.lemmas.Bool.{le-leb}
 use Rattle.std.proofs.lemmas.Bool.Decides.{eqb_tells, nat_tests}
 use Rattle.cs_model.specs.declared.stop.Stop.TheVariants as why
 use Rattle.cs_model.specs.Ref.{Ref, Small, Char, index_of}
 use Rattle.cs_model.specs.Ref as ref
-use Rattle.cs_model.specs.Obj.{Obj, Context, Ptr, Raw, Method, Ctx, is_context, lies_in, lies_between, first_pc, context_in, is_method, header_in, bytecodes_in, literals_in, has_primitive, number_in, primitive_number, dead}
-use Rattle.cs_model.specs.State.{Kept, object_at, object_of, put, with_rest, PcLies, IsLive}
+use Rattle.cs_model.specs.Obj.{Obj, Context, Ptr, Raw, Method, Ctx, lies_in, lies_between, first_pc, context_in, is_method, header_in, bytecodes_in, has_primitive, number_in, primitive_number, dead}
+use Rattle.cs_model.specs.State.{Kept, object_at, object_of, put, PcLies, IsLive}
 use Rattle.cs_model.specs.Read.{active_birth, active_context}
-use Rattle.cs_model.specs.Operation.{put_active, edit_active, nil_of, drop_of, push_of, enter_with, add_of, resume_of, entry_pc, method_context, enter_of, dead_object, kill_of, kill_all, cut_to_of, edit_found}
+use Rattle.cs_model.specs.Operation.{put_active, edit_active, nil_of, drop_of, enter_with, add_of, resume_of, entry_pc, method_context, enter_of, dead_object, kill_of, kill_all, cut_to_of, edit_found}
 use Rattle.cs_model.specs.Context.{lies_if_index}
 use Rattle.cs_model.specs.Enter.{closure_slots, closure_slot, copied_values, outer_context, closure_method, method_in_context, can_evaluate, block_size, block_context, enter_block_of, context_words, enter_block_out}
 use Rattle.cs_model.specs.Return.{is_among}
 use Rattle.cs_model.specs.End.{out, stop, made_context}
 use Rattle.cs_model.specs.End as ends
 use Rattle.cs_model.proofs.Objects.{object_at-put_same, object_at-put_other}
-use Rattle.cs_model.proofs.Leading.{Sound, Becomes, Like, like_context, like_itself, Leads, leads_itself, leads_trans, pc_lies_on, becomes_of, PcsLie, pc_in, put_leads}
-use Rattle.cs_model.proofs.LeadCombining.{Runs, Ready, Goes, goes_trans, goes_by, ready_behind, active_found, runs_settled, HasPrimitive, Leading, out_leading, stop_leading, made_context_leading, if_leading}
+use Rattle.cs_model.proofs.Leading.{Sound, Becomes, like_context, like_itself, Leads, leads_itself, leads_trans, pc_lies_on, becomes_of, pc_in, put_leads}
+use Rattle.cs_model.proofs.LeadCombining.{Ready, Goes, goes_trans, goes_by, ready_behind, active_found, runs_settled, HasPrimitive, Leading, out_leading, stop_leading, made_context_leading, if_leading}
 use Rattle.cs_model.proofs.LeadOperation.{KeepsPlace, edit_active_goes, context_lies, no_context_lies, push_goes, drop_goes, add_goes, add_there, resume_goes, edit_found-rest}
 
 -- ---- entering

@@ -1,16 +1,16 @@
 -- What becomes of a state by each instruction: a context stays active, and an object that an instruction makes is sound.
-use Rattle.std.proofs.Common.{◌≡◌, ℕ, zero, suc, ◌+◌, ◌-◌, ◌*◌, ◌==◌, ◌<◌, ℤ, pos, ◌+ℤ◌, Bool, true, false, refl, sym, ap, subst, ◌∙◌, Option, Some, None, IsSome, is_some, List, [], ◌∷◌, length, drop, arith, option_and_then, nat_lt, nat_le, unwrap_or, length-drop, if◌then◌else◌}
+use Rattle.std.proofs.Common.{◌≡◌, ℕ, ◌+◌, ◌-◌, ◌*◌, ◌==◌, ℤ, pos, ◌+ℤ◌, Bool, true, false, refl, sym, ap, subst, ◌∙◌, Option, Some, None, is_some, List, [], ◌∷◌, length, arith, option_and_then, nat_lt, nat_le, unwrap_or, length-drop, if◌then◌else◌}
 use Rattle.std.specs.Prelude.{slice_get}
-use Rattle.std.proofs.lemmas.Bool.Decides.{eqb_tells, nat_tests}
+use Rattle.std.proofs.lemmas.Bool.Decides.{nat_tests}
 use Rattle.cs_model.specs.declared.stop.Stop.TheVariants as why
 use Rattle.cs_model.specs.declared.instruction.Op.{Op}
 use Rattle.cs_model.specs.declared.instruction.Op.TheVariants as op
 use Rattle.cs_model.specs.Ref.{Ref, Small, Char, same_ref}
 use Rattle.cs_model.specs.Ref as ref
 use Rattle.cs_model.specs.Obj.{Obj, Context, Ptr, Raw, Method, Ctx, slots_in, context_in, lies_in, words_of_slots, pushed, popped}
-use Rattle.cs_model.specs.State.{Kept, object_at, object_of, put, special_at}
+use Rattle.cs_model.specs.State.{Kept, object_at, object_of, special_at}
 use Rattle.cs_model.specs.Read.{blank, active_birth, active_context, stack_of, depth_of, size_of, pc_of, receiver_of, method_of, literals_of, from_top, class_of}
-use Rattle.cs_model.specs.Operation.{edit_active, push_of, drop_of, pop_of, set_pc_of, set_stack_of, store_of, add_of, next_ref, nil_of, last_values, edit_object}
+use Rattle.cs_model.specs.Operation.{edit_active, push_of, drop_of, pop_of, set_pc_of, store_of, add_of, next_ref, nil_of, last_values}
 use Rattle.cs_model.specs.Context.{context_get, accepts, context_put}
 use Rattle.cs_model.specs.Number.{boolean}
 use Rattle.cs_model.specs.Instance.{Made, New, NotInstantiable, TableFull, instantiate}
@@ -18,9 +18,9 @@ use Rattle.cs_model.specs.Exec.{push_out, top_of, with_top, pop_out, dup_out, pu
 use Rattle.cs_model.specs.End.{Out, out, stop, done, given, made, looked, and_then}
 use Rattle.cs_model.specs.End as ends
 use Rattle.cs_model.proofs.Editing.{active_context-put}
-use Rattle.cs_model.proofs.Leading.{Sound, Becomes, Like, becomes_of, Leads, leads_itself, leads_trans}
-use Rattle.cs_model.proofs.LeadCombining.{Runs, Ready, Goes, goes_itself, goes_trans, goes_by, ready_behind, active_known, active_found, Leading, out_leading, done_leading, done_goes, stop_leading, stop_behind, behind, made_leading, looked_leading, given_leading, if_leading, and_then_leading}
-use Rattle.cs_model.proofs.LeadOperation.{KeepsPlace, edit_active_goes, set_pc_goes, push_goes, drop_goes, set_stack_goes, store_goes, Mild, mild_itself, no_context_lies, edit_object_leads, edit_object-rest, add_goes, add_below, held_below, add-active}
+use Rattle.cs_model.proofs.Leading.{becomes_of, Leads, leads_itself, leads_trans}
+use Rattle.cs_model.proofs.LeadCombining.{Runs, Ready, Goes, goes_itself, goes_trans, goes_by, ready_behind, active_found, Leading, out_leading, done_leading, done_goes, stop_leading, stop_behind, behind, made_leading, looked_leading, given_leading, if_leading, and_then_leading}
+use Rattle.cs_model.proofs.LeadOperation.{KeepsPlace, edit_active_goes, set_pc_goes, push_goes, drop_goes, set_stack_goes, store_goes, Mild, mild_itself, no_context_lies, edit_object_leads, edit_object-rest, add_goes, add_below, held_below}
 use Rattle.cs_model.proofs.LeadFields.{context_put_goes}
 use Rattle.cs_model.proofs.LeadInstance.{MadeGoes, instantiate_goes}
 

@@ -1,15 +1,15 @@
 -- Writes into contexts: what becomes of a state.
-use Rattle.std.proofs.Common.{◌≡◌, ℕ, ◌-◌, ◌==◌, ◌&&◌, ◌||◌, not, Bool, true, false, refl, sym, ap, subst, ◌∙◌, Option, Some, None, IsSome, is_some, length, nat_lt, unwrap_or, if◌then◌else◌}
+use Rattle.std.proofs.Common.{◌≡◌, ℕ, ◌-◌, ◌==◌, ◌&&◌, not, Bool, true, false, refl, sym, ap, subst, ◌∙◌, Option, Some, None, IsSome, is_some, unwrap_or, if◌then◌else◌}
 use Rattle.cs_model.specs.Ref.{Ref, Small, Char, index_of, same_ref}
 use Rattle.cs_model.specs.Ref as ref
-use Rattle.cs_model.specs.Obj.{Obj, Context, Ptr, Raw, Method, Ctx, context_fields, context_in, edit_context, is_method, lies_in, stored, with_pc}
-use Rattle.cs_model.specs.State.{Kept, object_at, object_of, PcLies, IsLive, is_nil}
+use Rattle.cs_model.specs.Obj.{Obj, Context, Ctx, context_fields, edit_context, is_method, lies_in, stored, with_pc}
+use Rattle.cs_model.specs.State.{Kept, object_at, object_of, PcLies, is_nil}
 use Rattle.cs_model.specs.Operation.{edit_found, nil_of}
-use Rattle.cs_model.specs.Context.{is_context_ref, has_class_index, closure_class, lies_if_live, lies_if_index, at_most, accepts, to_depth, with_field, context_put}
-use Rattle.cs_model.proofs.Leading.{Sound, Like, like_context, Leads, PcsLie, pc_in, put_leads}
-use Rattle.cs_model.proofs.LeadCombining.{Runs, Ready, Goes, goes_by}
+use Rattle.cs_model.specs.Context.{lies_if_live, lies_if_index, accepts, to_depth, with_field, context_put}
+use Rattle.cs_model.proofs.Leading.{Sound, like_context, Leads, pc_in, put_leads}
+use Rattle.cs_model.proofs.LeadCombining.{Ready, Goes, goes_by}
 use Rattle.cs_model.proofs.LeadOperation.{context_lies, edit_found-rest}
-use Rattle.cs_model.proofs.LeadEntering.{and_left, and_right, index_lies, index_there}
+use Rattle.cs_model.proofs.LeadEntering.{and_right, index_lies, index_there}
 
 -- a context as it may be written where c stood: its pc lies, and it is live if c must stay so
 pub record Written (k : Kept) (active : Bool) (c d : Context) : Type 0 where

@@ -248,10 +248,12 @@ held_below {k} s i h = let o = held_some (object_at k i) h in s.below i o.0 o.1
 
 add_stays : {k : Kept} (o : Obj) → Sound k → Stays k (add_of k o)
 unfolding add_of
-add_stays {k} o s = record { at = λ j. elim (eqb_tells j k.rest.next) [
-  | inl e ↦ subst (λ q. Becomes q (object_at (put k k.rest.next o) j)) (sym (ap (object_at k) e.1 ∙ next_free s)) (becomes_new (object_at (put k k.rest.next o) j))
-  | inr e ↦ becomes_by (object_at-put_other k k.rest.next j o e.1)
-] }
+add_stays {k} o s = record {
+  at = λ j. elim (eqb_tells j k.rest.next) [
+    | inl e ↦ subst (λ q. Becomes q (object_at (put k k.rest.next o) j)) (sym (ap (object_at k) e.1 ∙ next_free s)) (becomes_new (object_at (put k k.rest.next o) j))
+    | inr e ↦ becomes_by (object_at-put_other k k.rest.next j o e.1)
+  ];
+}
 
 -- what is below the next birth is as it was
 pub add_below : (k : Kept) (o : Obj) (j : ℕ) → j < k.rest.next → object_at (add_of k o) j ≡ object_at k j

@@ -6,8 +6,6 @@ use Rattle.cs_model.specs.Ref as ref
 use Rattle.cs_model.specs.Obj.{context_in}
 use Rattle.cs_model.specs.State.{Kept, object_at}
 use Rattle.cs_model.specs.Read.{active_birth}
-use Rattle.cs_model.specs.Operation.{cut_to_of}
-use Rattle.cs_model.specs.Exec.{push_out}
 use Rattle.cs_model.specs.Return.{Search, Met, Ended, TooLong, sender_birth, senders_to, Home, HomeAt, NoHome, HomeTooFar, home, first_marked, unwind_mark, cannot_return, about_to_return, is_live, push_all, call_with, cannot_return_out, unwind_out, is_among, has_room, arrive, local_out, past_marks, from_home, to_home, nonlocal_out, back}
 use Rattle.cs_model.specs.End.{Out, out, stop, done, looked}
 use Rattle.cs_model.specs.End as ends

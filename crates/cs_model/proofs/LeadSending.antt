@@ -1,22 +1,22 @@
 -- What becomes of a state by a send: what a lookup finds is a method, so it may be entered.
-use Rattle.std.proofs.Common.{◌≡◌, ℕ, zero, suc, ◌+◌, ◌-◌, ◌==◌, ◌&&◌, Bool, true, false, refl, sym, ap, subst, ◌∙◌, Option, Some, None, is_some, List, [], ◌∷◌, ◌++◌, length, take, drop, option_and_then, nat_lt, if◌then◌else◌}
+use Rattle.std.proofs.Common.{◌≡◌, ℕ, zero, suc, ◌-◌, ◌==◌, ◌&&◌, Bool, true, false, refl, sym, ap, ◌∙◌, Option, Some, None, is_some, List, [], ◌∷◌, ◌++◌, length, take, drop, option_and_then, nat_lt, if◌then◌else◌}
 use Rattle.std.specs.Prelude.{slice_get}
 use Rattle.cs_model.specs.declared.stop.Stop.TheVariants as why
-use Rattle.cs_model.specs.Ref.{Ref, Small, same_ref}
-use Rattle.cs_model.specs.Obj.{Obj, Context, header_in, bytecodes_in, primitive_number, argument_count, slots_in, at_least, is_method, with_stack}
+use Rattle.cs_model.specs.Ref.{Ref, same_ref}
+use Rattle.cs_model.specs.Obj.{header_in, bytecodes_in, primitive_number, argument_count, slots_in, at_least, is_method, with_stack}
 use Rattle.cs_model.specs.State.{Kept, object_of, slots_of, special_at}
 use Rattle.cs_model.specs.Read.{stack_of, depth_of, from_top, class_of}
-use Rattle.cs_model.specs.Operation.{drop_of, edit_active, last_values}
+use Rattle.cs_model.specs.Operation.{last_values}
 use Rattle.cs_model.specs.Lookup.{Sought, Missing, Loop, class_limit, if_method, or_else, find_among, list_or_empty, find_in, find_in_dictionary, slot_in, or_above, in_class, lookup_within, lookup}
 use Rattle.cs_model.specs.Lookup as sought
 use Rattle.cs_model.specs.Instance.{Made, New, NotInstantiable, TableFull, instantiate}
-use Rattle.cs_model.specs.Exec.{push_out, with_array, fill_of}
+use Rattle.cs_model.specs.Exec.{fill_of}
 use Rattle.cs_model.specs.Send.{receiver_at, activation_words, enter_out, offer, invoke, message_class, does_not_understand, message_slots, message_made, with_message, class_or_nil, not_understood_by, send_message, not_understood, send_found, begins_at, look_from, send, elements_fitting, spread_of, without_selector, perform_found, perform, perform_with_arguments, execute_method}
 use Rattle.cs_model.specs.End.{Out, out, stop, given}
 use Rattle.cs_model.specs.End as ends
 use Rattle.cs_model.proofs.Leading.{becomes_of, leads_itself}
-use Rattle.cs_model.proofs.LeadCombining.{Runs, Ready, Goes, goes_trans, ready_behind, runs_settled, Leading, out_leading, stop_leading, stop_behind, fail_leading, behind, made_leading, made_context_leading, given_leading, if_leading, and_then_goes}
-use Rattle.cs_model.proofs.LeadOperation.{KeepsPlace, edit_active_goes, drop_goes}
+use Rattle.cs_model.proofs.LeadCombining.{Ready, Goes, goes_trans, ready_behind, runs_settled, Leading, out_leading, stop_leading, stop_behind, fail_leading, behind, made_leading, made_context_leading, given_leading, if_leading, and_then_goes}
+use Rattle.cs_model.proofs.LeadOperation.{edit_active_goes, drop_goes}
 use Rattle.cs_model.proofs.LeadEntering.{and_left, IsEntry, method_entry, enter_goes}
 use Rattle.cs_model.proofs.LeadExecuting.{push_behind, with_array_leading, Fills, fill_goes, last_fills}
 use Rattle.cs_model.proofs.LeadInstance.{MadeGoes, instantiate_goes}

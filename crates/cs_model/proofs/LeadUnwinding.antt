@@ -1,21 +1,19 @@
 -- What becomes of a state by the primitives on closures, on senders and on the values of contexts.
-use Rattle.std.proofs.Common.{◌≡◌, ℕ, ◌-◌, Bool, true, false, refl, sym, ap, subst, ◌∙◌, Option, Some, None, List, [], ◌++◌, take, length, nat_lt, unwrap_or, option_map, option_and_then, if◌then◌else◌}
-use Rattle.std.specs.Prelude.{slice_get}
+use Rattle.std.proofs.Common.{◌≡◌, ℕ, ◌-◌, Bool, true, false, refl, sym, ap, subst, ◌∙◌, Option, Some, None, List, [], ◌++◌, take, length, nat_lt, unwrap_or, if◌then◌else◌}
 use Rattle.cs_model.specs.declared.stop.Stop.TheVariants as why
 use Rattle.cs_model.specs.Ref.{Ref, birth_of}
 use Rattle.cs_model.specs.Ref as ref
-use Rattle.cs_model.specs.Obj.{Obj, Context, context_in, edit_context, stored, with_stack}
-use Rattle.cs_model.specs.State.{Kept, object_at, object_of, is_nil}
+use Rattle.cs_model.specs.Obj.{Context, context_in, edit_context, stored, with_stack}
+use Rattle.cs_model.specs.State.{Kept, object_at, is_nil}
 use Rattle.cs_model.specs.Read.{active_birth}
-use Rattle.cs_model.specs.Operation.{edit_found, kill_all, nil_of}
-use Rattle.cs_model.specs.Enter.{can_evaluate, enter_block_out}
-use Rattle.cs_model.specs.Send.{elements_fitting, spread_of}
+use Rattle.cs_model.specs.Operation.{edit_found, nil_of}
+use Rattle.cs_model.specs.Enter.{can_evaluate}
+use Rattle.cs_model.specs.Send.{elements_fitting}
 use Rattle.cs_model.specs.Return.{Search, Met, Ended, TooLong, senders_to, sender_birth, links, context_birth, is_among, is_marked, unwind_mark, handler_mark}
-use Rattle.cs_model.specs.PrimAnswer.{fail, answer, receiver, argument, with_count}
-use Rattle.cs_model.specs.PrimObject.{slot_index, small_count}
+use Rattle.cs_model.specs.PrimAnswer.{receiver, argument}
+use Rattle.cs_model.specs.PrimObject.{slot_index}
 use Rattle.cs_model.specs.PrimContext.{stack_at_prim, stack_put, stack_at_put_prim, stackp_prim}
 use Rattle.cs_model.specs.PrimUnwind.{evaluate_prim, evaluate_array_prim, answer_context, Marked, MarkAt, NoMark, MarkTooFar, search_mark, answer_mark, is_end, unwind_mark_prim, handler_mark_prim, with_sender, end_between_of, end_if, end_searched, end_at, end_between_prim}
-use Rattle.cs_model.specs.End.{Out}
 use Rattle.cs_model.proofs.LeadCombining.{Ready, Goes, goes_trans, goes_by, ready_behind, Leading, stop_leading, fail_leading, behind, looked_leading, given_leading, if_leading}
 use Rattle.cs_model.proofs.LeadOperation.{KeepsPlace, edit_context_mild, edit_found_leads, edit_found-rest}
 use Rattle.cs_model.proofs.LeadEntering.{kill_all_leads, kill_all-rest, enter_block_leading, can_evaluate_block, block_beside}

@@ -120,10 +120,12 @@ none_some : {A : Type 0} (x : A) → None ≡ Some x → ⊥
 none_some x e = cc
 
 put_becomes : (k : Kept) (i : ℕ) (o p : Obj) → object_at k i ≡ Some o → Becomes (Some o) (Some p) → Stays k (put k i p)
-put_becomes k i o p e b = record { at = λ j. elim (eqb_tells j i) [
-  | inl f ↦ subst (λ n. Becomes (object_at k n) (object_at (put k i p) n)) (sym f.1) (subst (λ q. Becomes q (object_at (put k i p) i)) (sym e) (subst (λ q. Becomes (Some o) q) (sym (object_at-put_same k i p)) b))
-  | inr f ↦ becomes_by (object_at-put_other k i j p f.1)
-] }
+put_becomes k i o p e b = record {
+  at = λ j. elim (eqb_tells j i) [
+    | inl f ↦ subst (λ n. Becomes (object_at k n) (object_at (put k i p) n)) (sym f.1) (subst (λ q. Becomes q (object_at (put k i p) i)) (sym e) (subst (λ q. Becomes (Some o) q) (sym (object_at-put_same k i p)) b))
+    | inr f ↦ becomes_by (object_at-put_other k i j p f.1)
+  ];
+}
 
 put_fresh : (k : Kept) (i : ℕ) (o p : Obj) → object_at k i ≡ Some o → (j : ℕ) → object_at k j ≡ None → object_at (put k i p) j ≡ None
 put_fresh k i o p e j h = object_at-put_other k i j p (λ f. none_some o (sym h ∙ ap (object_at k) f ∙ e)) ∙ h
