@@ -49,3 +49,4 @@ pub mod LeadTable
 pub mod LeadUnwinding
 pub mod LeadDecoding
 pub mod LeadEvent
+pub mod LeadEnding
