@@ -47,7 +47,25 @@ process_alike {k} {t} a =
     ∙ ap (λ o. option_and_then (λ x. second_of t x) o) (behind_alike a (special_at k 3))
     ∙ behind_alike a (option_and_then (λ x. second_of k x) (special_at k 3))
 
+scheduler_alike : {k t : Kept} → ReadsAlike k t → scheduler_of t ≡ scheduler_of k
+unfolding scheduler_of slots_of
+scheduler_alike {k} {t} a = ap (λ o. option_and_then (λ x. second_of t x) o) (special_alike a) ∙ behind_alike a (special_at k 3)
+
 -- which context is active doesn't matter
+pub special_suspended : (k : Kept) → special_at (suspend_of k) 3 ≡ special_at k 3
+unfolding suspend_of
+special_suspended k = special_alike (record { special = refl; third = λ i. refl; second = λ i. refl })
+
+pub scheduler_suspended : (k : Kept) → scheduler_of (suspend_of k) ≡ scheduler_of k
+unfolding suspend_of
+scheduler_suspended k = scheduler_alike (record { special = refl; third = λ i. refl; second = λ i. refl })
+
+pub slots_suspended : (k : Kept) (n : ℕ) (x : Ref) → slots_of (suspend_of k) n x ≡ slots_of k n x
+unfolding suspend_of slots_of
+slots_suspended k n (Small a) = refl
+slots_suspended k n (Char c) = refl
+slots_suspended k n (ref.Obj i) = refl
+
 pub process_suspended : (k : Kept) → active_process (suspend_of k) ≡ active_process k
 unfolding suspend_of
 process_suspended k = process_alike (record { special = refl; third = λ i. refl; second = λ i. refl })
