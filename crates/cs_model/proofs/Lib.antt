@@ -50,3 +50,4 @@ pub mod LeadUnwinding
 pub mod LeadDecoding
 pub mod LeadEvent
 pub mod LeadEnding
+pub mod LeadFollowing
