@@ -51,3 +51,4 @@ pub mod LeadDecoding
 pub mod LeadEvent
 pub mod LeadEnding
 pub mod LeadFollowing
+pub mod LeadStep
