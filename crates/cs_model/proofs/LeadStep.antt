@@ -1,6 +1,7 @@
 -- A step of a valid state gives a valid state, and so does a run.
-use Rattle.std.proofs.Common.{◌≡◌, ◌≢◌, ℕ, zero, suc, ◌==◌, ◌&&◌, not, Bool, true, false, refl, sym, ap, subst, ◌∙◌, Option, Some, None, IsSome, is_some, ◌⊎◌, inl, inr, ◌↔◌, nat_lt, arith, if◌then◌else◌}
+use Rattle.std.proofs.Common.{◌≡◌, ◌≢◌, ◌≤◌, ℕ, zero, suc, ◌==◌, ◌&&◌, not, Bool, true, false, refl, sym, ap, subst, ◌∙◌, Option, Some, None, IsSome, is_some, ◌⊎◌, inl, inr, ◌↔◌, nat_lt, arith, if◌then◌else◌}
 use Rattle.std.specs.FinMap.{get}
+use Rattle.std.proofs.lemmas.Bool.{cases_lt}
 use Rattle.std.proofs.lemmas.Bool.Decides.{nat_tests}
 use Rattle.cs_model.specs.declared.stop.Stop.{Stop}
 use Rattle.cs_model.specs.declared.stop.Stop.TheVariants as why
@@ -13,6 +14,7 @@ use Rattle.cs_model.specs.Due.{Happened, is_idle, is_idle_at, without_context, d
 use Rattle.cs_model.specs.End.{End, Count, no_count, is_done, given}
 use Rattle.cs_model.specs.End as ends
 use Rattle.cs_model.specs.Step.{is_ref, is_process, process_fault, shape_fault, Ending, Steps, Quit, Idle, Stopped, Step, stops, next_step, with_kept, ends_with, completed, saved_fault, finish, finish_of, birth_limit, idle, add_count, ready, stop_in, after_due, step, bytecode, Ran, go_on, run_by, run}
+use Rattle.cs_model.specs.Built.{is_built, built_step, built_run}
 use Rattle.cs_model.specs.Keeps.{Keeps, KeepsState}
 use Rattle.cs_model.specs.Alike.{AlikeResult, AlikeHappened}
 use Rattle.cs_model.proofs.Same.{same, Any}
@@ -260,3 +262,20 @@ run_by_reaches f keeps (suc n) s v = go_on_reaches f (run_by f n s) (run_by f n 
 
 pub run_reaches : (n : ℕ) (s : State) → IsValid s → Reaches s (run n s).state
 run_reaches n s v = run_by_reaches step step_reaches n s v
+
+-- a step that isn't built leaves the state as it was
+built_step_reaches : (s : State) → IsValid s → Reaches s (built_step s).state
+unfolding built_step
+built_step_reaches s v = (if_gives (is_built s) (λ e. record { reaches = step_reaches s v }) (stops_gives no_count why.NotBuilt v)).reaches
+
+pub built_run_reaches : (n : ℕ) (s : State) → IsValid s → Reaches s (built_run n s).state
+built_run_reaches n s v = run_by_reaches built_step built_step_reaches n s v
+
+-- ---- births
+
+-- what is new has a birth that isn't below the old next one
+pub made_above : {k t : Kept} → Leads k t → (i : ℕ) → object_at k i ≡ None → IsSome (object_at t i) → k.rest.next ≤ i
+made_above {k} {t} l i e h = elim (cases_lt i k.rest.next) [
+  | inl f ↦ absurd (both (sym (ap is_some (l.fresh i f e)) ∙ h))
+  | inr f ↦ f
+]
