@@ -3,7 +3,6 @@ use Rattle.std.proofs.Common.{◌≡◌, ℕ, zero, suc, ◌+◌, ◌*◌, ◌^�
 use Rattle.cs_model.specs.Ref.{Ref, index_of}
 use Rattle.cs_model.specs.Obj.{Obj, Ptr, Raw, Method, Ctx}
 use Rattle.cs_model.specs.State.{Kept, object_of}
-use Rattle.cs_model.specs.Operation.{store_byte_of, store_of}
 use Rattle.cs_model.specs.Instance.{unit_bytes}
 use Rattle.cs_model.specs.Element.{bytes_of, unit_at, fields_of, field_count, store_bytes, store_unit, write_in, with_element, element_at, copy_unit, copy_slot, copy_one, copy_elements}
 use Rattle.cs_model.proofs.LeadCombining.{Ready, Goes, goes_itself, goes_trans, ready_behind}

@@ -1,11 +1,10 @@
 -- A signal is done, or it stops.
-use Rattle.std.proofs.Common.{ℕ, ℤ, pos, ◌+ℤ◌, int_lt, Bool, true, false, Option, Some, None, is_some, option_and_then, if◌then◌else◌}
-use Rattle.cs_model.specs.declared.stop.Stop.TheVariants as why
-use Rattle.cs_model.specs.Ref.{Ref, Small, small_of}
+use Rattle.std.proofs.Common.{ℕ, ℤ, pos, int_lt, Bool, true, false, Option, Some, None, is_some, option_and_then, if◌then◌else◌}
+use Rattle.cs_model.specs.Ref.{Ref, small_of}
 use Rattle.cs_model.specs.State.{Kept, slots_of, scheduler_of, active_process, is_nil}
 use Rattle.cs_model.specs.Operation.{store_of, nil_of}
 use Rattle.cs_model.specs.Return.{context_birth, is_live}
-use Rattle.cs_model.specs.Process.{next_link, suspended_context, my_list, first_link, last_link, excess_signals, process_slots, semaphore_slots, list_slots, slot_or_none, with_slot_of, list_of_process, with_list_of, link_last, add_last, with_first, take_out, give_context, start_at, start, stop_running, priority_of, preempt, resume_beside, one_more, signal}
+use Rattle.cs_model.specs.Process.{suspended_context, first_link, last_link, excess_signals, process_slots, semaphore_slots, list_slots, slot_or_none, list_of_process, with_list_of, link_last, add_last, take_out, start, stop_running, priority_of, resume_beside, one_more, signal}
 use Rattle.cs_model.specs.PrimProcess.{is_semaphore}
 use Rattle.cs_model.specs.Due.{external_at, signal_external}
 use Rattle.cs_model.specs.End.{End, Out, done, stop, looked, given, is_done, and_then}

@@ -1,16 +1,15 @@
 -- What the events that are due lead to.
-use Rattle.std.proofs.Common.{◌≡◌, ℕ, ◌+◌, ◌-◌, ◌||◌, ◌&&◌, Bool, true, false, refl, sym, ap, subst, ◌∙◌, Option, Some, None, is_some, List, [], ◌∷◌, nat_lt, nat_le, if◌then◌else◌}
+use Rattle.std.proofs.Common.{◌≡◌, ℕ, ◌&&◌, Bool, true, false, refl, sym, ap, ◌∙◌, Option, Some, None, is_some, List, [], ◌∷◌, if◌then◌else◌}
 use Rattle.cs_model.specs.declared.event.Event.{Event}
 use Rattle.cs_model.specs.declared.event.EventKind.{EventKind}
 use Rattle.cs_model.specs.declared.event.EventKind.TheVariants as kind
-use Rattle.cs_model.specs.Ref.{Ref, same_ref}
-use Rattle.cs_model.specs.Ref as ref
+use Rattle.cs_model.specs.Ref.{Ref}
 use Rattle.cs_model.specs.State.{Kept, Run, State, Timer, active_process, is_nil, IsProcess}
 use Rattle.cs_model.specs.Operation.{suspend_of}
 use Rattle.cs_model.specs.PrimProcess.{is_semaphore}
 use Rattle.cs_model.specs.PrimRun.{with_timer}
-use Rattle.cs_model.specs.Due.{external_at, signal_external, due_timer, Happened, happened, with_out, fire, with_clock, add_input, happen, with_events, is_idle_at, is_idle, is_due, is_left, without_context, left_count, counting, behind, go_on, due_of, due}
-use Rattle.cs_model.specs.End.{Out, Count, is_done, plus}
+use Rattle.cs_model.specs.Due.{external_at, signal_external, due_timer, Happened, happened, with_out, fire, with_clock, add_input, happen, with_events, is_idle_at, is_idle, is_due, without_context, left_count, counting, behind, go_on, due_of, due}
+use Rattle.cs_model.specs.End.{Out, is_done, plus}
 use Rattle.cs_model.proofs.Leading.{Sound, Leads, leads_itself, leads_trans}
 use Rattle.cs_model.proofs.LeadCombining.{Settled, Leading, done_leading, given_leading, if_leading, done_end}
 use Rattle.cs_model.proofs.LeadOperation.{suspend_leads}

@@ -1,5 +1,5 @@
 -- What a bytecode with all that it leads to does to a state.
-use Rattle.std.proofs.Common.{◌≡◌, ℕ, ◌+◌, Bool, true, false, refl, sym, ap, subst, ◌∙◌, Option, Some, None, unwrap_or, ◌⊎◌, inl, inr, if◌then◌else◌}
+use Rattle.std.proofs.Common.{◌≡◌, ℕ, ◌+◌, Bool, true, refl, ap, subst, Option, Some, None, unwrap_or, ◌⊎◌, inl, inr}
 use Rattle.cs_model.specs.declared.stop.Stop.TheVariants as why
 use Rattle.cs_model.specs.declared.instruction.Instr.{Instr}
 use Rattle.cs_model.specs.Ref.{Ref}
@@ -7,16 +7,15 @@ use Rattle.cs_model.specs.State.{Kept, Run, State, Timer, IsHeld, special_at}
 use Rattle.cs_model.specs.Read.{pc_of}
 use Rattle.cs_model.specs.Operation.{set_pc_of}
 use Rattle.cs_model.specs.Exec.{exec}
-use Rattle.cs_model.specs.Send.{enter_out, send}
-use Rattle.cs_model.specs.Return.{back}
+use Rattle.cs_model.specs.Send.{enter_out}
 use Rattle.cs_model.specs.PrimRun.{Result, result}
-use Rattle.cs_model.specs.PrimTable.{prim, is_perform}
-use Rattle.cs_model.specs.Step.{Message, message_in, return_in, primitive_in, call_in, is_fail, with_kept, counting, arguments_of, or_enter, try_performed, tried, try_primitive, sent, do_send, do_call, returned, do_return, followed, instruction_at, obey, bytecode}
+use Rattle.cs_model.specs.PrimTable.{is_perform}
+use Rattle.cs_model.specs.Step.{Message, message_in, return_in, primitive_in, call_in, is_fail, with_kept, counting, arguments_of, or_enter, try_performed, tried, try_primitive, sent, do_send, do_call, returned, do_return, followed, instruction_at, bytecode}
 use Rattle.cs_model.specs.End.{End, Out, Count, out, stop, given}
 use Rattle.cs_model.specs.End as ends
 use Rattle.cs_model.specs.Keeps.{Keeps}
-use Rattle.cs_model.specs.Alike.{Alike, AlikeResult, IsHeldIf}
-use Rattle.cs_model.proofs.Same.{Same, same, SameOption, none, Any, option_holds, value, holds}
+use Rattle.cs_model.specs.Alike.{Alike, AlikeResult}
+use Rattle.cs_model.proofs.Same.{same, SameOption, none, option_holds, value}
 use Rattle.cs_model.proofs.Reading.{held_if, special_at_same, pc_same}
 use Rattle.cs_model.proofs.Operating.{set_pc_moved}
 use Rattle.cs_model.proofs.Combining.{behind, end_same}

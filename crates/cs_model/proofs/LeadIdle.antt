@@ -178,12 +178,12 @@ nil_stored k (ref.Obj i) h = found (object_at k i) refl h where
   found : (o : Option Obj) → object_at k i ≡ o → IsSome (at_least 2 (slots_in o)) → NilStored k (suspend_of (edit_found (with_slot 1 (nil_of k)) i o k)) (ref.Obj i)
   found None e g = absurd (cc)
   found (Some o) e g =
-    let p = with_slot 1 (nil_of k) o in
-    record {
-      special = special_put k i (nil_of k) o e;
-      same = suspended_second (put k i p) (ref.Obj i) ∙ ap second (object_at-put_same k i p) ∙ one_second (nil_of k) o g;
-      other = λ x apart. suspended_second (put k i p) x ∙ put_other k i p x apart;
-    }
+      let p = with_slot 1 (nil_of k) o in
+      record {
+        special = special_put k i (nil_of k) o e;
+        same = suspended_second (put k i p) (ref.Obj i) ∙ ap second (object_at-put_same k i p) ∙ one_second (nil_of k) o g;
+        other = λ x apart. suspended_second (put k i p) x ∙ put_other k i p x apart;
+      }
 
 -- a reference is that of a birth, or another
 is_birth : (i : ℕ) (x : Ref) → (x ≡ ref.Obj i) ⊎ (x ≢ ref.Obj i)

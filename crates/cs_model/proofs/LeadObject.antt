@@ -1,29 +1,27 @@
 -- What the primitives on objects lead to.
-use Rattle.std.proofs.Common.{◌≡◌, ℕ, ◌+◌, ◌-◌, ◌%◌, ◌==◌, ◌&&◌, not, pos, negsuc, Bool, true, false, refl, sym, ap, ◌∙◌, Option, Some, None, IsSome, is_some, List, [], ◌∷◌, length, replicate, unwrap_or, option_map, option_and_then, nat_lt, nat_le, arith, if◌then◌else◌}
+use Rattle.std.proofs.Common.{◌≡◌, ℕ, ◌+◌, ◌-◌, ◌==◌, ◌&&◌, Bool, true, refl, sym, ap, ◌∙◌, Option, Some, None, IsSome, is_some, List, length, unwrap_or, nat_lt, arith}
 use Rattle.std.specs.Prelude.{slice_get}
 use Rattle.std.proofs.lemmas.Bool.Decides.{nat_tests}
 use Rattle.cs_model.specs.Ref.{Ref, Small, Char, birth_of, index_of, same_ref}
 use Rattle.cs_model.specs.Ref as ref
-use Rattle.cs_model.specs.Obj.{Obj, Context, Ptr, Raw, Method, Ctx, class_index_in, context_class, is_context, at_least, is_header, literal_count, words_of}
+use Rattle.cs_model.specs.Obj.{Obj, Context, Ptr, Raw, Method, Ctx, class_index_in, is_context, at_least, is_header, words_of}
 use Rattle.cs_model.specs.State.{Kept, object_at, object_of, slots_of, special_at, is_class_index}
-use Rattle.cs_model.specs.Read.{class_of}
-use Rattle.cs_model.specs.Operation.{add_of, next_ref, nil_of, store_of, store_byte_of}
-use Rattle.cs_model.specs.Context.{context_get, accepts, context_put}
-use Rattle.cs_model.specs.Number.{boolean}
-use Rattle.cs_model.specs.Instance.{Made, New, NotInstantiable, TableFull, instantiate, Index, IndexAt, NoIndex, NoneFree, class_index_for, take_index, shape_of, Hashed, Hash, NotAClass, NoneLeft, behavior_hash, hash_of, hash_given}
-use Rattle.cs_model.specs.Element.{range_of, place_of, element_at, with_element, copy_elements}
-use Rattle.cs_model.specs.Exec.{fill_of, is_active, small_operands}
-use Rattle.cs_model.specs.PrimAnswer.{fail, answer, receiver, argument}
-use Rattle.cs_model.specs.PrimObject.{at_prim, at_put_prim, has_size, small_count, size_prim, is_bytes, byte_at, char_at_prim, byte_code, char_at_put_prim, method_slot, slot_index, object_at_prim, put_literal, object_at_put_prim, answer_made, new_prim, new_size_prim, point_class, point_slots, point_made, point_prim, answer_field, slot_at, slot_at_prim, context_at_put, slot_put, slot_at_put_prim, hash_prim, instance_from, table_index, some_instance_prim, index_but_context, next_instance_prim, method_of, is_method_index, make_method, is_method_shape, new_method_prim, copy_kinds, copy_fits, count_of, copy_to, replace_prim, identical_prim, class_prim, copied, look_if, copy_object, copy_prim, answer_hashed, behavior_hash_prim, quick_prim}
+use Rattle.cs_model.specs.Operation.{next_ref}
+use Rattle.cs_model.specs.Context.{context_get, accepts}
+use Rattle.cs_model.specs.Instance.{Made, New, NotInstantiable, TableFull, instantiate, Index, IndexAt, NoIndex, NoneFree, class_index_for, shape_of, Hashed, Hash, NotAClass, NoneLeft, behavior_hash}
+use Rattle.cs_model.specs.Element.{range_of, place_of}
+use Rattle.cs_model.specs.Exec.{is_active, small_operands}
+use Rattle.cs_model.specs.PrimAnswer.{receiver, argument}
+use Rattle.cs_model.specs.PrimObject.{at_prim, at_put_prim, has_size, small_count, size_prim, is_bytes, char_at_prim, byte_code, char_at_put_prim, method_slot, slot_index, object_at_prim, object_at_put_prim, answer_made, new_prim, new_size_prim, point_class, point_slots, point_made, point_prim, answer_field, slot_at, slot_at_prim, context_at_put, slot_put, slot_at_put_prim, hash_prim, some_instance_prim, next_instance_prim, method_of, is_method_index, make_method, is_method_shape, new_method_prim, copy_kinds, copy_fits, count_of, copy_to, replace_prim, identical_prim, class_prim, copied, look_if, copy_object, copy_prim, answer_hashed, behavior_hash_prim, quick_prim}
 use Rattle.cs_model.specs.End.{Out}
 use Rattle.cs_model.proofs.Leading.{Sound, PcsLie}
-use Rattle.cs_model.proofs.LeadCombining.{Ready, Goes, goes_itself, goes_trans, ready_behind, Leading, fail_leading, behind, made_leading, looked_leading, given_leading, if_leading}
+use Rattle.cs_model.proofs.LeadCombining.{Ready, goes_trans, ready_behind, Leading, fail_leading, made_leading, looked_leading, given_leading, if_leading}
 use Rattle.cs_model.proofs.LeadOperation.{context_lies, no_context_lies, store_goes, store_byte_goes, add_goes}
 use Rattle.cs_model.proofs.LeadFields.{context_put_goes}
 use Rattle.cs_model.proofs.LeadExecuting.{Fills, fill_goes}
 use Rattle.cs_model.proofs.LeadAnswer.{answer_leading, answer_behind, with_count_leading, answer_if_leading, answer_in_leading}
 use Rattle.cs_model.proofs.LeadInstance.{and_true, shown_index, shape_slots, NotHidden, class_index_for-not_hidden, take_index_goes, MadeGoes, instantiate_goes, HashedGoes, behavior_hash_goes, hash_given_goes}
-use Rattle.cs_model.proofs.LeadElement.{GoesIf, goes_none, goes_some, if_goes_some, map_goes, and_then_goes_if, with_element_goes, copy_elements_goes}
+use Rattle.cs_model.proofs.LeadElement.{GoesIf, goes_none, if_goes_some, map_goes, and_then_goes_if, with_element_goes, copy_elements_goes}
 
 -- ---- elements
 

@@ -1,16 +1,15 @@
 -- What the primitives on processes and semaphores lead to.
-use Rattle.std.proofs.Common.{◌≡◌, ℕ, Bool, true, false, refl, Option, Some, None, if◌then◌else◌}
+use Rattle.std.proofs.Common.{◌≡◌, ℕ, Bool, true, false, refl, if◌then◌else◌}
 use Rattle.cs_model.specs.declared.stop.Stop.TheVariants as why
 use Rattle.cs_model.specs.Ref.{Ref, same_ref}
 use Rattle.cs_model.specs.State.{Kept, active_process}
 use Rattle.cs_model.specs.Operation.{nil_of}
-use Rattle.cs_model.specs.Process.{process_slots, suspended_context, my_list, slot_or_none, suspend_other}
+use Rattle.cs_model.specs.Process.{process_slots, suspended_context, my_list, slot_or_none}
 use Rattle.cs_model.specs.PrimAnswer.{answer, receiver}
 use Rattle.cs_model.specs.PrimProcess.{is_semaphore, answered, signal_prim, wait_prim, is_suspended, resume_prim, leave_and_answer, suspend_prim, yield_prim}
 use Rattle.cs_model.specs.End.{End, Out, is_done, and_then}
 use Rattle.cs_model.specs.End as ends
-use Rattle.cs_model.proofs.Leading.{Leads}
-use Rattle.cs_model.proofs.LeadCombining.{Runs, Ready, Settled, runs_settled, ready_behind, EndFits, Leading, fail_leading, stop_leading, behind, counting_leading, given_leading, if_leading, weaker, settled_leading, done_end, other_end, and_then_goes}
+use Rattle.cs_model.proofs.LeadCombining.{Runs, Ready, Settled, ready_behind, Leading, fail_leading, stop_leading, behind, given_leading, if_leading, weaker, settled_leading, done_end, other_end, and_then_goes}
 use Rattle.cs_model.proofs.LeadSwitch.{runs_awake, awake_settled, signal_leading, wait_leading, resume_leading, suspend_active_leading, suspend_other_leading, give_way_leading}
 use Rattle.cs_model.proofs.LeadAnswer.{answer_goes, answer_leading, with_count_leading}
 

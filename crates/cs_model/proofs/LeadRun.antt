@@ -1,22 +1,20 @@
 -- What the primitives that see the whole state lead to.
-use Rattle.std.proofs.Common.{◌≡◌, ℕ, ℤ, int_lt, ◌==◌, ◌||◌, Bool, true, false, refl, sym, ap, subst, ◌∙◌, Option, Some, None, IsSome, List, [], ◌∷◌, unwrap_or, option_map, ◌⊎◌, inl, inr, if◌then◌else◌}
+use Rattle.std.proofs.Common.{◌≡◌, ℕ, ℤ, int_lt, ◌==◌, ◌||◌, Bool, true, false, refl, sym, ap, subst, ◌∙◌, Option, Some, None, List, [], ◌∷◌, unwrap_or, option_map, ◌⊎◌, inl, inr, if◌then◌else◌}
 use Rattle.cs_model.specs.Ref.{Ref, Small, Char, small_of}
 use Rattle.cs_model.specs.Ref as ref
 use Rattle.cs_model.specs.State.{Kept, Run, State, Timer, IsHeld, is_nil, active_process}
 use Rattle.cs_model.specs.Operation.{store_of, nil_of}
 use Rattle.cs_model.specs.Number.{boolean}
-use Rattle.cs_model.specs.Process.{signal}
-use Rattle.cs_model.specs.PrimAnswer.{answer, receiver, argument}
-use Rattle.cs_model.specs.PrimObject.{small_count}
-use Rattle.cs_model.specs.PrimProcess.{is_semaphore, answered}
-use Rattle.cs_model.specs.PrimRun.{Result, result, fails, counted, forget, forgotten, with_end, snapshot_prim, quit_prim, clock_prim, with_timer, arm, timer_prim, bytes_to_write, written, write_prim, with_input, read_from, read_prim}
+use Rattle.cs_model.specs.PrimAnswer.{receiver, argument}
+use Rattle.cs_model.specs.PrimProcess.{is_semaphore}
+use Rattle.cs_model.specs.PrimRun.{Result, result, fails, counted, forget, forgotten, snapshot_prim, quit_prim, clock_prim, arm, timer_prim, bytes_to_write, written, write_prim, with_input, read_from, read_prim}
 use Rattle.cs_model.specs.End.{End, Out, out, given}
 use Rattle.cs_model.specs.End as ends
 use Rattle.cs_model.specs.Keeps.{Keeps}
 use Rattle.cs_model.proofs.Same.{holds}
 use Rattle.cs_model.proofs.Answering.{argument_same}
 use Rattle.cs_model.proofs.Leading.{Leads}
-use Rattle.cs_model.proofs.LeadCombining.{Runs, Ready, Goes, goes_itself, ready_behind, Settled, runs_settled, Leading, out_leading, fail_leading, behind, weaker}
+use Rattle.cs_model.proofs.LeadCombining.{Runs, Ready, Goes, goes_itself, ready_behind, runs_settled, Leading, out_leading, fail_leading, behind, weaker}
 use Rattle.cs_model.proofs.LeadOperation.{store_goes}
 use Rattle.cs_model.proofs.LeadSwitch.{runs_awake, awake_settled, signal_leading}
 use Rattle.cs_model.proofs.LeadAnswer.{answer_goes, answer_leading, answer_behind}

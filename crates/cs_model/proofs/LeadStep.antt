@@ -1,32 +1,28 @@
 -- A step of a valid state gives a valid state, and so does a run.
-use Rattle.std.proofs.Common.{◌≡◌, ◌≢◌, ◌≤◌, ℕ, zero, suc, ◌==◌, ◌&&◌, not, Bool, true, false, refl, sym, ap, subst, ◌∙◌, Option, Some, None, IsSome, is_some, ◌⊎◌, inl, inr, ◌↔◌, nat_lt, arith, if◌then◌else◌}
-use Rattle.std.specs.FinMap.{get}
+use Rattle.std.proofs.Common.{◌≡◌, ◌≢◌, ◌≤◌, ℕ, zero, suc, ◌==◌, ◌&&◌, not, Bool, true, false, refl, sym, ap, ◌∙◌, Option, Some, None, IsSome, is_some, inl, inr, nat_lt, arith, if◌then◌else◌}
 use Rattle.std.proofs.lemmas.Bool.{cases_lt}
 use Rattle.std.proofs.lemmas.Bool.Decides.{nat_tests}
 use Rattle.cs_model.specs.declared.stop.Stop.{Stop}
 use Rattle.cs_model.specs.declared.stop.Stop.TheVariants as why
 use Rattle.cs_model.specs.Ref.{Ref, Small, Char, same_ref}
 use Rattle.cs_model.specs.Ref as ref
-use Rattle.cs_model.specs.Obj.{context_in}
 use Rattle.cs_model.specs.State.{Kept, Run, State, Timer, IsHeld, IsValid, IsProcess, object_at, slots_of, special_at, scheduler_of, active_process, is_nil}
 use Rattle.cs_model.specs.PrimRun.{Result}
 use Rattle.cs_model.specs.Due.{Happened, is_idle, is_idle_at, without_context, due}
 use Rattle.cs_model.specs.End.{End, Count, no_count, is_done, given}
 use Rattle.cs_model.specs.End as ends
-use Rattle.cs_model.specs.Step.{is_ref, is_process, process_fault, shape_fault, Ending, Steps, Quit, Idle, Stopped, Step, stops, next_step, with_kept, ends_with, completed, saved_fault, finish, finish_of, birth_limit, idle, add_count, ready, stop_in, after_due, step, bytecode, Ran, go_on, run_by, run}
+use Rattle.cs_model.specs.Step.{is_ref, is_process, process_fault, shape_fault, Ending, Steps, Quit, Idle, Stopped, Step, stops, next_step, with_kept, completed, saved_fault, finish, birth_limit, add_count, ready, stop_in, after_due, step, bytecode, Ran, go_on, run_by, run}
 use Rattle.cs_model.specs.Built.{is_built, built_step, built_run}
-use Rattle.cs_model.specs.Keeps.{Keeps, KeepsState}
-use Rattle.cs_model.specs.Alike.{AlikeResult, AlikeHappened}
-use Rattle.cs_model.proofs.Same.{same, Any}
+use Rattle.cs_model.specs.Keeps.{Keeps}
+use Rattle.cs_model.proofs.Same.{same}
 use Rattle.cs_model.proofs.Happening.{without_context_moved, due_alike}
 use Rattle.cs_model.proofs.Stepping.{bytecode_of_state}
-use Rattle.cs_model.proofs.Leading.{Sound, Plain, Leads, leads_itself, leads_trans}
-use Rattle.cs_model.proofs.LeadCombining.{Runs, Settled, runs_settled, EndFits, Leading}
-use Rattle.cs_model.proofs.LeadSwitch.{Awake}
+use Rattle.cs_model.proofs.Leading.{Sound, Leads, leads_itself, leads_trans}
+use Rattle.cs_model.proofs.LeadCombining.{Runs, Settled, runs_settled, EndFits}
 use Rattle.cs_model.proofs.LeadInstance.{and_true}
 use Rattle.cs_model.proofs.LeadRun.{Led, held_on}
 use Rattle.cs_model.proofs.LeadEnding.{IsPlain}
-use Rattle.cs_model.proofs.LeadEvent.{Between, Left, without_left, Dues, due_dues}
+use Rattle.cs_model.proofs.LeadEvent.{Between, without_left, Dues, due_dues}
 use Rattle.cs_model.proofs.LeadFollowing.{bytecode_led}
 
 -- ---- what a valid state is within a step

@@ -1,5 +1,5 @@
 -- What any primitive leads to.
-use Rattle.std.proofs.Common.{◌≡◌, ℕ, ◌==◌, ◌&&◌, refl, nat_lt, nat_le}
+use Rattle.std.proofs.Common.{ℕ, ◌==◌, ◌&&◌, refl, nat_lt, nat_le}
 use Rattle.cs_model.specs.State.{Kept, State}
 use Rattle.cs_model.specs.PrimTable.{object_prim, context_prim, process_prim, perform_prim, is_perform, is_process_number, is_context_number, kept_prim, prim}
 use Rattle.cs_model.specs.Keeps.{Keeps}
