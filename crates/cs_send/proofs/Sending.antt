@@ -5,22 +5,20 @@ use Rattle.std.proofs.lemmas.Option.{none-some}
 use Rattle.cs_word.specs.declared.Oop.{Oop}
 use Rattle.cs_model.specs.declared.stop.Stop.{Stop as Reason}
 use Rattle.cs_model.specs.Ref.{Ref}
-use Rattle.cs_model.specs.State.{Kept}
+use Rattle.cs_model.specs.Obj.{is_method}
+use Rattle.cs_model.specs.State.{Kept, object_of}
 use Rattle.cs_model.specs.Keeps.{Keeps}
 use Rattle.cs_model.specs.End as ends
 use Rattle.cs_model.specs.End.{made_context}
 use Rattle.cs_model.specs.Operation.{enter_of}
 use Rattle.cs_model.specs.Send.{enter_out}
+use Rattle.cs_model.specs.Step.{Message}
 use Rattle.cs_acts.specs.declared.act.Full.{Full}
 use Rattle.cs_acts.specs.Full.{CausesFull}
 use Rattle.cs_acts.specs.Layout.{LaidBy, Layout, entered}
-use Rattle.cs_acts.specs.Names.{Store, KeepsNames}
+use Rattle.cs_acts.specs.Names.{Store, KeepsNames, name_of}
 use Rattle.cs_acts.specs.Ready.{IsReady}
 use Rattle.cs_acts.specs.Targets.{CanEnter}
-use Rattle.cs_acts.specs.Names.{name_of}
-use Rattle.cs_model.specs.Obj.{is_method}
-use Rattle.cs_model.specs.State.{object_of}
-use Rattle.cs_model.specs.Step.{Message}
 use Rattle.cs_send.specs.Resolved.{IsMethodNamed, Offered, Plain, Stops}
 use Rattle.cs_send.specs.Sent.{Enters, Halts, Offers, Refuses, found, sent, stopped}
 use Rattle.cs_send.proofs.Sends.{offered-fits, offered-number, plain-fits, send-offered, send-plain, send-stops}
