@@ -1,5 +1,5 @@
 -- Where a world keeps its activations: those that are frames on stack pages, and the rules that hold of them.
-use Rattle.std.specs.Prelude.{◌≡◌, ℕ, zero, suc, ◌+◌, ◌<◌, ◌≤◌, ◌==◌, ◌||◌, Bool, true, nat_le, not, if◌then◌else◌, List, [], ◌∷◌, ◌++◌, length, Option, Some, None, is_some}
+use Rattle.std.specs.Prelude.{◌≡◌, ℕ, zero, suc, ◌+◌, ◌<◌, ◌≤◌, ◌==◌, ◌||◌, Bool, true, false, nat_le, not, if◌then◌else◌, List, [], ◌∷◌, ◌++◌, length, Option, Some, None, is_some}
 use Rattle.std.specs.List.{AllByRecursion, filter, list_any}
 use Rattle.std.specs.FinMap.{get}
 use Rattle.cs_heap.specs.Object.{used}
@@ -59,10 +59,17 @@ IsCalled k [] = Unit {0}
 IsCalled k (i ∷ []) = Unit {0}
 IsCalled k (i ∷ j ∷ is) = (sender_birth k i ≡ Some j) × IsCalled k (j ∷ is)
 
--- no page is without a frame, each frame is a context of the state, and the frames of a page have at most its 4,096 words
+-- no context stands there twice
+abbrev pub IsApart : List ℕ → Type 0
+IsApart [] = Unit {0}
+IsApart (i ∷ is) = (is_on i is ≡ false) × IsApart is
+
+-- No page is without a frame, each frame is a context of the state, no context has two frames on a page, and the frames of a page
+-- have at most its 4,096 words.
 pub record IsPage (k : Kept) (page : List ℕ) : Type 0 where
   pub some : 0 < length page
   pub contexts : AllByRecursion (λ i. is_context_at (object_at k i) ≡ true) page
+  pub apart : IsApart page
   pub words : page_words k page ≤ 4096
   pub called : IsCalled k page
 

@@ -1,4 +1,5 @@
 mod Methods
 mod Lookups
 mod Resolving
+mod Sending
 pub mod Sends
