@@ -20,7 +20,7 @@ use Rattle.cs_acts.specs.Names.{Store, KeepsNames, name_of}
 use Rattle.cs_acts.specs.Ready.{IsReady}
 use Rattle.cs_acts.specs.Targets.{CanEnter}
 use Rattle.cs_send.specs.Resolved.{IsMethodNamed, Offered, Plain, Stops}
-use Rattle.cs_send.specs.Sent.{Enters, Halts, Offers, Refuses, found, sent, stopped}
+use Rattle.cs_send.specs.Sent.{Enters, Halts, IsPlain, Offers, Refuses, found, sent, stopped}
 use Rattle.cs_send.proofs.Sends.{offered-fits, offered-number, plain-fits, send-offered, send-plain, send-stops}
 
 -- ---- entering
@@ -60,6 +60,7 @@ module _ (k : Kept) (m : Message) (births : k.rest.next ≤ 4611686018427387896)
       let f = offered-fits k m.selector m.args m.above (name_of s o) number (sym e) in
       let is = offered-number k m.selector m.args m.above (name_of s o) number (sym e) in
       record {
+        found = sym e;
         is = send-offered k m.selector m.args m.above (name_of s o) number (sym e);
         method = method;
         enters = record { method = method.method; count = f.takes; there = f.below; marked = λ yes none. none-some number (sym none ∙ is); births = omega (arith, births) };
@@ -67,6 +68,9 @@ module _ (k : Kept) (m : Message) (births : k.rest.next ≤ 4611686018427387896)
 
 pub sent_plain : (k : Kept) (m : Message) (x : Ref) → found k m ≡ Plain x → enter_out k x m.args false ≡ sent k m
 sent_plain k m x e = sym (send-plain k m.selector m.args m.above x e)
+
+pub is_plain : (k : Kept) (m : Message) (x : Ref) → Plain x ≡ found k m → IsPlain (found k m)
+is_plain k m x e = subst IsPlain e tt
 
 pub halts : (k : Kept) (m : Message) (reason : Reason) → Stops reason ≡ found k m → Halts k m reason
 halts k m reason e = stopped (sym e) (send-stops k m.selector m.args m.above reason (sym e))

@@ -19,7 +19,7 @@ use Rattle.cs_acts.specs.Ready.{IsReady}
 use Rattle.cs_acts.specs.Targets.{CanEnter}
 use Rattle.cs_send.specs.declared.SendEnd.{SendEnd}
 use Rattle.cs_send.specs.declared.SendEnd.TheVariants.{Entered, Primitive, Stop, Full}
-use Rattle.cs_send.specs.Resolved.{IsMethodNamed, Resolved, Missing, Stops, resolve_of}
+use Rattle.cs_send.specs.Resolved.{IsMethodNamed, Resolved, Offered, Plain, Missing, Stops, resolve_of}
 
 -- ---- the count
 
@@ -51,6 +51,13 @@ sent k m = send k m.selector m.args m.above
 abbrev pub found : Kept → Message → Resolved
 found k m = resolve_of k m.selector m.args m.above
 
+-- a method without a primitive is found
+abbrev pub IsPlain : Resolved → Type 0
+IsPlain (Offered method number) = ⊥
+IsPlain (Plain method) = Unit {0}
+IsPlain Missing = ⊥
+IsPlain (Stops reason) = ⊥
+
 -- A method is entered in the model, the view keeps the state that is left, the world is ready again, what had a name has it still,
 -- and the new context stands above the active one or alone on a page.
 pub record Enters (old new : Store) (before after : Option Layout) (k v : Kept) (o : Out) : Type 0 where
@@ -67,6 +74,7 @@ pub record Refuses (new : Store) (before : Option Layout) (k : Kept) (o : Out) (
 
 -- the primitive of a method is to be tried; where it fails the method may be entered behind it
 pub record Offers (s : Store) (k : Kept) (m : Message) (o : Oop) (number : ℕ) : Type 0 where
+  pub found : found k m ≡ Offered (name_of s o) number
   pub is : sent k m ≡ out (ends.Primitive (name_of s o) number) k
   pub method : IsMethodNamed s k o
   pub enters : CanEnter k (name_of s o) m.args true
@@ -78,10 +86,10 @@ pub data Halts (k : Kept) (m : Message) (reason : Reason) : Type 0 where
 
 -- a send of the message to the state k, with the stored parts and the layouts before and behind it, and the view behind it
 abbrev pub Sends : Store → Store → Option Layout → Option Layout → Kept → Kept → Message → SendEnd → Type 0
-Sends old new before after k v m Entered = Enters old new before after k v (sent k m)
+Sends old new before after k v m Entered = IsPlain (found k m) × Enters old new before after k v (sent k m)
 Sends old new before after k v m (Primitive method number) = Offers new k m method number
 Sends old new before after k v m (Stop reason) = Halts k m reason
-Sends old new before after k v m (Full why) = Refuses new before k (sent k m) why
+Sends old new before after k v m (Full why) = IsPlain (found k m) × Refuses new before k (sent k m) why
 
 -- where nothing is entered, this holds of the world
 abbrev pub Still : SendEnd → Type 0 → Type 0
