@@ -1,5 +1,5 @@
 -- What the answers of primitives lead to.
-use Rattle.std.proofs.Common.{◌≡◌, ℕ, ◌+◌, ◌==◌, refl, Option, Some, None, option_and_then, option_map}
+use Rattle.std.proofs.Common.{◌≡◌, ℕ, ◌+◌, ◌==◌, refl, Option, Some, None, option_and_then}
 use Rattle.cs_model.specs.Ref.{Ref}
 use Rattle.cs_model.specs.State.{Kept}
 use Rattle.cs_model.specs.PrimAnswer.{answer, answer_if, with_count}
@@ -37,10 +37,6 @@ answer_in_leading (Some t) args x r h = answer_behind args x (h t refl)
 pub and_then_some : {A B : Type 0} (f : A → Option B) (o : Option A) (y : B) → option_and_then f o ≡ Some y → (x : A) × (o ≡ Some x) × (f x ≡ Some y)
 and_then_some f None y e = absurd (cc)
 and_then_some f (Some x) y e = (x, refl, e)
-
-pub map_some : {A B : Type 0} (f : A → B) (o : Option A) (y : B) → option_map f o ≡ Some y → (x : A) × (o ≡ Some x) × (f x ≡ y)
-map_some f None y e = absurd (cc)
-map_some f (Some x) y e = (x, refl, cc)
 
 -- ---- numbers
 
