@@ -2,7 +2,7 @@
 -- activations on stack pages makes a context only for a look, so by these numbers it can be told from one that makes a context
 -- for each activation (this machine's own).
 use Rattle.std.specs.Prelude.{◌≡◌, ℕ, zero, suc, ◌+◌, ◌==◌, ◌&&◌, Bool, true, false, nat_lt, if◌then◌else◌, List, [], ◌∷◌, ◌++◌, length, Option, Some, None, option_and_then}
-use Rattle.std.specs.List.{range_with_len, sum_by, filter, list_any}
+use Rattle.std.specs.List.{range_with_len, filter, list_any}
 use Rattle.cs_model.specs.declared.event.Event.{Event}
 use Rattle.cs_model.specs.Obj.{Obj, words_of}
 use Rattle.cs_model.specs.State.{Kept, State, object_at}
@@ -56,17 +56,18 @@ HasBegun n s i = was_active i (states_of n s) ≡ true
 
 -- ---- words
 
--- all births that were given
-abbrev pub births : Kept → List ℕ
-births k = range_with_len 0 k.rest.next
-
 abbrev pub words_at : Option Obj → ℕ
 words_at None = 0
 words_at (Some o) = words_of o
 
+-- the words of the objects and contexts that have births below n
+unfoldable pub words_below : ℕ → Kept → ℕ
+words_below zero k = 0
+words_below (suc n) k = words_below n k + words_at (object_at k n)
+
 -- the words of all objects and contexts
-unfoldable pub words_in : Kept → ℕ
-words_in k = sum_by (λ i. words_at (object_at k i)) (births k)
+abbrev pub words_in : Kept → ℕ
+words_in k = words_below k.rest.next k
 
 -- The words of all objects and contexts behind n steps. Nothing leaves the map, so these are the words at the beginning and of
 -- all that was made since; what a step made before it stopped counts too, and behind an end nothing is made.
@@ -78,6 +79,10 @@ unfoldable pub own : ℕ → State → ℕ
 own n s = words_in s.kept + (run n s).count.objects
 
 -- ---- looks
+
+-- all births that were given
+abbrev pub births : Kept → List ℕ
+births k = range_with_len 0 k.rest.next
 
 -- a state that is saved, or settled for it, counts a look for each live context that has begun
 unfoldable pub saving_looks : List Kept → Kept → ℕ
