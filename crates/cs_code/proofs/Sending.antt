@@ -17,7 +17,8 @@ use Rattle.cs_model.specs.Instance.{Made, New, NotInstantiable, TableFull, insta
 use Rattle.cs_model.specs.End.{Count, End, Out, and_then, counting, done, given, is_done, looked, made, out, stop}
 use Rattle.cs_model.specs.End as ends
 use Rattle.cs_model.specs.Exec.{argument_count_in, array_class, array_made, at_once, birth_or_zero, class_out, closure_out, common_out, dup_out, exec, fill_of, is_active, is_local, jump_if_out, jump_out, literal_at, must_be_boolean, new_array_out, new_closure, pc_after, pop_array_out, pop_into, pop_out, push_field, push_literal_out, push_out, push_receiver_out, push_temp_out, push_variable_out, push_vector_out, return_out, same_out, selector_pair, send_literal_out, send_selector_out, send_super_out, slots_equal, special_out, special_send_out, store_field, store_into, store_receiver_out, store_temp_out, store_variable_out, store_vector_out, this_context_out, top_of, variable_value, vector_at, vector_slot, with_array, with_top}
-use Rattle.cs_code.specs.Built.{built_exec, is_built_op}
+use Rattle.cs_model.specs.Built.{is_built_op}
+use Rattle.cs_code.specs.Built.{built_exec}
 
 -- what holds of the state that an end leaves: it is k where the end is a send
 abbrev pub Still : Kept → End → Kept → Type 0
