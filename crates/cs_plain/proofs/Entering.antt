@@ -37,7 +37,7 @@ use Rattle.cs_model.specs.Operation as operation
 use Rattle.cs_model.proofs.Objects.{object_at-put_same}
 use Rattle.cs_acts.specs.Names.{IsNamed, KeepsNames, Names, name_of}
 use Rattle.cs_acts.specs.Ready.{IsReady, IsSound}
-use Rattle.cs_acts.specs.Room.{words_of_state}
+use Rattle.cs_model.specs.Demand.{words_in}
 use Rattle.cs_acts.specs.Targets.{CanEnter}
 use Rattle.cs_acts.proofs.Methods.{IsMethodAt, length-literals, parts}
 use Rattle.cs_acts.proofs.Sizes.{pc_small}
@@ -384,8 +384,8 @@ module _ {w : PlainWorld} {a : Oop} {x : Object} (ready : IsReady (stored_of w) 
   words = used-pushed old new ∙ ap₂ (λ (n l : ℕ). n + size l) edit.words words_long
 
   -- the words of the state behind it
-  pub entered_words : words_of_state entered ≡ used w.heap.objects + size (6 + context_size header)
-  entered_words = ap words_of_state (sym kept) ∙ words_of-kept all w (after_birth w.roots) (Some w.roots.next_birth) made.whole ∙ words
+  pub entered_words : words_in entered ≡ used w.heap.objects + size (6 + context_size header)
+  entered_words = ap words_in (sym kept) ∙ words_of-kept all w (after_birth w.roots) (Some w.roots.next_birth) made.whole ∙ words
 
   dropped_is : view_of (with_objects w old) ≡ drop_of (view_of w) (args + 1)
   unfolding drop_of

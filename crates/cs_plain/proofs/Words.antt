@@ -20,7 +20,7 @@ use Rattle.cs_classes.proofs.Sorts.{AContext, AMethod, Bytes, Pointers, Sort, ob
 use Rattle.cs_classes.proofs.Sounds.{whole_context}
 use Rattle.cs_classes.proofs.Tables.{ties_other, ties_same}
 use Rattle.cs_acts.specs.Layout.{IsPlain}
-use Rattle.cs_acts.specs.Room.{words_below, words_if, words_of_state}
+use Rattle.cs_model.specs.Demand.{words_at, words_below, words_in}
 use Rattle.cs_acts.proofs.Methods.{length-bytes_of}
 use Rattle.cs_plain.specs.declared.PlainWorld.{PlainWorld}
 use Rattle.cs_plain.specs.View.{active_in, stored_of, view_of}
@@ -30,12 +30,12 @@ use Rattle.cs_plain.specs.View.{active_in, stored_of, view_of}
 -- the words of what g has below n
 unfoldable words_by : ℕ → (ℕ → Option Obj) → ℕ
 words_by zero g = 0
-words_by (suc n) g = words_by n g + words_if (g n)
+words_by (suc n) g = words_by n g + words_at (g n)
 
 words_by-same : (n : ℕ) (g h : ℕ → Option Obj) → ((i : ℕ) → i < n → g i ≡ h i) → words_by n g ≡ words_by n h
 unfolding words_by
 words_by-same zero g h same = refl
-words_by-same (suc n) g h same = ap₂ (λ (a b : ℕ). a + b) (words_by-same n g h (λ i l. same i (omega (arith, l)))) (ap words_if (same n (omega arith)))
+words_by-same (suc n) g h same = ap₂ (λ (a b : ℕ). a + b) (words_by-same n g h (λ i l. same i (omega (arith, l)))) (ap words_at (same n (omega arith)))
 
 -- one more is there
 words_by-more : (n b : ℕ) (o : Obj) (g h : ℕ → Option Obj) → b < n → g b ≡ Some o → h b ≡ None → ((i : ℕ) → (i ≡ b → ⊥) → g i ≡ h i) → words_by n g ≡ words_of o + words_by n h
@@ -43,15 +43,15 @@ unfolding words_by
 words_by-more zero b o g h less here there same = absurd (omega (arith, less))
 words_by-more (suc n) b o g h less here there same = go (cases_eq b n) (λ l. words_by-more n b o g h l here there same)
   where
-    go : (b ≡ n) ⊎ (b ≡ n → ⊥) → (b < n → words_by n g ≡ words_of o + words_by n h) → words_by n g + words_if (g n) ≡ words_of o + (words_by n h + words_if (h n))
+    go : (b ≡ n) ⊎ (b ≡ n → ⊥) → (b < n → words_by n g ≡ words_of o + words_by n h) → words_by n g + words_at (g n) ≡ words_of o + (words_by n h + words_at (h n))
     go (inl e) rest =
         let below = words_by-same n g h (λ i l. same i (λ d. omega (arith, l, d, e))) in
-        let new : words_if (g n) ≡ words_of o = ap words_if (ap g (sym e) ∙ here) in
-        let old : words_if (h n) ≡ 0 = ap words_if (ap h (sym e) ∙ there) in
+        let new : words_at (g n) ≡ words_of o = ap words_at (ap g (sym e) ∙ here) in
+        let old : words_at (h n) ≡ 0 = ap words_at (ap h (sym e) ∙ there) in
         omega (arith, below, new, old)
     go (inr other) rest =
         let below = rest (omega (arith, less, other)) in
-        let last = ap words_if (same n (λ e. other (sym e))) in
+        let last = ap words_at (same n (λ e. other (sym e))) in
         omega (arith, below, last)
 
 words_by-none : (n : ℕ) → words_by n (λ i. None) ≡ 0
@@ -81,7 +81,7 @@ words_by-list f (x ∷ os) n apart below sizes =
 words_by-state : (n : ℕ) (k : Kept) → words_below n k ≡ words_by n (object_at k)
 unfolding words_below words_by
 words_by-state zero k = refl
-words_by-state (suc n) k = ap (λ m. m + words_if (object_at k n)) (words_by-state n k)
+words_by-state (suc n) k = ap (λ m. m + words_at (object_at k n)) (words_by-state n k)
 
 -- ---- the words of an object
 
@@ -141,7 +141,7 @@ words_of-sound os x sound = go (sort_of x)
 
 -- ---- the whole
 
-pub words_of-kept : (os : List Object) (w : PlainWorld) (roots : Roots) (active : Option ℕ) → IsWhole os w.classes roots → words_of_state (kept_of os w.classes roots active) ≡ used os
+pub words_of-kept : (os : List Object) (w : PlainWorld) (roots : Roots) (active : Option ℕ) → IsWhole os w.classes roots → words_in (kept_of os w.classes roots active) ≡ used os
 unfolding objects_of
 words_of-kept os w roots active whole =
     words_by-state roots.next_birth (kept_of os w.classes roots active)
