@@ -25,7 +25,7 @@ use Rattle.cs_plain.specs.Storing.{copied, with_fields}
 use Rattle.cs_plain.specs.View.{stored_of, view_of}
 use Rattle.cs_plain.proofs.Active.{Active, active_is}
 use Rattle.cs_plain.proofs.Entering.{Header, IsFields, entered_names, entered_ready, entered_view, entered_words, header_at, method_at, with_entered}
-use Rattle.cs_plain.proofs.Framing.{frame_is, frame_words, framed}
+use Rattle.cs_plain.proofs.Making.{context_object-is, context_words, context_added}
 use Rattle.cs_plain.proofs.Slots.{depth_is_read, depth_within, few_slots, fields_within, slots_are}
 use Rattle.cs_plain.proofs.Writing.{held_by}
 
@@ -132,13 +132,13 @@ module _ (w : PlainWorld) (m b : Oop) (args : ℕ) (skip : Bool) (ready : IsRead
         let csize : ℕ = context_size header in
         let next : new.0 ≡ next_address os (6 + csize) = at ∙ ap (next_address os) count in
         let same : depth ≡ d = deep ∙ sym (depth_is_read ready active) in
-        let objects : List Object = with_slot os b.0 2 (small_word (pos (d - (args + 1)))) ++ record (new_object 36 3 (6 + csize) w.roots.next_birth) { words = frame_words f x.words (6 + (d - (args + 1)) + 1) args csize } ∷ [] in
+        let objects : List Object = with_slot os b.0 2 (small_word (pos (d - (args + 1)))) ++ record (new_object 36 3 (6 + csize) w.roots.next_birth) { words = context_words f x.words (6 + (d - (args + 1)) + 1) args csize } ∷ [] in
         let heap : h ≡ record w.heap { objects = objects } =
         e
         ∙ ap₂ (λ (n l : ℕ). record w.heap { objects = with_slot (copied (with_fields (os ++ new_object 36 3 n w.roots.next_birth ∷ []) new.0 f) b.0 (6 + (l - (args + 1)) + 1) new.0 args) b.0 2 (small_word (pos (l - (args + 1)))) }) count same
-        ∙ ap (λ (us : List Object). record w.heap { objects = us }) (framed os x f new.0 b.0 (6 + (d - (args + 1)) + 1) args csize w.roots.next_birth (small_word (pos (d - (args + 1)))) active.there next)
+        ∙ ap (λ (us : List Object). record w.heap { objects = us }) (context_added os x f new.0 b.0 (6 + (d - (args + 1)) + 1) args csize w.roots.next_birth (small_word (pos (d - (args + 1)))) active.there next)
         ∙ ap (λ (y : Object). record w.heap { objects = with_slot os b.0 2 (small_word (pos (d - (args + 1)))) ++ y ∷ [] })
-        (frame_is f x.words (6 + (d - (args + 1)) + 1) args csize w.roots.next_birth (omega (arith, same, args_below, sender_slots, slots_are ready active)) args_fit) in
+        (context_object-is f x.words (6 + (d - (args + 1)) + 1) args csize w.roots.next_birth (omega (arith, same, args_below, sender_slots, slots_are ready active)) args_fit) in
         let done : Enters w (with_entered w objects new) m args skip = record {
           view = entered_view ready active m args skip named fits header head f writes new next;
           ready = entered_ready ready active m args skip named fits header head f writes new next (omega (arith, room, ap size count));

@@ -46,7 +46,7 @@ use Rattle.cs_plain.specs.declared.PlainWorld.{PlainWorld}
 use Rattle.cs_plain.specs.View.{birth_at, birth_in, stored_of, view_of}
 use Rattle.cs_plain.proofs.Active.{Active, meaning_there, sound_world}
 use Rattle.cs_plain.proofs.Edits.{Edited, edited}
-use Rattle.cs_plain.proofs.Framing.{drop-drop, frame_words}
+use Rattle.cs_plain.proofs.Making.{drop-drop, context_words}
 use Rattle.cs_plain.proofs.Pcs.{KeepsPcs, lies_still, no_place, pcs-put, pcs-rest, running}
 use Rattle.cs_plain.proofs.Slots.{depth_is_read, stack_words, whole_active}
 use Rattle.cs_plain.proofs.Storing.{kind_address}
@@ -191,7 +191,7 @@ module _ {w : PlainWorld} {a : Oop} {x : Object} (ready : IsReady (stored_of w) 
   old = with_slot w.heap.objects a.0 2 (small_word (pos left))
 
   abbrev new : Object
-  new = record (new_object 36 3 (6 + context_size header) w.roots.next_birth) { words = frame_words f x.words at args (context_size header) }
+  new = record (new_object 36 3 (6 + context_size header) w.roots.next_birth) { words = context_words f x.words at args (context_size header) }
 
   abbrev all : List Object
   all = old ++ new ∷ []

@@ -11,6 +11,6 @@ mod Copying
 mod Words
 mod Acts
 mod Leaving
-mod Framing
+mod Making
 mod Entering
 mod Entered

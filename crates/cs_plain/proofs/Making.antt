@@ -90,16 +90,16 @@ stacked-words from at (suc n) y a b c d e f rest h =
     six n = omega arith
 
 -- the object of a context that is made: its fields, values of a stack, and nil
-unfoldable pub frame_of : Fields → List ℕ → ℕ → ℕ → ℕ → ℕ → Object
-frame_of f from at args size birth = stacked from at args (fielded f (new_object 36 3 (6 + size) birth))
+unfoldable pub context_object : Fields → List ℕ → ℕ → ℕ → ℕ → ℕ → Object
+context_object f from at args size birth = stacked from at args (fielded f (new_object 36 3 (6 + size) birth))
 
-abbrev pub frame_words : Fields → List ℕ → ℕ → ℕ → ℕ → List ℕ
-frame_words f from at args size = f.sender.0 ∷ f.pc.0 ∷ f.stackp.0 ∷ f.method.0 ∷ base ∷ f.receiver.0 ∷ (take args (drop at from) ++ replicate (size - args) base)
+abbrev pub context_words : Fields → List ℕ → ℕ → ℕ → ℕ → List ℕ
+context_words f from at args size = f.sender.0 ∷ f.pc.0 ∷ f.stackp.0 ∷ f.method.0 ∷ base ∷ f.receiver.0 ∷ (take args (drop at from) ++ replicate (size - args) base)
 
-pub frame_is : (f : Fields) (from : List ℕ) (at args size birth : ℕ) → at + args ≤ length from → args ≤ size
-    → frame_of f from at args size birth ≡ record (new_object 36 3 (6 + size) birth) { words = frame_words f from at args size }
-unfolding fielded frame_of
-frame_is f from at args size birth h l =
+pub context_object-is : (f : Fields) (from : List ℕ) (at args size birth : ℕ) → at + args ≤ length from → args ≤ size
+    → context_object f from at args size birth ≡ record (new_object 36 3 (6 + size) birth) { words = context_words f from at args size }
+unfolding fielded context_object
+context_object-is f from at args size birth h l =
     let y : Object = new_object 36 3 (6 + size) birth in
     let six : 6 + size ≡ suc (suc (suc (suc (suc (suc size))))) = omega arith in
     let fields : (fielded f y).words ≡ f.sender.0 ∷ f.pc.0 ∷ f.stackp.0 ∷ f.method.0 ∷ base ∷ f.receiver.0 ∷ replicate size base =
@@ -154,17 +154,17 @@ with_object-old os y a g h =
     within zero (x ∷ os) l = refl
     within (suc k) (x ∷ os) l = ap (λ us. x ∷ us) (within k os (omega (arith, l)))
 
-pub framed : (os : List Object) (x : Object) (f : Fields) (a b at args size birth v : ℕ) → object_at os b ≡ Some x → a ≡ next_address os (6 + size)
-    → with_slot (copied (with_fields (os ++ new_object 36 3 (6 + size) birth ∷ []) a f) b at a args) b 2 v ≡ with_slot os b 2 v ++ frame_of f x.words at args size birth ∷ []
-unfolding fielded frame_of
-framed os x f a b at args size birth v there h =
+pub context_added : (os : List Object) (x : Object) (f : Fields) (a b at args size birth v : ℕ) → object_at os b ≡ Some x → a ≡ next_address os (6 + size)
+    → with_slot (copied (with_fields (os ++ new_object 36 3 (6 + size) birth ∷ []) a f) b at a args) b 2 v ≡ with_slot os b 2 v ++ context_object f x.words at args size birth ∷ []
+unfolding fielded context_object
+context_added os x f a b at args size birth v there h =
     let y : Object = new_object 36 3 (6 + size) birth in
     let long : length y.words ≡ 6 + size = length-replicate (6 + size) base in
     let first : a ≡ next_address os (length y.words) = h ∙ ap (next_address os) (sym long) in
     let later : length (fielded f y).words ≡ length y.words = five y in
     ap (λ us. with_slot (copied us b at a args) b 2 v) (with_fields-new os y a f first)
     ∙ ap (λ us. with_slot us b 2 v) (copied-new os (fielded f y) x a b at args there (first ∙ ap (next_address os) (sym later)))
-    ∙ with_object-old os (frame_of f x.words at args size birth) b (set_word 2 v) (is_object-object_at os b x there)
+    ∙ with_object-old os (context_object f x.words at args size birth) b (set_word 2 v) (is_object-object_at os b x there)
   where
     five : (y : Object) → length (fielded f y).words ≡ length y.words
     five y =
