@@ -8,6 +8,7 @@
 ghost use Rattle.std.specs.Prelude.{◌≡◌};
 ghost use Rattle.cs_stack.specs.View.{act_of, layout_of, stored_of, view_of};
 
+mod moves;
 mod parts;
 mod words;
 

@@ -3,12 +3,12 @@ ghost use Rattle.std.specs.Prelude.{◌≡◌, ◌≢◌, ◌<◌, []};
 ghost use Rattle.cs_stack.specs.View.{page_of};
 
 use crate::words::{
-    context_size, count, count_word, header, is_context, is_count, literal_count, temporary_count,
+    context_size, count, count_word, header, is_context, is_count,
 };
-use cs_acts::{Act, Full, Roots};
+use cs_acts::{Act, Roots};
 use cs_classes::Classes;
-use cs_frame::{FrameRef, Frames, NewFrame};
-use cs_heap::{BASE, Heap};
+use cs_frame::{FrameRef, Frames};
+use cs_heap::Heap;
 use cs_pages::Pages;
 use cs_word::Oop;
 
@@ -40,14 +40,8 @@ pub(crate) const STACK: u32 = 6;
 /// The slot in which a process keeps its context while it doesn't run.
 pub(crate) const SUSPENDED_CONTEXT: u32 = 1;
 
-/// The words that must be free where a frame is made: its ten, and those of 56 values.
-const FRAME_ROOM: u32 = 66;
-
-/// How many bytes of bytecodes name a primitive.
-const PRIMITIVE_BYTES: u32 = 3;
-
 /// The only page.
-const PAGE: u32 = 0;
+pub(crate) const PAGE: u32 = 0;
 
 /// The base frame, which begins with its page.
 const BASE_FRAME: FrameRef = FrameRef { page: PAGE, at: 0 };
@@ -183,79 +177,6 @@ impl Parts {
         let top = self.top();
         self.frames.pop(top)
     }
-
-    // ---- entering and leaving
-
-    /// The context that a process keeps becomes active, and the process keeps nil.
-    pub(crate) fn take(&mut self, process: Oop, nil: Oop, context: Oop) {
-        self.heap.set_slot(process, SUSPENDED_CONTEXT, nil);
-        let _page = self.pages.take_free();
-        self.base(context);
-    }
-
-    pub(crate) fn enter(&mut self, method: Oop, args: u32, skip: bool) -> Result<(), Full> {
-        if self.frames.room(PAGE) < FRAME_ROOM {
-            return Err(Full::Stack);
-        }
-        let head = header(&self.heap, method);
-        let top = self.top();
-        let receiver = self.frames.slot(top, self.frames.depth(top) - args - 1);
-        let birth = self.roots.next_birth;
-        let new = NewFrame {
-            method,
-            closure: Oop(BASE),
-            receiver,
-            birth,
-            args,
-            fill: temporary_count(head) - args,
-        };
-        let frame = self.frames.build(PAGE, new);
-        self.frames
-            .set_saved_pc(frame, count_word(entry_pc(head, skip)));
-        self.roots.next_birth = birth + 1;
-        Ok(())
-    }
-
-    pub(crate) fn leave(&mut self, v: Oop) {
-        let top = self.top();
-        if self.frames.caller(top).is_none() {
-            let sender = self.frames.sender(top);
-            let context = self.frames.context(top);
-            self.frames.drop_top(PAGE);
-            self.bury(context);
-            self.base(sender);
-        } else {
-            self.frames.drop_top(PAGE);
-        }
-        self.push(v);
-    }
-
-    /// A context of the heap dies: its sender and its pc are nil, and its stack is empty.
-    fn bury(&mut self, context: Oop) {
-        self.heap.set_slot(context, SENDER, Oop(BASE));
-        self.heap.set_slot(context, PC, Oop(BASE));
-        self.heap.set_slot(context, STACKP, count_word(0));
-    }
-
-    /// Makes a context of the heap the base frame of the empty page.
-    fn base(&mut self, context: Oop) {
-        let new = NewFrame {
-            method: self.heap.slot(context, METHOD),
-            closure: self.heap.slot(context, CLOSURE),
-            receiver: self.heap.slot(context, RECEIVER),
-            birth: self.heap.birth(context),
-            args: 0,
-            fill: 0,
-        };
-        let frame = self.frames.build(PAGE, new);
-        self.frames
-            .set_sender(frame, self.heap.slot(context, SENDER));
-        self.frames.set_saved_pc(frame, self.heap.slot(context, PC));
-        self.frames.set_context(frame, context);
-        for i in 0..count(self.heap.slot(context, STACKP)) {
-            self.frames.push(frame, self.heap.slot(context, STACK + i));
-        }
-    }
 }
 
 /// What stands for the context that a frame is.
@@ -264,11 +185,4 @@ fn act(f: FrameRef) -> Act {
         page: f.page,
         at: f.at,
     }
-}
-
-/// The pc at which a method is entered: behind the header and the literals of four bytes each, and behind a primitive that
-/// failed.
-fn entry_pc(header: u32, skip: bool) -> u32 {
-    let first = 4 * (literal_count(header) + 1) + 1;
-    if skip { first + PRIMITIVE_BYTES } else { first }
 }
