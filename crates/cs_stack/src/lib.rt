@@ -33,9 +33,13 @@ pub struct StackWorld {
 
 impl Model for StackWorld {
     ghost use Rattle.cs_stack.specs.declared.parts.Parts.{Parts};
-    ghost use Rattle.cs_stack.specs.Good.{IsGood};
+    ghost use Rattle.cs_stack.specs.contracts.parts.Parts as contracts;
 
     ghost Value = { Parts };
+
+    ghost coded = { contracts.the_row.coded };
+
+    ghost use Rattle.cs_stack.specs.Good.{IsGood};
 
     ghost view = { λ s. s.parts };
 

@@ -1,6 +1,16 @@
 //! What a world of frames keeps, and how its parts change.
-ghost use Rattle.std.specs.Prelude.{◌≡◌, ◌≢◌, ◌<◌, []};
-ghost use Rattle.cs_stack.specs.View.{page_of};
+ghost use Rattle.std.specs.Prelude.{◌≡◌, ◌<◌, ◌-◌, Some, IfSome, IsSome, not, true, slice_get, unwrap_or};
+ghost use Rattle.cs_frame.specs.Page.{IsFrame, IsTop, frame, ref_of, top};
+ghost use Rattle.cs_model.specs.Obj.{context_in, lies_in};
+ghost use Rattle.cs_model.specs.Operation.{nil_of, pop_of, push_of, set_pc_of, set_stack_of, store_of};
+ghost use Rattle.cs_model.specs.Read.{depth_of, method_of, size_of, stack_of};
+ghost use Rattle.cs_model.specs.Return.{closure_at, context_birth, has_room, is_live, sender_birth};
+ghost use Rattle.cs_model.specs.State.{object_at, object_of};
+ghost use Rattle.cs_acts.specs.Names.{IsNamed, KeepsNames, Names, name_of};
+ghost use Rattle.cs_acts.specs.Ready.{IsReady, is_storable};
+ghost use Rattle.cs_acts.specs.Targets.{method_in};
+ghost use Rattle.cs_stack.specs.View.{act_of, layout_of, page_of, stored_of, view_of};
+ghost use Rattle.cs_stack.specs.Good.{IsGood};
 
 use crate::words::{
     context_size, count, count_word, header, is_context, is_count,
@@ -48,7 +58,12 @@ const BASE_FRAME: FrameRef = FrameRef { page: PAGE, at: 0 };
 
 impl Parts {
     /// The last frame, which is the active one.
-    pub(crate) fn top(&self) -> FrameRef {
+    pub(crate) fn top(&self) -> FrameRef
+        requires good { IsGood self.now }
+        requires ready { IsReady (stored_of self.now) (view_of self.now) }
+        ensures is { result ≡ ref_of 0 (top (page_of self.now)) }
+        ensures last { IsTop self.now.frames result }
+    {
         let Some(top) = self.frames.top(PAGE) else {
             unreachable!();
         };
@@ -56,7 +71,10 @@ impl Parts {
     }
 
     /// The active context, if there is one.
-    pub(crate) fn active(&self) -> Act {
+    pub(crate) fn active(&self) -> Act
+        requires good { IsGood self.now }
+        ensures { act_of self.now result ≡ (view_of self.now).rest.active }
+    {
         match self.frames.top(PAGE) {
             Some(f) => act(f),
             None => Act::Gone,
@@ -64,7 +82,11 @@ impl Parts {
     }
 
     /// What stands for the context that a word names; Gone where it names none.
-    fn act_at(&self, word: Oop) -> Act {
+    fn act_at(&self, word: Oop) -> Act
+        requires good { IsGood self.now }
+        requires named { IsNamed (stored_of self.now) word }
+        ensures { act_of self.now result ≡ context_birth (view_of self.now) (name_of (stored_of self.now) word) }
+    {
         if !is_context(&self.heap, word) {
             return Act::Gone;
         }
@@ -92,7 +114,11 @@ impl Parts {
         }
     }
 
-    pub(crate) fn act_birth(&self, a: Act) -> u64 {
+    pub(crate) fn act_birth(&self, a: Act) -> u64
+        requires good { IsGood self.now }
+        requires stands { IsSome (act_of self.now a) }
+        ensures { act_of self.now a ≡ Some result }
+    {
         match a {
             Act::Frame { page, at } => self.frames.birth(FrameRef { page, at }),
             Act::Context(context) => self.heap.birth(context),
@@ -100,7 +126,11 @@ impl Parts {
         }
     }
 
-    pub(crate) fn act_closure(&self, a: Act) -> Oop {
+    pub(crate) fn act_closure(&self, a: Act) -> Oop
+        requires good { IsGood self.now }
+        requires stands { IsSome (act_of self.now a) }
+        ensures { IfSome (act_of self.now a) (λ birth. Names (stored_of self.now) result (closure_at (view_of self.now) birth)) }
+    {
         match a {
             Act::Frame { page, at } => self.frames.closure(FrameRef { page, at }),
             Act::Context(context) => self.heap.slot(context, CLOSURE),
@@ -108,7 +138,11 @@ impl Parts {
         }
     }
 
-    pub(crate) fn act_method(&self, a: Act) -> Oop {
+    pub(crate) fn act_method(&self, a: Act) -> Oop
+        requires good { IsGood self.now }
+        requires stands { IsSome (act_of self.now a) }
+        ensures { IfSome (act_of self.now a) (λ birth. Names (stored_of self.now) result (method_in (nil_of (view_of self.now)) (context_in (object_at (view_of self.now) birth)))) }
+    {
         match a {
             Act::Frame { page, at } => self.frames.method(FrameRef { page, at }),
             Act::Context(context) => self.heap.slot(context, METHOD),
@@ -116,7 +150,11 @@ impl Parts {
         }
     }
 
-    pub(crate) fn act_live(&self, a: Act) -> bool {
+    pub(crate) fn act_live(&self, a: Act) -> bool
+        requires good { IsGood self.now }
+        requires stands { IsSome (act_of self.now a) }
+        ensures { IfSome (act_of self.now a) (λ birth. result ≡ is_live (view_of self.now) birth) }
+    {
         match a {
             Act::Frame { .. } => true,
             Act::Context(context) => is_count(self.heap.slot(context, PC)),
@@ -124,7 +162,11 @@ impl Parts {
         }
     }
 
-    pub(crate) fn act_full(&self, a: Act) -> bool {
+    pub(crate) fn act_full(&self, a: Act) -> bool
+        requires good { IsGood self.now }
+        requires stands { IsSome (act_of self.now a) }
+        ensures { IfSome (act_of self.now a) (λ birth. not result ≡ has_room (context_in (object_at (view_of self.now) birth))) }
+    {
         match a {
             Act::Frame { page, at } => self.is_full(FrameRef { page, at }),
             Act::Context(context) => {
@@ -139,7 +181,11 @@ impl Parts {
         self.frames.depth(f) >= self.frame_size(f)
     }
 
-    pub(crate) fn sender_act(&self, a: Act) -> Act {
+    pub(crate) fn sender_act(&self, a: Act) -> Act
+        requires good { IsGood self.now }
+        requires stands { IsSome (act_of self.now a) }
+        ensures { IfSome (act_of self.now a) (λ birth. act_of self.now result ≡ sender_birth (view_of self.now) birth) }
+    {
         match a {
             Act::Frame { page, at } => self.frame_sender(FrameRef { page, at }),
             Act::Context(context) => self.act_at(self.heap.slot(context, SENDER)),
@@ -154,26 +200,70 @@ impl Parts {
         }
     }
 
-    pub(crate) fn set_pc(&mut self, pc: u32) {
+    pub(crate) fn set_pc(&mut self, pc: u32)
+        requires good { IsGood self.old }
+        requires ready { IsReady (stored_of self.old) (view_of self.old) }
+        requires lies { lies_in (method_of (view_of self.old)) pc ≡ true }
+        ensures good { IsGood self.new }
+        ensures view { view_of self.new ≡ set_pc_of (view_of self.old) pc }
+        ensures stored { stored_of self.new ≡ stored_of self.old }
+        ensures layout { layout_of self.new ≡ layout_of self.old }
+    {
         let top = self.top();
         self.frames.set_saved_pc(top, count_word(pc));
     }
 
-    pub(crate) fn set_stack(&mut self, i: u32, v: Oop) {
+    pub(crate) fn set_stack(&mut self, i: u32, v: Oop)
+        requires good { IsGood self.old }
+        requires ready { IsReady (stored_of self.old) (view_of self.old) }
+        requires there { i < depth_of (view_of self.old) }
+        requires named { IsNamed (stored_of self.old) v }
+        ensures good { IsGood self.new }
+        ensures view { view_of self.new ≡ set_stack_of (view_of self.old) i (name_of (stored_of self.old) v) }
+        ensures stored { stored_of self.new ≡ stored_of self.old }
+        ensures layout { layout_of self.new ≡ layout_of self.old }
+    {
         let top = self.top();
         self.frames.set_slot(top, i, v);
     }
 
-    pub(crate) fn store(&mut self, o: Oop, i: u32, v: Oop) {
+    pub(crate) fn store(&mut self, o: Oop, i: u32, v: Oop)
+        requires good { IsGood self.old }
+        requires there { is_storable (object_of (view_of self.old) (name_of (stored_of self.old) o)) i ≡ true }
+        requires object { IsNamed (stored_of self.old) o }
+        requires named { IsNamed (stored_of self.old) v }
+        ensures good { IsGood self.new }
+        ensures view { view_of self.new ≡ store_of (view_of self.old) (name_of (stored_of self.old) o) i (name_of (stored_of self.old) v) }
+        ensures names { KeepsNames (stored_of self.old) (stored_of self.new) }
+        ensures rest { self.new ≡ record self.old { heap = self.new.heap } }
+    {
         self.heap.set_slot(o, i, v);
     }
 
-    pub(crate) fn push(&mut self, v: Oop) {
+    pub(crate) fn push(&mut self, v: Oop)
+        requires good { IsGood self.old }
+        requires ready { IsReady (stored_of self.old) (view_of self.old) }
+        requires fits { depth_of (view_of self.old) < size_of (view_of self.old) }
+        requires named { IsNamed (stored_of self.old) v }
+        ensures good { IsGood self.new }
+        ensures view { view_of self.new ≡ push_of (view_of self.old) (name_of (stored_of self.old) v) }
+        ensures stored { stored_of self.new ≡ stored_of self.old }
+        ensures layout { layout_of self.new ≡ layout_of self.old }
+    {
         let top = self.top();
         self.frames.push(top, v);
     }
 
-    pub(crate) fn pop(&mut self) -> Oop {
+    pub(crate) fn pop(&mut self) -> Oop
+        requires good { IsGood self.old }
+        requires ready { IsReady (stored_of self.old) (view_of self.old) }
+        requires there { 0 < depth_of (view_of self.old) }
+        ensures good { IsGood self.new }
+        ensures value { Names (stored_of self.old) result (unwrap_or (slice_get (stack_of (view_of self.old)) (depth_of (view_of self.old) - 1)) (nil_of (view_of self.old))) }
+        ensures view { view_of self.new ≡ pop_of (view_of self.old) }
+        ensures stored { stored_of self.new ≡ stored_of self.old }
+        ensures layout { layout_of self.new ≡ layout_of self.old }
+    {
         let top = self.top();
         self.frames.pop(top)
     }
