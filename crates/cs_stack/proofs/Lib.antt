@@ -1,0 +1,5 @@
+pub mod Maps
+pub mod Framed
+pub mod Lives
+pub mod Closed
+pub mod Tops
