@@ -3,3 +3,5 @@ pub mod Framed
 pub mod Lives
 pub mod Closed
 pub mod Tops
+pub mod Changes
+pub mod Edits
