@@ -1,1 +1,10 @@
+pub mod Maps
+pub mod Framed
+pub mod Lives
+pub mod Closed
+pub mod Tops
+pub mod Changes
+pub mod Edits
 mod Returning
+mod Entries
+mod Entering
