@@ -5,6 +5,6 @@ pub mod Closed
 pub mod Tops
 pub mod Changes
 pub mod Edits
-mod Returning
-mod Entries
-mod Entering
+pub mod Returning
+pub mod Entries
+pub mod Entering
