@@ -8,3 +8,4 @@ pub mod Edits
 pub mod Returning
 pub mod Entries
 pub mod Entering
+pub mod Basing
