@@ -5,3 +5,4 @@ pub mod Closed
 pub mod Tops
 pub mod Changes
 pub mod Edits
+mod Returning

@@ -1,24 +1,24 @@
 //! What a world of frames keeps, and how its parts change.
-ghost use Rattle.std.specs.Prelude.{◌≡◌, ◌<◌, ◌-◌, Some, IfSome, IsSome, not, true, slice_get, unwrap_or};
+ghost use Rattle.std.specs.Prelude.{◌≡◌, ◌<◌, ◌≤◌, ◌-◌, length, nat_lt, Some, IfSome, IsSome, not, true, slice_get, unwrap_or};
 ghost use Rattle.cs_frame.specs.Page.{IsFrame, IsTop, frame, ref_of, top};
 ghost use Rattle.cs_model.specs.Obj.{context_in, lies_in};
 ghost use Rattle.cs_model.specs.Operation.{nil_of, pop_of, push_of, set_pc_of, set_stack_of, store_of};
-ghost use Rattle.cs_model.specs.Read.{depth_of, method_of, size_of, stack_of};
+ghost use Rattle.cs_model.specs.Read.{active_context, depth_of, method_of, pc_of, receiver_of, size_of, stack_of};
 ghost use Rattle.cs_model.specs.Return.{closure_at, context_birth, has_room, is_live, sender_birth};
 ghost use Rattle.cs_model.specs.State.{object_at, object_of};
 ghost use Rattle.cs_acts.specs.Names.{IsNamed, KeepsNames, Names, name_of};
 ghost use Rattle.cs_acts.specs.Ready.{IsReady, is_storable};
 ghost use Rattle.cs_acts.specs.Targets.{method_in};
-ghost use Rattle.cs_stack.specs.View.{act_of, layout_of, page_of, stored_of, view_of};
+ghost use Rattle.cs_stack.specs.View.{act_of, base_context, hides, layout_of, page_of, size_from, stored_of, view_of};
 ghost use Rattle.cs_stack.specs.Good.{IsGood};
 
 use crate::words::{
-    context_size, count, count_word, header, is_context, is_count, literal_count, temporary_count,
+    context_size, count, count_word, header, is_context, is_count,
 };
-use cs_acts::{Act, Full, Roots};
+use cs_acts::{Act, Roots};
 use cs_classes::Classes;
-use cs_frame::{FrameRef, Frames, NewFrame};
-use cs_heap::{BASE, Heap};
+use cs_frame::{FrameRef, Frames};
+use cs_heap::Heap;
 use cs_pages::Pages;
 use cs_word::Oop;
 
@@ -50,14 +50,8 @@ pub(crate) const STACK: u32 = 6;
 /// The slot in which a process keeps its context while it doesn't run.
 pub(crate) const SUSPENDED_CONTEXT: u32 = 1;
 
-/// The words that must be free where a frame is made: its ten, and those of 56 values.
-const FRAME_ROOM: u32 = 66;
-
-/// How many bytes of bytecodes name a primitive.
-const PRIMITIVE_BYTES: u32 = 3;
-
 /// The only page.
-const PAGE: u32 = 0;
+pub(crate) const PAGE: u32 = 0;
 
 /// The base frame, which begins with its page.
 const BASE_FRAME: FrameRef = FrameRef { page: PAGE, at: 0 };
@@ -104,7 +98,10 @@ impl Parts {
     }
 
     /// Whether the context at an address is the base frame's.
-    fn is_hidden(&self, context: Oop) -> bool {
+    fn is_hidden(&self, context: Oop) -> bool
+        requires { IsGood self.now }
+        ensures { result ≡ hides (base_context (page_of self.now)) context.0 }
+    {
         match self.frames.top(PAGE) {
             Some(_) => self.frames.context(BASE_FRAME) == context,
             None => false,
@@ -112,7 +109,12 @@ impl Parts {
     }
 
     /// How many values the stack of a frame may hold.
-    pub(crate) fn frame_size(&self, f: FrameRef) -> u32 {
+    fn frame_size(&self, f: FrameRef) -> u32
+        requires good { IsGood self.now }
+        requires page { f.page ≡ 0 }
+        requires frame { IsFrame self.now.frames f }
+        ensures { result ≡ size_from self.now.heap.objects (page_of self.now) f.at }
+    {
         if f.at == 0 {
             self.heap.slot_count(self.frames.context(f)) - STACK
         } else {
@@ -183,7 +185,12 @@ impl Parts {
     }
 
     /// Whether the stack of a frame holds as many values as its size.
-    fn is_full(&self, f: FrameRef) -> bool {
+    fn is_full(&self, f: FrameRef) -> bool
+        requires good { IsGood self.now }
+        requires page { f.page ≡ 0 }
+        requires frame { IsFrame self.now.frames f }
+        ensures { not result ≡ nat_lt (length (frame self.now.frames f).stack) (size_from self.now.heap.objects (page_of self.now) f.at) }
+    {
         self.frames.depth(f) >= self.frame_size(f)
     }
 
@@ -199,11 +206,65 @@ impl Parts {
         }
     }
 
-    fn frame_sender(&self, f: FrameRef) -> Act {
+    fn frame_sender(&self, f: FrameRef) -> Act
+        requires good { IsGood self.now }
+        requires stands { IsSome (act_of self.now (Act.Frame f.page f.at)) }
+        ensures { IfSome (act_of self.now (Act.Frame f.page f.at)) (λ birth. act_of self.now result ≡ sender_birth (view_of self.now) birth) }
+    {
         match self.frames.caller(f) {
             Some(caller) => act(caller),
             None => self.act_at(self.frames.sender(f)),
         }
+    }
+
+    pub(crate) fn receiver(&self) -> Oop
+        requires good { IsGood self.now }
+        requires ready { IsReady (stored_of self.now) (view_of self.now) }
+        ensures { Names (stored_of self.now) result (receiver_of (view_of self.now)) }
+    {
+        self.frames.receiver(self.top())
+    }
+
+    pub(crate) fn method(&self) -> Oop
+        requires good { IsGood self.now }
+        requires ready { IsReady (stored_of self.now) (view_of self.now) }
+        ensures { Names (stored_of self.now) result (active_context (view_of self.now)).method }
+    {
+        self.frames.method(self.top())
+    }
+
+    pub(crate) fn pc(&self) -> u32
+        requires good { IsGood self.now }
+        requires ready { IsReady (stored_of self.now) (view_of self.now) }
+        ensures { result ≡ pc_of (view_of self.now) }
+    {
+        count(self.frames.saved_pc(self.top()))
+    }
+
+    pub(crate) fn depth(&self) -> u32
+        requires good { IsGood self.now }
+        requires ready { IsReady (stored_of self.now) (view_of self.now) }
+        ensures value { result ≡ depth_of (view_of self.now) }
+        ensures fits { result ≤ size_of (view_of self.now) }
+    {
+        self.frames.depth(self.top())
+    }
+
+    pub(crate) fn size(&self) -> u32
+        requires good { IsGood self.now }
+        requires ready { IsReady (stored_of self.now) (view_of self.now) }
+        ensures { result ≡ size_of (view_of self.now) }
+    {
+        self.frame_size(self.top())
+    }
+
+    pub(crate) fn stack_at(&self, i: u32) -> Oop
+        requires good { IsGood self.now }
+        requires ready { IsReady (stored_of self.now) (view_of self.now) }
+        requires there { i < depth_of (view_of self.now) }
+        ensures { Names (stored_of self.now) result (unwrap_or (slice_get (stack_of (view_of self.now)) i) (nil_of (view_of self.now))) }
+    {
+        self.frames.slot(self.top(), i)
     }
 
     pub(crate) fn set_pc(&mut self, pc: u32)
@@ -273,79 +334,6 @@ impl Parts {
         let top = self.top();
         self.frames.pop(top)
     }
-
-    // ---- entering and leaving
-
-    /// The context that a process keeps becomes active, and the process keeps nil.
-    pub(crate) fn take(&mut self, process: Oop, nil: Oop, context: Oop) {
-        self.heap.set_slot(process, SUSPENDED_CONTEXT, nil);
-        let _page = self.pages.take_free();
-        self.base(context);
-    }
-
-    pub(crate) fn enter(&mut self, method: Oop, args: u32, skip: bool) -> Result<(), Full> {
-        if self.frames.room(PAGE) < FRAME_ROOM {
-            return Err(Full::Stack);
-        }
-        let head = header(&self.heap, method);
-        let top = self.top();
-        let receiver = self.frames.slot(top, self.frames.depth(top) - args - 1);
-        let birth = self.roots.next_birth;
-        let new = NewFrame {
-            method,
-            closure: Oop(BASE),
-            receiver,
-            birth,
-            args,
-            fill: temporary_count(head) - args,
-        };
-        let frame = self.frames.build(PAGE, new);
-        self.frames
-            .set_saved_pc(frame, count_word(entry_pc(head, skip)));
-        self.roots.next_birth = birth + 1;
-        Ok(())
-    }
-
-    pub(crate) fn leave(&mut self, v: Oop) {
-        let top = self.top();
-        if self.frames.caller(top).is_none() {
-            let sender = self.frames.sender(top);
-            let context = self.frames.context(top);
-            self.frames.drop_top(PAGE);
-            self.bury(context);
-            self.base(sender);
-        } else {
-            self.frames.drop_top(PAGE);
-        }
-        self.push(v);
-    }
-
-    /// A context of the heap dies: its sender and its pc are nil, and its stack is empty.
-    fn bury(&mut self, context: Oop) {
-        self.heap.set_slot(context, SENDER, Oop(BASE));
-        self.heap.set_slot(context, PC, Oop(BASE));
-        self.heap.set_slot(context, STACKP, count_word(0));
-    }
-
-    /// Makes a context of the heap the base frame of the empty page.
-    fn base(&mut self, context: Oop) {
-        let new = NewFrame {
-            method: self.heap.slot(context, METHOD),
-            closure: self.heap.slot(context, CLOSURE),
-            receiver: self.heap.slot(context, RECEIVER),
-            birth: self.heap.birth(context),
-            args: 0,
-            fill: 0,
-        };
-        let frame = self.frames.build(PAGE, new);
-        self.frames
-            .set_sender(frame, self.heap.slot(context, SENDER));
-        self.frames.set_saved_pc(frame, self.heap.slot(context, PC));
-        self.frames.set_context(frame, context);
-        for i in 0..count(self.heap.slot(context, STACKP)) {
-            self.frames.push(frame, self.heap.slot(context, STACK + i));
-        }
-    }
 }
 
 /// What stands for the context that a frame is.
@@ -354,11 +342,4 @@ fn act(f: FrameRef) -> Act {
         page: f.page,
         at: f.at,
     }
-}
-
-/// The pc at which a method is entered: behind the header and the literals of four bytes each, and behind a primitive that
-/// failed.
-fn entry_pc(header: u32, skip: bool) -> u32 {
-    let first = 4 * (literal_count(header) + 1) + 1;
-    if skip { first + PRIMITIVE_BYTES } else { first }
 }
