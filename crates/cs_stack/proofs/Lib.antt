@@ -5,4 +5,5 @@ pub mod Closed
 pub mod Tops
 pub mod Changes
 pub mod Edits
+pub mod Writing
 mod Returning
