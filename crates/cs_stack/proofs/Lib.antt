@@ -6,4 +6,5 @@ pub mod Tops
 pub mod Changes
 pub mod Edits
 pub mod Writing
+pub mod Acts
 mod Returning
