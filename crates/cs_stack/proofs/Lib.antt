@@ -1,3 +1,7 @@
+pub mod Returning
+pub mod Entries
+pub mod Entering
+pub mod Basing
 pub mod Maps
 pub mod Framed
 pub mod Lives
@@ -5,7 +9,5 @@ pub mod Closed
 pub mod Tops
 pub mod Changes
 pub mod Edits
-pub mod Returning
-pub mod Entries
-pub mod Entering
-pub mod Basing
+pub mod Writing
+pub mod Acts

@@ -1,5 +1,5 @@
 -- The state that a world of frames keeps: the heap's objects, and over them the frames of the page.
-use Rattle.std.specs.Prelude.{ℕ, ◌-◌, ◌==◌, List, [], ◌∷◌, map, if◌then◌else◌, Option, Some, None}
+use Rattle.std.specs.Prelude.{ℕ, ◌-◌, ◌==◌, Bool, false, List, [], ◌∷◌, map, if◌then◌else◌, Option, Some, None}
 use Rattle.std.specs.Ordering.{nat_cmp}
 use Rattle.std.specs.FinMap.{FinMap, insert}
 use Rattle.cs_word.specs.declared.Oop.{Oop}
@@ -98,19 +98,25 @@ base_context [] = None
 base_context (f ∷ []) = Some f.context
 base_context (f ∷ g ∷ gs) = base_context (g ∷ gs)
 
-abbrev pub birth_unless : Option ℕ → List Object → ℕ → Option ℕ
-birth_unless None os a = birth_in (object_at os a)
-birth_unless (Some b) os a = if b == a then None else birth_in (object_at os a)
+-- whether a frame hides what is at this address
+abbrev pub hides : Option ℕ → ℕ → Bool
+hides None a = false
+hides (Some b) a = b == a
 
 -- the frame that begins at this place
 abbrev pub birth_from : List Frame → ℕ → Option ℕ
 birth_from [] at = None
 birth_from (f ∷ fs) at = if f.at == at then Some f.birth else birth_from fs at
 
+-- the size of that frame
+abbrev pub size_from : List Object → List Frame → ℕ → ℕ
+size_from os [] at = 0
+size_from os (f ∷ fs) at = if f.at == at then frame_size os f fs else size_from os fs at
+
 -- an act is a frame of the page, or the context at an address that has no frame
 abbrev pub act_of : Parts → Act → Option ℕ
 act_of w (act.Frame page at) = if page == 0 then birth_from (page_of w) at else None
-act_of w (act.Context o) = birth_unless (base_context (page_of w)) w.heap.objects o.0
+act_of w (act.Context o) = if hides (base_context (page_of w)) o.0 then None else birth_in (object_at w.heap.objects o.0)
 act_of w act.Gone = None
 
 -- ---- the layout

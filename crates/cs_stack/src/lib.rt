@@ -142,15 +142,15 @@ impl World for StackWorld {
     }
 
     fn receiver(&self) -> Oop {
-        self.parts.frames.receiver(self.parts.top())
+        self.parts.receiver()
     }
 
     fn method(&self) -> Oop {
-        self.parts.frames.method(self.parts.top())
+        self.parts.method()
     }
 
     fn pc(&self) -> u32 {
-        words::count(self.parts.frames.saved_pc(self.parts.top()))
+        self.parts.pc()
     }
 
     fn set_pc(&mut self, pc: u32) {
@@ -158,15 +158,15 @@ impl World for StackWorld {
     }
 
     fn depth(&self) -> u32 {
-        self.parts.frames.depth(self.parts.top())
+        self.parts.depth()
     }
 
     fn size(&self) -> u32 {
-        self.parts.frame_size(self.parts.top())
+        self.parts.size()
     }
 
     fn stack_at(&self, i: u32) -> Oop {
-        self.parts.frames.slot(self.parts.top(), i)
+        self.parts.stack_at(i)
     }
 
     fn set_stack(&mut self, i: u32, v: Oop) {

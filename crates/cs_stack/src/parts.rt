@@ -1,15 +1,15 @@
 //! What a world of frames keeps, and how its parts change.
-ghost use Rattle.std.specs.Prelude.{◌≡◌, ◌<◌, ◌-◌, Some, IfSome, IsSome, not, true, slice_get, unwrap_or};
+ghost use Rattle.std.specs.Prelude.{◌≡◌, ◌<◌, ◌≤◌, ◌-◌, length, nat_lt, Some, IfSome, IsSome, not, true, slice_get, unwrap_or};
 ghost use Rattle.cs_frame.specs.Page.{IsFrame, IsTop, frame, ref_of, top};
 ghost use Rattle.cs_model.specs.Obj.{context_in, lies_in};
 ghost use Rattle.cs_model.specs.Operation.{nil_of, pop_of, push_of, set_pc_of, set_stack_of, store_of};
-ghost use Rattle.cs_model.specs.Read.{depth_of, method_of, size_of, stack_of};
+ghost use Rattle.cs_model.specs.Read.{active_context, depth_of, method_of, pc_of, receiver_of, size_of, stack_of};
 ghost use Rattle.cs_model.specs.Return.{closure_at, context_birth, has_room, is_live, sender_birth};
 ghost use Rattle.cs_model.specs.State.{object_at, object_of};
 ghost use Rattle.cs_acts.specs.Names.{IsNamed, KeepsNames, Names, name_of};
 ghost use Rattle.cs_acts.specs.Ready.{IsReady, is_storable};
 ghost use Rattle.cs_acts.specs.Targets.{method_in};
-ghost use Rattle.cs_stack.specs.View.{act_of, layout_of, page_of, stored_of, view_of};
+ghost use Rattle.cs_stack.specs.View.{act_of, base_context, hides, layout_of, page_of, size_from, stored_of, view_of};
 ghost use Rattle.cs_stack.specs.Good.{IsGood};
 
 use crate::words::{
@@ -98,7 +98,10 @@ impl Parts {
     }
 
     /// Whether the context at an address is the base frame's.
-    fn is_hidden(&self, context: Oop) -> bool {
+    fn is_hidden(&self, context: Oop) -> bool
+        requires { IsGood self.now }
+        ensures { result ≡ hides (base_context (page_of self.now)) context.0 }
+    {
         match self.frames.top(PAGE) {
             Some(_) => self.frames.context(BASE_FRAME) == context,
             None => false,
@@ -106,7 +109,12 @@ impl Parts {
     }
 
     /// How many values the stack of a frame may hold.
-    pub(crate) fn frame_size(&self, f: FrameRef) -> u32 {
+    fn frame_size(&self, f: FrameRef) -> u32
+        requires good { IsGood self.now }
+        requires page { f.page ≡ 0 }
+        requires frame { IsFrame self.now.frames f }
+        ensures { result ≡ size_from self.now.heap.objects (page_of self.now) f.at }
+    {
         if f.at == 0 {
             self.heap.slot_count(self.frames.context(f)) - STACK
         } else {
@@ -177,7 +185,12 @@ impl Parts {
     }
 
     /// Whether the stack of a frame holds as many values as its size.
-    fn is_full(&self, f: FrameRef) -> bool {
+    fn is_full(&self, f: FrameRef) -> bool
+        requires good { IsGood self.now }
+        requires page { f.page ≡ 0 }
+        requires frame { IsFrame self.now.frames f }
+        ensures { not result ≡ nat_lt (length (frame self.now.frames f).stack) (size_from self.now.heap.objects (page_of self.now) f.at) }
+    {
         self.frames.depth(f) >= self.frame_size(f)
     }
 
@@ -193,11 +206,65 @@ impl Parts {
         }
     }
 
-    fn frame_sender(&self, f: FrameRef) -> Act {
+    fn frame_sender(&self, f: FrameRef) -> Act
+        requires good { IsGood self.now }
+        requires stands { IsSome (act_of self.now (Act.Frame f.page f.at)) }
+        ensures { IfSome (act_of self.now (Act.Frame f.page f.at)) (λ birth. act_of self.now result ≡ sender_birth (view_of self.now) birth) }
+    {
         match self.frames.caller(f) {
             Some(caller) => act(caller),
             None => self.act_at(self.frames.sender(f)),
         }
+    }
+
+    pub(crate) fn receiver(&self) -> Oop
+        requires good { IsGood self.now }
+        requires ready { IsReady (stored_of self.now) (view_of self.now) }
+        ensures { Names (stored_of self.now) result (receiver_of (view_of self.now)) }
+    {
+        self.frames.receiver(self.top())
+    }
+
+    pub(crate) fn method(&self) -> Oop
+        requires good { IsGood self.now }
+        requires ready { IsReady (stored_of self.now) (view_of self.now) }
+        ensures { Names (stored_of self.now) result (active_context (view_of self.now)).method }
+    {
+        self.frames.method(self.top())
+    }
+
+    pub(crate) fn pc(&self) -> u32
+        requires good { IsGood self.now }
+        requires ready { IsReady (stored_of self.now) (view_of self.now) }
+        ensures { result ≡ pc_of (view_of self.now) }
+    {
+        count(self.frames.saved_pc(self.top()))
+    }
+
+    pub(crate) fn depth(&self) -> u32
+        requires good { IsGood self.now }
+        requires ready { IsReady (stored_of self.now) (view_of self.now) }
+        ensures value { result ≡ depth_of (view_of self.now) }
+        ensures fits { result ≤ size_of (view_of self.now) }
+    {
+        self.frames.depth(self.top())
+    }
+
+    pub(crate) fn size(&self) -> u32
+        requires good { IsGood self.now }
+        requires ready { IsReady (stored_of self.now) (view_of self.now) }
+        ensures { result ≡ size_of (view_of self.now) }
+    {
+        self.frame_size(self.top())
+    }
+
+    pub(crate) fn stack_at(&self, i: u32) -> Oop
+        requires good { IsGood self.now }
+        requires ready { IsReady (stored_of self.now) (view_of self.now) }
+        requires there { i < depth_of (view_of self.now) }
+        ensures { Names (stored_of self.now) result (unwrap_or (slice_get (stack_of (view_of self.now)) i) (nil_of (view_of self.now))) }
+    {
+        self.frames.slot(self.top(), i)
     }
 
     pub(crate) fn set_pc(&mut self, pc: u32)
