@@ -45,7 +45,7 @@ module _ {os : List Object} {a : ℕ} (at : IsContextAt os a) where
   pub few : depth_in at.object.words ≤ 56
   few = omega (arith, whole.depth, slots_at_most (length at.object.words) (at.sound.context at.context).slots)
 
-  stack_is : stack_words os a ≡ take (depth_in at.object.words) (drop 6 at.object.words)
+  pub stack_is : stack_words os a ≡ take (depth_in at.object.words) (drop 6 at.object.words)
   stack_is = ap (λ ws. take (depth_in ws) (drop 6 ws)) words_are
 
   pub stack_long : length (stack_words os a) ≡ depth_in at.object.words

@@ -2,6 +2,7 @@ pub mod Returning
 pub mod Entries
 pub mod Entering
 pub mod Basing
+pub mod Based
 pub mod Leaving
 pub mod Maps
 pub mod Framed
