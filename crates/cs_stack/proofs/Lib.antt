@@ -3,6 +3,7 @@ pub mod Entries
 pub mod Entering
 pub mod Basing
 pub mod Based
+pub mod Buried
 pub mod Leaving
 pub mod Maps
 pub mod Framed
