@@ -5,6 +5,7 @@ pub mod Basing
 pub mod Based
 pub mod Buried
 pub mod Leaving
+pub mod Unwinding
 pub mod Maps
 pub mod Framed
 pub mod Lives

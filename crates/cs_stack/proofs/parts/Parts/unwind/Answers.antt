@@ -1,3 +1,2 @@
-use Rattle.cs_stack.proofs.Based.{base_fits, based_view}
-use Rattle.cs_stack.proofs.Buried.{buried_kept, buried_pcs}
+use Rattle.cs_stack.proofs.Unwinding.{can_base, dropped, rebased}
 use Rattle.cs_stack.proofs.parts.Parts.unwind.Goals as goal
