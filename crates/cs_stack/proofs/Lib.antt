@@ -7,4 +7,5 @@ pub mod Changes
 pub mod Edits
 pub mod Writing
 pub mod Acts
+pub mod Bases
 mod Returning
