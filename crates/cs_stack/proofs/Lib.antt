@@ -8,4 +8,5 @@ pub mod Edits
 pub mod Writing
 pub mod Acts
 pub mod Bases
+pub mod Stores
 mod Returning
