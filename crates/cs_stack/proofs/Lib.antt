@@ -9,4 +9,5 @@ pub mod Writing
 pub mod Acts
 pub mod Bases
 pub mod Stores
+pub mod Laid
 mod Returning
