@@ -1,3 +1,9 @@
+pub mod Returning
+pub mod Entries
+pub mod Entering
+pub mod Basing
+pub mod Based
+pub mod Leaving
 pub mod Maps
 pub mod Framed
 pub mod Lives
@@ -10,4 +16,3 @@ pub mod Acts
 pub mod Bases
 pub mod Stores
 pub mod Laid
-mod Returning
