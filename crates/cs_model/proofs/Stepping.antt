@@ -46,10 +46,10 @@ message_in_same v (same ends.Quit h) = none
 message_in_same v (same ends.Snapshot h) = none
 message_in_same v (same (ends.Stopped reason) h) = none
 
-abbrev FirstHeld : {A : Type 0} → Kept → (Ref × A) → Type 0
+abbrev pub FirstHeld : {A : Type 0} → Kept → (Ref × A) → Type 0
 FirstHeld v p = IsHeld v p.0
 
-return_in_same : {e f : End} → (v : Kept) → Same (EndHeld v) e f → SameOption (FirstHeld v) (return_in e) (return_in f)
+pub return_in_same : {e f : End} → (v : Kept) → Same (EndHeld v) e f → SameOption (FirstHeld v) (return_in e) (return_in f)
 return_in_same v (same ends.Done h) = none
 return_in_same v (same (ends.Send selector args above) h) = none
 return_in_same v (same (ends.Return value local) h) = some (value, local) h

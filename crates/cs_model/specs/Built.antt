@@ -1,75 +1,110 @@
 -- Which steps are built so far. A step that isn't built stops with NotBuilt; any other one is the step of the model.
-use Rattle.std.specs.Prelude.{ℕ, ◌+◌, ◌-◌, ◌==◌, ◌&&◌, ◌||◌, not, Bool, true, false, nat_le, nat_lt, if◌then◌else◌, Option, Some, None, slice_get}
+use Rattle.std.specs.Prelude.{ℕ, ◌+◌, ◌==◌, ◌&&◌, ◌||◌, not, Bool, true, false, nat_lt, if◌then◌else◌, Option, Some, None}
 use Rattle.cs_model.specs.declared.stop.Stop.TheVariants as why
-use Rattle.cs_model.specs.declared.instruction.Instr.{Instr}
+use Rattle.cs_model.specs.declared.instruction.Op.{Op}
+use Rattle.cs_model.specs.declared.instruction.Op.TheVariants.{PushRcvr, PushTemp, PushLit, PushLitVar, PopRcvr, PopTemp, PopLitVar, StoreRcvr, StoreTemp, StoreLitVar, PushSelf, PushTrue, PushFalse, PushNil, PushInt, ReturnSelf, ReturnTrue, ReturnFalse, ReturnNil, ReturnTop, BlockReturn, Send, SendSuper, Pop, Dup, ThisContext, NewArray, PopArray, Prim, PushVec, StoreVec, PopVec, Closure, Jump, JumpTrue, JumpFalse, Special, Common}
 use Rattle.cs_model.specs.Ref.{Ref}
-use Rattle.cs_model.specs.Obj.{first_pc, header_in, bytecodes_in, argument_count, primitive_number}
+use Rattle.cs_model.specs.Obj.{header_in, bytecodes_in, argument_count, primitive_number}
 use Rattle.cs_model.specs.State.{Kept, State, object_of}
-use Rattle.cs_model.specs.Read.{pc_of, depth_of, literals_of, bytecodes_of}
+use Rattle.cs_model.specs.Context.{is_context_ref}
+use Rattle.cs_model.specs.Read.{active_birth, pc_of, depth_of, receiver_of}
 use Rattle.cs_model.specs.Operation.{set_pc_of}
 use Rattle.cs_model.specs.Exec.{exec}
 use Rattle.cs_model.specs.Lookup.{Sought}
 use Rattle.cs_model.specs.Lookup as sought
 use Rattle.cs_model.specs.Send.{begins_at, look_from}
-use Rattle.cs_model.specs.PrimTable.{prim}
+use Rattle.cs_model.specs.Return.{is_live, sender_birth}
 use Rattle.cs_model.specs.Due.{is_idle}
-use Rattle.cs_model.specs.End.{End, no_count, given}
-use Rattle.cs_model.specs.Step.{Message, message_in, is_fail, instruction_at, birth_limit, Step, step, stops, Ran, run_by, with_kept}
+use Rattle.cs_model.specs.End.{Out, no_count, given}
+use Rattle.cs_model.specs.Step.{Message, message_in, return_in, instruction_at, birth_limit, Step, step, stops, Ran, run_by}
 
--- the first bytes of the instructions that are built: pushes of temporaries, literals and constants, pop, the mark of a
--- primitive, long jumps, and sends of one of the first 16 literals
-abbrev pub is_built_code : ℕ → Bool
-is_built_code code =
-    (nat_le 16 code && nat_le code 63) || (nat_le 112 code && nat_le code 119) || code == 135 || code == 139
-    || (nat_le 160 code && nat_le code 167) || nat_le 208 code
+-- ---- instructions: all but those that make an object or name a context, and the fields of a receiver that is a context
 
--- a found method is built where the send stops for its argument count, or its primitive 1 or 900 answers
+abbrev pub is_built_op : Op → Kept → Bool
+is_built_op (PushRcvr i) k = not (is_context_ref k (receiver_of k))
+is_built_op (PushTemp i) k = true
+is_built_op (PushLit i) k = true
+is_built_op (PushLitVar i) k = true
+is_built_op (PopRcvr i) k = not (is_context_ref k (receiver_of k))
+is_built_op (PopTemp i) k = true
+is_built_op (PopLitVar i) k = true
+is_built_op (StoreRcvr i) k = not (is_context_ref k (receiver_of k))
+is_built_op (StoreTemp i) k = true
+is_built_op (StoreLitVar i) k = true
+is_built_op PushSelf k = true
+is_built_op PushTrue k = true
+is_built_op PushFalse k = true
+is_built_op PushNil k = true
+is_built_op (PushInt z) k = true
+is_built_op ReturnSelf k = true
+is_built_op ReturnTrue k = true
+is_built_op ReturnFalse k = true
+is_built_op ReturnNil k = true
+is_built_op ReturnTop k = true
+is_built_op BlockReturn k = true
+is_built_op (Send lit args) k = true
+is_built_op (SendSuper lit args) k = true
+is_built_op Pop k = true
+is_built_op Dup k = true
+is_built_op ThisContext k = false
+is_built_op (NewArray n) k = false
+is_built_op (PopArray n) k = false
+is_built_op (Prim i j) k = true
+is_built_op (PushVec i j) k = true
+is_built_op (StoreVec i j) k = true
+is_built_op (PopVec i j) k = true
+is_built_op (Closure copied args size) k = false
+is_built_op (Jump offset) k = true
+is_built_op (JumpTrue offset) k = true
+is_built_op (JumpFalse offset) k = true
+is_built_op (Special i) k = true
+is_built_op (Common i) k = true
+
+-- ---- sends: a method that is found, of the right number of arguments, has no primitive, or 1 or 900; where the send stops, that
+-- is built too
+
 abbrev pub is_built_number : Option ℕ → Bool
-is_built_number None = false
+is_built_number None = true
 is_built_number (Some number) = number == 1 || number == 900
 
-abbrev pub answers : State → ℕ → Option ℕ → Bool
-answers s args None = false
-answers s args (Some number) = not (is_fail (prim number args s).out.end)
+abbrev pub is_built_method : Kept → Ref → ℕ → Bool
+is_built_method k method args =
+    if argument_count (header_in (object_of k method)) == args
+    then is_built_number (primitive_number (header_in (object_of k method)) (bytecodes_in (object_of k method))) else true
 
-abbrev pub method_number : Kept → Ref → Option ℕ
-method_number k method = primitive_number (header_in (object_of k method)) (bytecodes_in (object_of k method))
+abbrev pub is_built_found : Kept → ℕ → Sought → Bool
+is_built_found k args (sought.Method method) = is_built_method k method args
+is_built_found k args sought.Missing = false
+is_built_found k args sought.Loop = true
 
-abbrev pub is_built_method : State → Ref → ℕ → Bool
-is_built_method s method args =
-    if argument_count (header_in (object_of s.kept method)) == args
-    then is_built_number (method_number s.kept method) && answers s args (method_number s.kept method)
-    else true
+abbrev pub is_built_send : Kept → Message → Bool
+is_built_send k m = if nat_lt m.args (depth_of k) then is_built_found k m.args (look_from k m.selector (begins_at k m.args m.above)) else true
 
-abbrev pub is_built_found : State → ℕ → Sought → Bool
-is_built_found s args (sought.Method method) = is_built_method s method args
-is_built_found s args sought.Missing = false
-is_built_found s args sought.Loop = true
+-- ---- returns: a local one, into a sender that is live and isn't the active context itself
 
--- a send that finds nothing isn't built; one that hasn't its receiver stops as in the model
-abbrev pub is_built_send : State → Message → Bool
-is_built_send s m = if nat_lt m.args (depth_of s.kept) then is_built_found s m.args (look_from s.kept m.selector (begins_at s.kept m.args m.above)) else true
+abbrev pub is_built_target : Kept → Option ℕ → Bool
+is_built_target k None = false
+is_built_target k (Some target) = is_live k target && not (target == active_birth k)
+
+abbrev pub is_built_return : Kept → Bool → Bool
+is_built_return k local = local && is_built_target k (sender_birth k (active_birth k))
+
+-- ---- a step
 
 -- what an instruction leads to
-abbrev pub is_built_end : State → End → Bool
-is_built_end s e = given (message_in e) true (λ m. is_built_send s m)
+abbrev pub is_built_out : Out → Bool
+is_built_out o = given (message_in o.end) (given (return_in o.end) true (λ p. is_built_return o.state p.1)) (λ m. is_built_send o.state m)
 
-abbrev pub is_built_at : State → Instr → Bool
-is_built_at s i = is_built_end (with_kept (exec i.op (set_pc_of s.kept (pc_of s.kept + i.len))).state s.run) (exec i.op (set_pc_of s.kept (pc_of s.kept + i.len))).end
+-- an instruction, with the pc moved past it
+abbrev pub is_built_from : Kept → Op → Bool
+is_built_from k op = is_built_op op k && is_built_out (exec op k)
 
--- the byte at the active pc, if there is one, begins a built instruction
-abbrev pub is_built_byte : Option ℕ → Bool
-is_built_byte None = true
-is_built_byte (Some code) = is_built_code code
-
-unfoldable pub is_built_bytecode : State → Bool
-is_built_bytecode s =
-    is_built_byte (slice_get (bytecodes_of s.kept) (pc_of s.kept - first_pc (literals_of s.kept)))
-    && given (instruction_at s.kept) true (λ i. is_built_at s i)
+unfoldable pub is_built_bytecode : Kept → Bool
+is_built_bytecode k = given (instruction_at k) true (λ i. is_built_from (set_pc_of k (pc_of k + i.len)) i.op)
 
 -- births that are used up, and no active process, come before the bytecode
 unfoldable pub is_built : State → Bool
-is_built s = nat_lt birth_limit s.kept.rest.next || is_idle s.kept || is_built_bytecode s
+is_built s = nat_lt birth_limit s.kept.rest.next || is_idle s.kept || is_built_bytecode s.kept
 
 -- the step of a machine that stops with NotBuilt where a step isn't built
 unfoldable pub built_step : State → Step

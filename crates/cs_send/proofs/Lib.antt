@@ -1,4 +1,6 @@
 mod Methods
 mod Lookups
 mod Resolving
+mod Sending
 pub mod Sends
+pub mod Frames

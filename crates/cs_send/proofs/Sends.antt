@@ -80,8 +80,12 @@ pub record Fits (k : Kept) (args : ℕ) (method : Ref) : Type 0 where
   pub takes : argument_count (header_in (object_of k method)) ≡ args
   pub below : args < depth_of k
 
+abbrev pub number_of : Kept → Ref → Option ℕ
+number_of k method = primitive_number (header_in (object_of k method)) (bytecodes_in (object_of k method))
+
+-- and has the primitive that is offered
 abbrev FitsFound : Kept → ℕ → Resolved → Type 0
-FitsFound k args (Offered method number) = Fits k args method
+FitsFound k args (Offered method number) = Fits k args method × (number_of k method ≡ Some number)
 FitsFound k args (Plain method) = Fits k args method
 FitsFound k args Missing = Unit {0}
 FitsFound k args (Stops reason) = Unit {0}
@@ -93,18 +97,18 @@ fits : (k : Kept) (selector : Ref) (args : ℕ) (above : Option Ref) → FitsFou
 unfolding resolve_of
 fits k selector args above = deep (nat_lt args (depth_of k)) refl (look_from k selector (begins_at k args above))
   where
-    is_tried : (method : Ref) (number : Option ℕ) → Fits k args method → FitsFound k args (tried method number)
-    is_tried method None f = f
-    is_tried method (Some number) f = f
+    is_tried : (method : Ref) (number : Option ℕ) → number_of k method ≡ number → Fits k args method → FitsFound k args (tried method number)
+    is_tried method None e f = f
+    is_tried method (Some number) e f = (f, e)
 
-    takes : (method : Ref) (number : Option ℕ) (b : Bool) → (argument_count (header_in (object_of k method)) == args) ≡ b → nat_lt args (depth_of k) ≡ true
-        → FitsFound k args (if b then tried method number else Stops why.BadArgs)
-    takes method number true e h = is_tried method number (record { takes = eqb-true (argument_count (header_in (object_of k method))) args e; below = less args (depth_of k) h })
-    takes method number false e h = tt
+    takes : (method : Ref) (b : Bool) → (argument_count (header_in (object_of k method)) == args) ≡ b → nat_lt args (depth_of k) ≡ true
+        → FitsFound k args (if b then tried method (number_of k method) else Stops why.BadArgs)
+    takes method true e h =
+        is_tried method (number_of k method) refl (record { takes = eqb-true (argument_count (header_in (object_of k method))) args e; below = less args (depth_of k) h })
+    takes method false e h = tt
 
     found : (f : Sought) → nat_lt args (depth_of k) ≡ true → FitsFound k args (resolve_found k args f)
-    found (sought.Method method) h =
-        takes method (primitive_number (header_in (object_of k method)) (bytecodes_in (object_of k method))) (argument_count (header_in (object_of k method)) == args) refl h
+    found (sought.Method method) h = takes method (argument_count (header_in (object_of k method)) == args) refl h
     found sought.Missing h = tt
     found sought.Loop h = tt
 
@@ -113,7 +117,10 @@ fits k selector args above = deep (nat_lt args (depth_of k)) refl (look_from k s
     deep false h f = tt
 
 pub offered-fits : (k : Kept) (selector : Ref) (args : ℕ) (above : Option Ref) (method : Ref) (number : ℕ) → resolve_of k selector args above ≡ Offered method number → Fits k args method
-offered-fits k selector args above method number e = subst (FitsFound k args) e (fits k selector args above)
+offered-fits k selector args above method number e = (subst (FitsFound k args) e (fits k selector args above)).0
+
+pub offered-number : (k : Kept) (selector : Ref) (args : ℕ) (above : Option Ref) (method : Ref) (number : ℕ) → resolve_of k selector args above ≡ Offered method number → number_of k method ≡ Some number
+offered-number k selector args above method number e = (subst (FitsFound k args) e (fits k selector args above)).1
 
 pub plain-fits : (k : Kept) (selector : Ref) (args : ℕ) (above : Option Ref) (method : Ref) → resolve_of k selector args above ≡ Plain method → Fits k args method
 plain-fits k selector args above method e = subst (FitsFound k args) e (fits k selector args above)

@@ -1,2 +1,3 @@
 pub mod Primitive
 pub mod Resolved
+pub mod Sent

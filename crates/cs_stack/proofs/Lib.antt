@@ -15,3 +15,6 @@ pub mod Changes
 pub mod Edits
 pub mod Writing
 pub mod Acts
+pub mod Bases
+pub mod Stores
+pub mod Laid

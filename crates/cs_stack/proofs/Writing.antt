@@ -35,7 +35,7 @@ rest-edit : (f : Obj → Obj) (o : Option ℕ) (k : Kept) → (edit_at f o k).re
 rest-edit f None k = refl
 rest-edit f (Some i) k = rest-found f i (object_at k i) k
 
-rest-store : (k : Kept) (o : Ref) (i : ℕ) (x : Ref) → (store_of k o i x).rest ≡ k.rest
+pub rest-store : (k : Kept) (o : Ref) (i : ℕ) (x : Ref) → (store_of k o i x).rest ≡ k.rest
 unfolding store_of
 rest-store k o i x = rest-edit (operation.with_slot i x) _ k
 

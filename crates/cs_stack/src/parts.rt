@@ -337,7 +337,9 @@ impl Parts {
 }
 
 /// What stands for the context that a frame is.
-fn act(f: FrameRef) -> Act {
+fn act(f: FrameRef) -> Act
+    ensures { result ≡ Act.Frame f.page f.at }
+{
     Act::Frame {
         page: f.page,
         at: f.at,

@@ -1,5 +1,5 @@
 use Rattle.cs_send.proofs.Lookups.{found_in_state, found_method}
-use Rattle.cs_send.proofs.look_up.Goals as goal
+use Rattle.cs_send.proofs.Sender.look_up.Goals as goal
 
 pub returns-clause-lookup : goal.returns-clause-lookup
 returns-clause-lookup g c =

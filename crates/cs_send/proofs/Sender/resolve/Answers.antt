@@ -2,7 +2,7 @@ use Rattle.std.proofs.Common.{◌∙◌, sym, ap, arith, Some, None, option_map}
 use Rattle.cs_acts.specs.Names.{name_of}
 use Rattle.cs_send.specs.Resolved.{resolve_found}
 use Rattle.cs_send.proofs.Resolving.{looked_up, too_few}
-use Rattle.cs_send.proofs.resolve.Goals as goal
+use Rattle.cs_send.proofs.Sender.resolve.Goals as goal
 
 pub returns-then-depth-args-clause-found : goal.returns-then-depth-args-clause-found
 returns-then-depth-args-clause-found g c =

@@ -1,0 +1,99 @@
+-- What a send gives, beside what the model gives.
+use Rattle.std.specs.Prelude.{◌≡◌, ℕ, ◌+◌, ◌-◌, ◌^◌, ◌&&◌, Bool, true, false, nat_lt, min, is_some, Option, option_map}
+use Rattle.cs_word.specs.declared.Oop.{Oop}
+use Rattle.cs_model.specs.declared.stop.Stop.{Stop as Reason}
+use Rattle.cs_model.specs.declared.stop.Stop.TheVariants as why
+use Rattle.cs_model.specs.Ref.{Ref}
+use Rattle.cs_model.specs.State.{Kept}
+use Rattle.cs_model.specs.Keeps.{Keeps}
+use Rattle.cs_model.specs.Read.{depth_of}
+use Rattle.cs_model.specs.Send.{begins_at, send}
+use Rattle.cs_model.specs.Step.{Message}
+use Rattle.cs_model.specs.End.{Out, out, stop}
+use Rattle.cs_model.specs.End as ends
+use Rattle.cs_acts.specs.declared.act.Full.{Full as Why}
+use Rattle.cs_acts.specs.Full.{CausesFull}
+use Rattle.cs_acts.specs.Layout.{LaidBy, Layout, entered}
+use Rattle.cs_acts.specs.Names.{Store, KeepsNames, name_of}
+use Rattle.cs_acts.specs.Ready.{IsReady}
+use Rattle.cs_acts.specs.Targets.{CanEnter}
+use Rattle.cs_send.specs.declared.SendEnd.{SendEnd}
+use Rattle.cs_send.specs.declared.SendEnd.TheVariants.{Entered, Primitive, Stop, Full}
+use Rattle.cs_send.specs.Resolved.{IsMethodNamed, Resolved, Offered, Plain, Missing, Stops, resolve_of}
+
+-- ---- the count
+
+-- what a sender keeps: how many methods it has looked up
+pub record Finds : Type 0 where
+  pub full : ℕ
+
+-- the last value of the count, at which it stands
+abbrev pub greatest_count : ℕ
+greatest_count = 2 ^ 64 - 1
+
+abbrev pub counted : Bool → Finds → Finds
+counted false f = f
+counted true f = record { full = min (f.full + 1) greatest_count }
+
+-- a send looks a method up where the stack holds the receiver below its arguments and there is a class to begin at
+abbrev pub looks_up : Kept → ℕ → Option Ref → Bool
+looks_up k args above = nat_lt args (depth_of k) && is_some (begins_at k args above)
+
+-- ---- the ends
+
+-- the message that words mean
+abbrev pub message_of : Store → Oop → ℕ → Option Oop → Message
+message_of s selector args above = record { selector = name_of s selector; args = args; above = option_map (λ o. name_of s o) above }
+
+abbrev pub sent : Kept → Message → Out
+sent k m = send k m.selector m.args m.above
+
+abbrev pub found : Kept → Message → Resolved
+found k m = resolve_of k m.selector m.args m.above
+
+-- a method without a primitive is found
+abbrev pub IsPlain : Resolved → Type 0
+IsPlain (Offered method number) = ⊥
+IsPlain (Plain method) = Unit {0}
+IsPlain Missing = ⊥
+IsPlain (Stops reason) = ⊥
+
+-- A method is entered in the model, the view keeps the state that is left, the world is ready again, what had a name has it still,
+-- and the new context stands above the active one or alone on a page.
+pub record Enters (old new : Store) (before after : Option Layout) (k v : Kept) (o : Out) : Type 0 where
+  pub end : o.end ≡ ends.Entered
+  pub state : Keeps v o.state
+  pub ready : IsReady new v
+  pub names : KeepsNames old new
+  pub laid : LaidBy (entered k k.rest.next) before after
+
+-- a method would be entered in the model, and the world has no room for its context
+pub record Refuses (new : Store) (before : Option Layout) (k : Kept) (o : Out) (why : Why) : Type 0 where
+  pub end : o.end ≡ ends.Entered
+  pub cause : CausesFull new before k 0 o.state why
+
+-- the primitive of a method is to be tried; where it fails the method may be entered behind it
+pub record Offers (s : Store) (k : Kept) (m : Message) (o : Oop) (number : ℕ) : Type 0 where
+  pub found : found k m ≡ Offered (name_of s o) number
+  pub is : sent k m ≡ out (ends.Primitive (name_of s o) number) k
+  pub method : IsMethodNamed s k o
+  pub enters : CanEnter k (name_of s o) m.args true
+
+-- the lookup finds nothing, which isn't built; or it stops as in the model
+pub data Halts (k : Kept) (m : Message) (reason : Reason) : Type 0 where
+  unbuilt : found k m ≡ Missing → reason ≡ why.NotBuilt → Halts k m reason
+  stopped : found k m ≡ Stops reason → sent k m ≡ stop reason k → Halts k m reason
+
+-- a send of the message to the state k, with the stored parts and the layouts before and behind it, and the view behind it
+abbrev pub Sends : Store → Store → Option Layout → Option Layout → Kept → Kept → Message → SendEnd → Type 0
+Sends old new before after k v m Entered = IsPlain (found k m) × Enters old new before after k v (sent k m)
+Sends old new before after k v m (Primitive method number) = Offers new k m method number
+Sends old new before after k v m (Stop reason) = Halts k m reason
+Sends old new before after k v m (Full why) = IsPlain (found k m) × Refuses new before k (sent k m) why
+
+-- where nothing is entered, this holds of the world
+abbrev pub Still : SendEnd → Type 0 → Type 0
+Still Entered Same = Unit {0}
+Still (Primitive method number) Same = Same
+Still (Stop reason) Same = Same
+Still (Full why) Same = Unit {0}
