@@ -107,7 +107,7 @@ module _ (os : List Object) (table : FinMap nat_cmp ℕ) (roots : Roots) (fs : L
   words_used f [] at = let b = here_words f [] at in omega (arith, b)
   words_used f (g ∷ hs) at = let a = words_used g hs (below_on at) in let b = here_words f (g ∷ hs) at in omega (arith, a, b)
 
-first_at : (f : Frame) (fs : List Frame) → page.index_of (f ∷ fs) f.at ≡ 0
+pub first_at : (f : Frame) (fs : List Frame) → page.index_of (f ∷ fs) f.at ≡ 0
 first_at f fs = elim (eqb_tells f.at f.at) [
   | inl e ↦ ap (λ b. if b then 0 else suc (page.index_of fs f.at)) e.0
   | inr e ↦ absurd (e.1 refl)

@@ -1,7 +1,8 @@
 -- The active context dies and its sender is active: the frame below it, or a context of the heap that becomes the base frame.
-use Rattle.std.proofs.Common.{◌≡◌, ◌≢◌, ◌⊎◌, ℕ, ◌-◌, ◌/◌, ◌%◌, ◌<◌, ◌≤◌, Bool, true, false, refl, sym, ap, subst, ◌∙◌, arith, Option, Some, None, IsSome, is_some, List, [], ◌∷◌, length, map, option_and_then, inl, inr}
-use Rattle.std.specs.Prelude.{slice_get, slice_index, ◌==◌, if◌then◌else◌}
+use Rattle.std.proofs.Common.{◌≡◌, ◌≢◌, ◌⊎◌, ℕ, ◌-◌, ◌/◌, ◌%◌, ◌<◌, ◌≤◌, Bool, true, false, refl, sym, ap, subst, ◌∙◌, arith, Option, Some, None, IsSome, is_some, List, [], ◌∷◌, length, map, option_and_then, suc, inl, inr}
+use Rattle.std.specs.Prelude.{IfSome, slice_get, slice_index, ◌==◌, if◌then◌else◌}
 use Rattle.std.specs.Option.{option_map_or}
+use Rattle.std.proofs.lemmas.List.{nil_from_length}
 use Rattle.std.specs.Ordering.{nat_cmp}
 use Rattle.std.specs.FinMap.{FinMap, get, insert}
 use Rattle.cs_word.specs.declared.Oop.{Oop}
@@ -16,6 +17,9 @@ use Rattle.cs_classes.proofs.Sorts.{context_is}
 use Rattle.cs_classes.proofs.Sounds.{sound_at}
 use Rattle.cs_classes.proofs.Wholes.{kept_of-below}
 use Rattle.cs_frame.specs.Frame.{Frame, nil}
+use Rattle.cs_frame.specs.declared.FrameRef.{FrameRef}
+use Rattle.cs_frame.specs.Page.{IsBase, frame, index_of, on_page, rest_of, top}
+use Rattle.cs_frame.specs.Page as frames
 use Rattle.cs_pages.specs.Order.{Order}
 use Rattle.cs_model.specs.Ref.{Ref}
 use Rattle.cs_model.specs.Ref as ref
@@ -24,6 +28,7 @@ use Rattle.cs_model.specs.State as state
 use Rattle.cs_model.specs.State.{Kept, Rest, put}
 use Rattle.cs_model.specs.Read.{active_birth, active_context}
 use Rattle.cs_model.specs.Operation.{activate}
+use Rattle.cs_model.specs.Return.{sender_birth}
 use Rattle.cs_model.proofs.Objects.{object_at-put_other, object_at-put_same}
 use Rattle.cs_acts.specs.Layout.{LaidBy, left}
 use Rattle.cs_acts.specs.Ready.{IsReady}
@@ -35,10 +40,12 @@ use Rattle.cs_stack.specs.Moved.{CanBase, IsContextAt, Unwinds, Unwound, based, 
 use Rattle.cs_stack.proofs.Maps.{Objects, get_apart}
 use Rattle.cs_stack.proofs.Framed.{meaning_there, onto_bare}
 use Rattle.cs_stack.proofs.Tops.{Opened, view_at}
-use Rattle.cs_stack.proofs.Basing.{count_is, six, slot_is}
+use Rattle.cs_stack.proofs.Basing.{count_is, only_base, six, slot_is}
 use Rattle.cs_stack.proofs.Based.{base_fits, based_view, birth_is}
 use Rattle.cs_stack.proofs.Buried.{buried_kept, buried_other, buried_pcs, buried_refers, buried_sound, buried_whole, buried_words}
-use Rattle.cs_stack.proofs.Leaving.{Target}
+use Rattle.cs_stack.proofs.Edits.{top_frame, top_ref}
+use Rattle.cs_stack.proofs.Entering.{first_at}
+use Rattle.cs_stack.proofs.Leaving.{Target, tell}
 
 abbrev order_by : List Frame → Order
 order_by fs = record { total = 1; recent = used_pages fs }
@@ -268,3 +275,46 @@ module _ {w : Parts} (good : IsGood w) (ready : IsReady (stored_of w) (view_of w
       birth = omega (arith, sender_birth_is, good.births, sender_below);
       empty = refl;
     }
+
+-- ---- the page by what is read of it
+
+module _ {w : Parts} (good : IsGood w) (ready : IsReady (stored_of w) (view_of w)) (o : Opened w) (g : Target w) (r : FrameRef) (at_top : r ≡ frames.ref_of 0 (top (page_of w))) where
+  ref_is : r ≡ frames.ref_of 0 o.f
+  ref_is = top_ref good o r at_top
+
+  -- a base frame that is the last one is the only one
+  pub is_alone : IsBase w.frames r → o.fs ≡ []
+  is_alone base = none (subst (λ ps. IsBase ps (frames.ref_of 0 o.f)) o.frames (subst (λ q. IsBase w.frames q) ref_is base))
+    where
+      none : suc (index_of (o.f ∷ o.fs) o.f.at) ≡ suc (length o.fs) → o.fs ≡ []
+      none e = nil_from_length o.fs (omega (arith, e, first_at o.f o.fs))
+
+  pub top_is : top (page_of w) ≡ o.f
+  top_is = ap top o.is
+
+  pub base_frame_is : IsBase w.frames r → frame w.frames r ≡ o.f
+  base_frame_is base = top_frame good o r at_top
+
+  pub drops : (ps : List (List Frame)) → (IsBase w.frames r → ⊥) → ps ≡ on_page w.frames 0 rest_of → IfSome (sender_birth (view_of w) (active_birth (view_of w))) (Unwound w (record w { frames = ps }))
+  drops ps above is = tell g (Unwound w (record w { frames = ps })) (go o.fs refl)
+    where
+      left_are : ps ≡ o.fs ∷ []
+      left_are = is ∙ ap (λ qs. on_page qs 0 rest_of) o.frames
+
+      go : (fs : List Frame) → o.fs ≡ fs → Unwound w (record w { frames = ps }) g.t
+      go [] e = absurd (above (only_base w.frames o.f r (o.frames ∙ ap (λ fs. (o.f ∷ fs) ∷ []) e) ref_is))
+      go (d ∷ ds) e = subst (λ qs. Unwound w (record w { frames = qs }) g.t) (sym (left_are ∙ ap (λ fs. fs ∷ []) e)) (dropped good ready o g d ds e)
+
+  pub rebases : (v : Parts) → IsBase w.frames r → v ≡ based (top (page_of w)).caller (buried (top (page_of w)).context w) → IfSome (sender_birth (view_of w) (active_birth (view_of w))) (Unwound w v)
+  rebases v base is = tell g (Unwound w v) (subst (λ n. Unwound w n g.t) (sym (is ∙ ap (λ (f : Frame). based f.caller (buried f.context w)) top_is)) (rebased good ready o g (is_alone base)))
+
+  pub can_bury : (context : ℕ) → IsBase w.frames r → context ≡ (frame w.frames r).context → 6 ≤ slot_count_of w.heap.objects context
+  can_bury context base is = subst (λ n. 6 ≤ slot_count_of w.heap.objects n) (sym (is ∙ ap (λ (f : Frame). f.context) (base_frame_is base))) (base_fields good ready o g (is_alone base))
+
+  pub can_rebase : (v : Parts) (context caller : ℕ) (ps : List (List Frame)) → IsBase w.frames r → context ≡ (frame w.frames r).context → caller ≡ (frame w.frames r).caller
+      → ps ≡ on_page w.frames 0 rest_of → v ≡ buried context (record w { frames = ps }) → CanBase v caller
+  can_rebase v context caller ps base context_is caller_is dropped_is is =
+      let empty : ps ≡ [] ∷ [] = dropped_is ∙ ap (λ qs. on_page qs 0 rest_of) o.frames ∙ ap (λ fs. fs ∷ []) (is_alone base) in
+      let made : v ≡ buried o.f.context (record w { frames = [] ∷ [] }) =
+      is ∙ ap (λ n. buried n (record w { frames = ps })) (context_is ∙ ap (λ (f : Frame). f.context) (base_frame_is base)) ∙ ap (λ qs. buried o.f.context (record w { frames = qs })) empty in
+      subst (λ n. CanBase n caller) (sym made) (subst (CanBase (buried o.f.context (record w { frames = [] ∷ [] }))) (sym (caller_is ∙ ap (λ (f : Frame). f.caller) (base_frame_is base))) (can_base good ready o g (is_alone base)))

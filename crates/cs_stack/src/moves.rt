@@ -2,7 +2,7 @@
 ghost use Rattle.std.specs.Prelude.{◌≡◌, ◌≤◌, ◌+◌, [], ◌∷◌, IfErr, IfSome, IsSomeAnd, OnOk, Some, length};
 ghost use Rattle.cs_heap.specs.Object.{slot_count_of};
 ghost use Rattle.cs_frame.specs.Frame.{with_stack};
-ghost use Rattle.cs_frame.specs.Page.{IsTop, ref_of, top, used};
+ghost use Rattle.cs_frame.specs.Page.{IsBase, ref_of, top, used};
 ghost use Rattle.cs_model.specs.Keeps.{Keeps};
 ghost use Rattle.cs_model.specs.Operation.{enter_of, leave_of, nil_of};
 ghost use Rattle.cs_model.specs.Read.{IsRunning, active_birth};
@@ -132,9 +132,8 @@ impl Parts {
         requires good { IsGood self.old }
         requires ready { IsReady (stored_of self.old) (view_of self.old) }
         requires target { IsSomeAnd (sender_birth (view_of self.old) (active_birth (view_of self.old))) (CanArrive (view_of self.old)) }
-        requires top { IsTop self.old.frames frame }
-        requires page { frame.page ≡ 0 }
-        requires alone { length (page_of self.old) ≡ 1 }
+        requires top { frame ≡ ref_of 0 (top (page_of self.old)) }
+        requires base { IsBase self.old.frames frame }
         ensures made { self.new ≡ based (top (page_of self.old)).caller (buried (top (page_of self.old)).context self.old) }
     {
         let sender = self.frames.sender(frame);
