@@ -286,7 +286,7 @@ module _ {w : Parts} {p at : ℕ} (good : IsGood w) (a : FrameAct w p at) where
 
   -- the frame below
   caller_of_top : (hs : List Frame) → gs ≡ hs → (IsBase w.frames (record { page = p; at = at }) → ⊥) → (g : FrameRef) → g ≡ page.ref_of p (caller_of w.frames (record { page = p; at = at }))
-      → act_of w (act.Frame g.page g.at) ≡ sender_birth (view_of w) f.birth
+      → (act_of w (act.Frame g.page g.at) ≡ sender_birth (view_of w) f.birth) × (is_some (act_of w (act.Frame g.page g.at)) ≡ true)
   unfolding frame_context
   caller_of_top [] e upper g is = absurd (upper (subst (λ fs. suc (index_of fs at) ≡ length fs) (sym frames_are) (omega (arith, a.begins_at.count, ap length e))))
   caller_of_top (h ∷ hs) e upper g is =
@@ -296,10 +296,11 @@ module _ {w : Parts} {p at : ℕ} (good : IsGood w) (a : FrameAct w p at) where
       let sender : sender_birth (view_of w) f.birth ≡ context_birth (view_of w) (ref.Obj h.birth) =
       reads_sender frame_reads ∙ ap (λ es. context_birth (view_of w) (frame_context w.heap.objects f es).sender) e in
       let found : state.object_at (view_of w) h.birth ≡ Some (Ctx (frame_context w.heap.objects h hs)) = onto_frame w.heap.objects w.roots.next_birth (objects_of w.heap.objects) on good.frames in
-      ap (λ (r : FrameRef). act_of w (act.Frame r.page r.at)) there ∙ birth_on w.heap.objects w.roots.next_birth on good.frames
-      ∙ sym (sender ∙ ap (λ y. option_and_then (λ c. Some h.birth) (context_in y)) found)
+      let stands : act_of w (act.Frame g.page g.at) ≡ Some h.birth = ap (λ (r : FrameRef). act_of w (act.Frame r.page r.at)) there ∙ birth_on w.heap.objects w.roots.next_birth on good.frames in
+      (stands ∙ sym (sender ∙ ap (λ y. option_and_then (λ c. Some h.birth) (context_in y)) found), ap is_some stands)
 
-  pub caller_act : (IsBase w.frames (record { page = p; at = at }) → ⊥) → (g : FrameRef) → g ≡ page.ref_of p (caller_of w.frames (record { page = p; at = at })) → act_of w (act.Frame g.page g.at) ≡ sender_birth (view_of w) f.birth
+  pub caller_act : (IsBase w.frames (record { page = p; at = at }) → ⊥) → (g : FrameRef) → g ≡ page.ref_of p (caller_of w.frames (record { page = p; at = at }))
+      → (act_of w (act.Frame g.page g.at) ≡ sender_birth (view_of w) f.birth) × (is_some (act_of w (act.Frame g.page g.at)) ≡ true)
   caller_act = caller_of_top gs refl
 
   -- the sender of a base frame

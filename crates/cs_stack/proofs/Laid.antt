@@ -13,10 +13,10 @@ use Rattle.cs_model.specs.Ref as ref
 use Rattle.cs_model.specs.Obj.{Context, Ctx, context_in, is_context_at}
 use Rattle.cs_model.specs.State.{Kept, object_at}
 use Rattle.cs_model.specs.Return.{context_birth, sender_birth}
-use Rattle.cs_acts.specs.Layout.{IsCalled, IsLaid, IsLaidOut, IsPage, depth_in, first_page, is_frame, is_on, last_frame, page_words}
+use Rattle.cs_acts.specs.Layout.{IsApart, IsCalled, IsLaid, IsLaidOut, IsPage, depth_in, first_page, is_frame, is_on, last_frame, page_words}
 use Rattle.cs_stack.specs.declared.parts.Parts.{Parts}
 use Rattle.cs_stack.specs.View.{active_in, births_of, frame_context, layout_of, page_of, pages_of, stored_of, view_of}
-use Rattle.cs_stack.specs.Good.{FrameFits, FramesFit, IsGood}
+use Rattle.cs_stack.specs.Good.{FrameFits, FramesFit, IsGood, Lacks}
 use Rattle.cs_stack.proofs.Framed.{Bare, Framed, IsOn, Which, above, here, onto_bare, onto_frame, which}
 use Rattle.cs_stack.proofs.Changes.{size_few, stack_is}
 
@@ -53,6 +53,17 @@ module _ (w : Parts) (good : IsGood w) where
       let there = found g gs (within g gs (above e (g ∷ gs) here)) in
       (sender ∙ ap (λ o. option_and_then (λ c. Some g.birth) (context_in o)) there, called (g ∷ gs) (below e (g ∷ gs) within))
 
+  bare : (i : ℕ) (es : List Frame) → Lacks i es → is_on i (births_of es) ≡ false
+  bare i [] l = refl
+  bare i (e ∷ es) l = elim (eqb_tells i e.birth) [
+    | inl h ↦ absurd (l.0 h.1)
+    | inr h ↦ ap (λ b. b || is_on i (births_of es)) h.0 ∙ bare i es l.1
+  ]
+
+  apart : (es : List Frame) → FramesFit w.heap.objects w.roots.next_birth es → IsApart (births_of es)
+  apart [] fit = tt
+  apart (e ∷ es) fit = (bare e.birth es fit.0.apart, apart es fit.1)
+
   fits_page : (f : Frame) (fs : List Frame) → FrameFits w.heap.objects w.roots.next_birth f fs → used (f ∷ fs) ≤ 4096
   fits_page f fs fits = omega (arith, fits.stands, fits.room, fits.fits, size_few w.heap.objects w.roots.next_birth f fs good.whole.heap fits)
 
@@ -63,6 +74,7 @@ module _ (w : Parts) (good : IsGood w) where
       record {
         some = omega arith;
         contexts = contexts (f ∷ fs) within;
+        apart = apart (f ∷ fs) fit;
         words = subst (λ n. n ≤ 4096) (sym (words (f ∷ fs) within)) (fits_page f fs fit.0);
         called = called (f ∷ fs) within;
       }

@@ -1,5 +1,5 @@
 //! What a world of frames keeps, and how its parts change.
-ghost use Rattle.std.specs.Prelude.{◌≡◌, ◌<◌, ◌≤◌, ◌-◌, length, nat_lt, Some, IfSome, IsSome, not, true, slice_get, unwrap_or};
+ghost use Rattle.std.specs.Prelude.{◌≡◌, ◌<◌, ◌≤◌, ◌-◌, length, nat_lt, Some, IfSome, IsSome, is_some, not, true, slice_get, unwrap_or};
 ghost use Rattle.cs_frame.specs.Page.{IsFrame, IsTop, frame, ref_of, top};
 ghost use Rattle.cs_model.specs.Obj.{context_in, lies_in};
 ghost use Rattle.cs_model.specs.Operation.{nil_of, pop_of, push_of, set_pc_of, set_stack_of, store_of};
@@ -8,7 +8,7 @@ ghost use Rattle.cs_model.specs.Return.{closure_at, context_birth, has_room, is_
 ghost use Rattle.cs_model.specs.State.{object_at, object_of};
 ghost use Rattle.cs_acts.specs.Names.{IsNamed, KeepsNames, Names, name_of};
 ghost use Rattle.cs_acts.specs.Ready.{IsReady, is_storable};
-ghost use Rattle.cs_acts.specs.Targets.{method_in};
+ghost use Rattle.cs_acts.specs.Targets.{is_gone, method_in};
 ghost use Rattle.cs_stack.specs.View.{act_of, base_context, hides, layout_of, page_of, size_from, stored_of, view_of};
 ghost use Rattle.cs_stack.specs.Good.{IsGood};
 
@@ -85,7 +85,8 @@ impl Parts {
     fn act_at(&self, word: Oop) -> Act
         requires good { IsGood self.now }
         requires named { IsNamed (stored_of self.now) word }
-        ensures { act_of self.now result ≡ context_birth (view_of self.now) (name_of (stored_of self.now) word) }
+        ensures value { act_of self.now result ≡ context_birth (view_of self.now) (name_of (stored_of self.now) word) }
+        ensures gone { is_gone result ≡ not (is_some (act_of self.now result)) }
     {
         if !is_context(&self.heap, word) {
             return Act::Gone;
@@ -197,7 +198,8 @@ impl Parts {
     pub(crate) fn sender_act(&self, a: Act) -> Act
         requires good { IsGood self.now }
         requires stands { IsSome (act_of self.now a) }
-        ensures { IfSome (act_of self.now a) (λ birth. act_of self.now result ≡ sender_birth (view_of self.now) birth) }
+        ensures value { IfSome (act_of self.now a) (λ birth. act_of self.now result ≡ sender_birth (view_of self.now) birth) }
+        ensures gone { is_gone result ≡ not (is_some (act_of self.now result)) }
     {
         match a {
             Act::Frame { page, at } => self.frame_sender(FrameRef { page, at }),
@@ -209,7 +211,8 @@ impl Parts {
     fn frame_sender(&self, f: FrameRef) -> Act
         requires good { IsGood self.now }
         requires stands { IsSome (act_of self.now (Act.Frame f.page f.at)) }
-        ensures { IfSome (act_of self.now (Act.Frame f.page f.at)) (λ birth. act_of self.now result ≡ sender_birth (view_of self.now) birth) }
+        ensures value { IfSome (act_of self.now (Act.Frame f.page f.at)) (λ birth. act_of self.now result ≡ sender_birth (view_of self.now) birth) }
+        ensures gone { is_gone result ≡ not (is_some (act_of self.now result)) }
     {
         match self.frames.caller(f) {
             Some(caller) => act(caller),
