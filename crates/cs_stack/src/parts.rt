@@ -12,9 +12,7 @@ ghost use Rattle.cs_acts.specs.Targets.{is_gone, method_in};
 ghost use Rattle.cs_stack.specs.View.{act_of, base_context, hides, layout_of, page_of, size_from, stored_of, view_of};
 ghost use Rattle.cs_stack.specs.Good.{IsGood};
 
-use crate::words::{
-    context_size, count, count_word, header, is_context, is_count,
-};
+use crate::words::{context_size, count, count_word, header, is_context, is_count};
 use cs_acts::{Act, Roots};
 use cs_classes::Classes;
 use cs_frame::{FrameRef, Frames};
