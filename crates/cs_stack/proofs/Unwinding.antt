@@ -60,7 +60,7 @@ kind_address w a e = go (w % 2 == 1) (w % 4 == 2) (w % 8 == 0) e
     go false false false h = absurd (cc)
 
 -- a word that names an object is its address
-address_of-object : (os : List Object) (word i : ℕ) → is_reference os word ≡ true → ref_of os word ≡ ref.Obj i → (is_object os word ≡ true) × (birth_of os word ≡ i)
+pub address_of-object : (os : List Object) (word i : ℕ) → is_reference os word ≡ true → ref_of os word ≡ ref.Obj i → (is_object os word ≡ true) × (birth_of os word ≡ i)
 unfolding is_reference ref_of
 address_of-object os word i named is = go (kind_of word) refl named is
   where
