@@ -47,7 +47,7 @@ use Rattle.cs_stack.proofs.Edits.{top_frame, top_ref}
 use Rattle.cs_stack.proofs.Entering.{first_at}
 use Rattle.cs_stack.proofs.Leaving.{Target, tell}
 
-abbrev order_by : List Frame → Order
+abbrev pub order_by : List Frame → Order
 order_by fs = record { total = 1; recent = used_pages fs }
 
 kind_address : (w a : ℕ) → kind_of w ≡ kind.Object a → a ≡ w
