@@ -6,6 +6,8 @@ pub mod Based
 pub mod Buried
 pub mod Leaving
 pub mod Unwinding
+pub mod Taking
+pub mod Scheduled
 pub mod Maps
 pub mod Framed
 pub mod Lives

@@ -47,7 +47,7 @@ use Rattle.cs_stack.proofs.Edits.{top_frame, top_ref}
 use Rattle.cs_stack.proofs.Entering.{first_at}
 use Rattle.cs_stack.proofs.Leaving.{Target, tell}
 
-abbrev order_by : List Frame → Order
+abbrev pub order_by : List Frame → Order
 order_by fs = record { total = 1; recent = used_pages fs }
 
 kind_address : (w a : ℕ) → kind_of w ≡ kind.Object a → a ≡ w
@@ -60,7 +60,7 @@ kind_address w a e = go (w % 2 == 1) (w % 4 == 2) (w % 8 == 0) e
     go false false false h = absurd (cc)
 
 -- a word that names an object is its address
-address_of-object : (os : List Object) (word i : ℕ) → is_reference os word ≡ true → ref_of os word ≡ ref.Obj i → (is_object os word ≡ true) × (birth_of os word ≡ i)
+pub address_of-object : (os : List Object) (word i : ℕ) → is_reference os word ≡ true → ref_of os word ≡ ref.Obj i → (is_object os word ≡ true) × (birth_of os word ≡ i)
 unfolding is_reference ref_of
 address_of-object os word i named is = go (kind_of word) refl named is
   where

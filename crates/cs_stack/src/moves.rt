@@ -46,7 +46,7 @@ impl Parts {
         ensures view { view_of self.new ≡ taken_of (view_of self.old) (name_of (stored_of self.old) process) }
         ensures limit { self.new.heap.limit ≡ self.old.heap.limit }
     {
-        self.heap.set_slot(process, SUSPENDED_CONTEXT, nil);
+        self.store(process, SUSPENDED_CONTEXT, nil);
         let _page = self.pages.take_free();
         self.base(context);
     }

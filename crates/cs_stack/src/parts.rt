@@ -304,6 +304,7 @@ impl Parts {
         ensures view { view_of self.new ≡ store_of (view_of self.old) (name_of (stored_of self.old) o) i (name_of (stored_of self.old) v) }
         ensures names { KeepsNames (stored_of self.old) (stored_of self.new) }
         ensures rest { self.new ≡ record self.old { heap = self.new.heap } }
+        ensures limit { self.new.heap.limit ≡ self.old.heap.limit }
     {
         self.heap.set_slot(o, i, v);
     }
