@@ -1,6 +1,6 @@
 -- An instruction that asks for a send leaves the state as it is, and one that returns may have popped its value.
 use Rattle.std.proofs.Common.{◌≡◌, ◌⊎◌, inl, inr, ℕ, ◌+◌, ◌≤◌, Bool, true, false, refl, sym, ap, subst, ◌∙◌, arith, Option, Some, None, List, [], ◌∷◌, length, length-take, nat_lt}
-use Rattle.std.specs.Prelude.{ℤ, pos, ◌==◌, ◌-◌, if◌then◌else◌, slice_get}
+use Rattle.std.specs.Prelude.{ℤ, pos, ◌==◌, ◌-◌, ◌*◌, option_and_then, if◌then◌else◌, slice_get}
 use Rattle.std.proofs.lemmas.Bool.{eqb-false}
 use Rattle.cs_model.specs.declared.stop.Stop.{Stop}
 use Rattle.cs_model.specs.declared.instruction.Instr.{Instr}
@@ -11,12 +11,12 @@ use Rattle.cs_model.specs.Ref as ref
 use Rattle.cs_model.specs.Obj.{Obj, Context, Ptr, Raw, Method, Ctx, context_in, with_pc, popped}
 use Rattle.cs_model.specs.State.{Kept, Rest, object_at, object_of}
 use Rattle.cs_model.specs.Keeps.{Keeps}
-use Rattle.cs_model.specs.Read.{IsRunning, active_birth, active_context, depth_of, pc_of, receiver_of, size_of, stack_of}
+use Rattle.cs_model.specs.Read.{IsRunning, active_birth, active_context, depth_of, from_top, literals_of, pc_of, receiver_of, size_of, stack_of}
 use Rattle.cs_model.specs.Operation.{drop_of, pop_of, put_active, set_pc_of}
 use Rattle.cs_model.specs.Number.{boolean}
 use Rattle.cs_model.specs.End as ends
 use Rattle.cs_model.specs.End.{End, Out, given, done, stop, looked}
-use Rattle.cs_model.specs.Exec.{class_out, common_out, dup_out, exec, jump_if_out, jump_out, pop_into, pop_out, push_field, push_literal_out, push_out, push_receiver_out, push_temp_out, push_variable_out, push_vector_out, same_out, send_literal_out, send_selector_out, send_super_out, special_out, special_send_out, store_field, store_in_context, store_into, store_receiver_out, store_temp_out, store_variable_out, store_vector_out, with_top}
+use Rattle.cs_model.specs.Exec.{argument_count_in, is_local, return_out, literal_at, selector_pair, top_of, variable_value, class_out, common_out, dup_out, exec, jump_if_out, jump_out, pop_into, pop_out, push_field, push_literal_out, push_out, push_receiver_out, push_temp_out, push_variable_out, push_vector_out, same_out, send_literal_out, send_selector_out, send_super_out, special_out, special_send_out, store_field, store_in_context, store_into, store_receiver_out, store_temp_out, store_variable_out, store_vector_out, with_top}
 use Rattle.cs_model.specs.Built.{is_built_op}
 use Rattle.cs_model.proofs.Editing.{edit_twice}
 use Rattle.cs_model.proofs.Objects.{object_at-put_other, object_at-put_same, rest-put}
@@ -147,7 +147,8 @@ special_send_asks k special args = given_asks k _ _ _ stop_asks (λ x. send_asks
 jump_if_asks : (k : Kept) (wanted : Bool) (offset : ℕ) → Asks k (jump_if_out k wanted offset)
 unfolding jump_if_out
 jump_if_asks k wanted offset =
-    given_asks k _ _ _ stop_asks (λ x. if_asks k (same_ref x (boolean k wanted)) _ _ (jump_asks k (pop_of k) (pos offset)) (if_asks k _ _ _ done_asks (if_asks k _ _ _ done_asks (special_send_asks k 25 0))))
+    given_asks k (top_of k) _ _ stop_asks (λ x. if_asks k (same_ref x (boolean k wanted)) _ _ (jump_asks k (pop_of k) (pos offset))
+    (if_asks k (same_ref x (ref.Obj k.rest.true_)) _ _ done_asks (if_asks k (same_ref x (ref.Obj k.rest.false_)) _ _ done_asks (special_send_asks k 25 0))))
 
 send_literal_asks : (k : Kept) (lit args : ℕ) → Asks k (send_literal_out k lit args)
 unfolding send_literal_out
@@ -155,11 +156,12 @@ send_literal_asks k lit args = given_asks k _ _ _ stop_asks (λ x. send_asks)
 
 send_super_asks : (k : Kept) (lit args : ℕ) → Asks k (send_super_out k lit args)
 unfolding send_super_out
-send_super_asks k lit args = given_asks k _ _ _ stop_asks (λ x. given_asks k _ _ _ stop_asks (λ y. send_asks))
+send_super_asks k lit args = given_asks k (literal_at k lit) _ _ stop_asks (λ x. given_asks k (variable_value k (length (literals_of k) - 1)) _ _ stop_asks (λ y. send_asks))
 
 selector_asks : (k : Kept) (i : ℕ) → Asks k (send_selector_out k i)
 unfolding send_selector_out
-selector_asks k i = given_asks k _ _ _ stop_asks (λ x. given_asks k _ _ _ stop_asks (λ y. given_asks k _ _ _ stop_asks (λ z. send_asks)))
+selector_asks k i =
+    given_asks k (selector_pair k i) _ _ stop_asks (λ slots. given_asks k (slice_get slots (2 * i)) _ _ stop_asks (λ x. given_asks k (option_and_then (λ x. argument_count_in x) (slice_get slots (2 * i + 1))) _ _ stop_asks (λ z. send_asks)))
 
 special_asks : (k : Kept) (i : ℕ) → Asks k (special_out k i)
 unfolding special_out
@@ -167,7 +169,7 @@ special_asks k i = given_asks k _ _ _ (selector_asks k i) (λ x. done_asks)
 
 same_asks : (k : Kept) → Asks k (same_out k)
 unfolding same_out
-same_asks k = given_asks k _ _ _ stop_asks (λ x. given_asks k _ _ _ stop_asks (λ y. done_asks))
+same_asks k = given_asks k (from_top 1 (stack_of k)) _ _ stop_asks (λ x. given_asks k (top_of k) _ _ stop_asks (λ y. done_asks))
 
 class_asks : (k : Kept) → Asks k (class_out k)
 unfolding class_out
@@ -178,6 +180,9 @@ unfolding common_out
 common_asks k i = if_asks k (i == 6) _ _ (same_asks k) (if_asks k (i == 7) _ _ (class_asks k) (selector_asks k (16 + i)))
 
 -- ---- all of them
+
+return_asks : (k : Kept) (x : Ref) (local : Bool) → Asks k (return_out (pop_of k) x local)
+return_asks k x local = record { leaves = inr refl }
 
 exec_asks : (o : Op) (k : Kept) → is_built_op o k ≡ true → Asks k (exec o k)
 unfolding exec
@@ -200,8 +205,8 @@ exec_asks op.ReturnSelf k h = record { leaves = inl refl }
 exec_asks op.ReturnTrue k h = record { leaves = inl refl }
 exec_asks op.ReturnFalse k h = record { leaves = inl refl }
 exec_asks op.ReturnNil k h = record { leaves = inl refl }
-exec_asks op.ReturnTop k h = given_asks k _ _ _ stop_asks (λ x. record { leaves = inr refl })
-exec_asks op.BlockReturn k h = given_asks k _ _ _ stop_asks (λ x. record { leaves = inr refl })
+exec_asks op.ReturnTop k h = given_asks k (top_of k) _ _ stop_asks (λ x. return_asks k x (is_local k))
+exec_asks op.BlockReturn k h = given_asks k (top_of k) _ _ stop_asks (λ x. return_asks k x true)
 exec_asks (op.Send lit args) k h = send_literal_asks k lit args
 exec_asks (op.SendSuper lit args) k h = send_super_asks k lit args
 exec_asks op.Pop k h = pop_asks k

@@ -22,6 +22,23 @@ use Rattle.cs_core.proofs.Beginning.{Executed, did, did_not, next_is}
 use Rattle.cs_core.proofs.Carrying.{carried, done_turn, returns_same, sends_same, stop_turn, unbuilt_turn}
 use Rattle.cs_core.proofs.Turning.{Begins, model_turn, turn_gives}
 
+reason_in : Reason → End → Reason
+reason_in other (ends.Stopped reason) = reason
+reason_in other ends.Done = other
+reason_in other (ends.Send selector args above) = other
+reason_in other (ends.Return value local) = other
+reason_in other ends.Entered = other
+reason_in other (ends.Primitive method number) = other
+reason_in other (ends.Call special args) = other
+reason_in other ends.Answer = other
+reason_in other ends.Fail = other
+reason_in other ends.Quit = other
+reason_in other ends.Snapshot = other
+
+same_reason : (a b : Reason) → ends.Stopped a ≡ ends.Stopped b → a ≡ b
+unfolding reason_in
+same_reason a b e = ap (reason_in a) e
+
 module _ (k : Kept) (i : Instr) (l n : Option Layout) (s : Store) (v : Kept) (h : Begins k i) where
   pub done_gives : (told : Option (List ℕ)) (e : StepEnd) → Executed k i v ends.Done → IsReady s v → FramesFrom l n v → EndsBy v e → StepGives k l told told s v n e
   done_gives told e (did op end keeps) ready frames by = turn_gives k i l n told told s v e h (done_turn k i l n told s v e op end keeps ready frames by)
@@ -30,24 +47,7 @@ module _ (k : Kept) (i : Instr) (l n : Option Layout) (s : Store) (v : Kept) (h 
   pub stop_gives : (told : Option (List ℕ)) (reason : Reason) → Executed k i v (ends.Stopped reason) → StepGives k l told told s v n (Stop reason)
   stop_gives told reason (did op end keeps) = turn_gives k i l n told told s v (Stop reason) h (stop_turn k i l n told s v reason op end)
   stop_gives told reason (did_not op is) =
-      subst (λ r. StepGives k l told told s v n (Stop r)) (sym (same_reason is)) (turn_gives k i l n told told s v (Stop why.NotBuilt) h (unbuilt_turn k i l n told s v op))
-    where
-      reason_in : End → Reason
-      reason_in (ends.Stopped r) = r
-      reason_in ends.Done = reason
-      reason_in (ends.Send selector args above) = reason
-      reason_in (ends.Return value local) = reason
-      reason_in ends.Entered = reason
-      reason_in (ends.Primitive method number) = reason
-      reason_in (ends.Call special args) = reason
-      reason_in ends.Answer = reason
-      reason_in ends.Fail = reason
-      reason_in ends.Quit = reason
-      reason_in ends.Snapshot = reason
-
-      same_reason : ends.Stopped reason ≡ ends.Stopped why.NotBuilt → reason ≡ why.NotBuilt
-      unfolding reason_in
-      same_reason e = ap reason_in e
+      subst (λ r. StepGives k l told told s v n (Stop r)) (sym (same_reason reason why.NotBuilt is)) (turn_gives k i l n told told s v (Stop why.NotBuilt) h (unbuilt_turn k i l n told s v op))
 
   pub send_gives : (u : Kept) (m : Message) (b : Option Layout) (old new : Option (List ℕ)) (e : StepEnd) → IsRunning k → Executed k i u (ends.Send m.selector m.args m.above) → MessageHeld u m → b ≡ l
       → TurnGives (sending u m) u b old new s v n e → StepGives k l old new s v n e
