@@ -1,5 +1,5 @@
 -- Where a world keeps its activations: those that are frames on stack pages, and the rules that hold of them.
-use Rattle.std.specs.Prelude.{◌≡◌, ℕ, zero, suc, ◌+◌, ◌<◌, ◌≤◌, ◌==◌, ◌||◌, Bool, true, nat_le, not, if◌then◌else◌, List, [], ◌∷◌, ◌++◌, length, Option, Some, None, is_some}
+use Rattle.std.specs.Prelude.{◌≡◌, ℕ, zero, suc, ◌+◌, ◌<◌, ◌≤◌, ◌==◌, ◌||◌, Bool, true, false, nat_le, not, if◌then◌else◌, List, [], ◌∷◌, ◌++◌, length, Option, Some, None, is_some}
 use Rattle.std.specs.List.{AllByRecursion, filter, list_any}
 use Rattle.std.specs.FinMap.{get}
 use Rattle.cs_heap.specs.Object.{used}
@@ -7,8 +7,8 @@ use Rattle.cs_classes.specs.Meaning.{objects_of}
 use Rattle.cs_model.specs.Obj.{Obj, Context, Ctx, context_in, is_context_at}
 use Rattle.cs_model.specs.State.{Kept, object_at}
 use Rattle.cs_model.specs.Return.{sender_birth}
+use Rattle.cs_model.specs.Demand.{words_in}
 use Rattle.cs_acts.specs.Names.{Store}
-use Rattle.cs_acts.specs.Room.{words_of_state}
 
 -- How many pages a world may use, and the used ones, the most recent first, each with the births of its frames, the last one
 -- first. A world without pages tells no layout.
@@ -59,10 +59,17 @@ IsCalled k [] = Unit {0}
 IsCalled k (i ∷ []) = Unit {0}
 IsCalled k (i ∷ j ∷ is) = (sender_birth k i ≡ Some j) × IsCalled k (j ∷ is)
 
--- no page is without a frame, each frame is a context of the state, and the frames of a page have at most its 4,096 words
+-- no context stands there twice
+abbrev pub IsApart : List ℕ → Type 0
+IsApart [] = Unit {0}
+IsApart (i ∷ is) = (is_on i is ≡ false) × IsApart is
+
+-- No page is without a frame, each frame is a context of the state, no context has two frames on a page, and the frames of a page
+-- have at most its 4,096 words.
 pub record IsPage (k : Kept) (page : List ℕ) : Type 0 where
   pub some : 0 < length page
   pub contexts : AllByRecursion (λ i. is_context_at (object_at k i) ≡ true) page
+  pub apart : IsApart page
   pub words : page_words k page ≤ 4096
   pub called : IsCalled k page
 
@@ -77,7 +84,7 @@ pub record IsLaid (s : Store) (k : Kept) (l : Layout) : Type 0 where
 -- without pages all of the state stands in the heap, and takes the heap's words
 pub record IsPlain (s : Store) (k : Kept) : Type 0 where
   pub objects : (i : ℕ) (o : Obj) → object_at k i ≡ Some o → get (objects_of s.memory.objects) i ≡ Some o
-  pub words : words_of_state k ≡ used s.memory.objects
+  pub words : words_in k ≡ used s.memory.objects
 
 abbrev pub IsLaidOut : Store → Kept → Option Layout → Type 0
 IsLaidOut s k None = IsPlain s k

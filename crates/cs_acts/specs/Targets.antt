@@ -2,9 +2,12 @@
 use Rattle.std.specs.Prelude.{◌≡◌, ◌≢◌, ℕ, ◌<◌, Bool, true, false, Option, Some, None}
 use Rattle.cs_word.specs.declared.Oop.{Oop}
 use Rattle.cs_model.specs.Ref.{Ref}
-use Rattle.cs_model.specs.Obj.{Context, argument_count, bytecodes_in, context_in, header_in, is_method, primitive_number}
+use Rattle.cs_model.specs.Obj as obj
+use Rattle.cs_model.specs.Obj.{argument_count, bytecodes_in, context_in, header_in, is_method, primitive_number}
 use Rattle.cs_model.specs.State.{Kept, object_at, object_of}
 use Rattle.cs_model.specs.Read.{active_birth, depth_of}
+use Rattle.cs_acts.specs.declared.act.Act.{Act}
+use Rattle.cs_acts.specs.declared.act.Act.TheVariants.{Frame, Context, Gone}
 use Rattle.cs_model.specs.Return.{has_room, is_live, sender_birth}
 
 -- A reference is a method that takes so many arguments, they are there with the receiver, and with `skip` it has a primitive.
@@ -21,7 +24,13 @@ pub record CanArrive (k : Kept) (target : ℕ) : Type 0 where
   pub other : target ≢ active_birth k
   pub room : has_room (context_in (object_at k target)) ≡ true
 
+-- an act that stands for nothing
+abbrev pub is_gone : Act → Bool
+is_gone (Frame page at) = false
+is_gone (Context o) = false
+is_gone Gone = true
+
 -- the method of a context
-abbrev pub method_in : Ref → Option Context → Ref
+abbrev pub method_in : Ref → Option obj.Context → Ref
 method_in nil None = nil
 method_in nil (Some c) = c.method

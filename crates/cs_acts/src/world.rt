@@ -1,5 +1,5 @@
 //! The trait of all worlds.
-ghost use Rattle.std.specs.Prelude.{◌≡◌, ◌<◌, ◌≤◌, ◌-◌, ℕ, true, not, IfErr, IsSome, IsSomeAnd, IfSome, OnOk, Option, None, Some, slice_get, unwrap_or};
+ghost use Rattle.std.specs.Prelude.{◌≡◌, ◌<◌, ◌≤◌, ◌-◌, ℕ, true, not, IfErr, IsSome, IsSomeAnd, is_some, IfSome, OnOk, Option, None, Some, slice_get, unwrap_or};
 ghost use Rattle.cs_model.specs.Obj.{context_in, lies_in};
 ghost use Rattle.cs_model.specs.State.{Kept, object_at, object_of};
 ghost use Rattle.cs_model.specs.Keeps.{Keeps, SameKept};
@@ -11,7 +11,7 @@ ghost use Rattle.cs_acts.specs.Full.{CausesFull};
 ghost use Rattle.cs_acts.specs.Layout.{IsLaidOut, LaidBy, Layout, entered, left};
 ghost use Rattle.cs_acts.specs.Names.{IsNamed, KeepsNames, Names, Store, name_of};
 ghost use Rattle.cs_acts.specs.Ready.{IsReady, IsSound, is_storable};
-ghost use Rattle.cs_acts.specs.Targets.{CanArrive, CanEnter, method_in};
+ghost use Rattle.cs_acts.specs.Targets.{CanArrive, CanEnter, is_gone, method_in};
 
 use crate::{Act, Full};
 use cs_classes::{Classes, Roots};
@@ -84,7 +84,8 @@ pub trait World {
     fn sender_act(&self, a: Act) -> Act
         requires sound { IsSound (stored self.now) (view self.now) }
         requires stands { IsSome (act self.now a) }
-        ensures { IfSome (act self.now a) (λ birth. act self.now result ≡ sender_birth (view self.now) birth) };
+        ensures value { IfSome (act self.now a) (λ birth. act self.now result ≡ sender_birth (view self.now) birth) }
+        ensures gone { is_gone result ≡ not (is_some (act self.now result)) };
 
     /// The receiver of the active context.
     fn receiver(&self) -> Oop

@@ -1,22 +1,28 @@
 -- What a step gives, beside the step of the model.
-use Rattle.std.specs.Prelude.{◌≡◌, ℕ, ◌+◌, ◌&&◌, Bool, true, false, List, ◌++◌, [], Option, Some, None, option_map}
+use Rattle.std.specs.Prelude.{◌≡◌, ◌⊎◌, ℕ, ◌+◌, ◌==◌, Bool, true, false, List, ◌++◌, [], Option, Some, None}
 use Rattle.cs_shelf.specs.Outside.{Appends, AppendsPart, Rose}
 use Rattle.cs_model.specs.declared.stop.Stop.{Stop as Reason}
 use Rattle.cs_model.specs.declared.stop.Stop.TheVariants as why
+use Rattle.cs_model.specs.Ref.{Ref}
 use Rattle.cs_model.specs.State.{Kept, Run, State}
 use Rattle.cs_model.specs.Keeps.{Keeps}
+use Rattle.cs_model.specs.Read.{active_birth}
+use Rattle.cs_model.specs.Return.{is_live, sender_birth}
 use Rattle.cs_model.specs.Settle.{new_run}
 use Rattle.cs_model.specs.Due.{is_idle}
+use Rattle.cs_model.specs.End.{End}
 use Rattle.cs_model.specs.End as ends
 use Rattle.cs_model.specs.PrimRun.{Result}
 use Rattle.cs_model.specs.PrimTable.{prim}
-use Rattle.cs_model.specs.Step.{Message, Step, Steps, Stopped, do_send, shape_fault, with_kept}
-use Rattle.cs_model.specs.Built.{answers, built_step, is_built_number, is_built_send}
-use Rattle.cs_word.specs.declared.Oop.{Oop}
-use Rattle.cs_acts.specs.Names.{Store, name_of}
+use Rattle.cs_model.specs.Step.{arguments_of, Message, Step, Steps, Stopped, bytecode, do_return, do_send, shape_fault, try_primitive, with_kept}
+use Rattle.cs_model.specs.Built.{built_step, is_built_number, is_built_return, is_built_send}
+use Rattle.cs_acts.specs.declared.act.Full.{Full as Why}
+use Rattle.cs_acts.specs.Full.{CausesFull}
+use Rattle.cs_acts.specs.Layout.{Layout, is_frame}
+use Rattle.cs_acts.specs.Names.{Store}
 use Rattle.cs_acts.specs.Ready.{IsReady, IsSound}
 use Rattle.cs_core.specs.declared.step.StepEnd.{StepEnd}
-use Rattle.cs_core.specs.declared.step.StepEnd.TheVariants.{Active, Idle, Stopped as Stop, WriteFault}
+use Rattle.cs_core.specs.declared.step.StepEnd.TheVariants.{Active, Idle, Stopped as Stop, Full, WriteFault}
 
 -- a run without events that has written so much and completed so many bytecodes
 abbrev pub progressed : List ℕ → ℕ → Run → Run
@@ -43,19 +49,32 @@ LeadsTo k v = (output : List ℕ) (steps : ℕ) → Keeps v (step_at k output st
 abbrev pub LeadsToNone : Kept → Kept → Type 0
 LeadsToNone k v = (output : List ℕ) (steps : ℕ) → (is_idle (step_at k output steps).state.kept ≡ true) × ((step_at k output steps).state.kept.rest.next ≡ v.rest.next)
 
--- A step from the state k, with what the sink tells before and behind it and with the world behind it. What is written is what the
--- model writes; where the sink fails, it is a first part of that. A step that stops writes nothing.
-abbrev pub StepGives : Kept → Option (List ℕ) → Option (List ℕ) → Store → Kept → StepEnd → Type 0
-StepGives k old new s v Active = (bytes : List ℕ) × Appends old new bytes × Completes k bytes × LeadsTo k v × IsReady s v × (is_idle v ≡ false)
-StepGives k old new s v Idle = (bytes : List ℕ) × Appends old new bytes × Completes k bytes × LeadsToNone k v × IsSound s v
-StepGives k old new s v (Stop reason) = (new ≡ old) × ((output : List ℕ) (steps : ℕ) → (step_at k output steps).ending ≡ Stopped reason)
-StepGives k old new s v WriteFault = (bytes : List ℕ) × AppendsPart old new bytes × Completes k bytes
+-- ---- where activations stand
+
+-- each frame was one before, or is the active context
+abbrev pub FramesFrom : Option Layout → Option Layout → Kept → Type 0
+FramesFrom None new v = new ≡ None
+FramesFrom (Some l) None v = ⊥
+FramesFrom (Some l) (Some n) v = (i : ℕ) → is_frame i n.pages ≡ true → (is_frame i l.pages ≡ true) ⊎ (v.rest.active ≡ Some i)
+
+-- ---- a step
+
+-- A step from the state k in a world of this layout, with what the sink tells before and behind it and with the world behind it. What
+-- is written is what the model writes; where the sink fails, it is a first part of that. A step that stops or finds no room writes
+-- nothing. There is no room for what the bytecode leads to.
+abbrev pub StepGives : Kept → Option Layout → Option (List ℕ) → Option (List ℕ) → Store → Kept → Option Layout → StepEnd → Type 0
+StepGives k l old new s v n Active = (bytes : List ℕ) × Appends old new bytes × Completes k bytes × LeadsTo k v × IsReady s v × (is_idle v ≡ false) × FramesFrom l n v
+StepGives k l old new s v n Idle = (bytes : List ℕ) × Appends old new bytes × Completes k bytes × LeadsToNone k v × IsSound s v
+StepGives k l old new s v n (Stop reason) = (new ≡ old) × ((output : List ℕ) (steps : ℕ) → (step_at k output steps).ending ≡ Stopped reason)
+StepGives k l old new s v n (Full why) = (new ≡ old) × ((output : List ℕ) (steps : ℕ) → CausesFull s l k 0 (bytecode (state_at k output steps)).out.state why)
+StepGives k l old new s v n WriteFault = (bytes : List ℕ) × AppendsPart old new bytes × Completes k bytes
 
 -- a fault of the sink has been counted
 abbrev pub CausedByFault : ℕ → ℕ → StepEnd → Type 0
 CausedByFault old new Active = Unit {0}
 CausedByFault old new Idle = Unit {0}
 CausedByFault old new (Stop reason) = Unit {0}
+CausedByFault old new (Full why) = Unit {0}
 CausedByFault old new WriteFault = Rose old new
 
 -- ---- the parts of a step
@@ -68,44 +87,73 @@ pub record Turn : Type 0 where
 abbrev pub Turns : Type 0
 Turns = List ℕ → ℕ → Turn
 
--- the message that words of the code mean
-abbrev pub message_of : Store → Oop → ℕ → Option Oop → Message
-message_of s selector args above = record { selector = name_of s selector; args = args; above = option_map (λ o. name_of s o) above }
-
 -- a message is sent
 abbrev pub sending : Kept → Message → Turns
-sending k m output steps = record { built = is_built_send (state_at k output steps) m; result = do_send (run_at output steps) k m.selector m.args m.above }
+sending k m output steps = record { built = is_built_send k m; result = do_send (run_at output steps) k m.selector m.args m.above }
 
--- a primitive is tried with one argument
-abbrev pub trying : Kept → ℕ → Turns
-trying k number output steps = record { built = is_built_number (Some number) && answers (state_at k output steps) 1 (Some number); result = prim number 1 (state_at k output steps) }
+-- the primitive of a method is tried
+abbrev pub trying : Kept → Ref → ℕ → Turns
+trying k method number output steps = record { built = is_built_number (Some number); result = try_primitive (state_at k output steps) method number }
 
--- it answers, in this run and in a state that v keeps
-pub record IsAnswer (t : Turn) (v : Kept) (r : Run) : Type 0 where
+-- a primitive that is built refuses
+pub record Fails (k : Kept) (method : Ref) (number : ℕ) : Type 0 where
+  pub built : is_built_number (Some number) ≡ true
+  pub end : (r : Run) → (prim number (arguments_of k method) (with_kept k r)).out.end ≡ ends.Fail
+
+-- a value is returned
+abbrev pub returning : Kept → Ref → Bool → Turns
+returning k value local output steps = record { built = is_built_return k local; result = do_return (run_at output steps) k value local }
+
+-- this is the sender of the active context; it is live, and another context
+pub record IsTarget (k : Kept) (found : Option ℕ) : Type 0 where
+  pub birth : ℕ
+  pub is : found ≡ Some birth
+  pub sender : sender_birth k (active_birth k) ≡ Some birth
+  pub live : is_live k birth ≡ true
+  pub other : (birth == active_birth k) ≡ false
+
+-- an instruction or a return is done, a primitive answered, or a method is entered
+abbrev pub IsOver : End → Type 0
+IsOver ends.Done = Unit {0}
+IsOver (ends.Send selector args above) = ⊥
+IsOver (ends.Return value local) = ⊥
+IsOver ends.Entered = Unit {0}
+IsOver (ends.Primitive method number) = ⊥
+IsOver (ends.Call special args) = ⊥
+IsOver ends.Answer = Unit {0}
+IsOver ends.Fail = ⊥
+IsOver ends.Quit = ⊥
+IsOver ends.Snapshot = ⊥
+IsOver (ends.Stopped reason) = ⊥
+
+-- it is over, in this run and in a state that v keeps
+pub record IsDone (t : Turn) (v : Kept) (r : Run) : Type 0 where
   pub built : t.built ≡ true
-  pub end : t.result.out.end ≡ ends.Answer
+  pub over : IsOver t.result.out.end
   pub state : Keeps v t.result.out.state
   pub run : t.result.run ≡ r
 
-abbrev pub AnswersIn : Turns → Kept → List ℕ → Type 0
-AnswersIn f v bytes = (output : List ℕ) (steps : ℕ) → IsAnswer (f output steps) v (run_at (output ++ bytes) steps)
+abbrev pub DoneIn : Turns → Kept → List ℕ → Type 0
+DoneIn f v bytes = (output : List ℕ) (steps : ℕ) → IsDone (f output steps) v (run_at (output ++ bytes) steps)
 
 -- it isn't built, or it stops, or the scheduler has lost its shape behind it
 pub data TurnStops (t : Turn) (reason : Reason) : Type 0 where
   unbuilt : t.built ≡ false → reason ≡ why.NotBuilt → TurnStops t reason
   stopped : t.built ≡ true → t.result.out.end ≡ ends.Stopped reason → TurnStops t reason
-  lost : t.built ≡ true → t.result.out.end ≡ ends.Answer → shape_fault t.result.out.state ≡ Some reason → TurnStops t reason
+  lost : t.built ≡ true → IsOver t.result.out.end → shape_fault t.result.out.state ≡ Some reason → TurnStops t reason
 
--- what a part of a step gives, with what the sink tells before and behind it and with the world behind it
-abbrev pub TurnGives : Turns → Option (List ℕ) → Option (List ℕ) → Store → Kept → StepEnd → Type 0
-TurnGives f old new s v Active = (bytes : List ℕ) × Appends old new bytes × AnswersIn f v bytes × IsReady s v × (shape_fault v ≡ None) × (is_idle v ≡ false)
-TurnGives f old new s v Idle = (bytes : List ℕ) × Appends old new bytes × AnswersIn f v bytes × IsSound s v × (shape_fault v ≡ None) × (is_idle v ≡ true)
-TurnGives f old new s v (Stop reason) = (new ≡ old) × ((output : List ℕ) (steps : ℕ) → TurnStops (f output steps) reason)
-TurnGives f old new s v WriteFault = (bytes : List ℕ) × AppendsPart old new bytes × AnswersIn f v bytes × (shape_fault v ≡ None)
+-- what a part of a step gives from the state k on, with what the sink tells before and behind it and with the world behind it
+abbrev pub TurnGives : Turns → Kept → Option Layout → Option (List ℕ) → Option (List ℕ) → Store → Kept → Option Layout → StepEnd → Type 0
+TurnGives f k l old new s v n Active = (bytes : List ℕ) × Appends old new bytes × DoneIn f v bytes × IsReady s v × (shape_fault v ≡ None) × (is_idle v ≡ false) × FramesFrom l n v
+TurnGives f k l old new s v n Idle = (bytes : List ℕ) × Appends old new bytes × DoneIn f v bytes × IsSound s v × (shape_fault v ≡ None) × (is_idle v ≡ true)
+TurnGives f k l old new s v n (Stop reason) = (new ≡ old) × ((output : List ℕ) (steps : ℕ) → TurnStops (f output steps) reason)
+TurnGives f k l old new s v n (Full why) = (new ≡ old) × ((output : List ℕ) (steps : ℕ) → CausesFull s l k 0 (f output steps).result.out.state why)
+TurnGives f k l old new s v n WriteFault = (bytes : List ℕ) × AppendsPart old new bytes × DoneIn f v bytes × (shape_fault v ≡ None)
 
 -- how a step that did its bytecode ends, by the scheduler behind it
 abbrev pub EndsBy : Kept → StepEnd → Type 0
 EndsBy v Active = (shape_fault v ≡ None) × (is_idle v ≡ false)
 EndsBy v Idle = (shape_fault v ≡ None) × (is_idle v ≡ true)
 EndsBy v (Stop reason) = shape_fault v ≡ Some reason
+EndsBy v (Full why) = ⊥
 EndsBy v WriteFault = ⊥

@@ -1,18 +1,21 @@
 //! One step: one bytecode and all that it leads to.
-ghost use Rattle.std.specs.Prelude.{◌≡◌, ◌<◌, ◌≤◌, ℕ, false, IfSome, List, Option};
-ghost use Rattle.cs_model.specs.Built.{is_built_byte, is_built_code};
+ghost use Rattle.std.specs.Prelude.{◌≡◌, ◌≤◌, ℕ, false, true, IfSome, List, None, Option};
 ghost use Rattle.cs_model.specs.Due.{is_idle};
-ghost use Rattle.cs_model.specs.Read.{depth_of};
-ghost use Rattle.cs_acts.specs.Names.{IsNamed};
+ghost use Rattle.cs_model.specs.Built.{is_built_target};
+ghost use Rattle.cs_model.specs.Read.{active_birth};
+ghost use Rattle.cs_model.specs.Return.{sender_birth};
+ghost use Rattle.cs_acts.specs.Names.{IsNamed, name_of};
 ghost use Rattle.cs_acts.specs.Ready.{IsReady, IsSound};
-ghost use Rattle.cs_core.specs.Stepped.{CausedByFault, EndsBy, StepGives, TurnGives, message_of, sending, trying};
+ghost use Rattle.cs_acts.specs.Targets.{CanEnter};
+ghost use Rattle.cs_send.specs.Sent.{message_of};
+ghost use Rattle.cs_core.specs.Stepped.{CausedByFault, EndsBy, Fails, IsTarget, StepGives, TurnGives, returning, sending, trying};
 
 use crate::primitive::{answer, piece_of, sum, write};
-use cs_acts::read::{byte, from_top, instruction};
-use cs_acts::{Shape, World, shape_of};
+use cs_acts::read::{from_top, instruction};
+use cs_acts::{Act, Full, Shape, World, shape_of};
 use cs_code::{CodeEnd, exec};
 use cs_model::Stop;
-use cs_send::{Found, resolve};
+use cs_send::{SendEnd, Sender, enter};
 use cs_shelf::Sink;
 use cs_word::Oop;
 
@@ -28,40 +31,22 @@ pub enum StepEnd {
     Idle,
     /// The step stops: nothing of it has happened.
     Stopped(Stop),
+    /// The world has no room for what the bytecode leads to.
+    Full(Full),
     /// The sink failed.
     WriteFault,
 }
 
-/// Whether an instruction that begins with this byte is built.
-fn is_built_code(code: u8) -> bool
-    ensures { result ≡ is_built_code code }
-{
-    matches!(code, 16..=63 | 112..=119 | 135 | 139 | 160..=167 | 208..=255)
-}
-
-/// Whether the byte at the pc begins an instruction that is built; where there is none, there is nothing to build.
-fn is_built(byte: Option<u8>) -> bool
-    ensures { result ≡ is_built_byte byte }
-{
-    match byte {
-        Some(code) => is_built_code(code),
-        None => true,
-    }
-}
-
 /// Does one step. A process is active before it.
-pub fn step<W: World, K: Sink>(w: &mut W, out: &mut K) -> StepEnd
+pub fn step<W: World, K: Sink>(w: &mut W, sender: &mut Sender, out: &mut K) -> StepEnd
     requires ready { IsReady (W.stored w.old) (W.view w.old) }
     requires active { is_idle (W.view w.old) ≡ false }
-    ensures gives { StepGives (W.view w.old) (K.taken out.old) (K.taken out.new) (W.stored w.new) (W.view w.new) result }
+    ensures gives { StepGives (W.view w.old) (W.layout w.old) (K.taken out.old) (K.taken out.new) (W.stored w.new) (W.view w.new) (W.layout w.new) result }
     ensures never_falls { K.fault_count out.old ≤ K.fault_count out.new }
     ensures cause { CausedByFault (K.fault_count out.old) (K.fault_count out.new) result }
 {
     if w.roots().next_birth > BIRTH_LIMIT {
         return StepEnd::Stopped(Stop::BirthLimit);
-    }
-    if !is_built(byte(w)) {
-        return StepEnd::Stopped(Stop::NotBuilt);
     }
     let Some(instruction) = instruction(w) else {
         return StepEnd::Stopped(Stop::BadCode);
@@ -73,85 +58,97 @@ pub fn step<W: World, K: Sink>(w: &mut W, out: &mut K) -> StepEnd
             selector,
             args,
             above,
-        } => send(w, out, selector, args, above),
-        CodeEnd::Return { .. } => StepEnd::Stopped(Stop::NotBuilt),
+        } => send(w, sender, out, selector, args, above),
+        CodeEnd::Return { value, local } => give_back(w, value, local),
         CodeEnd::Stop(reason) => StepEnd::Stopped(reason),
     }
 }
 
-/// Sends a message whose method has a primitive that is built.
+/// Sends a message.
 fn send<W: World, K: Sink>(
     w: &mut W,
+    sender: &mut Sender,
     out: &mut K,
     selector: Oop,
     args: u32,
     above: Option<Oop>,
 ) -> StepEnd
     requires ready { IsReady (W.stored w.old) (W.view w.old) }
+    requires births { (W.view w.old).rest.next ≤ 4611686018427387840 }
     requires selector { IsNamed (W.stored w.old) selector }
     requires above { IfSome above (λ o. IsNamed (W.stored w.old) o) }
-    ensures gives { TurnGives (sending (W.view w.old) (message_of (W.stored w.old) selector args above)) (K.taken out.old) (K.taken out.new) (W.stored w.new) (W.view w.new) result }
+    ensures gives { TurnGives (sending (W.view w.old) (message_of (W.stored w.old) selector args above)) (W.view w.old) (W.layout w.old) (K.taken out.old) (K.taken out.new) (W.stored w.new) (W.view w.new) (W.layout w.new) result }
     ensures never_falls { K.fault_count out.old ≤ K.fault_count out.new }
     ensures cause { CausedByFault (K.fault_count out.old) (K.fault_count out.new) result }
 {
-    match resolve(w, selector, args, above) {
-        Found::Primitive { number, .. } => {
-            if args == 1 {
-                try_primitive(w, out, number)
-            } else {
-                StepEnd::Stopped(Stop::NotBuilt)
-            }
-        }
-        Found::Plain { .. } => StepEnd::Stopped(Stop::NotBuilt),
-        Found::Missing => StepEnd::Stopped(Stop::NotBuilt),
-        Found::Stop(reason) => StepEnd::Stopped(reason),
+    match sender.send(w, selector, args, above) {
+        SendEnd::Entered => finish(w),
+        SendEnd::Primitive { method, number } => try_primitive(w, out, method, args, number),
+        SendEnd::Stop(reason) => StepEnd::Stopped(reason),
+        SendEnd::Full(why) => StepEnd::Full(why),
     }
 }
 
-/// Tries a primitive with one argument.
-fn try_primitive<W: World, K: Sink>(w: &mut W, out: &mut K, number: u32) -> StepEnd
+/// Tries the primitive of a method that takes so many arguments.
+fn try_primitive<W: World, K: Sink>(
+    w: &mut W,
+    out: &mut K,
+    method: Oop,
+    args: u32,
+    number: u32,
+) -> StepEnd
     requires ready { IsReady (W.stored w.old) (W.view w.old) }
-    requires there { 1 < depth_of (W.view w.old) }
-    ensures gives { TurnGives (trying (W.view w.old) number) (K.taken out.old) (K.taken out.new) (W.stored w.new) (W.view w.new) result }
+    requires named { IsNamed (W.stored w.old) method }
+    requires enters { CanEnter (W.view w.old) (name_of (W.stored w.old) method) args true }
+    ensures gives { TurnGives (trying (W.view w.old) (name_of (W.stored w.old) method) number) (W.view w.old) (W.layout w.old) (K.taken out.old) (K.taken out.new) (W.stored w.new) (W.view w.new) (W.layout w.new) result }
     ensures never_falls { K.fault_count out.old ≤ K.fault_count out.new }
     ensures cause { CausedByFault (K.fault_count out.old) (K.fault_count out.new) result }
 {
     match number {
-        1 => answer_sum(w),
-        900 => answer_written(w, out),
+        1 => add_or_enter(w, method, args),
+        900 => write_or_enter(w, out, method, args),
         _ => StepEnd::Stopped(Stop::NotBuilt),
     }
 }
 
-/// Primitive 1.
-fn answer_sum<W: World>(w: &mut W) -> StepEnd
+/// Primitive 1; where it fails its method is entered.
+fn add_or_enter<W: World>(w: &mut W, method: Oop, args: u32) -> StepEnd
     requires ready { IsReady (W.stored w.old) (W.view w.old) }
-    requires there { 1 < depth_of (W.view w.old) }
-    ensures gives { (told : Option (List ℕ)) → TurnGives (trying (W.view w.old) 1) told told (W.stored w.new) (W.view w.new) result }
+    requires named { IsNamed (W.stored w.old) method }
+    requires enters { CanEnter (W.view w.old) (name_of (W.stored w.old) method) args true }
+    ensures gives { (told : Option (List ℕ)) → TurnGives (trying (W.view w.old) (name_of (W.stored w.old) method) 1) (W.view w.old) (W.layout w.old) told told (W.stored w.new) (W.view w.new) (W.layout w.new) result }
     ensures cause { (faults : ℕ) → CausedByFault faults faults result }
 {
+    if args != 1 {
+        return enter_behind(w, method, args);
+    }
     match sum(w) {
         Some(sum) => {
             answer(w, sum);
             finish(w)
         }
-        None => StepEnd::Stopped(Stop::NotBuilt),
+        None => enter_behind(w, method, args),
     }
 }
 
-/// Primitive 900. A step that stops at its end has written nothing, so its end is looked at first.
-fn answer_written<W: World, K: Sink>(w: &mut W, out: &mut K) -> StepEnd
+/// Primitive 900; where it fails its method is entered. A step that stops at its end has written nothing, so its end is
+/// looked at first.
+fn write_or_enter<W: World, K: Sink>(w: &mut W, out: &mut K, method: Oop, args: u32) -> StepEnd
     requires ready { IsReady (W.stored w.old) (W.view w.old) }
-    requires there { 1 < depth_of (W.view w.old) }
-    ensures gives { TurnGives (trying (W.view w.old) 900) (K.taken out.old) (K.taken out.new) (W.stored w.new) (W.view w.new) result }
+    requires named { IsNamed (W.stored w.old) method }
+    requires enters { CanEnter (W.view w.old) (name_of (W.stored w.old) method) args true }
+    ensures gives { TurnGives (trying (W.view w.old) (name_of (W.stored w.old) method) 900) (W.view w.old) (W.layout w.old) (K.taken out.old) (K.taken out.new) (W.stored w.new) (W.view w.new) (W.layout w.new) result }
     ensures never_falls { K.fault_count out.old ≤ K.fault_count out.new }
     ensures cause { CausedByFault (K.fault_count out.old) (K.fault_count out.new) result }
 {
+    if args != 1 {
+        return enter_behind(w, method, args);
+    }
     let (Some(receiver), Some(argument)) = (from_top(w, 1), from_top(w, 0)) else {
-        return StepEnd::Stopped(Stop::NotBuilt);
+        unreachable!()
     };
     let Some(piece) = piece_of(w, argument) else {
-        return StepEnd::Stopped(Stop::NotBuilt);
+        return enter_behind(w, method, args);
     };
     answer(w, receiver);
     let end = finish(w);
@@ -162,6 +159,59 @@ fn answer_written<W: World, K: Sink>(w: &mut W, out: &mut K) -> StepEnd
         Ok(()) => end,
         Err(_) => StepEnd::WriteFault,
     }
+}
+
+/// Enters a method whose primitive, of one of the two numbers that are built, has failed.
+fn enter_behind<W: World>(w: &mut W, method: Oop, args: u32) -> StepEnd
+    requires ready { IsReady (W.stored w.old) (W.view w.old) }
+    requires named { IsNamed (W.stored w.old) method }
+    requires enters { CanEnter (W.view w.old) (name_of (W.stored w.old) method) args true }
+    ensures gives { (told : Option (List ℕ)) (number : ℕ) → Fails (W.view w.old) (name_of (W.stored w.old) method) number → TurnGives (trying (W.view w.old) (name_of (W.stored w.old) method) number) (W.view w.old) (W.layout w.old) told told (W.stored w.new) (W.view w.new) (W.layout w.new) result }
+    ensures cause { (faults : ℕ) → CausedByFault faults faults result }
+{
+    match enter(w, method, args, true) {
+        Ok(()) => finish(w),
+        Err(why) => StepEnd::Full(why),
+    }
+}
+
+/// Returns a value to the sender of the active context, where that is live and another context.
+fn give_back<W: World>(w: &mut W, value: Oop, local: bool) -> StepEnd
+    requires ready { IsReady (W.stored w.old) (W.view w.old) }
+    requires named { IsNamed (W.stored w.old) value }
+    ensures gives { (told : Option (List ℕ)) → TurnGives (returning (W.view w.old) (name_of (W.stored w.old) value) local) (W.view w.old) (W.layout w.old) told told (W.stored w.new) (W.view w.new) (W.layout w.new) result }
+    ensures cause { (faults : ℕ) → CausedByFault faults faults result }
+{
+    if !local {
+        return StepEnd::Stopped(Stop::NotBuilt);
+    }
+    let Some(target) = target(w) else {
+        return StepEnd::Stopped(Stop::NotBuilt);
+    };
+    if w.act_full(target) {
+        return StepEnd::Stopped(Stop::StackOver);
+    }
+    match w.leave(value) {
+        Ok(()) => finish(w),
+        Err(why) => StepEnd::Full(why),
+    }
+}
+
+/// The sender of the active context, where it is live and another context.
+fn target<W: World>(w: &W) -> Option<Act>
+    requires { IsReady (W.stored w.now) (W.view w.now) }
+    ensures some { IfSome result (λ a. IsTarget (W.view w.now) (W.act w.now a)) }
+    ensures none { result ≡ None → is_built_target (W.view w.now) (sender_birth (W.view w.now) (active_birth (W.view w.now))) ≡ false }
+{
+    let active = w.active();
+    let sender = w.sender_act(active);
+    if let Act::Gone = sender {
+        return None;
+    }
+    if !w.act_live(sender) || w.act_birth(sender) == w.act_birth(active) {
+        return None;
+    }
+    Some(sender)
 }
 
 /// The end of a step that did its bytecode.
