@@ -7,8 +7,8 @@ use Rattle.cs_classes.specs.Meaning.{objects_of}
 use Rattle.cs_model.specs.Obj.{Obj, Context, Ctx, context_in, is_context_at}
 use Rattle.cs_model.specs.State.{Kept, object_at}
 use Rattle.cs_model.specs.Return.{sender_birth}
+use Rattle.cs_model.specs.Demand.{words_in}
 use Rattle.cs_acts.specs.Names.{Store}
-use Rattle.cs_acts.specs.Room.{words_of_state}
 
 -- How many pages a world may use, and the used ones, the most recent first, each with the births of its frames, the last one
 -- first. A world without pages tells no layout.
@@ -84,7 +84,7 @@ pub record IsLaid (s : Store) (k : Kept) (l : Layout) : Type 0 where
 -- without pages all of the state stands in the heap, and takes the heap's words
 pub record IsPlain (s : Store) (k : Kept) : Type 0 where
   pub objects : (i : ℕ) (o : Obj) → object_at k i ≡ Some o → get (objects_of s.memory.objects) i ≡ Some o
-  pub words : words_of_state k ≡ used s.memory.objects
+  pub words : words_in k ≡ used s.memory.objects
 
 abbrev pub IsLaidOut : Store → Kept → Option Layout → Type 0
 IsLaidOut s k None = IsPlain s k

@@ -3,6 +3,5 @@ pub mod Layout
 pub mod Names
 pub mod Ready
 pub mod Reading
-pub mod Room
 pub mod Shaped
 pub mod Targets

@@ -4,8 +4,8 @@ use Rattle.std.specs.FinMap.{get}
 use Rattle.cs_heap.specs.Object.{Object, used}
 use Rattle.cs_classes.specs.Meaning.{obj_of, objects_of, ref_of, is_context, kept_of}
 use Rattle.cs_classes.specs.Sound.{IsWhole}
-use Rattle.cs_model.specs.Obj.{Obj, Ptr, Raw, Method, Ctx, is_context_at}
-use Rattle.cs_model.specs.State.{Kept, object_at}
+use Rattle.cs_model.specs.Obj.{Obj, Context, Ptr, Raw, Method, Ctx, is_context_at}
+use Rattle.cs_model.specs.State.{Kept, PcLies, object_at}
 use Rattle.cs_model.specs.Keeps.{Keeps}
 use Rattle.cs_model.specs.Read.{IsRunning}
 use Rattle.cs_acts.specs.Names.{Store}
@@ -21,9 +21,10 @@ pub record Holds (s : Store) (k : Kept) : Type 0 where
   pub most : s.memory.limit ≤ 67108864
   pub rest : (kept_of s.memory.objects s.table s.roots k.rest.active).rest ≡ k.rest
 
--- all that the state names is there, and the heap holds what it must
+-- all that the state names is there, contexts keep their pcs, and the heap holds what it must
 pub record IsSound (s : Store) (k : Kept) : Type 0 where
   pub closed : Keeps k k
+  pub pcs : (i : ℕ) (c : Context) → object_at k i ≡ Some (Ctx c) → PcLies k c
   pub holds : Holds s k
 
 -- and a context is active

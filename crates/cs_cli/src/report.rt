@@ -5,12 +5,11 @@
 
 ghost use Rattle.std.specs.Prelude.{◌≡◌, ◌≤◌, ◌+◌, ◌++◌, length};
 ghost use Rattle.arrayvec.specs.ArrayString.{array_string_len};
-ghost use Rattle.cs_model.specs.Report.{ending_text, line_of, number_text, reason_text};
+ghost use Rattle.cs_model.specs.Report.{ending_text, line_of, number_text};
 ghost use Rattle.cs_core.specs.Running.{ending_of, place_by};
 
 use arrayvec::ArrayString;
 use cs_core::run::{Ending, Place};
-use cs_model::Stop;
 use itoa::Buffer;
 
 /// Bytes that hold every report: 31 of its own words, 21 of an ending and its reason, and four
@@ -45,7 +44,7 @@ fn push_ending(text: &mut ArrayString<LONGEST_REPORT>, ending: Ending)
         Ending::Idle => text.push_str("Idle"),
         Ending::Stopped(reason) => {
             text.push_str("Stopped ");
-            text.push_str(reason_name(reason));
+            text.push_str(reason.name());
         }
     }
 }
@@ -60,28 +59,5 @@ fn push_field(text: &mut ArrayString<LONGEST_REPORT>, name: &str, number: Option
     match number {
         Some(number) => text.push_str(Buffer::new().format(number)),
         None => text.push_str("-"),
-    }
-}
-
-/// The name of a reason to stop, as reports print it.
-fn reason_name(reason: Stop) -> &'static str
-    ensures name { result.now ≡ reason_text reason }
-    ensures short { length result.now ≤ 13 }
-{
-    match reason {
-        Stop::BadCode => "BadCode",
-        Stop::BadLiteral => "BadLiteral",
-        Stop::BadField => "BadField",
-        Stop::BadStore => "BadStore",
-        Stop::StackUnder => "StackUnder",
-        Stop::StackOver => "StackOver",
-        Stop::BadArgs => "BadArgs",
-        Stop::BadSpecial => "BadSpecial",
-        Stop::BadProcess => "BadProcess",
-        Stop::NotUnderstood => "NotUnderstood",
-        Stop::ClassLoop => "ClassLoop",
-        Stop::ChainTooLong => "ChainTooLong",
-        Stop::BirthLimit => "BirthLimit",
-        Stop::NotBuilt => "NotBuilt",
     }
 }

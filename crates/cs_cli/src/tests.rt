@@ -6,7 +6,7 @@ use crate::test_images::{ADDS, POPS_AN_EMPTY_STACK, image_of};
 use crate::top::cogstack;
 use cs_core::run::{Ending, Place};
 use cs_model::Stop;
-use cs_shelf::{MemShelf, MemSink};
+use cs_shelf::{MemShelf, MemSink, Shelf, Sink};
 use hex::FromHexError;
 use std::alloc::{AllocError, Global};
 
@@ -73,34 +73,59 @@ fn images_are_whole(rt: HostRuntime) -> Result<(), FromHexError> {
     Ok(())
 }
 
-/// A shelf on which the name `a` holds this image, and `b` nothing.
-fn shelf_with(alloc: Global, image: &[u8]) -> Result<MemShelf, AllocError> {
+/// A shelf on which the name `a` holds this image, and `b` nothing. These of its calls fail.
+fn shelf_with(alloc: Global, image: &[u8], fail: &[u64]) -> Result<MemShelf, AllocError> {
     let names = vec![in alloc;
         String::from_str(alloc, "a")?,
         String::from_str(alloc, "b")?,
     ]?;
-    let mut shelf = MemShelf::new(alloc, names, image.len(), &[])?;
+    let mut shelf = MemShelf::new(alloc, names, image.len(), fail)?;
     shelf.put(0, image);
     Ok(shelf)
 }
 
-/// The status of the line `run NAME STEPS` over this image, and what a sink with so much room took.
+/// How much the sink takes, and which calls of the shelf and of the sink are to fail.
+#[derive(Clone, Copy)]
+struct Outside<'a> {
+    room: usize,
+    shelf: &'a [u64],
+    sink: &'a [u64],
+}
+
+/// An outside in which no call fails while there is room.
+fn with_room(room: usize) -> Outside<'static> {
+    Outside {
+        room,
+        shelf: &[],
+        sink: &[],
+    }
+}
+
+/// The status of a line where the name `a` holds this image, and the shelf and the sink behind it.
 fn answer(
     alloc: Global,
     image: &[u8],
-    (name, steps): (&str, &str),
-    room: usize,
-) -> Result<(u8, MemSink), AllocError> {
-    let words = vec![in alloc;
-        String::from_str(alloc, "run")?,
-        String::from_str(alloc, name)?,
-        String::from_str(alloc, steps)?,
-    ]?;
-    let mut shelf = shelf_with(alloc, image)?;
-    let mut out = MemSink::new(alloc, room, &[])?;
+    line: &[&str],
+    outside: Outside<'_>,
+) -> Result<(u8, MemShelf, MemSink), AllocError> {
+    let mut words = Vec::new(alloc);
+    for word in line {
+        words.push(String::from_str(alloc, word)?)?;
+    }
+    let mut shelf = shelf_with(alloc, image, outside.shelf)?;
+    let mut out = MemSink::new(alloc, outside.room, outside.sink)?;
     let status = cogstack(alloc, words.as_slice(), &mut shelf, &mut out);
-    Ok((status, out))
+    Ok((status, shelf, out))
 }
+
+/// What the worked program prints in 20 steps.
+const SUM: &str = "7\nSteps steps=20 process=42 context=41 pc=33\n";
+
+/// What the other image prints.
+const POPPED: &str = "\nStopped StackUnder steps=0 process=40 context=39 pc=5\n";
+
+/// What is printed of an image that is refused.
+const REFUSED: &str = "cogstack: image Refused\n";
 
 #[test]
 fn the_call_answers_and_prints(rt: HostRuntime) -> Result<(), FromHexError> {
@@ -108,26 +133,235 @@ fn the_call_answers_and_prints(rt: HostRuntime) -> Result<(), FromHexError> {
     let adds = image_of(alloc, &ADDS)?;
     let pops = image_of(alloc, &POPS_AN_EMPTY_STACK)?;
     let (adds, pops) = (adds.as_slice(), pops.as_slice());
-    let short = b"no image".as_slice();
-    let sum = "7\nSteps steps=20 process=42 context=41 pc=33\n";
     let at_entry = "\nSteps steps=0 process=42 context=41 pc=25\n";
-    let stopped = "\nStopped StackUnder steps=0 process=40 context=39 pc=5\n";
     let rows = [
-        (adds, ("a", "20"), 99, 0, sum),
-        (adds, ("a", "0"), 99, 0, at_entry),
-        (pops, ("a", "1"), 99, 1, stopped),
-        (pops, ("a", "5"), 99, 1, stopped),
-        (adds, ("a", "-1"), 99, 2, "cogstack: line\n"),
-        (short, ("a", "20"), 99, 3, "cogstack: image Refused\n"),
-        (adds, ("b", "20"), 99, 6, "cogstack: read b\n"),
-        (adds, ("a", "20"), 0, 7, ""),
-        (adds, ("a", "20"), 1, 7, "7"),
-        (adds, ("a", "20"), 8, 7, "7\nSteps "),
+        (adds, ["run", "a", "20"], 99, 0, SUM),
+        (adds, ["run", "a", "0"], 99, 0, at_entry),
+        (pops, ["run", "a", "1"], 99, 1, POPPED),
+        (pops, ["run", "a", "5"], 99, 1, POPPED),
+        (b"no image", ["run", "a", "20"], 99, 3, REFUSED),
+        (adds, ["run", "b", "20"], 99, 6, "cogstack: read b\n"),
+        (adds, ["run", "a", "20"], 0, 7, ""),
+        (adds, ["run", "a", "20"], 1, 7, "7"),
+        (adds, ["run", "a", "20"], 8, 7, "7\nSteps "),
     ];
-    for (image, (name, steps), room, status, text) in rows {
-        let (answered, out) = answer(alloc, image, (name, steps), room)?;
-        assert_eq!(rt; answered, status, "{name} {steps}");
+    for (image, line, room, status, text) in rows {
+        let (answered, _, out) = answer(alloc, image, &line, with_room(room))?;
+        assert_eq!(rt; answered, status, "{text}");
         assert_eq!(rt; out.taken(), text.as_bytes());
+    }
+    Ok(())
+}
+
+#[test]
+fn a_line_of_another_form_is_refused(rt: HostRuntime) -> Result<(), FromHexError> {
+    let alloc = rt.alloc();
+    let adds = image_of(alloc, &ADDS)?;
+    let rows: [&[&str]; 8] = [
+        &[],
+        &["run"],
+        &["run", "a"],
+        &["run", "a", "20", "8"],
+        &["run", "a", "01"],
+        &["run", "a", "-1"],
+        &["run", "a", "1000000000001"],
+        &["walk", "a", "20"],
+    ];
+    for line in rows {
+        let (status, shelf, out) = answer(alloc, adds.as_slice(), line, with_room(99))?;
+        assert_eq!(rt; (status, shelf.faults()), (2, 0));
+        assert_eq!(rt; out.taken(), b"cogstack: line\n".as_slice());
+    }
+    Ok(())
+}
+
+#[test]
+fn a_name_has_at_most_4096_bytes(rt: HostRuntime) -> Result<(), AllocError> {
+    let alloc = rt.alloc();
+    for (len, status) in [(4096, 6), (4097, 2)] {
+        let mut name = String::new(alloc);
+        for _ in 0..len {
+            name.push('x')?;
+        }
+        let words = vec![in alloc;
+            String::from_str(alloc, "run")?,
+            name,
+            String::from_str(alloc, "20")?,
+        ]?;
+        let mut shelf = shelf_with(alloc, b"", &[])?;
+        let mut out = MemSink::new(alloc, 5000, &[])?;
+        let answered = cogstack(alloc, words.as_slice(), &mut shelf, &mut out);
+        assert_eq!(rt; answered, status, "{len}");
+    }
+    Ok(())
+}
+
+/// The image with other bytes from a place on. Those that come to stand behind its end are added to it.
+fn damaged(
+    alloc: Global,
+    image: &[u8],
+    place: usize,
+    digits: &str,
+) -> Result<Vec<u8>, FromHexError> {
+    let other = hex::decode(alloc, digits)?;
+    let mut bytes = Vec::new(alloc);
+    for byte in image.iter().take(place) {
+        bytes.extend_from_slice(&[*byte])?;
+    }
+    bytes.extend_from_slice(other.as_slice())?;
+    for byte in image.iter().skip(place).skip(other.len()) {
+        bytes.extend_from_slice(&[*byte])?;
+    }
+    Ok(bytes)
+}
+
+#[test]
+fn a_damaged_image_is_refused(rt: HostRuntime) -> Result<(), FromHexError> {
+    let alloc = rt.alloc();
+    let adds = image_of(alloc, &ADDS)?;
+    let rows = [
+        ("nothing is damaged", 7608, "", 0, SUM),
+        ("the format isn't 6521", 0, "7a", 3, REFUSED),
+        ("the header hasn't 64 bytes", 4, "41", 3, REFUSED),
+        ("the heap is longer than the file", 8, "80", 3, REFUSED),
+        ("the heap has 4 GB", 8, "f8ffffff", 3, REFUSED),
+        ("the base is no multiple of 8", 12, "04", 3, REFUSED),
+        ("a byte stands behind the heap", 7608, "00", 3, REFUSED),
+        ("nil has a slot", 71, "01", 3, REFUSED),
+        ("an object has format 6", 683, "06", 3, REFUSED),
+        ("literals fill a method", 1416, "05", 3, REFUSED),
+        ("an overflow word has no header", 3511, "fe", 3, REFUSED),
+        ("an object goes past the end", 3496, "01", 3, REFUSED),
+        ("a class stands at index 0", 3512, "30030100", 3, REFUSED),
+        ("a class has another hash", 884, "21", 3, REFUSED),
+        ("a slot is inside of nil", 208, "08", 3, REFUSED),
+        ("an object has no class", 200, "ff03", 3, REFUSED),
+        ("stackp is above the size", 1504, "23", 3, REFUSED),
+        ("the pc lies behind the method", 1500, "49", 3, REFUSED),
+        ("the sender is a class", 1496, "30030100", 3, REFUSED),
+        ("the method is a class", 1508, "30030100", 3, REFUSED),
+        ("the closure is a class", 1512, "30030100", 3, REFUSED),
+        ("nil is the special objects", 16, "0000", 3, REFUSED),
+        ("the active context is dead", 1500, "00000100", 3, REFUSED),
+        (
+            "the active process has two slots",
+            708,
+            "68020100",
+            3,
+            REFUSED,
+        ),
+        (
+            "births are fewer than objects",
+            7608,
+            "00000000000000000000000000000000",
+            3,
+            REFUSED,
+        ),
+    ];
+    for (what, place, digits, status, text) in rows {
+        let image = damaged(alloc, adds.as_slice(), place, digits)?;
+        let (answered, _, out) = answer(
+            alloc,
+            image.as_slice(),
+            &["run", "a", "20"],
+            with_room(99),
+        )?;
+        assert_eq!(rt; answered, status, "{what}");
+        assert_eq!(rt; out.taken(), text.as_bytes(), "{what}");
+    }
+    Ok(())
+}
+
+#[test]
+fn a_cut_image_is_refused_and_one_with_births(rt: HostRuntime) -> Result<(), FromHexError> {
+    let alloc = rt.alloc();
+    let adds = image_of(alloc, &ADDS)?;
+    let mut born = damaged(
+        alloc,
+        adds.as_slice(),
+        7608,
+        "94000000000000009400000000000000",
+    )?;
+    for birth in 0..148_u64 {
+        born.extend_from_slice(&birth.to_le_bytes())?;
+    }
+    let (answered, _, out) = answer(alloc, born.as_slice(), &["run", "a", "20"], with_room(99))?;
+    assert_eq!(rt; answered, 3);
+    assert_eq!(rt; out.taken(), REFUSED.as_bytes());
+    for len in [0, 63, 64, 7607] {
+        let mut image = image_of(alloc, &ADDS)?;
+        image.truncate(len);
+        let (answered, _, out) = answer(
+            alloc,
+            image.as_slice(),
+            &["run", "a", "20"],
+            with_room(99),
+        )?;
+        assert_eq!(rt; answered, 3, "{len}");
+        assert_eq!(rt; out.taken(), REFUSED.as_bytes(), "{len}");
+    }
+    Ok(())
+}
+
+#[test]
+fn each_write_may_fail(rt: HostRuntime) -> Result<(), FromHexError> {
+    let alloc = rt.alloc();
+    let adds = image_of(alloc, &ADDS)?;
+    let pops = image_of(alloc, &POPS_AN_EMPTY_STACK)?;
+    let (adds, pops) = (adds.as_slice(), pops.as_slice());
+    let rows = [
+        (adds, ["run", "a", "20"], 0, SUM),
+        (pops, ["run", "a", "5"], 1, POPPED),
+        (adds, ["run", "a", "x"], 2, "cogstack: line\n"),
+        (b"no image", ["run", "a", "20"], 3, REFUSED),
+        (adds, ["run", "b", "20"], 6, "cogstack: read b\n"),
+    ];
+    for (image, line, status, text) in rows {
+        for k in 0..4_u64 {
+            let outside = Outside {
+                room: 99,
+                shelf: &[],
+                sink: &[k],
+            };
+            let (answered, _, out) = answer(alloc, image, &line, outside)?;
+            let is_whole = out.faults() == 0;
+            assert!(rt; k < 3 || is_whole, "no answer takes four writes");
+            assert_eq!(rt; answered, if is_whole { status } else { 7 }, "{text}");
+            assert_eq!(rt; out.taken() == text.as_bytes(), is_whole, "{text}");
+            assert!(rt; text.as_bytes().starts_with(out.taken()), "{text}");
+        }
+    }
+    Ok(())
+}
+
+#[test]
+fn each_read_may_fail(rt: HostRuntime) -> Result<(), FromHexError> {
+    let alloc = rt.alloc();
+    let adds = image_of(alloc, &ADDS)?;
+    let pops = image_of(alloc, &POPS_AN_EMPTY_STACK)?;
+    let rows = [
+        (adds.as_slice(), ["run", "a", "20"], 0, SUM),
+        (pops.as_slice(), ["run", "a", "5"], 1, POPPED),
+        (b"no image", ["run", "a", "20"], 3, REFUSED),
+    ];
+    for (image, line, status, text) in rows {
+        for k in 0..3_u64 {
+            let outside = Outside {
+                room: 99,
+                shelf: &[k],
+                sink: &[],
+            };
+            let (answered, shelf, out) = answer(alloc, image, &line, outside)?;
+            let is_read = shelf.faults() == 0;
+            assert!(rt; k < 2 || is_read, "no image takes three reads");
+            let want = if is_read {
+                (status, text)
+            } else {
+                (6, "cogstack: read a\n")
+            };
+            assert_eq!(rt; answered, want.0, "{text}");
+            assert_eq!(rt; out.taken(), want.1.as_bytes(), "{text}");
+        }
     }
     Ok(())
 }

@@ -2,3 +2,4 @@ pub mod Through
 pub mod Fields
 pub mod Tops
 pub mod Bits
+pub mod Sending

@@ -26,7 +26,8 @@ use cs_word::{Kind, Oop, add, div, mul, rem, shift, sub};
 #[tactic(auto, unfolding(cs_model::specs::Exec::special_out))]
 pub fn special<W: World>(w: &mut W, i: u8) -> CodeEnd
     requires { IsReady (W.stored w.old) (W.view w.old) }
-    ensures { Gives (W.stored w.old) (W.stored w.new) (W.view w.new) result (special_out (W.view w.old) i) }
+    ensures gives { Gives (W.stored w.old) (W.stored w.new) (W.view w.new) result (special_out (W.view w.old) i) }
+    ensures layout { W.layout w.new ≡ W.layout w.old }
 {
     match at_once(w, i) {
         Some(x) => replace_two(w, x),
@@ -38,7 +39,8 @@ pub fn special<W: World>(w: &mut W, i: u8) -> CodeEnd
 #[tactic(auto, unfolding(cs_model::specs::Exec::common_out))]
 pub fn common<W: World>(w: &mut W, i: u8) -> CodeEnd
     requires { IsReady (W.stored w.old) (W.view w.old) }
-    ensures { Gives (W.stored w.old) (W.stored w.new) (W.view w.new) result (common_out (W.view w.old) i) }
+    ensures gives { Gives (W.stored w.old) (W.stored w.new) (W.view w.new) result (common_out (W.view w.old) i) }
+    ensures layout { W.layout w.new ≡ W.layout w.old }
 {
     match i {
         6 => compare(w),
@@ -51,7 +53,8 @@ pub fn common<W: World>(w: &mut W, i: u8) -> CodeEnd
 #[tactic(auto, unfolding(cs_model::specs::Exec::same_out))]
 fn compare<W: World>(w: &mut W) -> CodeEnd
     requires { IsReady (W.stored w.old) (W.view w.old) }
-    ensures { Gives (W.stored w.old) (W.stored w.new) (W.view w.new) result (same_out (W.view w.old)) }
+    ensures gives { Gives (W.stored w.old) (W.stored w.new) (W.view w.new) result (same_out (W.view w.old)) }
+    ensures layout { W.layout w.new ≡ W.layout w.old }
 {
     let Some(a) = from_top(w, 1) else {
         return CodeEnd::Stop(Stop::StackUnder);
@@ -68,7 +71,8 @@ fn compare<W: World>(w: &mut W) -> CodeEnd
 #[tactic(auto, unfolding(cs_model::specs::Exec::class_out))]
 fn push_class<W: World>(w: &mut W) -> CodeEnd
     requires { IsReady (W.stored w.old) (W.view w.old) }
-    ensures { Gives (W.stored w.old) (W.stored w.new) (W.view w.new) result (class_out (W.view w.old)) }
+    ensures gives { Gives (W.stored w.old) (W.stored w.new) (W.view w.new) result (class_out (W.view w.old)) }
+    ensures layout { W.layout w.new ≡ W.layout w.old }
 {
     let Some(x) = from_top(w, 0) else {
         return CodeEnd::Stop(Stop::StackUnder);
@@ -96,7 +100,8 @@ fn replace_two<W: World>(w: &mut W, x: Oop) -> CodeEnd
     requires ready { IsReady (W.stored w.old) (W.view w.old) }
     requires there { 2 ≤ depth_of (W.view w.old) }
     requires named { IsNamed (W.stored w.old) x }
-    ensures { Gives (W.stored w.old) (W.stored w.new) (W.view w.new) result (done (push_of (drop_of (W.view w.old) 2) (name_of (W.stored w.old) x))) }
+    ensures gives { Gives (W.stored w.old) (W.stored w.new) (W.view w.new) result (done (push_of (drop_of (W.view w.old) 2) (name_of (W.stored w.old) x))) }
+    ensures layout { W.layout w.new ≡ W.layout w.old }
 {
     let depth = w.depth();
     w.set_stack(depth - 2, x);

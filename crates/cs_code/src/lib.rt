@@ -3,6 +3,7 @@
 //! The pc has been moved past the instruction when it is done. Where it sends or returns, that is left to who asked for it.
 #![tactic(auto)]
 
+ghost use Rattle.std.specs.Prelude.{◌≡◌};
 ghost use Rattle.cs_acts.specs.Ready.{IsReady};
 ghost use Rattle.cs_code.specs.Built.{built_exec};
 ghost use Rattle.cs_code.specs.Gives.{Gives};
@@ -24,7 +25,8 @@ pub use end::CodeEnd;
 #[tactic(auto, unfolding(crate::specs::Built::built_exec, cs_model::specs::Exec::exec))]
 pub fn exec<W: World>(i: &Instr, w: &mut W) -> CodeEnd
     requires { IsReady (W.stored w.old) (W.view w.old) }
-    ensures { Gives (W.stored w.old) (W.stored w.new) (W.view w.new) result (built_exec i.now.op (W.view w.old)) }
+    ensures gives { Gives (W.stored w.old) (W.stored w.new) (W.view w.new) result (built_exec i.now.op (W.view w.old)) }
+    ensures layout { W.layout w.new ≡ W.layout w.old }
 {
     match i.op {
         Op::PushRcvr(k) => variables::push_field(w, k),

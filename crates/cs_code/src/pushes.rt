@@ -22,7 +22,8 @@ use cs_word::Oop;
 pub fn push<W: World>(w: &mut W, x: Oop) -> CodeEnd
     requires ready { IsReady (W.stored w.old) (W.view w.old) }
     requires named { IsNamed (W.stored w.old) x }
-    ensures { Gives (W.stored w.old) (W.stored w.new) (W.view w.new) result (push_out (W.view w.old) (name_of (W.stored w.old) x)) }
+    ensures gives { Gives (W.stored w.old) (W.stored w.new) (W.view w.new) result (push_out (W.view w.old) (name_of (W.stored w.old) x)) }
+    ensures layout { W.layout w.new ≡ W.layout w.old }
 {
     if w.depth() < w.size() {
         w.push(x);
@@ -36,7 +37,8 @@ pub fn push<W: World>(w: &mut W, x: Oop) -> CodeEnd
 #[tactic(auto, unfolding(cs_model::specs::Exec::push_temp_out))]
 pub fn push_temporary<W: World>(w: &mut W, i: u8) -> CodeEnd
     requires { IsReady (W.stored w.old) (W.view w.old) }
-    ensures { Gives (W.stored w.old) (W.stored w.new) (W.view w.new) result (push_temp_out (W.view w.old) i) }
+    ensures gives { Gives (W.stored w.old) (W.stored w.new) (W.view w.new) result (push_temp_out (W.view w.old) i) }
+    ensures layout { W.layout w.new ≡ W.layout w.old }
 {
     match temporary(w, u32::from(i)) {
         Some(x) => push(w, x),
@@ -48,7 +50,8 @@ pub fn push_temporary<W: World>(w: &mut W, i: u8) -> CodeEnd
 #[tactic(auto, unfolding(cs_model::specs::Exec::push_literal_out))]
 pub fn push_literal<W: World>(w: &mut W, i: u8) -> CodeEnd
     requires { IsReady (W.stored w.old) (W.view w.old) }
-    ensures { Gives (W.stored w.old) (W.stored w.new) (W.view w.new) result (push_literal_out (W.view w.old) i) }
+    ensures gives { Gives (W.stored w.old) (W.stored w.new) (W.view w.new) result (push_literal_out (W.view w.old) i) }
+    ensures layout { W.layout w.new ≡ W.layout w.old }
 {
     match literal(w, u32::from(i)) {
         Some(x) => push(w, x),
@@ -59,7 +62,8 @@ pub fn push_literal<W: World>(w: &mut W, i: u8) -> CodeEnd
 /// Pushes the receiver.
 pub fn push_receiver<W: World>(w: &mut W) -> CodeEnd
     requires { IsReady (W.stored w.old) (W.view w.old) }
-    ensures { Gives (W.stored w.old) (W.stored w.new) (W.view w.new) result (push_out (W.view w.old) (receiver_of (W.view w.old))) }
+    ensures gives { Gives (W.stored w.old) (W.stored w.new) (W.view w.new) result (push_out (W.view w.old) (receiver_of (W.view w.old))) }
+    ensures layout { W.layout w.new ≡ W.layout w.old }
 {
     let x = w.receiver();
     push(w, x)
@@ -68,7 +72,8 @@ pub fn push_receiver<W: World>(w: &mut W) -> CodeEnd
 /// Pushes true or false.
 pub fn push_boolean<W: World>(w: &mut W, truth: bool) -> CodeEnd
     requires { IsReady (W.stored w.old) (W.view w.old) }
-    ensures { Gives (W.stored w.old) (W.stored w.new) (W.view w.new) result (push_out (W.view w.old) (boolean_of (W.view w.old) truth)) }
+    ensures gives { Gives (W.stored w.old) (W.stored w.new) (W.view w.new) result (push_out (W.view w.old) (boolean_of (W.view w.old) truth)) }
+    ensures layout { W.layout w.new ≡ W.layout w.old }
 {
     let x = boolean(w, truth);
     push(w, x)
@@ -77,7 +82,8 @@ pub fn push_boolean<W: World>(w: &mut W, truth: bool) -> CodeEnd
 /// Pushes nil.
 pub fn push_nil<W: World>(w: &mut W) -> CodeEnd
     requires { IsReady (W.stored w.old) (W.view w.old) }
-    ensures { Gives (W.stored w.old) (W.stored w.new) (W.view w.new) result (push_out (W.view w.old) (nil_of (W.view w.old))) }
+    ensures gives { Gives (W.stored w.old) (W.stored w.new) (W.view w.new) result (push_out (W.view w.old) (nil_of (W.view w.old))) }
+    ensures layout { W.layout w.new ≡ W.layout w.old }
 {
     let x = nil(w);
     push(w, x)
@@ -86,7 +92,8 @@ pub fn push_nil<W: World>(w: &mut W) -> CodeEnd
 /// Pushes a SmallInteger.
 pub fn push_small<W: World>(w: &mut W, z: i8) -> CodeEnd
     requires { IsReady (W.stored w.old) (W.view w.old) }
-    ensures { Gives (W.stored w.old) (W.stored w.new) (W.view w.new) result (push_out (W.view w.old) (ref.Small z)) }
+    ensures gives { Gives (W.stored w.old) (W.stored w.new) (W.view w.new) result (push_out (W.view w.old) (ref.Small z)) }
+    ensures layout { W.layout w.new ≡ W.layout w.old }
 {
     let x = small_word(i32::from(z));
     push(w, x)
@@ -108,7 +115,8 @@ pub fn small_word(z: i32) -> Oop
 #[tactic(auto, unfolding(cs_model::specs::Exec::pop_out))]
 pub fn pop<W: World>(w: &mut W) -> CodeEnd
     requires { IsReady (W.stored w.old) (W.view w.old) }
-    ensures { Gives (W.stored w.old) (W.stored w.new) (W.view w.new) result (pop_out (W.view w.old)) }
+    ensures gives { Gives (W.stored w.old) (W.stored w.new) (W.view w.new) result (pop_out (W.view w.old)) }
+    ensures layout { W.layout w.new ≡ W.layout w.old }
 {
     match from_top(w, 0) {
         Some(_) => {
@@ -123,7 +131,8 @@ pub fn pop<W: World>(w: &mut W) -> CodeEnd
 #[tactic(auto, unfolding(cs_model::specs::Exec::dup_out))]
 pub fn dup<W: World>(w: &mut W) -> CodeEnd
     requires { IsReady (W.stored w.old) (W.view w.old) }
-    ensures { Gives (W.stored w.old) (W.stored w.new) (W.view w.new) result (dup_out (W.view w.old)) }
+    ensures gives { Gives (W.stored w.old) (W.stored w.new) (W.view w.new) result (dup_out (W.view w.old)) }
+    ensures layout { W.layout w.new ≡ W.layout w.old }
 {
     match from_top(w, 0) {
         Some(x) => push(w, x),

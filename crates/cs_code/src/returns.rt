@@ -56,7 +56,8 @@ pub fn return_nil<W: World>(w: &W) -> CodeEnd
 /// Pops a value and returns it; from a block, to the sender of its home.
 pub fn return_top<W: World>(w: &mut W) -> CodeEnd
     requires { IsReady (W.stored w.old) (W.view w.old) }
-    ensures { Gives (W.stored w.old) (W.stored w.new) (W.view w.new) result (with_top (W.view w.old) (λ x. return_out (pop_of (W.view w.old)) x (is_local (W.view w.old)))) }
+    ensures gives { Gives (W.stored w.old) (W.stored w.new) (W.view w.new) result (with_top (W.view w.old) (λ x. return_out (pop_of (W.view w.old)) x (is_local (W.view w.old)))) }
+    ensures layout { W.layout w.new ≡ W.layout w.old }
 {
     let local = is_local(w);
     pop_and_return(w, local)
@@ -65,7 +66,8 @@ pub fn return_top<W: World>(w: &mut W) -> CodeEnd
 /// Pops a value and returns it to the sender.
 pub fn return_to_sender<W: World>(w: &mut W) -> CodeEnd
     requires { IsReady (W.stored w.old) (W.view w.old) }
-    ensures { Gives (W.stored w.old) (W.stored w.new) (W.view w.new) result (with_top (W.view w.old) (λ x. return_out (pop_of (W.view w.old)) x true)) }
+    ensures gives { Gives (W.stored w.old) (W.stored w.new) (W.view w.new) result (with_top (W.view w.old) (λ x. return_out (pop_of (W.view w.old)) x true)) }
+    ensures layout { W.layout w.new ≡ W.layout w.old }
 {
     pop_and_return(w, true)
 }
@@ -73,7 +75,8 @@ pub fn return_to_sender<W: World>(w: &mut W) -> CodeEnd
 /// Pops a value and returns it.
 fn pop_and_return<W: World>(w: &mut W, local: bool) -> CodeEnd
     requires { IsReady (W.stored w.old) (W.view w.old) }
-    ensures { Gives (W.stored w.old) (W.stored w.new) (W.view w.new) result (with_top (W.view w.old) (λ x. return_out (pop_of (W.view w.old)) x local)) }
+    ensures gives { Gives (W.stored w.old) (W.stored w.new) (W.view w.new) result (with_top (W.view w.old) (λ x. return_out (pop_of (W.view w.old)) x local)) }
+    ensures layout { W.layout w.new ≡ W.layout w.old }
 {
     match from_top(w, 0) {
         Some(value) => {

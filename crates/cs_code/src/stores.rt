@@ -22,7 +22,8 @@ use cs_word::Oop;
 fn store_temporary<W: World>(w: &mut W, i: u8, x: Oop) -> CodeEnd
     requires ready { IsReady (W.stored w.old) (W.view w.old) }
     requires named { IsNamed (W.stored w.old) x }
-    ensures { Gives (W.stored w.old) (W.stored w.new) (W.view w.new) result (store_temp_out (W.view w.old) i (name_of (W.stored w.old) x)) }
+    ensures gives { Gives (W.stored w.old) (W.stored w.new) (W.view w.new) result (store_temp_out (W.view w.old) i (name_of (W.stored w.old) x)) }
+    ensures layout { W.layout w.new ≡ W.layout w.old }
 {
     let i = u32::from(i);
     if i < w.depth() {
@@ -38,7 +39,8 @@ fn store_temporary<W: World>(w: &mut W, i: u8, x: Oop) -> CodeEnd
 fn store_variable<W: World>(w: &mut W, i: u8, x: Oop) -> CodeEnd
     requires ready { IsReady (W.stored w.old) (W.view w.old) }
     requires named { IsNamed (W.stored w.old) x }
-    ensures { Gives (W.stored w.old) (W.stored w.new) (W.view w.new) result (store_variable_out (W.view w.old) i (name_of (W.stored w.old) x)) }
+    ensures gives { Gives (W.stored w.old) (W.stored w.new) (W.view w.new) result (store_variable_out (W.view w.old) i (name_of (W.stored w.old) x)) }
+    ensures layout { W.layout w.new ≡ W.layout w.old }
 {
     let Some(variable) = literal(w, u32::from(i)) else {
         return CodeEnd::Stop(Stop::BadLiteral);
@@ -57,7 +59,8 @@ fn store_variable<W: World>(w: &mut W, i: u8, x: Oop) -> CodeEnd
 fn store_vector<W: World>(w: &mut W, k: u8, j: u8, x: Oop) -> CodeEnd
     requires ready { IsReady (W.stored w.old) (W.view w.old) }
     requires named { IsNamed (W.stored w.old) x }
-    ensures { Gives (W.stored w.old) (W.stored w.new) (W.view w.new) result (store_vector_out (W.view w.old) k j (name_of (W.stored w.old) x)) }
+    ensures gives { Gives (W.stored w.old) (W.stored w.new) (W.view w.new) result (store_vector_out (W.view w.old) k j (name_of (W.stored w.old) x)) }
+    ensures layout { W.layout w.new ≡ W.layout w.old }
 {
     let Some(vector) = temporary(w, u32::from(j)) else {
         return CodeEnd::Stop(Stop::BadField);
@@ -77,7 +80,8 @@ fn store_field<W: World>(w: &mut W, i: u8, x: Oop) -> CodeEnd
     requires ready { IsReady (W.stored w.old) (W.view w.old) }
     requires named { IsNamed (W.stored w.old) x }
     requires plain { is_context_ref (W.view w.old) (receiver_of (W.view w.old)) ≡ false }
-    ensures { Gives (W.stored w.old) (W.stored w.new) (W.view w.new) result (store_receiver_out (W.view w.old) i (name_of (W.stored w.old) x)) }
+    ensures gives { Gives (W.stored w.old) (W.stored w.new) (W.view w.new) result (store_receiver_out (W.view w.old) i (name_of (W.stored w.old) x)) }
+    ensures layout { W.layout w.new ≡ W.layout w.old }
 {
     let receiver = w.receiver();
     match slot_if_any(w, receiver, u32::from(i)) {
@@ -93,7 +97,8 @@ fn store_field<W: World>(w: &mut W, i: u8, x: Oop) -> CodeEnd
 #[tactic(auto, unfolding(cs_model::specs::Exec::store_into))]
 pub fn keep_temporary<W: World>(w: &mut W, i: u8) -> CodeEnd
     requires { IsReady (W.stored w.old) (W.view w.old) }
-    ensures { Gives (W.stored w.old) (W.stored w.new) (W.view w.new) result (store_into (W.view w.old) (λ t x. store_temp_out t i x)) }
+    ensures gives { Gives (W.stored w.old) (W.stored w.new) (W.view w.new) result (store_into (W.view w.old) (λ t x. store_temp_out t i x)) }
+    ensures layout { W.layout w.new ≡ W.layout w.old }
 {
     match from_top(w, 0) {
         Some(x) => store_temporary(w, i, x),
@@ -105,7 +110,8 @@ pub fn keep_temporary<W: World>(w: &mut W, i: u8) -> CodeEnd
 #[tactic(auto, unfolding(cs_model::specs::Exec::pop_into))]
 pub fn pop_temporary<W: World>(w: &mut W, i: u8) -> CodeEnd
     requires { IsReady (W.stored w.old) (W.view w.old) }
-    ensures { Gives (W.stored w.old) (W.stored w.new) (W.view w.new) result (pop_into (W.view w.old) (λ t x. store_temp_out t i x)) }
+    ensures gives { Gives (W.stored w.old) (W.stored w.new) (W.view w.new) result (pop_into (W.view w.old) (λ t x. store_temp_out t i x)) }
+    ensures layout { W.layout w.new ≡ W.layout w.old }
 {
     match from_top(w, 0) {
         Some(x) => {
@@ -120,7 +126,8 @@ pub fn pop_temporary<W: World>(w: &mut W, i: u8) -> CodeEnd
 #[tactic(auto, unfolding(cs_model::specs::Exec::store_into))]
 pub fn keep_variable<W: World>(w: &mut W, i: u8) -> CodeEnd
     requires { IsReady (W.stored w.old) (W.view w.old) }
-    ensures { Gives (W.stored w.old) (W.stored w.new) (W.view w.new) result (store_into (W.view w.old) (λ t x. store_variable_out t i x)) }
+    ensures gives { Gives (W.stored w.old) (W.stored w.new) (W.view w.new) result (store_into (W.view w.old) (λ t x. store_variable_out t i x)) }
+    ensures layout { W.layout w.new ≡ W.layout w.old }
 {
     match from_top(w, 0) {
         Some(x) => store_variable(w, i, x),
@@ -132,7 +139,8 @@ pub fn keep_variable<W: World>(w: &mut W, i: u8) -> CodeEnd
 #[tactic(auto, unfolding(cs_model::specs::Exec::pop_into))]
 pub fn pop_variable<W: World>(w: &mut W, i: u8) -> CodeEnd
     requires { IsReady (W.stored w.old) (W.view w.old) }
-    ensures { Gives (W.stored w.old) (W.stored w.new) (W.view w.new) result (pop_into (W.view w.old) (λ t x. store_variable_out t i x)) }
+    ensures gives { Gives (W.stored w.old) (W.stored w.new) (W.view w.new) result (pop_into (W.view w.old) (λ t x. store_variable_out t i x)) }
+    ensures layout { W.layout w.new ≡ W.layout w.old }
 {
     match from_top(w, 0) {
         Some(x) => {
@@ -147,7 +155,8 @@ pub fn pop_variable<W: World>(w: &mut W, i: u8) -> CodeEnd
 #[tactic(auto, unfolding(cs_model::specs::Exec::store_into))]
 pub fn keep_vector<W: World>(w: &mut W, k: u8, j: u8) -> CodeEnd
     requires { IsReady (W.stored w.old) (W.view w.old) }
-    ensures { Gives (W.stored w.old) (W.stored w.new) (W.view w.new) result (store_into (W.view w.old) (λ t x. store_vector_out t k j x)) }
+    ensures gives { Gives (W.stored w.old) (W.stored w.new) (W.view w.new) result (store_into (W.view w.old) (λ t x. store_vector_out t k j x)) }
+    ensures layout { W.layout w.new ≡ W.layout w.old }
 {
     match from_top(w, 0) {
         Some(x) => store_vector(w, k, j, x),
@@ -159,7 +168,8 @@ pub fn keep_vector<W: World>(w: &mut W, k: u8, j: u8) -> CodeEnd
 #[tactic(auto, unfolding(cs_model::specs::Exec::pop_into))]
 pub fn pop_vector<W: World>(w: &mut W, k: u8, j: u8) -> CodeEnd
     requires { IsReady (W.stored w.old) (W.view w.old) }
-    ensures { Gives (W.stored w.old) (W.stored w.new) (W.view w.new) result (pop_into (W.view w.old) (λ t x. store_vector_out t k j x)) }
+    ensures gives { Gives (W.stored w.old) (W.stored w.new) (W.view w.new) result (pop_into (W.view w.old) (λ t x. store_vector_out t k j x)) }
+    ensures layout { W.layout w.new ≡ W.layout w.old }
 {
     match from_top(w, 0) {
         Some(x) => {
@@ -174,7 +184,8 @@ pub fn pop_vector<W: World>(w: &mut W, k: u8, j: u8) -> CodeEnd
 #[tactic(auto, unfolding(crate::specs::Built::built_exec, cs_model::specs::Exec::exec, cs_model::specs::Exec::store_into))]
 pub fn keep_field<W: World>(w: &mut W, i: u8) -> CodeEnd
     requires { IsReady (W.stored w.old) (W.view w.old) }
-    ensures { Gives (W.stored w.old) (W.stored w.new) (W.view w.new) result (built_exec (Op.StoreRcvr i) (W.view w.old)) }
+    ensures gives { Gives (W.stored w.old) (W.stored w.new) (W.view w.new) result (built_exec (Op.StoreRcvr i) (W.view w.old)) }
+    ensures layout { W.layout w.new ≡ W.layout w.old }
 {
     let receiver = w.receiver();
     if is_context(w, receiver) {
@@ -190,7 +201,8 @@ pub fn keep_field<W: World>(w: &mut W, i: u8) -> CodeEnd
 #[tactic(auto, unfolding(crate::specs::Built::built_exec, cs_model::specs::Exec::exec, cs_model::specs::Exec::pop_into))]
 pub fn pop_field<W: World>(w: &mut W, i: u8) -> CodeEnd
     requires { IsReady (W.stored w.old) (W.view w.old) }
-    ensures { Gives (W.stored w.old) (W.stored w.new) (W.view w.new) result (built_exec (Op.PopRcvr i) (W.view w.old)) }
+    ensures gives { Gives (W.stored w.old) (W.stored w.new) (W.view w.new) result (built_exec (Op.PopRcvr i) (W.view w.old)) }
+    ensures layout { W.layout w.new ≡ W.layout w.old }
 {
     let receiver = w.receiver();
     if is_context(w, receiver) {

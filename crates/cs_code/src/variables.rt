@@ -41,7 +41,8 @@ fn vector_slot<W: World>(w: &W, k: u8, j: u8) -> Option<Oop>
 #[tactic(auto, unfolding(cs_model::specs::Exec::push_variable_out))]
 pub fn push_variable<W: World>(w: &mut W, i: u8) -> CodeEnd
     requires { IsReady (W.stored w.old) (W.view w.old) }
-    ensures { Gives (W.stored w.old) (W.stored w.new) (W.view w.new) result (push_variable_out (W.view w.old) i) }
+    ensures gives { Gives (W.stored w.old) (W.stored w.new) (W.view w.new) result (push_variable_out (W.view w.old) i) }
+    ensures layout { W.layout w.new ≡ W.layout w.old }
 {
     match variable_value(w, u32::from(i)) {
         Some(x) => push(w, x),
@@ -53,7 +54,8 @@ pub fn push_variable<W: World>(w: &mut W, i: u8) -> CodeEnd
 #[tactic(auto, unfolding(cs_model::specs::Exec::push_vector_out))]
 pub fn push_vector<W: World>(w: &mut W, k: u8, j: u8) -> CodeEnd
     requires { IsReady (W.stored w.old) (W.view w.old) }
-    ensures { Gives (W.stored w.old) (W.stored w.new) (W.view w.new) result (push_vector_out (W.view w.old) k j) }
+    ensures gives { Gives (W.stored w.old) (W.stored w.new) (W.view w.new) result (push_vector_out (W.view w.old) k j) }
+    ensures layout { W.layout w.new ≡ W.layout w.old }
 {
     match vector_slot(w, k, j) {
         Some(x) => push(w, x),
@@ -65,7 +67,8 @@ pub fn push_vector<W: World>(w: &mut W, k: u8, j: u8) -> CodeEnd
 #[tactic(auto, unfolding(crate::specs::Built::built_exec, cs_model::specs::Exec::exec, cs_model::specs::Exec::push_receiver_out))]
 pub fn push_field<W: World>(w: &mut W, i: u8) -> CodeEnd
     requires { IsReady (W.stored w.old) (W.view w.old) }
-    ensures { Gives (W.stored w.old) (W.stored w.new) (W.view w.new) result (built_exec (Op.PushRcvr i) (W.view w.old)) }
+    ensures gives { Gives (W.stored w.old) (W.stored w.new) (W.view w.new) result (built_exec (Op.PushRcvr i) (W.view w.old)) }
+    ensures layout { W.layout w.new ≡ W.layout w.old }
 {
     let receiver = w.receiver();
     if is_context(w, receiver) {

@@ -3,7 +3,7 @@
 ghost use Rattle.std.specs.Prelude.{◌≡◌, ◌+◌, ◌*◌, ◌/◌, ◌<◌, ◌≤◌, Some, length, IsTrue};
 ghost use Rattle.arrayvec.specs.ArrayVec.{array_vec_len};
 ghost use Rattle.cs_model.specs.Decode.{decode_at};
-ghost use Rattle.cs_model.specs.Assemble.{IsInstr, has_form, send_has_form, super_has_form, jump_has_form, jump_false_has_form, assembled, bytes_of, name_of, plain_code, plain_name, variable_bytes, send_bytes, super_bytes, with_number, jump_bytes, jump_false_bytes};
+ghost use Rattle.cs_model.specs.Assemble.{IsInstr, has_form, send_has_form, super_has_form, jump_has_form, jump_false_has_form, assembled, bytes_of, name_of, plain_code, variable_bytes, send_bytes, super_bytes, with_number, jump_bytes, jump_false_bytes};
 
 use arrayvec::ArrayVec;
 use cs_model::{Instr, Op};
@@ -168,58 +168,9 @@ fn plain_code(op: Op) -> u8
     }
 }
 
-/// The assembler's word for an instruction. A send by its selector's place among the special
-/// selectors is `op` or `common`, and code 139 is `prim`.
+/// The assembler's word for an instruction.
 pub fn name(i: &Instr) -> &'static str
     ensures { result.now ≡ name_of i.now.op }
 {
-    match i.op {
-        Op::PushRcvr(_) => "pushRcvr",
-        Op::PushTemp(_) => "pushTemp",
-        Op::PushLit(_) => "pushLit",
-        Op::PushLitVar(_) => "pushLitVar",
-        Op::PopRcvr(_) => "popRcvr",
-        Op::PopTemp(_) => "popTemp",
-        Op::PopLitVar(_) => "popLitVar",
-        Op::StoreRcvr(_) => "storeRcvr",
-        Op::StoreTemp(_) => "storeTemp",
-        Op::StoreLitVar(_) => "storeLitVar",
-        Op::PushInt(_) => "int",
-        Op::Send { .. } => "send",
-        Op::SendSuper { .. } => "super",
-        Op::NewArray(_) => "newArray",
-        Op::PopArray(_) => "popArray",
-        Op::Prim { .. } => "prim",
-        Op::PushVec { .. } => "pushVec",
-        Op::StoreVec { .. } => "storeVec",
-        Op::PopVec { .. } => "popVec",
-        Op::Closure { .. } => "closure",
-        Op::Jump(_) => "jump",
-        Op::JumpTrue(_) => "jumpTrue",
-        Op::JumpFalse(_) => "jumpFalse",
-        Op::Special(_) => "op",
-        Op::Common(_) => "common",
-        _ => plain_name(i.op),
-    }
-}
-
-/// The assembler's word for an instruction without numbers, the last of which is `ThisContext`.
-fn plain_name(op: Op) -> &'static str
-    ensures { result.now ≡ plain_name op }
-{
-    match op {
-        Op::PushSelf => "self",
-        Op::PushTrue => "true",
-        Op::PushFalse => "false",
-        Op::PushNil => "nil",
-        Op::ReturnSelf => "returnSelf",
-        Op::ReturnTrue => "returnTrue",
-        Op::ReturnFalse => "returnFalse",
-        Op::ReturnNil => "returnNil",
-        Op::ReturnTop => "returnTop",
-        Op::BlockReturn => "blockReturn",
-        Op::Pop => "pop",
-        Op::Dup => "dup",
-        _ => "thisContext",
-    }
+    i.op.name()
 }

@@ -154,7 +154,7 @@ find_passes p (o ∷ os) x e = go (p o) refl e (find_passes p os x)
     go true pb e rest = let same : o ≡ x = cc in ap p (sym same) ∙ pb
     go false pb e rest = rest e
 
-equal : (a b : ℕ) → (a == b) ≡ true → a ≡ b
+pub equal : (a b : ℕ) → (a == b) ≡ true → a ≡ b
 equal a b h = grind (arith, nat_tests, h)
 
 same_test : (a b : ℕ) → a ≡ b → (a == b) ≡ true
@@ -317,7 +317,7 @@ active_is f special k h w e =
 
 -- ---- a live context
 
-abbrev slot : FileObject → ℕ → ℕ
+abbrev pub slot : FileObject → ℕ → ℕ
 slot o i = get_or o.words i 0
 
 record LiveHeld (f : File) (k : Kept) (word : ℕ) : Type 0 where
@@ -350,11 +350,11 @@ unfolding bytes_of_words
 length-bytes [] = refl
 length-bytes (w ∷ ws) = let l = length-bytes ws in omega (arith, l)
 
-record MethodHeld (f : File) (k : Kept) (word pc : ℕ) : Type 0 where
-  method : Obj
-  names : ref_by (meant f) word ≡ meant f word
-  at : object_at k (birth f word) ≡ Some method
-  lies : lies_in (Some method) pc ≡ true
+pub record MethodHeld (f : File) (k : Kept) (word pc : ℕ) : Type 0 where
+  pub method : Obj
+  pub names : ref_by (meant f) word ≡ meant f word
+  pub at : object_at k (birth f word) ≡ Some method
+  pub lies : lies_in (Some method) pc ≡ true
 
 -- a word that isn't lost and names an object names a visible one
 seen : (f : File) (word : ℕ) (x : FileObject) → f.base % 4 ≡ 0 → is_lost f word ≡ false → named f word ≡ Some x → is_visible x ≡ true
@@ -379,7 +379,7 @@ no_context f special j m sound there method = go (m.class == context_class) refl
 no_pointers : (format : ℕ) → is_method_format format ≡ true → is_pointer_format format ≡ false
 no_pointers format h = grind (arith, nat_tests, h)
 
-method_held : (f : File) (special : ℕ) (k : Kept) → HasFile f special k → (word pc_word pc : ℕ) → natural_in_word pc_word ≡ Some pc → is_lost f word ≡ false
+pub method_held : (f : File) (special : ℕ) (k : Kept) → HasFile f special k → (word pc_word pc : ℕ) → natural_in_word pc_word ≡ Some pc → is_lost f word ≡ false
     → names f (is_pc_of pc_word) word ≡ true → MethodHeld f k word pc
 unfolding obj_by
 method_held f special k h word pc_word pc number kept e =
@@ -417,7 +417,7 @@ method_held f special k h word pc_word pc number kept e =
 -- ---- the whole
 
 -- a number is odd, and nil's address isn't
-not_nil : (f : File) (special : ℕ) → Ground f special → (word pc : ℕ) → natural_in_word word ≡ Some pc → file.is_nil f word ≡ false
+pub not_nil : (f : File) (special : ℕ) → Ground f special → (word pc : ℕ) → natural_in_word word ≡ Some pc → file.is_nil f word ≡ false
 not_nil f special g word pc e = go (file.is_nil f word) refl
   where
     even : (n : ℕ) → n % 4 ≡ 0 → natural_in_word n ≡ None
@@ -430,7 +430,7 @@ not_nil f special g word pc e = go (file.is_nil f word) refl
         let none : natural_in_word word ≡ None = ap natural_in_word is ∙ even (nil_in f) (nil_aligned f g.aligned g.first) in
         absurd (cc (sym none ∙ e))
 
-or_second : (a b : Bool) → (a || b) ≡ true → a ≡ false → b ≡ true
+pub or_second : (a b : Bool) → (a || b) ≡ true → a ≡ false → b ≡ true
 or_second true b h e = absurd (cc)
 or_second false b h e = h
 

@@ -24,8 +24,10 @@ ghost use Rattle.cs_model.specs.ImageFault as fault;
 ghost use Rattle.cs_model.specs.ImageFault.{bad_object, is_over, table_size};
 ghost use Rattle.cs_model.specs.Image.{at_word, fault_of, image_of};
 ghost use Rattle.cs_model.specs.Due.{is_idle};
+ghost use Rattle.cs_model.specs.Obj.{Context, Ctx};
 ghost use Rattle.cs_model.specs.Read.{IsRunning};
 ghost use Rattle.cs_model.specs.Settle.{open_kept};
+ghost use Rattle.cs_model.specs.State.{PcLies, object_at};
 ghost use Rattle.cs_heap.specs.Object.{Object};
 ghost use Rattle.cs_classes.specs.Meaning.{kept_of};
 ghost use Rattle.cs_classes.specs.Sound.{IsWhole};
@@ -87,7 +89,8 @@ fn build(
 /// The objects come in the order of the file, with their places in it, counted from 0, as births. Objects of class index 0
 /// are skipped, and those of class index 16, the class table and its pages, are hidden and aren't loaded. Weak objects are
 /// read as ones with named and indexed fields, and ephemerons as ones with named fields. No context is active yet: where a
-/// process is active it keeps one that is live and whose pc lies in its method, so that the state can be opened and runs.
+/// process is active it keeps one that is live, so that the state can be opened and runs. The pc of a context is nil or lies
+/// in its method.
 ///
 /// An error says what the first fault is (see `ImageError`). A file with a birth section isn't read yet: it is
 /// `HasBirths`, once its header has no fault.
@@ -99,6 +102,8 @@ pub fn load(alloc: Global, bytes: &[u8], limit_words: u32) -> Result<Loaded, Ima
     ensures opens { IfOk result (λ l. is_idle (kept_of l.heap.objects l.classes l.roots None) ≡ false → IsRunning (open_kept (kept_of l.heap.objects l.classes l.roots None))) }
     ensures sound { IfOk result (λ l. IsWhole l.heap.objects l.classes l.roots) }
     ensures births { IfOk result (λ l. (k : ℕ) (x : Object) → slice_get l.heap.objects k ≡ Some x → x.birth ≡ k) }
+    ensures next { IfOk result (λ l. l.roots.next_birth ≤ limit_words) }
+    ensures pcs { IfOk result (λ l. (i : ℕ) (c : Context) → object_at (kept_of l.heap.objects l.classes l.roots None) i ≡ Some (Ctx c) → PcLies (kept_of l.heap.objects l.classes l.roots None) c) }
     ensures limit { IfOk result (λ l. l.heap.limit ≡ limit_words) }
     ensures no_section { OnOk result (has_births bytes.now ≡ false) }
 {

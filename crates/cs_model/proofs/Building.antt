@@ -1,5 +1,5 @@
 -- Whether a step is built is alike, and so is the step of a machine that stops where it isn't.
-use Rattle.std.proofs.Common.{ℕ, ◌+◌, ◌==◌, ◌&&◌, not, Bool, true, false, Option, nat_lt}
+use Rattle.std.proofs.Common.{ℕ, ◌+◌, ◌==◌, not, Bool, true, false, Option, nat_lt}
 use Rattle.cs_model.specs.declared.stop.Stop.TheVariants as why
 use Rattle.cs_model.specs.declared.instruction.Op.{Op}
 use Rattle.cs_model.specs.declared.instruction.Op.TheVariants as op
@@ -15,7 +15,7 @@ use Rattle.cs_model.specs.End.{Out, no_count}
 use Rattle.cs_model.specs.Built.{is_built_op, is_built_number, is_built_method, is_built_found, is_built_send, is_built_target, is_built_return, is_built_out, is_built_from, is_built_bytecode, is_built, built_step, built_run}
 use Rattle.cs_model.specs.Keeps.{Keeps, KeepsState}
 use Rattle.cs_model.specs.Alike.{SoughtHeld, Alike, AlikeStep, AlikeRan}
-use Rattle.cs_model.proofs.Same.{Same, SameOption, none, some, same, Any, is, of_option, value, two, if_same}
+use Rattle.cs_model.proofs.Same.{Same, SameOption, none, some, same, Any, is, of_option, value, if_same}
 use Rattle.cs_model.proofs.Reading.{Has, held_if, object_of_same, depth_same, pc_same, rest_same, receiver_same, active_birth_same}
 use Rattle.cs_model.proofs.Operating.{set_pc_moved}
 use Rattle.cs_model.proofs.Fields.{and_same, or_else_same, is_context_ref_same}
@@ -23,7 +23,7 @@ use Rattle.cs_model.proofs.Combining.{end_same}
 use Rattle.cs_model.proofs.Executing.{exec_alike}
 use Rattle.cs_model.proofs.Searching.{given_same, sender_birth_same, is_live_same}
 use Rattle.cs_model.proofs.Sending.{begins_at_same, look_from_same}
-use Rattle.cs_model.proofs.Happening.{is_idle_same, run_same}
+use Rattle.cs_model.proofs.Happening.{is_idle_same}
 use Rattle.cs_model.proofs.Stepping.{MessageHeld, message_in_same, return_in_same, instruction_at_same, stops_alike, if_step, step_alike, run_by_alike}
 
 -- ---- instructions

@@ -148,7 +148,7 @@ behavior_hash k class = if is_some (slots_of k 3 class) then hashed k class (cla
 
 -- the first request gives the last hash plus one modulo 2^22, where 0 is skipped
 abbrev pub next_hash : ℕ → ℕ
-next_hash last = if last + 1 == 4194304 then 1 else last + 1
+next_hash last = if (last + 1) % 4194304 == 0 then 1 else (last + 1) % 4194304
 
 abbrev pub with_last_hash : ℕ → Rest → Rest
 with_last_hash hash r = record r { last_hash = hash }

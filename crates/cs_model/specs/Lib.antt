@@ -32,6 +32,8 @@ pub mod PrimTable
 pub mod Due
 pub mod Step
 pub mod Report
+pub mod Demand
+pub mod Shallow
 pub mod Decode
 pub mod Assemble
 pub mod Built

@@ -1,5 +1,5 @@
 -- The state of the machine, in which each activation is a context in a map from births to objects.
-use Rattle.std.specs.Prelude.{◌≡◌, ◌≢◌, ◌↔◌, ℕ, ℤ, ◌<◌, ◌==◌, ◌&&◌, not, Bool, true, false, List, Option, Some, None, IsSome, option_and_then, slice_get, nat_lt}
+use Rattle.std.specs.Prelude.{◌≡◌, ◌≢◌, ◌↔◌, ℕ, ℤ, ◌<◌, ◌==◌, ◌&&◌, not, Bool, true, false, List, [], Option, Some, None, IsSome, option_and_then, slice_get, nat_lt}
 use Rattle.std.specs.Ordering.{nat_cmp}
 use Rattle.std.specs.FinMap.{FinMap, get, insert}
 use Rattle.cs_model.specs.declared.event.Event.{Event}
@@ -128,7 +128,8 @@ abbrev pub is_nil : Kept → Ref → Bool
 is_nil k x = same_ref x (ref.Obj k.rest.nil)
 
 -- What holds of a state between steps. What it names is there, below the next birth; contexts keep their pcs; class indices
--- and the class table are sound; the scheduler has its shape; and a context is active exactly where a process is.
+-- and the class table are sound; nil is a pointer object without slots, so nothing can be stored into it; the scheduler has its
+-- shape; and a context is active exactly where a process is.
 pub record IsValid (s : State) : Type 0 where
   pub below : (i : ℕ) (o : Obj) → object_at s.kept i ≡ Some o → i < s.kept.rest.next
   pub held : (i : ℕ) (o : Obj) → object_at s.kept i ≡ Some o → NamesHeld s.kept o
@@ -138,6 +139,7 @@ pub record IsValid (s : State) : Type 0 where
   pub indices : (i : ℕ) (o : Obj) → object_at s.kept i ≡ Some o → is_class_index (class_index_in o) ≡ true
   pub table : (index i : ℕ) → get s.kept.rest.classes index ≡ Some i → context_in (object_at s.kept i) ≡ None
   pub hidden : get s.kept.rest.classes 16 ≡ None
+  pub bare : slots_in (object_at s.kept s.kept.rest.nil) ≡ Some []
   pub scheduler : IsSome (active_process s.kept)
   pub process : (p : Ref) → active_process s.kept ≡ Some p → is_nil s.kept p ≡ false → IsProcess s.kept p
   pub idle : (p : Ref) → active_process s.kept ≡ Some p → (is_nil s.kept p ≡ true) ↔ (s.kept.rest.active ≡ None)

@@ -1,5 +1,8 @@
 //! The instructions of the V3PlusClosures bytecodes.
 
+ghost use Rattle.std.specs.Prelude.{◌≡◌};
+ghost use Rattle.cs_model.specs.Assemble.{name_of, plain_name};
+
 /// An instruction and the number of its bytes.
 #[derive(Clone, Copy, Debug, PartialEq, Eq)]
 pub struct Instr {
@@ -88,4 +91,62 @@ pub enum Op {
     Special(u8),
     /// Special selector 16 + i.
     Common(u8),
+}
+
+impl Op {
+    /// The assembler's word for an instruction. A send by its selector's place among the special
+    /// selectors is `op` or `common`, and code 139 is `prim`.
+    pub fn name(self) -> &'static str
+        ensures { result.now ≡ name_of self }
+    {
+        match self {
+            Op::PushRcvr(_) => "pushRcvr",
+            Op::PushTemp(_) => "pushTemp",
+            Op::PushLit(_) => "pushLit",
+            Op::PushLitVar(_) => "pushLitVar",
+            Op::PopRcvr(_) => "popRcvr",
+            Op::PopTemp(_) => "popTemp",
+            Op::PopLitVar(_) => "popLitVar",
+            Op::StoreRcvr(_) => "storeRcvr",
+            Op::StoreTemp(_) => "storeTemp",
+            Op::StoreLitVar(_) => "storeLitVar",
+            Op::PushInt(_) => "int",
+            Op::Send { .. } => "send",
+            Op::SendSuper { .. } => "super",
+            Op::NewArray(_) => "newArray",
+            Op::PopArray(_) => "popArray",
+            Op::Prim { .. } => "prim",
+            Op::PushVec { .. } => "pushVec",
+            Op::StoreVec { .. } => "storeVec",
+            Op::PopVec { .. } => "popVec",
+            Op::Closure { .. } => "closure",
+            Op::Jump(_) => "jump",
+            Op::JumpTrue(_) => "jumpTrue",
+            Op::JumpFalse(_) => "jumpFalse",
+            Op::Special(_) => "op",
+            Op::Common(_) => "common",
+            _ => self.plain_name(),
+        }
+    }
+
+    /// The word for an instruction without numbers, the last of which is `ThisContext`.
+    fn plain_name(self) -> &'static str
+        ensures { result.now ≡ plain_name self }
+    {
+        match self {
+            Op::PushSelf => "self",
+            Op::PushTrue => "true",
+            Op::PushFalse => "false",
+            Op::PushNil => "nil",
+            Op::ReturnSelf => "returnSelf",
+            Op::ReturnTrue => "returnTrue",
+            Op::ReturnFalse => "returnFalse",
+            Op::ReturnNil => "returnNil",
+            Op::ReturnTop => "returnTop",
+            Op::BlockReturn => "blockReturn",
+            Op::Pop => "pop",
+            Op::Dup => "dup",
+            _ => "thisContext",
+        }
+    }
 }

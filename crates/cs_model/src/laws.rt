@@ -1,4 +1,4 @@
-//! Laws of keeping, and of settling a state and opening it again.
+//! Laws of keeping, of settling a state and opening it again, and of what a step leaves of a valid state.
 //!
 //! One state keeps another where it lacks nothing of it but contexts that nothing in it names. A representation of the machine
 //! need not have the whole state of the model; it is enough that it keeps it. What is read of both is the same, the same done to
@@ -7,7 +7,7 @@
 //!
 //! The definitions stand in `specs/Keeps.antt` and `specs/Alike.antt`. Each law is a function with an empty body: what it ensures
 //! is the law. A state is closed where it keeps itself, which is where all that it names is there.
-ghost use Rattle.std.specs.Prelude.{◌≡◌, ℕ, ℤ, Bool, Option, Some, List, IsSome};
+ghost use Rattle.std.specs.Prelude.{◌≡◌, ◌<◌, ◌≤◌, ℕ, ℤ, Bool, Option, Some, None, List, IsSome};
 ghost use Rattle.std.specs.List.{AllByRecursion};
 ghost use Rattle.cs_model.specs.declared.event.Event.{Event};
 ghost use Rattle.cs_model.specs.declared.instruction.Op.{Op};
@@ -257,4 +257,36 @@ pub fn keeping_survives_a_run()
 pub fn keeping_survives_what_is_built()
     ensures step { (s t : State) → KeepsState s t → AlikeStep s.kept (built_step s) (built_step t) }
     ensures run { (n : ℕ) (s t : State) → KeepsState s t → AlikeRan s.kept (built_run n s) (built_run n t) }
+{}
+
+/// A step of a valid state gives a valid state, however it ends.
+pub fn a_step_of_a_valid_state_is_valid()
+    ensures { (s : State) → IsValid s → IsValid (step s).state }
+{}
+
+/// So does a run of so many steps, and one of a machine that stops where a step is not built.
+pub fn a_run_of_a_valid_state_is_valid()
+    ensures whole { (n : ℕ) (s : State) → IsValid s → IsValid (run n s).state }
+    ensures built { (n : ℕ) (s : State) → IsValid s → IsValid (built_run n s).state }
+{}
+
+/// The next birth never falls.
+pub fn births_never_fall()
+    ensures step { (s : State) → IsValid s → s.kept.rest.next ≤ (step s).state.kept.rest.next }
+    ensures run { (n : ℕ) (s : State) → IsValid s → s.kept.rest.next ≤ (run n s).state.kept.rest.next }
+{}
+
+/// A birth that was given is never given again: below the next birth nothing comes where nothing is. So the birth of each new object
+/// is not below the old next birth.
+pub fn no_birth_is_given_again()
+    ensures step { (s : State) (i : ℕ) → IsValid s → i < s.kept.rest.next → object_at s.kept i ≡ None → object_at (step s).state.kept i ≡ None }
+    ensures run { (n : ℕ) (s : State) (i : ℕ) → IsValid s → i < s.kept.rest.next → object_at s.kept i ≡ None → object_at (run n s).state.kept i ≡ None }
+    ensures step_made { (s : State) (i : ℕ) → IsValid s → object_at s.kept i ≡ None → IsSome (object_at (step s).state.kept i) → s.kept.rest.next ≤ i }
+    ensures run_made { (n : ℕ) (s : State) (i : ℕ) → IsValid s → object_at s.kept i ≡ None → IsSome (object_at (run n s).state.kept i) → s.kept.rest.next ≤ i }
+{}
+
+/// No object leaves: what stands at a birth stands there after each step.
+pub fn no_object_leaves()
+    ensures step { (s : State) (i : ℕ) → IsValid s → IsSome (object_at s.kept i) → IsSome (object_at (step s).state.kept i) }
+    ensures run { (n : ℕ) (s : State) (i : ℕ) → IsValid s → IsSome (object_at s.kept i) → IsSome (object_at (run n s).state.kept i) }
 {}

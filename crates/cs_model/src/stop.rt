@@ -1,5 +1,8 @@
 //! Why a step stops.
 
+ghost use Rattle.std.specs.Prelude.{◌≡◌, ◌≤◌, length};
+ghost use Rattle.cs_model.specs.Report.{reason_text};
+
 /// Why a step stops. The names are this machine's own; a report prints them.
 #[derive(Clone, Copy, Debug, PartialEq, Eq)]
 pub enum Stop {
@@ -31,4 +34,29 @@ pub enum Stop {
     BirthLimit,
     /// The bytecode or primitive isn't built yet.
     NotBuilt,
+}
+
+impl Stop {
+    /// The name of a reason, as reports print it: at most 13 letters.
+    pub fn name(self) -> &'static str
+        ensures name { result.now ≡ reason_text self }
+        ensures short { length result.now ≤ 13 }
+    {
+        match self {
+            Stop::BadCode => "BadCode",
+            Stop::BadLiteral => "BadLiteral",
+            Stop::BadField => "BadField",
+            Stop::BadStore => "BadStore",
+            Stop::StackUnder => "StackUnder",
+            Stop::StackOver => "StackOver",
+            Stop::BadArgs => "BadArgs",
+            Stop::BadSpecial => "BadSpecial",
+            Stop::BadProcess => "BadProcess",
+            Stop::NotUnderstood => "NotUnderstood",
+            Stop::ClassLoop => "ClassLoop",
+            Stop::ChainTooLong => "ChainTooLong",
+            Stop::BirthLimit => "BirthLimit",
+            Stop::NotBuilt => "NotBuilt",
+        }
+    }
 }

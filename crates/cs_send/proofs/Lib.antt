@@ -3,3 +3,4 @@ mod Lookups
 mod Resolving
 mod Sending
 pub mod Sends
+pub mod Frames

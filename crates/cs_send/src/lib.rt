@@ -201,3 +201,6 @@ fn resolve_method<W: World>(w: &W, method: Oop, args: u32) -> Found
         None => Found::Plain { method },
     }
 }
+
+#[cfg(test)]
+mod tests;

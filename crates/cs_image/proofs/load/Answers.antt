@@ -1,4 +1,4 @@
-use Rattle.std.proofs.Common.{◌≡◌, ℕ, false, None, Vec, Global, length, ap, sym, ◌∙◌}
+use Rattle.std.proofs.Common.{◌≡◌, ℕ, Bool, true, false, None, Vec, Global, length, ap, subst, sym, ◌∙◌, ◌≤◌, refl}
 use Rattle.std.specs.Prelude.{⊤}
 use Rattle.std.specs.Option.{option_or}
 use Rattle.cs_image.specs.Loading.{addresses_of}
@@ -13,6 +13,7 @@ use Rattle.cs_image.proofs.Soundness.{sound_file}
 use Rattle.cs_image.proofs.Describing.{built_is}
 use Rattle.cs_image.proofs.Wholeness.{built_whole, built_births}
 use Rattle.cs_image.proofs.Opening.{built_opens}
+use Rattle.cs_image.proofs.Pcs.{built_pcs, few_births}
 use Rattle.cs_image.proofs.load.Goals as goal
 
 pub returns-in_err-check_header-clause-fault : goal.returns-in_err-check_header-clause-fault
@@ -131,3 +132,30 @@ returns-clause-opens c =
       next = c.in_ok-loaded.ensures.next;
       header = c.in_ok-loaded.ensures.header;
     }) (header_is c.args.bytes.now c.in_ok-check_header.ensures.0).base (sound_file c.args.bytes.now c.in_ok-file.ensures.0 fine)
+
+pub returns-clause-pcs : goal.returns-clause-pcs
+returns-clause-pcs c =
+    let same : c.in_ok-file.file ≡ file_of c.args.bytes.now = c.in_ok-file.ensures.1 in
+    let fine : objects_fault (file_of c.args.bytes.now) (special_address c.args.bytes.now) ≡ None =
+    ap (λ (f : File). objects_fault f (special_address c.args.bytes.now)) (sym same)
+    ∙ ap (λ (special : ℕ). objects_fault c.in_ok-file.file special) (sym c.u32_at.ensures) ∙ c.in_ok-check_objects.ensures.0 in
+    built_pcs c.args.bytes.now c.in_ok-file.file c.in_ok-loaded.loaded.heap.objects c.in_ok-loaded.loaded.classes c.in_ok-loaded.loaded.roots same
+    (record {
+      objects_are = c.in_ok-loaded.ensures.objects;
+      table_is = c.in_ok-loaded.ensures.classes;
+      special = c.in_ok-loaded.ensures.special;
+      hash = c.in_ok-loaded.ensures.hash;
+      next = c.in_ok-loaded.ensures.next;
+      header = c.in_ok-loaded.ensures.header;
+    }) (header_is c.args.bytes.now c.in_ok-check_header.ensures.0).base (sound_file c.args.bytes.now c.in_ok-file.ensures.0 fine)
+
+not_over : (f : File) (limit : ℕ) → when (is_over f limit) fault.OverLimit ≡ None → is_over f limit ≡ false
+not_over f limit h = go (is_over f limit) h
+  where
+    go : (b : Bool) → when b fault.OverLimit ≡ None → b ≡ false
+    go true e = absurd (cc)
+    go false e = refl
+
+pub returns-clause-next : goal.returns-clause-next
+returns-clause-next c =
+    subst (λ (n : ℕ). n ≤ c.args.limit_words) (sym c.in_ok-loaded.ensures.next) (few_births c.in_ok-file.file c.args.limit_words (not_over c.in_ok-file.file c.args.limit_words c.in_ok-addresses.ensures.0))

@@ -6,8 +6,8 @@ use Rattle.cs_code.proofs.Through.{gives_done}
 use Rattle.cs_code.proofs.Tops.{class-pushed, one-replaced}
 use Rattle.cs_code.proofs.arithmetic.push_class.Goals as goal
 
-pub returns : goal.returns
-returns g c =
+pub returns-clause-gives : goal.returns-clause-gives
+returns-clause-gives g c =
     let old = g.W.World.view c.args.w.now in
     let s = g.W.World.stored c.args.w.now in
     let class = name_of s c.class_or_nil-class.result in

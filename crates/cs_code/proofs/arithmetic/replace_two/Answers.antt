@@ -11,8 +11,8 @@ pop-requires-clause-there g c =
     let old = g.W.World.view c.args.w.now in
     omega (arith, depth-stored (g.W.World.view c.set_stack.new.self) old _ _ (c.set_stack.ensures.state old c.requires.ready.sound.closed), c.requires.there)
 
-pub returns : goal.returns
-returns g c =
+pub returns-clause-gives : goal.returns-clause-gives
+returns-clause-gives g c =
     let old = g.W.World.view c.args.w.now in
     let s = g.W.World.stored c.args.w.now in
     let x = name_of s c.args.x in

@@ -8,8 +8,8 @@ use Rattle.cs_code.proofs.stores.store_variable.Goals as goal
 pub store-requires-clause-there : goal.store-requires-clause-there
 store-requires-clause-there g c = storable_of (g.W.World.view c.args.w.now) 2 1 (name_of (g.W.World.stored c.args.w.now) c.in-Some.variable) (name_of (g.W.World.stored c.args.w.now) c.in-Some-slot.field-0) c.in-Some-slot.ensures.is
 
-pub returns-in-Some-slot : goal.returns-in-Some-slot
-returns-in-Some-slot g c =
+pub returns-in-Some-slot-clause-gives : goal.returns-in-Some-slot-clause-gives
+returns-in-Some-slot-clause-gives g c =
     let k = g.W.World.view c.args.w.now in
     let s = g.W.World.stored c.args.w.now in
     gives_done s (g.W.World.stored c.store.new.self) _ _ _ (variable-stored k c.args.i (name_of s c.args.x) (name_of s c.in-Some.variable) (name_of s c.in-Some-slot.field-0) (c.in-Some.ensures.is ∙ ap (literal_at k) c.from.ensures) c.in-Some-slot.ensures.is)

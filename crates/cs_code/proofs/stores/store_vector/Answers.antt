@@ -11,8 +11,8 @@ use Rattle.cs_code.proofs.Fields.{vector-stored}
 use Rattle.cs_code.proofs.Through.{gives_done}
 use Rattle.cs_code.proofs.stores.store_vector.Goals as goal
 
-pub returns-in-Some-slot_if_any : goal.returns-in-Some-slot_if_any
-returns-in-Some-slot_if_any g c =
+pub returns-in-Some-slot_if_any-clause-gives : goal.returns-in-Some-slot_if_any-clause-gives
+returns-in-Some-slot_if_any-clause-gives g c =
     let k = g.W.World.view c.args.w.now in
     let s = g.W.World.stored c.args.w.now in
     gives_done s (g.W.World.stored c.store.new.self) _ _ _
