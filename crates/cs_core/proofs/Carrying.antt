@@ -22,7 +22,7 @@ use Rattle.cs_model.proofs.Stepping.{MessageHeld, do_return_alike, do_send_alike
 use Rattle.cs_acts.specs.Layout.{Layout, page_words}
 use Rattle.cs_acts.specs.Names.{Store}
 use Rattle.cs_acts.specs.Ready.{IsReady}
-use Rattle.cs_acts.specs.Room.{words_of_state}
+use Rattle.cs_model.specs.Demand.{words_in}
 use Rattle.cs_core.specs.Stepped.{DoneIn, EndsBy, FramesFrom, IsDone, IsOver, Turn, TurnStops, unbuilt, stopped, lost, Turns, TurnGives, returning, run_at, sending}
 use Rattle.cs_core.specs.declared.step.StepEnd.{StepEnd}
 use Rattle.cs_core.specs.declared.step.StepEnd.TheVariants.{Active, Idle, Stopped as Stop, Full, WriteFault}
@@ -36,7 +36,7 @@ pub record IsSame (a b : Turn) : Type 0 where
   pub end : b.result.out.end ≡ a.result.out.end
   pub state : (v : Kept) → Keeps v a.result.out.state → Keeps v b.result.out.state
   pub shape : shape_fault b.result.out.state ≡ shape_fault a.result.out.state
-  pub words : words_of_state a.result.out.state ≤ words_of_state b.result.out.state
+  pub words : words_in a.result.out.state ≤ words_in b.result.out.state
   pub run : b.result.run ≡ a.result.run
 
 same_done : (a b : Turn) (v : Kept) (r : Run) → IsSame a b → IsDone a v r → IsDone b v r
@@ -123,7 +123,7 @@ sends_same k i u m op end keeps held output steps =
       end = ap (λ (p : Result). p.out.end) is ∙ sent.end;
       state = λ v h. subst (λ (p : Result). Keeps v p.out.state) (sym is) (sent.state v h);
       shape = ap (λ (p : Result). shape_fault p.out.state) is ∙ sent.shape;
-      words = subst (λ (p : Result). words_of_state (sending u m output steps).result.out.state ≤ words_of_state p.out.state) (sym is) sent.words;
+      words = subst (λ (p : Result). words_in (sending u m output steps).result.out.state ≤ words_in p.out.state) (sym is) sent.words;
       run = ap (λ (p : Result). p.run) is ∙ sent.run;
     }
 
@@ -139,6 +139,6 @@ returns_same k i u x local op end keeps held output steps =
       end = ap (λ (p : Result). p.out.end) is ∙ back.end;
       state = λ v h. subst (λ (p : Result). Keeps v p.out.state) (sym is) (back.state v h);
       shape = ap (λ (p : Result). shape_fault p.out.state) is ∙ back.shape;
-      words = subst (λ (p : Result). words_of_state (returning u x local output steps).result.out.state ≤ words_of_state p.out.state) (sym is) back.words;
+      words = subst (λ (p : Result). words_in (returning u x local output steps).result.out.state ≤ words_in p.out.state) (sym is) back.words;
       run = ap (λ (p : Result). p.run) is ∙ back.run;
     }

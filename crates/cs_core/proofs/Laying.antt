@@ -16,7 +16,7 @@ use Rattle.cs_acts.specs.declared.act.Full.{Full as Why}
 use Rattle.cs_acts.specs.declared.act.Full.TheVariants.{Heap, Stack}
 use Rattle.cs_acts.specs.Layout.{LaidBy, Layout, depth_in, entered, first_page, frame_words, is_frame, is_on, left, page_words, touched, with_pages}
 use Rattle.cs_acts.specs.Names.{Store}
-use Rattle.cs_acts.specs.Room.{words_below, words_if, words_of_state}
+use Rattle.cs_model.specs.Demand.{words_at, words_below, words_in}
 use Rattle.cs_core.specs.Stepped.{FramesFrom}
 
 -- ---- frames
@@ -25,10 +25,10 @@ either : (a b : Bool) → (a || b) ≡ true → (a ≡ true) ⊎ (b ≡ true)
 either true b h = inl refl
 either false b h = inr h
 
-left_true : (a b : Bool) → a ≡ true → (a || b) ≡ true
+pub left_true : (a b : Bool) → a ≡ true → (a || b) ≡ true
 left_true a b h = ap (λ c. c || b) h
 
-right_true : (a b : Bool) → b ≡ true → (a || b) ≡ true
+pub right_true : (a b : Bool) → b ≡ true → (a || b) ≡ true
 right_true true b h = refl
 right_true false b h = h
 
@@ -131,14 +131,14 @@ unfolding words_below
 words_kept v m k zero = omega arith
 words_kept v m k (suc n) = go (words_kept v m k n) (object_at v n) refl
   where
-    go : words_below n v ≤ words_below n m → (o : Option Obj) → object_at v n ≡ o → words_below n v + words_if o ≤ words_below n m + words_if (object_at m n)
+    go : words_below n v ≤ words_below n m → (o : Option Obj) → object_at v n ≡ o → words_below n v + words_at o ≤ words_below n m + words_at (object_at m n)
     go before None e = omega (arith, before)
     go before (Some o) e =
-        let is : words_if (object_at m n) ≡ words_if (Some o) = ap words_if (k.same n o e) in
+        let is : words_at (object_at m n) ≡ words_at (Some o) = ap words_at (k.same n o e) in
         omega (arith, before, is)
 
-pub state_words_kept : (v m : Kept) → Keeps v m → words_of_state v ≤ words_of_state m
-state_words_kept v m k = subst (λ (r : Rest). words_of_state v ≤ words_below r.next m) k.rest (words_kept v m k v.rest.next)
+pub state_words_kept : (v m : Kept) → Keeps v m → words_in v ≤ words_in m
+state_words_kept v m k = subst (λ (r : Rest). words_in v ≤ words_below r.next m) k.rest (words_kept v m k v.rest.next)
 
 pub page_words_kept : (v m : Kept) → Keeps v m → (page : List ℕ) → page_words v page ≤ page_words m page
 unfolding page_words
@@ -154,7 +154,7 @@ page_words_kept v m k (i ∷ is) = go (page_words_kept v m k is) (object_at v i)
 -- ---- no room
 
 -- the cause of a refusal is one from a state with no fewer words, for a call that leads to no fewer
-pub causes_more : (s : Store) (l : Option Layout) (u k t x : Kept) (why : Why) → ((page : List ℕ) → page_words u page ≤ page_words k page) → words_of_state t ≤ words_of_state x → CausesFull s l u 0 t why → CausesFull s l k 0 x why
+pub causes_more : (s : Store) (l : Option Layout) (u k t x : Kept) (why : Why) → ((page : List ℕ) → page_words u page ≤ page_words k page) → words_in t ≤ words_in x → CausesFull s l u 0 t why → CausesFull s l k 0 x why
 causes_more s l u k t x Heap pages words h = record { words = omega (arith, words, h.words); room = h.room }
 causes_more s None u k t x Stack pages words h = h
 causes_more s (Some l) u k t x Stack pages words h = (h.0, omega (arith, pages (first_page l.pages), h.1))

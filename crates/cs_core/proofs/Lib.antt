@@ -11,6 +11,7 @@ pub mod Returning
 pub mod Trying
 pub mod Asking
 pub mod Places
+pub mod Deepening
 pub mod Rolling
 mod Growing
 pub mod Beginning

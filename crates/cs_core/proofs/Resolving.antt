@@ -22,7 +22,7 @@ use Rattle.cs_acts.specs.declared.act.Full.{Full as Why}
 use Rattle.cs_acts.specs.Full.{CausesFull}
 use Rattle.cs_acts.specs.Layout.{Layout}
 use Rattle.cs_acts.specs.Names.{Store, name_of}
-use Rattle.cs_acts.specs.Room.{words_of_state}
+use Rattle.cs_model.specs.Demand.{words_in}
 use Rattle.cs_send.specs.Resolved.{Resolved, Offered, Plain, Missing, Stops, resolve_found, resolve_of}
 use Rattle.cs_send.specs.Resolved as resolved
 use Rattle.cs_send.specs.Sent.{Enters, Halts, IsPlain, Offers, Refuses, found}
@@ -126,7 +126,7 @@ unfolding do_send
 offered r k m x number is = ap (sent r) is
 
 abbrev IsNoLess : Result → Result → Type 0
-IsNoLess a b = words_of_state a.out.state ≤ words_of_state b.out.state
+IsNoLess a b = words_in a.out.state ≤ words_in b.out.state
 
 none_less : (a : Result) → IsNoLess a (counting ends.no_count a)
 none_less a = omega arith

@@ -9,7 +9,7 @@ use Rattle.cs_model.specs.Step.{birth_limit, bytecode}
 use Rattle.cs_acts.specs.declared.act.Full.{Full as Why}
 use Rattle.cs_acts.specs.declared.act.Full.TheVariants.{Heap, Stack}
 use Rattle.cs_acts.specs.Names.{Store}
-use Rattle.cs_acts.specs.Room.{words_of_state}
+use Rattle.cs_model.specs.Demand.{words_in}
 use Rattle.cs_core.specs.declared.run.Ending.{Ending}
 use Rattle.cs_core.specs.declared.run.Ending.TheVariants.{Steps, Idle, Stopped}
 use Rattle.cs_core.specs.declared.run.Place.{Place}
@@ -41,7 +41,7 @@ pub record RunGives (k : Kept) (old new : Option (List ℕ)) (n : ℕ) (r : Ran)
 -- Why a run finds no room behind so many steps: the words of the state that the next bytecode leads to exceed the limit of the heap,
 -- or the active context has too many senders that have begun.
 abbrev pub HasNoRoom : Kept → Store → ℕ → Why → Type 0
-HasNoRoom k s done Heap = s.memory.limit < words_of_state (bytecode (run_of k done).state).out.state
+HasNoRoom k s done Heap = s.memory.limit < words_in (bytecode (run_of k done).state).out.state
 HasNoRoom k s done Stack = IsDeep k done
 
 -- so many steps of n are done, all that they write is written, and then there is no room
