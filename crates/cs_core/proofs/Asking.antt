@@ -1,5 +1,5 @@
 -- An instruction that asks for a send leaves the state as it is, and one that returns may have popped its value.
-use Rattle.std.proofs.Common.{◌≡◌, ◌⊎◌, inl, inr, ℕ, ◌+◌, ◌≤◌, Bool, true, false, refl, sym, ap, subst, ◌∙◌, arith, Option, Some, None, List, [], ◌∷◌, length, length-take, nat_lt}
+use Rattle.std.proofs.Common.{◌≡◌, ◌⊎◌, inl, inr, ℕ, ◌+◌, ◌≤◌, Bool, true, false, refl, ap, subst, ◌∙◌, arith, Option, Some, None, List, [], ◌∷◌, length, length-take, nat_lt}
 use Rattle.std.specs.Prelude.{ℤ, pos, ◌==◌, ◌-◌, ◌*◌, option_and_then, if◌then◌else◌, slice_get}
 use Rattle.std.proofs.lemmas.Bool.{eqb-false}
 use Rattle.cs_model.specs.declared.stop.Stop.{Stop}
@@ -9,14 +9,14 @@ use Rattle.cs_model.specs.declared.instruction.Op.TheVariants as op
 use Rattle.cs_model.specs.Ref.{Ref, same_ref}
 use Rattle.cs_model.specs.Ref as ref
 use Rattle.cs_model.specs.Obj.{Obj, Context, Ptr, Raw, Method, Ctx, context_in, with_pc, popped}
-use Rattle.cs_model.specs.State.{Kept, Rest, object_at, object_of}
+use Rattle.cs_model.specs.State.{Kept, Rest, object_of}
 use Rattle.cs_model.specs.Keeps.{Keeps}
 use Rattle.cs_model.specs.Read.{IsRunning, active_birth, active_context, depth_of, from_top, literals_of, pc_of, receiver_of, size_of, stack_of}
 use Rattle.cs_model.specs.Operation.{drop_of, pop_of, put_active, set_pc_of}
 use Rattle.cs_model.specs.Number.{boolean}
 use Rattle.cs_model.specs.End as ends
 use Rattle.cs_model.specs.End.{End, Out, given, done, stop, looked}
-use Rattle.cs_model.specs.Exec.{argument_count_in, is_local, return_out, literal_at, selector_pair, top_of, variable_value, class_out, common_out, dup_out, exec, jump_if_out, jump_out, pop_into, pop_out, push_field, push_literal_out, push_out, push_receiver_out, push_temp_out, push_variable_out, push_vector_out, same_out, send_literal_out, send_selector_out, send_super_out, special_out, special_send_out, store_field, store_in_context, store_into, store_receiver_out, store_temp_out, store_variable_out, store_vector_out, with_top}
+use Rattle.cs_model.specs.Exec.{argument_count_in, is_local, return_out, literal_at, selector_pair, top_of, variable_value, class_out, common_out, dup_out, exec, jump_if_out, jump_out, pop_into, pop_out, push_field, push_literal_out, push_out, push_receiver_out, push_temp_out, push_variable_out, push_vector_out, same_out, send_literal_out, send_selector_out, send_super_out, special_out, special_send_out, store_field, store_into, store_receiver_out, store_temp_out, store_variable_out, store_vector_out}
 use Rattle.cs_model.specs.Built.{is_built_op}
 use Rattle.cs_model.proofs.Editing.{edit_twice}
 use Rattle.cs_model.proofs.Objects.{object_at-put_other, object_at-put_same, rest-put}

@@ -1,10 +1,9 @@
 -- The frames of a world have begun in the run, and where they need too many words the run is deep.
-use Rattle.std.proofs.Common.{◌≡◌, ◌⊎◌, inl, inr, ℕ, zero, suc, ◌+◌, ◌<◌, ◌≤◌, Bool, true, false, refl, sym, ap, subst, ◌∙◌, arith, Option, Some, None, List, [], ◌∷◌, is_some}
-use Rattle.std.specs.Prelude.{◌==◌, ◌||◌}
+use Rattle.std.proofs.Common.{◌≡◌, inl, inr, ℕ, ◌+◌, ◌<◌, true, refl, sym, ap, subst, ◌∙◌, arith, Option, Some, None, List, [], ◌∷◌, is_some}
+use Rattle.std.specs.Prelude.{◌==◌}
 use Rattle.std.specs.List.{AllByRecursion}
 use Rattle.std.proofs.lemmas.Bool.Decides.{nat_tests}
-use Rattle.cs_model.specs.Ref.{Ref}
-use Rattle.cs_model.specs.Obj.{Obj, Context, Ctx, context_in, is_context_at}
+use Rattle.cs_model.specs.Obj.{Obj, is_context_at}
 use Rattle.cs_model.specs.State.{Kept, Rest, object_at}
 use Rattle.cs_model.specs.Keeps.{Keeps}
 use Rattle.cs_model.specs.Read.{active_birth}
@@ -14,11 +13,11 @@ use Rattle.cs_model.proofs.Reading.{Has}
 use Rattle.cs_model.proofs.Same.{option_equal, same}
 use Rattle.cs_model.proofs.Searching.{sender_birth_same}
 use Rattle.cs_acts.specs.Full.{IsFullStack}
-use Rattle.cs_acts.specs.Layout.{IsApart, IsCalled, IsLaid, IsLaidOut, IsPage, Layout, first_page, is_frame, is_on, last_frame, page_words}
+use Rattle.cs_acts.specs.Layout.{IsCalled, IsLaidOut, IsPage, Layout, first_page, is_frame, is_on, last_frame, page_words}
 use Rattle.cs_acts.specs.Names.{Store}
 use Rattle.cs_acts.specs.Ready.{IsReady}
-use Rattle.cs_core.specs.Deep.{AllBegun, HasBegun, IsDeep, IsFresh, run_of, state_of}
-use Rattle.cs_core.specs.Stepped.{FramesFrom, state_at}
+use Rattle.cs_core.specs.Deep.{AllBegun, HasBegun, IsDeep, IsFresh, state_of}
+use Rattle.cs_core.specs.Stepped.{FramesFrom}
 use Rattle.cs_core.proofs.Laying.{left_true, page_words_kept, right_true}
 
 -- ---- what has begun

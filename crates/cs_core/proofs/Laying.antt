@@ -1,7 +1,7 @@
 -- Where the frames of a world come from, and what the frames of a page count.
-use Rattle.std.proofs.Common.{◌≡◌, ◌⊎◌, inl, inr, ℕ, zero, suc, ◌+◌, ◌<◌, ◌≤◌, Bool, true, false, refl, sym, ap, subst, ◌∙◌, arith, Option, Some, None, List, [], ◌∷◌, ◌++◌, nat_le}
+use Rattle.std.proofs.Common.{◌≡◌, ◌⊎◌, inl, inr, ℕ, zero, suc, ◌+◌, ◌≤◌, Bool, true, false, refl, sym, ap, subst, ◌∙◌, arith, Option, Some, None, List, [], ◌∷◌, ◌++◌, nat_le}
 use Rattle.std.specs.Prelude.{◌==◌, ◌||◌, if◌then◌else◌, not}
-use Rattle.std.specs.List.{AllByRecursion, filter, list_any}
+use Rattle.std.specs.List.{filter}
 use Rattle.std.proofs.lemmas.Bool.Decides.{nat_tests}
 use Rattle.std.proofs.lemmas.List.Folds.{list_any-append}
 use Rattle.cs_model.specs.Ref.{Ref}
@@ -11,10 +11,10 @@ use Rattle.cs_model.specs.Keeps.{Keeps}
 use Rattle.cs_model.specs.End.{made_context}
 use Rattle.cs_model.specs.Operation.{enter_of, enter_with}
 use Rattle.cs_model.specs.Send.{enter_out}
-use Rattle.cs_acts.specs.Full.{CausesFull, IsFullHeap, IsFullStack}
+use Rattle.cs_acts.specs.Full.{CausesFull}
 use Rattle.cs_acts.specs.declared.act.Full.{Full as Why}
 use Rattle.cs_acts.specs.declared.act.Full.TheVariants.{Heap, Stack}
-use Rattle.cs_acts.specs.Layout.{LaidBy, Layout, depth_in, entered, first_page, frame_words, is_frame, is_on, left, page_words, touched, with_pages}
+use Rattle.cs_acts.specs.Layout.{LaidBy, Layout, depth_in, entered, first_page, frame_words, is_frame, is_on, left, page_words, touched}
 use Rattle.cs_acts.specs.Names.{Store}
 use Rattle.cs_model.specs.Demand.{words_at, words_below, words_in}
 use Rattle.cs_core.specs.Stepped.{FramesFrom}

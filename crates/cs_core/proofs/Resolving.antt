@@ -1,5 +1,5 @@
 -- What a send comes to in the model.
-use Rattle.std.proofs.Common.{◌≡◌, ℕ, ◌≤◌, arith, Bool, true, false, refl, sym, ap, subst, ◌∙◌, Option, Some, None, List, [], ◌++◌, nat_lt}
+use Rattle.std.proofs.Common.{◌≡◌, ℕ, ◌≤◌, arith, Bool, true, false, refl, sym, ap, subst, ◌∙◌, Option, Some, None, List, [], nat_lt}
 use Rattle.std.specs.Prelude.{if◌then◌else◌, ◌==◌}
 use Rattle.std.proofs.lemmas.List.{append-nil}
 use Rattle.cs_word.specs.declared.Oop.{Oop}
@@ -7,14 +7,14 @@ use Rattle.cs_model.specs.declared.stop.Stop.{Stop as Reason}
 use Rattle.cs_model.specs.declared.stop.Stop.TheVariants as why
 use Rattle.cs_model.specs.Ref.{Ref}
 use Rattle.cs_model.specs.Obj.{argument_count, bytecodes_in, header_in, primitive_number}
-use Rattle.cs_model.specs.State.{Kept, Rest, Run, object_of}
+use Rattle.cs_model.specs.State.{Kept, Run, object_of}
 use Rattle.cs_model.specs.Keeps.{Keeps}
 use Rattle.cs_model.specs.Read.{depth_of}
 use Rattle.cs_model.specs.Lookup.{Sought}
 use Rattle.cs_model.specs.Lookup as sought
 use Rattle.cs_model.specs.End as ends
 use Rattle.cs_model.specs.End.{Out, given}
-use Rattle.cs_model.specs.Send.{begins_at, enter_out, look_from}
+use Rattle.cs_model.specs.Send.{begins_at, look_from}
 use Rattle.cs_model.specs.PrimRun.{Result, result}
 use Rattle.cs_model.specs.Step.{Message, counting, do_send, primitive_in, sent, shape_fault, try_primitive, with_kept}
 use Rattle.cs_model.specs.Built.{is_built_found, is_built_number, is_built_send}
@@ -28,10 +28,10 @@ use Rattle.cs_send.specs.Resolved as resolved
 use Rattle.cs_send.specs.Sent.{Enters, Halts, IsPlain, Offers, Refuses, found}
 use Rattle.cs_send.specs.Sent as send
 use Rattle.cs_send.proofs.Sends.{send-plain}
-use Rattle.cs_core.specs.Stepped.{DoneIn, EndsBy, IsOver, TurnGives, TurnStops, unbuilt, stopped, run_at, sending, state_at, trying}
+use Rattle.cs_core.specs.Stepped.{DoneIn, EndsBy, IsOver, TurnGives, unbuilt, stopped, run_at, sending, state_at, trying}
 use Rattle.cs_core.specs.declared.step.StepEnd.{StepEnd}
 use Rattle.cs_core.specs.declared.step.StepEnd.TheVariants.{Stopped as Stop, Full}
-use Rattle.cs_core.proofs.Carrying.{IsSame, SameIn}
+use Rattle.cs_core.proofs.Carrying.{SameIn}
 use Rattle.cs_core.proofs.Laying.{entered_active, entered_frames}
 use Rattle.cs_core.proofs.Turning.{ends_quietly}
 

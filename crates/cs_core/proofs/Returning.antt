@@ -1,21 +1,19 @@
 -- What a return to a live sender comes to in the model.
-use Rattle.std.proofs.Common.{◌≡◌, ◌≢◌, ℕ, Bool, true, false, refl, sym, ap, subst, ◌∙◌, Option, Some, None, List, [], ◌∷◌, ◌++◌, IfSome, IsSomeAnd}
-use Rattle.std.specs.Prelude.{◌==◌, ◌&&◌, not, if◌then◌else◌, option_and_then}
+use Rattle.std.proofs.Common.{◌≡◌, ℕ, Bool, true, false, refl, sym, ap, subst, ◌∙◌, Option, Some, None, List, [], ◌∷◌, IfSome, IsSomeAnd}
+use Rattle.std.specs.Prelude.{not, if◌then◌else◌, option_and_then}
 use Rattle.std.proofs.lemmas.List.{append-nil}
 use Rattle.std.proofs.lemmas.Bool.{eqb-false}
-use Rattle.cs_model.specs.declared.stop.Stop.{Stop as Reason}
 use Rattle.cs_model.specs.declared.stop.Stop.TheVariants as why
 use Rattle.cs_model.specs.Ref.{Ref, birth_of}
-use Rattle.cs_model.specs.Obj.{Context, Ctx, context_in}
+use Rattle.cs_model.specs.Obj.{Context, context_in}
 use Rattle.cs_model.specs.State as state
 use Rattle.cs_model.specs.State.{Kept, Rest, Run, object_at}
 use Rattle.cs_model.specs.Keeps.{Keeps}
 use Rattle.cs_model.specs.Read.{IsRunning, active_birth, active_context}
-use Rattle.cs_model.specs.Operation.{cut_to_of, kill_all, kill_of, leave_of, push_of, resume_of}
-use Rattle.cs_model.specs.End as ends
-use Rattle.cs_model.specs.End.{Out, done, stop}
+use Rattle.cs_model.specs.Operation.{cut_to_of, kill_all, leave_of, push_of, resume_of}
+use Rattle.cs_model.specs.End.{done, stop}
 use Rattle.cs_model.specs.PrimRun.{Result, result}
-use Rattle.cs_model.specs.Return.{back, context_at, context_birth, has_room, is_live, local_out, sender_birth}
+use Rattle.cs_model.specs.Return.{back, context_at, context_birth, has_room, local_out, sender_birth}
 use Rattle.cs_model.specs.Step.{do_return}
 use Rattle.cs_model.specs.Built.{is_built_return, is_built_target}
 use Rattle.cs_acts.specs.declared.act.Full.{Full as Why}

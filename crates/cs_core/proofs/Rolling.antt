@@ -36,7 +36,7 @@ use Rattle.cs_core.specs.Stepped.{StepGives, run_at, state_at, step_at}
 use Rattle.cs_core.proofs.Growing.{part_of_more, run_writes}
 use Rattle.cs_core.specs.declared.run.RunError.TheVariants.{Full, WriteFault}
 use Rattle.cs_core.specs.Deep.{AllBegun, IsFresh, run_of}
-use Rattle.cs_core.specs.Running.{HasNoRoom, RunGives, RunFails, RunFills, ending_of, ending_at_rest, place_by}
+use Rattle.cs_core.specs.Running.{HasNoRoom, RunGives, RunFails, ending_of, ending_at_rest, place_by}
 use Rattle.cs_core.proofs.Deepening.{begun_at_start, begun_on, is_deep}
 use Rattle.cs_core.proofs.Laying.{state_words_kept}
 use Rattle.cs_core.proofs.Places.{idle_place}

@@ -1,5 +1,5 @@
 -- From what the instruction did to the whole step.
-use Rattle.std.proofs.Common.{◌≡◌, ℕ, ◌≤◌, Bool, refl, sym, ap, subst, ◌∙◌, arith, Option, List}
+use Rattle.std.proofs.Common.{◌≡◌, ℕ, ◌≤◌, Bool, sym, ap, subst, ◌∙◌, arith, Option, List}
 use Rattle.cs_classes.specs.declared.Roots.{Roots}
 use Rattle.cs_model.specs.declared.stop.Stop.{Stop as Reason}
 use Rattle.cs_model.specs.declared.stop.Stop.TheVariants as why
@@ -13,7 +13,7 @@ use Rattle.cs_model.specs.Step.{Message}
 use Rattle.cs_model.proofs.Stepping.{MessageHeld}
 use Rattle.cs_acts.specs.Layout.{Layout}
 use Rattle.cs_acts.specs.Names.{Store}
-use Rattle.cs_acts.specs.Ready.{IsReady, IsSound}
+use Rattle.cs_acts.specs.Ready.{IsReady}
 use Rattle.cs_core.specs.Stepped.{EndsBy, FramesFrom, StepGives, TurnGives, returning, sending}
 use Rattle.cs_core.specs.declared.step.StepEnd.{StepEnd}
 use Rattle.cs_core.specs.declared.step.StepEnd.TheVariants.{Stopped as Stop}

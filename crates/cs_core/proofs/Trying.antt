@@ -1,16 +1,16 @@
 -- What the built primitives come to.
-use Rattle.std.proofs.Common.{◌≡◌, ℕ, ◌+◌, ◌-◌, ◌<◌, Bool, true, false, refl, sym, ap, subst, ◌∙◌, arith, Option, Some, None, List, [], ◌++◌, length, nat_lt, option_and_then, unwrap_or}
-use Rattle.std.specs.Prelude.{◌==◌, ◌&&◌, ◌||◌, if◌then◌else◌, slice_get}
+use Rattle.std.proofs.Common.{◌≡◌, ℕ, ◌-◌, ◌<◌, Bool, true, false, refl, sym, ap, subst, ◌∙◌, arith, Option, Some, None, List, [], ◌++◌, length, nat_lt, option_and_then, unwrap_or}
+use Rattle.std.specs.Prelude.{◌==◌, if◌then◌else◌, slice_get}
 use Rattle.std.proofs.lemmas.Bool.Decides.{nat_tests}
 use Rattle.std.proofs.lemmas.List.{append-nil}
 use Rattle.cs_shelf.specs.Outside.{Appends, AppendsPart}
 use Rattle.cs_model.specs.declared.stop.Stop.{Stop as Reason}
 use Rattle.cs_model.specs.declared.stop.Stop.TheVariants as why
 use Rattle.cs_model.specs.Ref.{Ref}
-use Rattle.cs_model.specs.State.{Kept, Rest, Run, State}
+use Rattle.cs_model.specs.State.{Kept, Run, State}
 use Rattle.cs_model.specs.Keeps.{Keeps}
 use Rattle.cs_model.specs.Read.{depth_of, stack_of}
-use Rattle.cs_model.specs.Operation.{drop_of, enter_of, nil_of, push_of}
+use Rattle.cs_model.specs.Operation.{drop_of, nil_of, push_of}
 use Rattle.cs_model.specs.Exec.{small_operands}
 use Rattle.cs_model.specs.Number.{number_result}
 use Rattle.cs_model.specs.End as ends
@@ -20,7 +20,7 @@ use Rattle.cs_model.specs.PrimNumber.{number_prim}
 use Rattle.cs_model.specs.PrimRun.{Result, bytes_to_write, fails, result, write_prim}
 use Rattle.cs_model.specs.PrimTable.{kept_prim, prim}
 use Rattle.cs_model.specs.Send.{enter_out}
-use Rattle.cs_model.specs.Step.{arguments_of, or_enter, tried, try_primitive, with_kept}
+use Rattle.cs_model.specs.Step.{arguments_of, tried, try_primitive, with_kept}
 use Rattle.cs_model.specs.Built.{is_built_number}
 use Rattle.cs_acts.specs.declared.act.Full.{Full as Why}
 use Rattle.cs_acts.specs.Full.{CausesFull}
@@ -28,7 +28,7 @@ use Rattle.cs_acts.specs.Layout.{Layout}
 use Rattle.cs_acts.specs.Names.{Store}
 use Rattle.cs_acts.specs.Ready.{IsReady}
 use Rattle.cs_send.specs.Sent.{Enters, Refuses}
-use Rattle.cs_core.specs.Stepped.{CausedByFault, DoneIn, EndsBy, Fails, FramesFrom, IsOver, TurnStops, unbuilt, lost, TurnGives, run_at, state_at, trying}
+use Rattle.cs_core.specs.Stepped.{CausedByFault, DoneIn, EndsBy, Fails, FramesFrom, IsOver, unbuilt, lost, TurnGives, run_at, state_at, trying}
 use Rattle.cs_core.specs.declared.step.StepEnd.{StepEnd}
 use Rattle.cs_core.specs.declared.step.StepEnd.TheVariants.{Active, Idle, Stopped as Stop, Full, WriteFault}
 use Rattle.cs_core.proofs.Laying.{entered_active, entered_frames}

@@ -1,5 +1,5 @@
 -- From a part of a step to the whole step.
-use Rattle.std.proofs.Common.{◌≡◌, ℕ, ◌+◌, ◌≤◌, Bool, true, false, refl, sym, ap, ap₂, subst, ◌∙◌, Option, Some, None, List, [], ◌++◌, nat_lt}
+use Rattle.std.proofs.Common.{◌≡◌, ℕ, ◌+◌, Bool, true, false, refl, sym, ap, ap₂, subst, ◌∙◌, Option, Some, None, List, [], ◌++◌, nat_lt}
 use Rattle.std.specs.Prelude.{if◌then◌else◌}
 use Rattle.std.proofs.lemmas.List.{append-nil}
 use Rattle.cs_shelf.specs.Outside.{Appends}
@@ -21,7 +21,6 @@ use Rattle.cs_model.proofs.Happening.{is_idle_same}
 use Rattle.cs_model.proofs.Stepping.{shape_fault_same}
 use Rattle.cs_model.specs.Step.{completed, ends_with, finish, Step, Steps, Stopped, add_count, birth_limit, bytecode, finish_of, followed, instruction_at, next_step, shape_fault, step, stops, with_kept}
 use Rattle.cs_model.specs.Built.{built_step, is_built, is_built_bytecode, is_built_from}
-use Rattle.cs_acts.specs.declared.act.Full.{Full as Why}
 use Rattle.cs_acts.specs.Full.{CausesFull}
 use Rattle.cs_acts.specs.Layout.{Layout}
 use Rattle.cs_acts.specs.Names.{Store}

@@ -1,5 +1,5 @@
 use Rattle.cs_acts.specs.Names.{name_of}
-use Rattle.cs_core.proofs.Returning.{can_arrive, full_gives, leave_gives, no_room_gives, nonlocal_gives, nowhere_gives}
+use Rattle.cs_core.proofs.Returning.{can_arrive, full_gives, leave_gives, no_room_gives}
 use Rattle.cs_core.proofs.step.give_back.Goals as goal
 
 pub returns-then-act_full-clause-gives : goal.returns-then-act_full-clause-gives

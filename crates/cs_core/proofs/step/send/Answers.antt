@@ -1,4 +1,4 @@
-use Rattle.std.proofs.Common.{◌≡◌, arith, subst, sym, refl}
+use Rattle.std.proofs.Common.{arith, subst}
 use Rattle.cs_acts.specs.Names.{name_of}
 use Rattle.cs_send.specs.Sent.{Offers, message_of}
 use Rattle.cs_core.proofs.Carrying.{carried}
