@@ -1,0 +1,196 @@
+//! A world that keeps activations as frames on a stack page.
+//!
+//! A context that the machine enters is a frame of the page, and has no object in the heap. The context that was active when the
+//! machine was opened, and one into which it returns later, become the base frame of the page: its words in the heap are then
+//! stale, and the frame hides them. All other contexts stay in the heap.
+#![tactic(auto)]
+
+ghost use Rattle.std.specs.Prelude.{◌≡◌};
+ghost use Rattle.cs_stack.specs.View.{act_of, layout_of, stored_of, view_of};
+
+mod moves;
+mod parts;
+mod words;
+
+use cs_acts::read::{active_process, nil, same, slot};
+use cs_acts::{Act, Full, Loaded, Roots, World};
+use cs_classes::Classes;
+use cs_frame::Frames;
+use cs_heap::Heap;
+use cs_pages::Pages;
+use cs_word::Oop;
+pub use parts::Parts;
+use std::alloc::{AllocError, Global};
+use std::marker::Model;
+
+/// A world of frames on one stack page.
+///
+/// It is seen as its parts, of which the invariant holds that heap and frames agree.
+#[derive(Drop)]
+pub struct StackWorld {
+    parts: Parts,
+}
+
+impl Model for StackWorld {
+    ghost use Rattle.cs_stack.specs.declared.parts.Parts.{Parts};
+    ghost use Rattle.cs_stack.specs.contracts.parts.Parts as contracts;
+
+    ghost Value = { Parts };
+
+    ghost coded = { contracts.the_row.coded };
+
+    ghost use Rattle.cs_stack.specs.Good.{IsGood};
+
+    ghost view = { λ s. s.parts };
+
+    ghost invariant = { λ s. IsGood s.parts };
+}
+
+/// The slots of a process.
+const PROCESS_SLOTS: u32 = 4;
+
+impl StackWorld {
+    /// Opens a loaded image: the active process gives its context to the machine. With no active process none is active.
+    pub fn new(alloc: Global, loaded: Loaded, pages: u32) -> Result<StackWorld, AllocError> {
+        let Loaded {
+            heap,
+            classes,
+            roots,
+        } = loaded;
+        let order = Pages::new(alloc, pages)?;
+        let frames = Frames::new(alloc, pages)?;
+        let mut world = StackWorld {
+            parts: Parts {
+                heap,
+                classes,
+                roots,
+                pages: order,
+                frames,
+            },
+        };
+        world.open();
+        Ok(world)
+    }
+
+    /// Takes the context of the active process, if one is active.
+    fn open(&mut self) {
+        let nil = nil(self);
+        if let Some(process) = active_process(self) {
+            if !same(self, process, nil) {
+                self.take_context(process, nil);
+            }
+        }
+    }
+
+    /// Takes the context that a process keeps, and leaves nil there.
+    fn take_context(&mut self, process: Oop, nil: Oop) {
+        if let Some(context) = slot(self, process, PROCESS_SLOTS, parts::SUSPENDED_CONTEXT) {
+            self.parts.take(process, nil, context);
+        }
+    }
+}
+
+impl World for StackWorld {
+    ghost use Rattle.cs_stack.specs.View.{act_of, layout_of, stored_of, view_of};
+
+    ghost view = { view_of };
+
+    ghost stored = { stored_of };
+
+    ghost act = { act_of };
+
+    ghost layout = { layout_of };
+
+    fn heap(&self) -> &Heap {
+        &self.parts.heap
+    }
+
+    fn classes(&self) -> &Classes {
+        &self.parts.classes
+    }
+
+    fn roots(&self) -> &Roots {
+        &self.parts.roots
+    }
+
+    fn active(&self) -> Act {
+        self.parts.active()
+    }
+
+    fn act_birth(&self, a: Act) -> u64 {
+        self.parts.act_birth(a)
+    }
+
+    fn act_closure(&self, a: Act) -> Oop {
+        self.parts.act_closure(a)
+    }
+
+    fn act_method(&self, a: Act) -> Oop {
+        self.parts.act_method(a)
+    }
+
+    fn act_live(&self, a: Act) -> bool {
+        self.parts.act_live(a)
+    }
+
+    fn act_full(&self, a: Act) -> bool {
+        self.parts.act_full(a)
+    }
+
+    fn sender_act(&self, a: Act) -> Act {
+        self.parts.sender_act(a)
+    }
+
+    fn receiver(&self) -> Oop {
+        self.parts.receiver()
+    }
+
+    fn method(&self) -> Oop {
+        self.parts.method()
+    }
+
+    fn pc(&self) -> u32 {
+        self.parts.pc()
+    }
+
+    fn set_pc(&mut self, pc: u32) {
+        self.parts.set_pc(pc);
+    }
+
+    fn depth(&self) -> u32 {
+        self.parts.depth()
+    }
+
+    fn size(&self) -> u32 {
+        self.parts.size()
+    }
+
+    fn stack_at(&self, i: u32) -> Oop {
+        self.parts.stack_at(i)
+    }
+
+    fn set_stack(&mut self, i: u32, v: Oop) {
+        self.parts.set_stack(i, v);
+    }
+
+    fn store(&mut self, o: Oop, i: u32, v: Oop) {
+        self.parts.store(o, i, v);
+    }
+
+    fn push(&mut self, v: Oop) {
+        self.parts.push(v);
+    }
+
+    fn pop(&mut self) -> Oop {
+        self.parts.pop()
+    }
+
+    fn enter(&mut self, method: Oop, args: u32, skip: bool) -> Result<(), Full> {
+        self.parts.enter(method, args, skip)
+    }
+
+    fn leave(&mut self, v: Oop) -> Result<(), Full> {
+        self.parts.leave(v);
+        Ok(())
+    }
+}

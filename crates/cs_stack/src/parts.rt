@@ -1,0 +1,347 @@
+//! What a world of frames keeps, and how its parts change.
+ghost use Rattle.std.specs.Prelude.{◌≡◌, ◌<◌, ◌≤◌, ◌-◌, length, nat_lt, Some, IfSome, IsSome, not, true, slice_get, unwrap_or};
+ghost use Rattle.cs_frame.specs.Page.{IsFrame, IsTop, frame, ref_of, top};
+ghost use Rattle.cs_model.specs.Obj.{context_in, lies_in};
+ghost use Rattle.cs_model.specs.Operation.{nil_of, pop_of, push_of, set_pc_of, set_stack_of, store_of};
+ghost use Rattle.cs_model.specs.Read.{active_context, depth_of, method_of, pc_of, receiver_of, size_of, stack_of};
+ghost use Rattle.cs_model.specs.Return.{closure_at, context_birth, has_room, is_live, sender_birth};
+ghost use Rattle.cs_model.specs.State.{object_at, object_of};
+ghost use Rattle.cs_acts.specs.Names.{IsNamed, KeepsNames, Names, name_of};
+ghost use Rattle.cs_acts.specs.Ready.{IsReady, is_storable};
+ghost use Rattle.cs_acts.specs.Targets.{method_in};
+ghost use Rattle.cs_stack.specs.View.{act_of, base_context, hides, layout_of, page_of, size_from, stored_of, view_of};
+ghost use Rattle.cs_stack.specs.Good.{IsGood};
+
+use crate::words::{
+    context_size, count, count_word, header, is_context, is_count,
+};
+use cs_acts::{Act, Roots};
+use cs_classes::Classes;
+use cs_frame::{FrameRef, Frames};
+use cs_heap::Heap;
+use cs_pages::Pages;
+use cs_word::Oop;
+
+/// Heap, class table and roots, which stack pages are used, and the frames on them.
+#[derive(Drop)]
+pub struct Parts {
+    pub heap: Heap,
+    pub classes: Classes,
+    pub roots: Roots,
+    pub pages: Pages,
+    pub frames: Frames,
+}
+
+/// The slots of a context, in the order of the Blue Book: sender, pc, stackp, method, closure, receiver, and then its stack.
+pub(crate) const SENDER: u32 = 0;
+
+pub(crate) const PC: u32 = 1;
+
+pub(crate) const STACKP: u32 = 2;
+
+pub(crate) const METHOD: u32 = 3;
+
+pub(crate) const CLOSURE: u32 = 4;
+
+pub(crate) const RECEIVER: u32 = 5;
+
+pub(crate) const STACK: u32 = 6;
+
+/// The slot in which a process keeps its context while it doesn't run.
+pub(crate) const SUSPENDED_CONTEXT: u32 = 1;
+
+/// The only page.
+pub(crate) const PAGE: u32 = 0;
+
+/// The base frame, which begins with its page.
+const BASE_FRAME: FrameRef = FrameRef { page: PAGE, at: 0 };
+
+impl Parts {
+    /// The last frame, which is the active one.
+    pub(crate) fn top(&self) -> FrameRef
+        requires good { IsGood self.now }
+        requires ready { IsReady (stored_of self.now) (view_of self.now) }
+        ensures is { result ≡ ref_of 0 (top (page_of self.now)) }
+        ensures last { IsTop self.now.frames result }
+    {
+        let Some(top) = self.frames.top(PAGE) else {
+            unreachable!();
+        };
+        top
+    }
+
+    /// The active context, if there is one.
+    pub(crate) fn active(&self) -> Act
+        requires good { IsGood self.now }
+        ensures { act_of self.now result ≡ (view_of self.now).rest.active }
+    {
+        match self.frames.top(PAGE) {
+            Some(f) => act(f),
+            None => Act::Gone,
+        }
+    }
+
+    /// What stands for the context that a word names; Gone where it names none.
+    fn act_at(&self, word: Oop) -> Act
+        requires good { IsGood self.now }
+        requires named { IsNamed (stored_of self.now) word }
+        ensures { act_of self.now result ≡ context_birth (view_of self.now) (name_of (stored_of self.now) word) }
+    {
+        if !is_context(&self.heap, word) {
+            return Act::Gone;
+        }
+        if self.is_hidden(word) {
+            act(BASE_FRAME)
+        } else {
+            Act::Context(word)
+        }
+    }
+
+    /// Whether the context at an address is the base frame's.
+    fn is_hidden(&self, context: Oop) -> bool
+        requires { IsGood self.now }
+        ensures { result ≡ hides (base_context (page_of self.now)) context.0 }
+    {
+        match self.frames.top(PAGE) {
+            Some(_) => self.frames.context(BASE_FRAME) == context,
+            None => false,
+        }
+    }
+
+    /// How many values the stack of a frame may hold.
+    fn frame_size(&self, f: FrameRef) -> u32
+        requires good { IsGood self.now }
+        requires page { f.page ≡ 0 }
+        requires frame { IsFrame self.now.frames f }
+        ensures { result ≡ size_from self.now.heap.objects (page_of self.now) f.at }
+    {
+        if f.at == 0 {
+            self.heap.slot_count(self.frames.context(f)) - STACK
+        } else {
+            context_size(header(&self.heap, self.frames.method(f)))
+        }
+    }
+
+    pub(crate) fn act_birth(&self, a: Act) -> u64
+        requires good { IsGood self.now }
+        requires stands { IsSome (act_of self.now a) }
+        ensures { act_of self.now a ≡ Some result }
+    {
+        match a {
+            Act::Frame { page, at } => self.frames.birth(FrameRef { page, at }),
+            Act::Context(context) => self.heap.birth(context),
+            Act::Gone => unreachable!(),
+        }
+    }
+
+    pub(crate) fn act_closure(&self, a: Act) -> Oop
+        requires good { IsGood self.now }
+        requires stands { IsSome (act_of self.now a) }
+        ensures { IfSome (act_of self.now a) (λ birth. Names (stored_of self.now) result (closure_at (view_of self.now) birth)) }
+    {
+        match a {
+            Act::Frame { page, at } => self.frames.closure(FrameRef { page, at }),
+            Act::Context(context) => self.heap.slot(context, CLOSURE),
+            Act::Gone => unreachable!(),
+        }
+    }
+
+    pub(crate) fn act_method(&self, a: Act) -> Oop
+        requires good { IsGood self.now }
+        requires stands { IsSome (act_of self.now a) }
+        ensures { IfSome (act_of self.now a) (λ birth. Names (stored_of self.now) result (method_in (nil_of (view_of self.now)) (context_in (object_at (view_of self.now) birth)))) }
+    {
+        match a {
+            Act::Frame { page, at } => self.frames.method(FrameRef { page, at }),
+            Act::Context(context) => self.heap.slot(context, METHOD),
+            Act::Gone => unreachable!(),
+        }
+    }
+
+    pub(crate) fn act_live(&self, a: Act) -> bool
+        requires good { IsGood self.now }
+        requires stands { IsSome (act_of self.now a) }
+        ensures { IfSome (act_of self.now a) (λ birth. result ≡ is_live (view_of self.now) birth) }
+    {
+        match a {
+            Act::Frame { .. } => true,
+            Act::Context(context) => is_count(self.heap.slot(context, PC)),
+            Act::Gone => unreachable!(),
+        }
+    }
+
+    pub(crate) fn act_full(&self, a: Act) -> bool
+        requires good { IsGood self.now }
+        requires stands { IsSome (act_of self.now a) }
+        ensures { IfSome (act_of self.now a) (λ birth. not result ≡ has_room (context_in (object_at (view_of self.now) birth))) }
+    {
+        match a {
+            Act::Frame { page, at } => self.is_full(FrameRef { page, at }),
+            Act::Context(context) => {
+                count(self.heap.slot(context, STACKP)) >= self.heap.slot_count(context) - STACK
+            }
+            Act::Gone => unreachable!(),
+        }
+    }
+
+    /// Whether the stack of a frame holds as many values as its size.
+    fn is_full(&self, f: FrameRef) -> bool
+        requires good { IsGood self.now }
+        requires page { f.page ≡ 0 }
+        requires frame { IsFrame self.now.frames f }
+        ensures { not result ≡ nat_lt (length (frame self.now.frames f).stack) (size_from self.now.heap.objects (page_of self.now) f.at) }
+    {
+        self.frames.depth(f) >= self.frame_size(f)
+    }
+
+    pub(crate) fn sender_act(&self, a: Act) -> Act
+        requires good { IsGood self.now }
+        requires stands { IsSome (act_of self.now a) }
+        ensures { IfSome (act_of self.now a) (λ birth. act_of self.now result ≡ sender_birth (view_of self.now) birth) }
+    {
+        match a {
+            Act::Frame { page, at } => self.frame_sender(FrameRef { page, at }),
+            Act::Context(context) => self.act_at(self.heap.slot(context, SENDER)),
+            Act::Gone => unreachable!(),
+        }
+    }
+
+    fn frame_sender(&self, f: FrameRef) -> Act
+        requires good { IsGood self.now }
+        requires stands { IsSome (act_of self.now (Act.Frame f.page f.at)) }
+        ensures { IfSome (act_of self.now (Act.Frame f.page f.at)) (λ birth. act_of self.now result ≡ sender_birth (view_of self.now) birth) }
+    {
+        match self.frames.caller(f) {
+            Some(caller) => act(caller),
+            None => self.act_at(self.frames.sender(f)),
+        }
+    }
+
+    pub(crate) fn receiver(&self) -> Oop
+        requires good { IsGood self.now }
+        requires ready { IsReady (stored_of self.now) (view_of self.now) }
+        ensures { Names (stored_of self.now) result (receiver_of (view_of self.now)) }
+    {
+        self.frames.receiver(self.top())
+    }
+
+    pub(crate) fn method(&self) -> Oop
+        requires good { IsGood self.now }
+        requires ready { IsReady (stored_of self.now) (view_of self.now) }
+        ensures { Names (stored_of self.now) result (active_context (view_of self.now)).method }
+    {
+        self.frames.method(self.top())
+    }
+
+    pub(crate) fn pc(&self) -> u32
+        requires good { IsGood self.now }
+        requires ready { IsReady (stored_of self.now) (view_of self.now) }
+        ensures { result ≡ pc_of (view_of self.now) }
+    {
+        count(self.frames.saved_pc(self.top()))
+    }
+
+    pub(crate) fn depth(&self) -> u32
+        requires good { IsGood self.now }
+        requires ready { IsReady (stored_of self.now) (view_of self.now) }
+        ensures value { result ≡ depth_of (view_of self.now) }
+        ensures fits { result ≤ size_of (view_of self.now) }
+    {
+        self.frames.depth(self.top())
+    }
+
+    pub(crate) fn size(&self) -> u32
+        requires good { IsGood self.now }
+        requires ready { IsReady (stored_of self.now) (view_of self.now) }
+        ensures { result ≡ size_of (view_of self.now) }
+    {
+        self.frame_size(self.top())
+    }
+
+    pub(crate) fn stack_at(&self, i: u32) -> Oop
+        requires good { IsGood self.now }
+        requires ready { IsReady (stored_of self.now) (view_of self.now) }
+        requires there { i < depth_of (view_of self.now) }
+        ensures { Names (stored_of self.now) result (unwrap_or (slice_get (stack_of (view_of self.now)) i) (nil_of (view_of self.now))) }
+    {
+        self.frames.slot(self.top(), i)
+    }
+
+    pub(crate) fn set_pc(&mut self, pc: u32)
+        requires good { IsGood self.old }
+        requires ready { IsReady (stored_of self.old) (view_of self.old) }
+        requires lies { lies_in (method_of (view_of self.old)) pc ≡ true }
+        ensures good { IsGood self.new }
+        ensures view { view_of self.new ≡ set_pc_of (view_of self.old) pc }
+        ensures stored { stored_of self.new ≡ stored_of self.old }
+        ensures layout { layout_of self.new ≡ layout_of self.old }
+    {
+        let top = self.top();
+        self.frames.set_saved_pc(top, count_word(pc));
+    }
+
+    pub(crate) fn set_stack(&mut self, i: u32, v: Oop)
+        requires good { IsGood self.old }
+        requires ready { IsReady (stored_of self.old) (view_of self.old) }
+        requires there { i < depth_of (view_of self.old) }
+        requires named { IsNamed (stored_of self.old) v }
+        ensures good { IsGood self.new }
+        ensures view { view_of self.new ≡ set_stack_of (view_of self.old) i (name_of (stored_of self.old) v) }
+        ensures stored { stored_of self.new ≡ stored_of self.old }
+        ensures layout { layout_of self.new ≡ layout_of self.old }
+    {
+        let top = self.top();
+        self.frames.set_slot(top, i, v);
+    }
+
+    pub(crate) fn store(&mut self, o: Oop, i: u32, v: Oop)
+        requires good { IsGood self.old }
+        requires there { is_storable (object_of (view_of self.old) (name_of (stored_of self.old) o)) i ≡ true }
+        requires object { IsNamed (stored_of self.old) o }
+        requires named { IsNamed (stored_of self.old) v }
+        ensures good { IsGood self.new }
+        ensures view { view_of self.new ≡ store_of (view_of self.old) (name_of (stored_of self.old) o) i (name_of (stored_of self.old) v) }
+        ensures names { KeepsNames (stored_of self.old) (stored_of self.new) }
+        ensures rest { self.new ≡ record self.old { heap = self.new.heap } }
+    {
+        self.heap.set_slot(o, i, v);
+    }
+
+    pub(crate) fn push(&mut self, v: Oop)
+        requires good { IsGood self.old }
+        requires ready { IsReady (stored_of self.old) (view_of self.old) }
+        requires fits { depth_of (view_of self.old) < size_of (view_of self.old) }
+        requires named { IsNamed (stored_of self.old) v }
+        ensures good { IsGood self.new }
+        ensures view { view_of self.new ≡ push_of (view_of self.old) (name_of (stored_of self.old) v) }
+        ensures stored { stored_of self.new ≡ stored_of self.old }
+        ensures layout { layout_of self.new ≡ layout_of self.old }
+    {
+        let top = self.top();
+        self.frames.push(top, v);
+    }
+
+    pub(crate) fn pop(&mut self) -> Oop
+        requires good { IsGood self.old }
+        requires ready { IsReady (stored_of self.old) (view_of self.old) }
+        requires there { 0 < depth_of (view_of self.old) }
+        ensures good { IsGood self.new }
+        ensures value { Names (stored_of self.old) result (unwrap_or (slice_get (stack_of (view_of self.old)) (depth_of (view_of self.old) - 1)) (nil_of (view_of self.old))) }
+        ensures view { view_of self.new ≡ pop_of (view_of self.old) }
+        ensures stored { stored_of self.new ≡ stored_of self.old }
+        ensures layout { layout_of self.new ≡ layout_of self.old }
+    {
+        let top = self.top();
+        self.frames.pop(top)
+    }
+}
+
+/// What stands for the context that a frame is.
+fn act(f: FrameRef) -> Act
+    ensures { result ≡ Act.Frame f.page f.at }
+{
+    Act::Frame {
+        page: f.page,
+        at: f.at,
+    }
+}
