@@ -1,3 +1,9 @@
+pub mod Returning
+pub mod Entries
+pub mod Entering
+pub mod Basing
+pub mod Based
+pub mod Leaving
 pub mod Maps
 pub mod Framed
 pub mod Lives
@@ -9,4 +15,4 @@ pub mod Writing
 pub mod Acts
 pub mod Bases
 pub mod Stores
-mod Returning
+pub mod Laid

@@ -2,7 +2,7 @@
 use Rattle.std.specs.Prelude.{◌≡◌, ◌≢◌, ℕ, ◌+◌, ◌<◌, ◌≤◌, true, List, [], ◌∷◌, length, slice_index, slice_get, Option, Some, None}
 use Rattle.std.specs.List.{AllPass}
 use Rattle.std.specs.FinMap.{get}
-use Rattle.cs_heap.specs.Object.{Object, object_at, used}
+use Rattle.cs_heap.specs.Object.{Object, object_at, slot_of, used}
 use Rattle.cs_classes.specs.Meaning.{count_of, is_context, meaning_at, objects_of}
 use Rattle.cs_classes.specs.Sound.{IsWhole, is_reference}
 use Rattle.cs_frame.specs.Frame.{Frame}
@@ -29,9 +29,11 @@ pub record StandsAt (os : List Object) (a birth : ℕ) : Type 0 where
   pub context : is_context object ≡ true
   pub birth_is : object.birth ≡ birth
 
--- the base frame of a page is the body of a context of the heap; any other frame's birth is that of no object there
+-- The base frame of a page is the body of a context of the heap, whose method, closure and receiver it shares, so that this is the
+-- dead context once the frame is gone. Any other frame's birth is that of no object there.
 abbrev pub HasHome : List Object → Frame → List Frame → Type 0
 HasHome os f [] = StandsAt os f.context f.birth × (is_reference os f.caller ≡ true)
+    × (slot_of os f.context 3 ≡ f.method) × (slot_of os f.context 4 ≡ f.closure) × (slot_of os f.context 5 ≡ f.receiver)
 HasHome os f (g ∷ gs) = get (objects_of os) f.birth ≡ None
 
 -- A frame above these: it is live in a method of the heap, its stack fits, and it began where 66 words were free.

@@ -1,8 +1,8 @@
 //! How activations are entered and left.
-ghost use Rattle.std.specs.Prelude.{◌≡◌, ◌≤◌, ◌+◌, [], IfErr, IfSome, IsSomeAnd, OnOk, Some, length};
+ghost use Rattle.std.specs.Prelude.{◌≡◌, ◌≤◌, ◌+◌, [], ◌∷◌, IfErr, IfSome, IsSomeAnd, OnOk, Some, length};
 ghost use Rattle.cs_heap.specs.Object.{slot_count_of};
 ghost use Rattle.cs_frame.specs.Frame.{with_stack};
-ghost use Rattle.cs_frame.specs.Page.{IsTop, on_page, on_top, top, used};
+ghost use Rattle.cs_frame.specs.Page.{IsTop, ref_of, top, used};
 ghost use Rattle.cs_model.specs.Keeps.{Keeps};
 ghost use Rattle.cs_model.specs.Operation.{enter_of, leave_of, nil_of};
 ghost use Rattle.cs_model.specs.Read.{IsRunning, active_birth};
@@ -178,12 +178,11 @@ impl Parts {
 
     /// Pushes the stack of a context onto that of a frame whose stack is empty.
     fn copy_stack(&mut self, frame: FrameRef, context: Oop)
-        requires top { IsTop self.old.frames frame }
-        requires page { frame.page ≡ 0 }
+        requires alone { self.old.frames ≡ (top (page_of self.old) ∷ []) ∷ [] }
+        requires frame { frame ≡ ref_of 0 (top (page_of self.old)) }
         requires empty { (top (page_of self.old)).stack ≡ [] }
-        requires room { used (page_of self.old) + length (stack_words self.old.heap.objects context.0) ≤ 4096 }
         requires context { IsContextAt self.old.heap.objects context.0 }
-        ensures { self.new ≡ record self.old { frames = on_page self.old.frames 0 (on_top (with_stack (stack_words self.old.heap.objects context.0))) } }
+        ensures { self.new ≡ record self.old { frames = (with_stack (stack_words self.old.heap.objects context.0) (top (page_of self.old)) ∷ []) ∷ [] } }
     {
         for i in 0..count(self.heap.slot(context, STACKP)) {
             self.frames.push(frame, self.heap.slot(context, STACK + i));
