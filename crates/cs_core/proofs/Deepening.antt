@@ -13,10 +13,10 @@ use Rattle.cs_model.proofs.Reading.{Has}
 use Rattle.cs_model.proofs.Same.{option_equal, same}
 use Rattle.cs_model.proofs.Searching.{sender_birth_same}
 use Rattle.cs_acts.specs.Full.{IsFullStack}
-use Rattle.cs_acts.specs.Layout.{IsCalled, IsLaidOut, IsPage, Layout, first_page, is_frame, is_on, last_frame, page_words}
+use Rattle.cs_acts.specs.Layout.{IsCalled, IsFresh, IsLaidOut, IsPage, Layout, first_page, is_frame, is_on, last_frame, page_words}
 use Rattle.cs_acts.specs.Names.{Store}
 use Rattle.cs_acts.specs.Ready.{IsReady}
-use Rattle.cs_core.specs.Deep.{AllBegun, HasBegun, IsDeep, IsFresh, state_of}
+use Rattle.cs_core.specs.Deep.{AllBegun, HasBegun, IsDeep, state_of}
 use Rattle.cs_core.specs.Stepped.{FramesFrom}
 use Rattle.cs_core.proofs.Laying.{left_true, page_words_kept, right_true}
 

@@ -26,7 +26,7 @@ use Rattle.cs_model.proofs.Agreeing.{place_of-kept, is_idle-kept}
 use Rattle.cs_acts.specs.declared.act.Full.{Full as Why}
 use Rattle.cs_acts.specs.declared.act.Full.TheVariants.{Heap, Stack}
 use Rattle.cs_acts.specs.Full.{CausesFull}
-use Rattle.cs_acts.specs.Layout.{IsLaidOut, Layout}
+use Rattle.cs_acts.specs.Layout.{IsFresh, IsLaidOut, Layout}
 use Rattle.cs_model.specs.Demand.{words_in}
 use Rattle.cs_acts.specs.Names.{Store}
 use Rattle.cs_acts.specs.Ready.{IsReady, IsSound}
@@ -35,7 +35,7 @@ use Rattle.cs_core.specs.declared.run.Ran.{Ran as Report}
 use Rattle.cs_core.specs.Stepped.{StepGives, run_at, state_at, step_at}
 use Rattle.cs_core.proofs.Growing.{part_of_more, run_writes}
 use Rattle.cs_core.specs.declared.run.RunError.TheVariants.{Full, WriteFault}
-use Rattle.cs_core.specs.Deep.{AllBegun, IsFresh, run_of}
+use Rattle.cs_core.specs.Deep.{AllBegun, run_of}
 use Rattle.cs_core.specs.Running.{HasNoRoom, RunGives, RunFails, ending_of, ending_at_rest, place_by}
 use Rattle.cs_core.proofs.Deepening.{begun_at_start, begun_on, is_deep}
 use Rattle.cs_core.proofs.Laying.{state_words_kept}

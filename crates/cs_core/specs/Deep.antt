@@ -37,8 +37,3 @@ pub record IsDeep (k : Kept) (n : ℕ) : Type 0 where
 abbrev pub AllBegun : Kept → ℕ → Option Layout → Type 0
 AllBegun k n None = Unit {0}
 AllBegun k n (Some l) = (birth : ℕ) → is_frame birth l.pages ≡ true → HasBegun k n birth
-
--- at the beginning of a run no context but the active one has a frame
-abbrev pub IsFresh : Kept → Option Layout → Type 0
-IsFresh k None = Unit {0}
-IsFresh k (Some l) = (birth : ℕ) → is_frame birth l.pages ≡ true → k.rest.active ≡ Some birth

@@ -4,10 +4,9 @@ ghost use Rattle.cs_model.specs.Due.{is_idle};
 ghost use Rattle.cs_model.specs.Read.{IsRunning};
 ghost use Rattle.cs_model.specs.Ref.{birth_of};
 ghost use Rattle.cs_model.specs.Report.{no_place, place_of};
-ghost use Rattle.cs_acts.specs.Layout.{IsLaidOut};
+ghost use Rattle.cs_acts.specs.Layout.{IsFresh, IsLaidOut};
 ghost use Rattle.cs_acts.specs.Names.{IsNamed, name_of};
 ghost use Rattle.cs_acts.specs.Ready.{IsSound};
-ghost use Rattle.cs_core.specs.Deep.{IsFresh};
 ghost use Rattle.cs_core.specs.Running.{CausedByFault, RunFails, RunGives, ending_at_rest, ending_of, place_by};
 
 use crate::step::{BIRTH_LIMIT, StepEnd, step};
