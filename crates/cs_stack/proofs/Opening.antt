@@ -26,7 +26,9 @@ use Rattle.cs_model.specs.Read.{IsRunning}
 use Rattle.cs_model.specs.Due.{is_idle, is_idle_at}
 use Rattle.cs_model.specs.Settle.{open_if, open_kept}
 use Rattle.cs_stack.specs.declared.parts.Parts.{Parts}
-use Rattle.cs_stack.specs.View.{frames_onto, page_of, view_of}
+use Rattle.cs_classes.specs.declared.Loaded.{Loaded}
+use Rattle.cs_frame.specs.Page.{frames_of}
+use Rattle.cs_stack.specs.View.{frames_onto, loaded_kept, page_of, view_of}
 use Rattle.cs_stack.specs.Good.{IsGood, PcFits}
 use Rattle.cs_stack.specs.Moved.{taken_of}
 use Rattle.cs_stack.proofs.Tops.{view_at}
@@ -91,3 +93,17 @@ opened_good heap table roots pages order frames whole within most births pcs one
       order = refl;
       frames = tt;
     }))
+
+-- ---- the state of a loaded image
+
+pub opened_view : (loaded : Loaded) (pages : ℕ) (order : Order) (frames : List (List Frame)) → pages ≡ 1 → frames ≡ replicate pages []
+    → view_of (record { heap = loaded.heap; classes = loaded.classes; roots = loaded.roots; pages = order; frames = frames }) ≡ loaded_kept loaded
+opened_view loaded pages order frames one are =
+    bare_view (record { heap = loaded.heap; classes = loaded.classes; roots = loaded.roots; pages = order; frames = frames }) (ap (λ ps. frames_of ps 0) (are ∙ ap (λ n. replicate n []) one))
+
+pub opened_runs : (loaded : Loaded) (pages : ℕ) (order : Order) (frames : List (List Frame)) → pages ≡ 1 → frames ≡ replicate pages []
+    → (is_idle (loaded_kept loaded) ≡ false → IsRunning (open_kept (loaded_kept loaded)))
+    → is_idle (view_of (record { heap = loaded.heap; classes = loaded.classes; roots = loaded.roots; pages = order; frames = frames })) ≡ false
+    → IsRunning (open_kept (view_of (record { heap = loaded.heap; classes = loaded.classes; roots = loaded.roots; pages = order; frames = frames })))
+opened_runs loaded pages order frames one are running =
+    subst (λ (k : Kept). is_idle k ≡ false → IsRunning (open_kept k)) (sym (opened_view loaded pages order frames one are)) running

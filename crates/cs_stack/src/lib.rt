@@ -108,6 +108,7 @@ impl StackWorld {
     /// Takes the context of the active process, if one is active.
     #[tactic(auto, unfolding(cs_model::specs::Settle::open_kept))]
     fn open(&mut self)
+        requires sound { IsSound (stored_of self.old) (view_of self.old) }
         requires closed { page_of self.old ≡ [] }
         requires running { is_idle (view_of self.old) ≡ false → IsRunning (open_kept (view_of self.old)) }
         ensures view { view_of self.new ≡ open_kept (view_of self.old) }
