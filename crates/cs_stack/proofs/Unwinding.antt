@@ -50,7 +50,7 @@ use Rattle.cs_stack.proofs.Leaving.{Target, tell}
 abbrev pub order_by : List Frame → Order
 order_by fs = record { total = 1; recent = used_pages fs }
 
-kind_address : (w a : ℕ) → kind_of w ≡ kind.Object a → a ≡ w
+pub kind_address : (w a : ℕ) → kind_of w ≡ kind.Object a → a ≡ w
 kind_address w a e = go (w % 2 == 1) (w % 4 == 2) (w % 8 == 0) e
   where
     go : (p q r : Bool) → (if p then kind.Small (small_value w) else (if q then kind.Character (w / 4) else (if r then kind.Object w else kind.Link w))) ≡ kind.Object a → a ≡ w
