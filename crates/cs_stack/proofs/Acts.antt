@@ -153,10 +153,10 @@ bare : (os : List Object) (next a : ℕ) (x : Object) (fs : List Frame) → IsSo
 bare os next a x [] sound fit there free = tt
 bare os next a x (f ∷ []) sound fit there free = (
   λ e.
-    let home = fit.0.home.0 in
-    let same : birth_of os f.context ≡ birth_of os a = birth_of-object_at os f.context home.object home.there ∙ home.birth_is ∙ sym e ∙ sym (birth_of-object_at os a x there) in
-    let is : f.context ≡ a = same_births os f.context a sound (is_object-object_at os f.context home.object home.there) (is_object-object_at os a x there) same in
-    elim (eqb_tells f.context a) [ inl t ↦ let no : true ≡ false = sym t.0 ∙ free in absurd (cc) | inr t ↦ absurd (t.1 is) ],
+      let home = fit.0.home.0 in
+      let same : birth_of os f.context ≡ birth_of os a = birth_of-object_at os f.context home.object home.there ∙ home.birth_is ∙ sym e ∙ sym (birth_of-object_at os a x there) in
+      let is : f.context ≡ a = same_births os f.context a sound (is_object-object_at os f.context home.object home.there) (is_object-object_at os a x there) same in
+      elim (eqb_tells f.context a) [ inl t ↦ let no : true ≡ false = sym t.0 ∙ free in absurd (cc) | inr t ↦ absurd (t.1 is) ],
   tt,
 )
 bare os next a x (f ∷ g ∷ gs) sound fit there free = (
@@ -309,8 +309,7 @@ module _ {w : Parts} {p at : ℕ} (good : IsGood w) (a : FrameAct w p at) where
   unfolding frame_context
   base_frame (h ∷ hs) e base v is = absurd (let b = subst (λ fs. suc (index_of fs at) ≡ length fs) frames_are base in omega (arith, b, a.begins_at.count, ap length e))
   base_frame [] e base v is =
-      let fits : FrameFits w.heap.objects w.roots.next_birth f [] = subst (FrameFits w.heap.objects w.roots.next_birth f) e a.fits in
-      (
+      let fits : FrameFits w.heap.objects w.roots.next_birth f [] = subst (FrameFits w.heap.objects w.roots.next_birth f) e a.fits in (
         ap (is_reference w.heap.objects) is ∙ fits.home.1,
         reads_sender frame_reads ∙ ap (λ es. context_birth (view_of w) (frame_context w.heap.objects f es).sender) e ∙ ap (λ n. context_birth (view_of w) (ref_of w.heap.objects n)) (sym is),
       )

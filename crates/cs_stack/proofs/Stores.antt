@@ -243,8 +243,7 @@ module _ (s : Store) (o i v : ℕ) (can : Storable s o i v) (whole : IsWhole s.m
   pub fits_kept : (next : ℕ) (fs : List Frame) → FramesFit old next fs → FramesFit new next fs
   fits_kept next [] fit = tt
   fits_kept next (f ∷ fs) fit =
-      let h = fit.0 in
-      (
+      let h = fit.0 in (
         record {
           names = record {
             closure = ap (λ p. p f.closure) sound ∙ h.names.closure;
@@ -322,7 +321,7 @@ module _ (w : Parts) (good : IsGood w) (o i x : ℕ) (can : Storable (stored_of 
       onto_kept (stored_of w) o i x can good.whole w.roots.next_birth fs (objects_of us) good.frames
       ∙ ap (frames_onto w.heap.objects fs) (objects_new (stored_of w) o i x can good.whole ∙ ap (insert (objects_of w.heap.objects) can.x.birth) can.means)
       ∙ onto_insert w.heap.objects fs (objects_of w.heap.objects) can.x.birth (changed was)
-        (plain_lacks w.heap.objects w.roots.next_birth can.x.birth was fs good.whole.heap good.frames (meaning_there w.heap.objects o can.x good.whole.heap can.there) (no_context (ref_of w.heap.objects) can.x can.other))
+      (plain_lacks w.heap.objects w.roots.next_birth can.x.birth was fs good.whole.heap good.frames (meaning_there w.heap.objects o can.x good.whole.heap can.there) (no_context (ref_of w.heap.objects) can.x can.other))
 
   pub stored_into : StoredInto w (with_heap w (record w.heap { objects = us })) o i x
   unfolding put

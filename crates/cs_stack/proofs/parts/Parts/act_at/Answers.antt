@@ -1,4 +1,4 @@
-use Rattle.std.proofs.Common.{ap, is_some, refl, subst, sym, ◌≡◌, ◌∙◌, true, false, not}
+use Rattle.std.proofs.Common.{ap, is_some, refl, subst, sym, ◌≡◌, ◌∙◌, not}
 use Rattle.cs_acts.specs.Targets.{is_gone}
 use Rattle.cs_stack.specs.View.{act_of}
 use Rattle.cs_stack.proofs.Bases.{here_context, here_frame, names_base, names_free, names_none, names_some}

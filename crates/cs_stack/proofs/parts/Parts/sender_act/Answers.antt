@@ -1,4 +1,4 @@
-use Rattle.std.proofs.Common.{ap, arith, refl, subst, sym, ◌∙◌, IsSome}
+use Rattle.std.proofs.Common.{ap, arith, refl, subst, ◌∙◌, IsSome}
 use Rattle.cs_stack.specs.View.{act_of}
 use Rattle.cs_stack.proofs.Acts.{answers, context_act, context_sender, if_some, slot_named, slot_within}
 use Rattle.cs_stack.proofs.parts.Parts.sender_act.Goals as goal
