@@ -1,16 +1,14 @@
 -- Opening an image: a loaded image is a good world without frames.
-use Rattle.std.proofs.Common.{◌≡◌, ◌≢◌, ℕ, ◌≤◌, Bool, true, false, refl, sym, ap, subst, ◌∙◌, Option, Some, None, List, [], ◌∷◌, replicate, option_map, arith}
+use Rattle.std.proofs.Common.{◌≡◌, ℕ, ◌≤◌, true, false, refl, sym, ap, subst, ◌∙◌, Option, Some, None, List, [], ◌∷◌, replicate, arith}
 use Rattle.std.specs.Prelude.{slice_get, slice_index, if◌then◌else◌}
 use Rattle.std.specs.Ordering.{nat_cmp}
 use Rattle.std.specs.FinMap.{FinMap, get}
-use Rattle.std.proofs.lemmas.List.Elements.{All-get_or}
-use Rattle.cs_word.specs.declared.Oop.{Oop}
 use Rattle.cs_word.specs.declared.Kind.{Kind}
 use Rattle.cs_word.specs.declared.Kind.TheVariants as kind
 use Rattle.cs_word.specs.Word.{kind_of}
-use Rattle.cs_heap.specs.Object.{Memory, Object, birth_of, is_object, object_at, used}
+use Rattle.cs_heap.specs.Object.{Memory, Object, used}
 use Rattle.cs_classes.specs.declared.Roots.{Roots}
-use Rattle.cs_classes.specs.Meaning.{context_of, count_of, is_context, kept_of, meaning_at, obj_of, objects_of, ref_of, ref_of_kind}
+use Rattle.cs_classes.specs.Meaning.{context_of, count_of, is_context, kept_of, meaning_at, objects_of, ref_of, ref_of_kind}
 use Rattle.cs_classes.specs.Sound.{IsSound, IsWhole, is_reference, is_reference_kind}
 use Rattle.cs_classes.proofs.Objects.{get-objects_of, get-objects_of-element}
 use Rattle.cs_classes.proofs.Sorts.{obj_of-context}
@@ -18,7 +16,7 @@ use Rattle.cs_classes.proofs.Sounds.{whole_context}
 use Rattle.cs_frame.specs.Frame.{Frame}
 use Rattle.cs_pages.specs.Order.{Order}
 use Rattle.cs_model.specs.Ref.{Ref}
-use Rattle.cs_model.specs.Obj.{Context, Ctx, Obj, lies_in}
+use Rattle.cs_model.specs.Obj.{Context, Ctx, lies_in}
 use Rattle.cs_model.specs.Context.{lies_if_live}
 use Rattle.cs_model.specs.State as state
 use Rattle.cs_model.specs.State.{Kept, PcLies, active_process, is_nil, object_of}

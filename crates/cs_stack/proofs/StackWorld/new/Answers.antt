@@ -1,11 +1,9 @@
-use Rattle.std.proofs.Common.{◌≡◌, ◌≤◌, ◌∙◌, ℕ, false, None, ap, refl, subst, sym}
+use Rattle.std.proofs.Common.{◌≤◌, ◌∙◌, ap, refl, subst, sym}
 use Rattle.cs_model.specs.Due.{is_idle}
 use Rattle.cs_model.specs.Read.{IsRunning}
 use Rattle.cs_model.specs.Settle.{open_kept}
-use Rattle.cs_model.specs.State.{Kept}
 use Rattle.cs_model.specs.Step.{shape_fault}
-use Rattle.cs_stack.specs.declared.parts.Parts.{Parts}
-use Rattle.cs_stack.specs.View.{loaded_kept, page_of, view_of}
+use Rattle.cs_stack.specs.View.{loaded_kept}
 use Rattle.cs_stack.proofs.Closed.{good_sound}
 use Rattle.cs_stack.proofs.Opening.{opened_good, opened_runs, opened_view}
 use Rattle.cs_stack.proofs.Scheduled.{scheduled}
