@@ -112,3 +112,8 @@ left target ((i ∷ j ∷ is) ∷ pages) = (j ∷ is) ∷ pages
 abbrev pub LaidBy : (List (List ℕ) → List (List ℕ)) → Option Layout → Option Layout → Type 0
 LaidBy f None new = new ≡ None
 LaidBy f (Some l) new = new ≡ Some (with_pages (f l.pages) l)
+
+-- at the beginning of a run no context but the active one has a frame
+abbrev pub IsFresh : Kept → Option Layout → Type 0
+IsFresh k None = Unit {0}
+IsFresh k (Some l) = (birth : ℕ) → is_frame birth l.pages ≡ true → k.rest.active ≡ Some birth

@@ -5,10 +5,12 @@ use Rattle.cs_model.specs.State.{Kept}
 use Rattle.cs_model.specs.Image.{image_of}
 use Rattle.cs_model.specs.Settle.{open_kept}
 use Rattle.cs_model.specs.Line.{Said}
+use Rattle.cs_model.specs.Demand.{words_in}
 use Rattle.cs_model.specs.Step as model
+use Rattle.cs_model.specs.Step.{bytecode}
 use Rattle.cs_model.specs.Report.{report_of}
 use Rattle.cs_image.specs.Answer.{HasBirthSection}
-use Rattle.cs_core.specs.Running.{run_of}
+use Rattle.cs_core.specs.Deep.{IsDeep, run_of}
 
 -- the words of 4 bytes that the heap of the machine may have
 abbrev pub heap_limit : ℕ
@@ -86,9 +88,30 @@ Printed a out status =
     ((status ≡ a.status) × Appends out.old out.new a.text)
     ⊎ ((status ≡ write_failed) × Rose out.before out.behind × AppendsPart out.old out.new a.text)
 
--- n bytecodes from k are run and reported
-abbrev pub Reported : Kept → ℕ → Writing → ℕ → Type 0
-Reported k n out status = Printed (run_answer (run_of k n)) out status
+-- ---- a run
+
+-- so many of n bytecodes from k are done, and another one is to be done
+pub record IsUnderWay (k : Kept) (n done : ℕ) : Type 0 where
+  pub fewer : done < n
+  pub ending : (run_of k done).ending ≡ model.Steps
+
+-- the answers of a run that finds no room then: what it wrote, and for a full stack a line right behind that
+abbrev pub full_heap : Kept → ℕ → Answer
+full_heap k done = answering 5 (run_of k done).state.run.output
+
+abbrev pub full_stack : Kept → ℕ → Answer
+full_stack k done = answering 10 ((run_of k done).state.run.output ++ codes "cogstack: stack\n")
+
+-- n bytecodes from k are run and reported; or the state that the next one leads to has more words than the heap's limit; or the
+-- contexts that have begun in the run and await a return need more than 3,900 words of the stack
+pub data Reported (k : Kept) (n : ℕ) (out : Writing) (status : ℕ) : Type 0 where
+  ended : Printed (run_answer (run_of k n)) out status → Reported k n out status
+  heap : (done limit : ℕ) → IsUnderWay k n done → limit < words_in (bytecode (run_of k done).state).out.state → Printed (full_heap k done) out status → Reported k n out status
+  stack : (done : ℕ) → IsUnderWay k n done → IsDeep k done → Printed (full_stack k done) out status → Reported k n out status
+
+-- or memory is wanted before the run begins
+abbrev pub Begun : Kept → ℕ → Writing → ℕ → Type 0
+Begun k n out status = Reported k n out status ⊎ Printed no_memory out status
 
 -- ---- images
 

@@ -4,18 +4,21 @@ ghost use Rattle.std.specs.Prelude.{◌≡◌, ◌≤◌, ℕ, List, false, OnEr
 ghost use Rattle.cs_model.specs.Due.{is_idle};
 ghost use Rattle.cs_model.specs.Line.{line_of};
 ghost use Rattle.cs_model.specs.Read.{IsRunning};
+ghost use Rattle.cs_acts.specs.Layout.{IsFresh};
 ghost use Rattle.cs_acts.specs.Ready.{IsSound};
 ghost use Rattle.cs_core.specs.Running.{ending_of};
-ghost use Rattle.cs_plain.specs.View.{stored_of, view_of};
+ghost use Rattle.cs_stack.specs.View.{layout_of, stored_of, view_of};
 ghost use Rattle.cs_shelf.specs.Outside.{Appends, AppendsPart, Rose};
-ghost use Rattle.cs_cli.specs.Answer.{Answered, Printed, Reported, answering, failed_read, read_text, run_status};
+ghost use Rattle.cs_cli.specs.Answer.{Answered, Begun, Printed, Reported, answering, failed_read, read_text, run_status};
 ghost use Rattle.cs_cli.specs.Opening.{Opens};
 
 use crate::line::parse;
 use crate::report::report;
-use cs_core::run::{Ending, run};
+use cs_acts::Full;
+use cs_core::run::{Ending, RunError, run};
 use cs_image::{ImageError, load};
-use cs_plain::PlainWorld;
+use cs_send::Sender;
+use cs_stack::StackWorld;
 use cs_shelf::{Failed, ReadError, Shelf, Sink, read_whole, write_whole};
 use std::alloc::Global;
 
@@ -25,6 +28,9 @@ const LONGEST_IMAGE: usize = 536_870_912;
 /// The heap limit, in words of 4 bytes.
 const HEAP_LIMIT: u32 = 16_777_216;
 
+/// The pages of the stack.
+const STACK_PAGES: u32 = 1;
+
 /// The statuses of the program.
 const STOPPED: u8 = 1;
 
@@ -32,11 +38,15 @@ const BAD_LINE: u8 = 2;
 
 const BAD_IMAGE: u8 = 3;
 
+const HEAP_FULL: u8 = 5;
+
 const READ_FAILED: u8 = 6;
 
 const WRITE_FAILED: u8 = 7;
 
 const NO_MEMORY: u8 = 8;
+
+const STACK_FULL: u8 = 10;
 
 /// Why no run begins.
 #[derive(Clone, Copy)]
@@ -65,7 +75,7 @@ pub fn cogstack<S: Shelf, K: Sink>(
         return print(out, BAD_LINE, "cogstack: line\n");
     };
     match open(alloc, shelf, line.file) {
-        Ok(world) => run_and_report(world, line.steps, out),
+        Ok(world) => begin(alloc, world, line.steps, out),
         Err(Refusal::Image) => print(out, BAD_IMAGE, "cogstack: image Refused\n"),
         Err(Refusal::Read) => print_read(out, line.file),
         Err(Refusal::Memory) => print(out, NO_MEMORY, "cogstack: memory\n"),
@@ -107,7 +117,7 @@ fn write_read<K: Sink>(out: &mut K, name: &str) -> Result<(), Failed>
 }
 
 /// Reads, loads and opens an image.
-fn open<S: Shelf>(alloc: Global, shelf: &mut S, file: &str) -> Result<PlainWorld, Refusal>
+fn open<S: Shelf>(alloc: Global, shelf: &mut S, file: &str) -> Result<StackWorld, Refusal>
     requires name { length file.now ≤ 4096 }
     ensures opens { Opens file.now (record { content = S.content shelf.old; before = S.fault_count shelf.old; behind = S.fault_count shelf.new; last = S.last_fault shelf.new }) result }
     ensures contents { (name : List ℕ) → S.content shelf.new name ≡ S.content shelf.old name }
@@ -119,7 +129,7 @@ fn open<S: Shelf>(alloc: Global, shelf: &mut S, file: &str) -> Result<PlainWorld
         Err(ReadError::NoMemory) => return Err(Refusal::Memory),
     };
     match load(alloc, bytes.as_slice(), HEAP_LIMIT) {
-        Ok(loaded) => match PlainWorld::new(alloc, loaded) {
+        Ok(loaded) => match StackWorld::new(alloc, loaded, STACK_PAGES) {
             Ok(world) => Ok(world),
             Err(_) => Err(Refusal::Memory),
         },
@@ -130,19 +140,39 @@ fn open<S: Shelf>(alloc: Global, shelf: &mut S, file: &str) -> Result<PlainWorld
     }
 }
 
-/// Runs an image, and reports where it comes to.
-fn run_and_report<K: Sink>(world: PlainWorld, steps: u64, out: &mut K) -> u8
+/// Runs an image, where memory for what sends its messages is had.
+fn begin<K: Sink>(alloc: Global, world: StackWorld, steps: u64, out: &mut K) -> u8
     requires sound { IsSound (stored_of world) (view_of world) }
     requires running { is_idle (view_of world) ≡ false → IsRunning (view_of world) }
+    requires fresh { IsFresh (view_of world) (layout_of world) }
+    ensures { Begun (view_of world) steps
+        (record { old = K.taken out.old; new = K.taken out.new; before = K.fault_count out.old; behind = K.fault_count out.new }) result }
+{
+    match Sender::new(alloc) {
+        Ok(sender) => run_and_report(world, sender, steps, out),
+        Err(_) => print(out, NO_MEMORY, "cogstack: memory\n"),
+    }
+}
+
+/// Runs an image, and reports where it comes to.
+fn run_and_report<K: Sink>(world: StackWorld, sender: Sender, steps: u64, out: &mut K) -> u8
+    requires sound { IsSound (stored_of world) (view_of world) }
+    requires running { is_idle (view_of world) ≡ false → IsRunning (view_of world) }
+    requires fresh { IsFresh (view_of world) (layout_of world) }
     ensures { Reported (view_of world) steps
         (record { old = K.taken out.old; new = K.taken out.new; before = K.fault_count out.old; behind = K.fault_count out.new }) result }
 {
     let mut world = world;
-    let Ok(ran) = run(&mut world, steps, out) else {
-        return WRITE_FAILED;
-    };
-    let text = report(ran.ending, ran.steps, &ran.place);
-    print(out, status_of(ran.ending), text.as_str())
+    let mut sender = sender;
+    match run(&mut world, &mut sender, steps, out) {
+        Ok(ran) => {
+            let text = report(ran.ending, ran.steps, &ran.place);
+            print(out, status_of(ran.ending), text.as_str())
+        }
+        Err(RunError::Full(Full::Heap)) => HEAP_FULL,
+        Err(RunError::Full(Full::Stack)) => print(out, STACK_FULL, "cogstack: stack\n"),
+        Err(RunError::WriteFault) => WRITE_FAILED,
+    }
 }
 
 /// The status of a run that ends so.

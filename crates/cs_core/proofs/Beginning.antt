@@ -4,33 +4,34 @@ use Rattle.std.specs.Prelude.{◌&&◌, if◌then◌else◌, slice_index}
 use Rattle.std.proofs.lemmas.Bool.Decides.{nat_tests}
 use Rattle.cs_word.specs.declared.Oop.{Oop}
 use Rattle.cs_classes.specs.declared.Roots.{Roots}
+use Rattle.cs_model.specs.declared.stop.Stop.TheVariants as why
 use Rattle.cs_model.specs.declared.instruction.Instr.{Instr}
 use Rattle.cs_model.specs.declared.instruction.Op.{Op}
-use Rattle.cs_model.specs.Ref.{Ref}
 use Rattle.cs_model.specs.Obj.{Obj, Ptr, Raw, Method, Ctx, bytecodes_in, first_pc, lies_in, literals_in}
 use Rattle.cs_model.specs.State.{Kept}
 use Rattle.cs_model.specs.Keeps.{Keeps}
 use Rattle.cs_model.specs.Alike.{Alike, IsHeldIf}
-use Rattle.cs_model.specs.Read.{IsRunning, bytecodes_of, literals_of, method_of, pc_of}
+use Rattle.cs_model.specs.Read.{IsRunning, method_of, pc_of}
 use Rattle.cs_model.specs.Operation.{set_pc_of}
 use Rattle.cs_model.specs.Decode.{decode_at, len_of, op_of}
 use Rattle.cs_model.specs.Exec.{exec}
 use Rattle.cs_model.specs.End as ends
-use Rattle.cs_model.specs.End.{End, Out}
-use Rattle.cs_model.specs.Step.{birth_limit, instruction_at, return_in}
-use Rattle.cs_model.specs.Built.{is_built_byte}
+use Rattle.cs_model.specs.End.{End, Out, stop}
+use Rattle.cs_model.specs.Step.{birth_limit, instruction_at}
+use Rattle.cs_model.specs.Built.{is_built_op}
+use Rattle.cs_model.proofs.Building.{is_built_op_same}
 use Rattle.cs_model.proofs.Keeping.{Keeps-trans}
+use Rattle.cs_model.proofs.Same.{equal}
 use Rattle.cs_model.proofs.Executing.{exec_alike}
 use Rattle.cs_acts.specs.Names.{IsNamed, Store, name_of}
 use Rattle.cs_acts.specs.Ready.{Holds, IsSound}
 use Rattle.cs_acts.proofs.Held.{named_held}
 use Rattle.cs_code.specs.Built.{built_exec}
-use Rattle.cs_core.proofs.Thin.{Thin, thin_built, thin_instruction, thin_stays}
-use Rattle.cs_core.proofs.Turning.{Begins, effect}
+use Rattle.cs_core.proofs.Turning.{effect, past}
 
 -- ---- births
 
-next_is : (s : Store) (k : Kept) → IsSound s k → k.rest.next ≡ s.roots.next_birth
+pub next_is : (s : Store) (k : Kept) → IsSound s k → k.rest.next ≡ s.roots.next_birth
 next_is s k h = ap (λ r. r.next) (sym h.holds.rest)
 
 beyond : (n m : ℕ) → 4611686018427387840 < n → m ≡ n → nat_lt birth_limit m ≡ true
@@ -44,11 +45,6 @@ births_beyond s k r h is more = beyond r.next_birth k.rest.next more (next_is s 
 
 pub births_left : (s : Store) (k : Kept) (r : Roots) → IsSound s k → r ≡ s.roots → r.next_birth ≤ 4611686018427387840 → nat_lt birth_limit k.rest.next ≡ false
 births_left s k r h is few = within r.next_birth k.rest.next few (next_is s k h ∙ ap (λ x. x.next_birth) (sym is))
-
--- ---- the byte
-
-pub byte_is : {o p : Option ℕ} {a b : Bool} → o ≡ p → a ≡ is_built_byte o → a ≡ b → is_built_byte p ≡ b
-byte_is e f h = sym (ap is_built_byte e) ∙ sym f ∙ h
 
 -- ---- the pc behind an instruction
 
@@ -102,31 +98,28 @@ lies_behind k i h e = lies_past (method_of k) (pc_of k) i h.method e
 
 -- ---- what the instruction did
 
-pub record Executed (k : Kept) (i : Instr) (v : Kept) (e : End) : Type 0 where
-  pub end : (effect k i).end ≡ e
-  pub keeps : Keeps v (effect k i).state
+-- it is built, and this is how it ends and a state that is kept by what it leaves; or it isn't, and stops
+pub data Executed (k : Kept) (i : Instr) (v : Kept) (e : End) : Type 0 where
+  did : is_built_op i.op (past k i) ≡ true → (effect k i).end ≡ e → Keeps v (effect k i).state → Executed k i v e
+  did_not : is_built_op i.op (past k i) ≡ false → e ≡ ends.Stopped why.NotBuilt → Executed k i v e
 
-thin : (k : Kept) (i : Instr) → Begins k i → Thin i.op
-unfolding instruction_at
-thin k i h = thin_instruction (bytecodes_of k) (pc_of k - first_pc (literals_of k)) i h.byte h.instruction
-
-pub executed : (k u v : Kept) (i : Instr) (pc : ℕ) (e : End) → Begins k i → pc ≡ pc_of k + i.len → ((m : Kept) → Keeps k m → Keeps u (set_pc_of m pc)) → Keeps k k
+pub executed : (k u v : Kept) (i : Instr) (pc : ℕ) (e : End) → pc ≡ pc_of k + i.len → ((m : Kept) → Keeps k m → Keeps u (set_pc_of m pc)) → Keeps k k
     → e ≡ (built_exec i.op u).end → Keeps v (built_exec i.op u).state → Executed k i v e
-executed k u v i pc e h at moved closed end keeps =
-    let start : Keeps u (set_pc_of k (pc_of k + i.len)) = subst (λ n. Keeps u (set_pc_of k n)) at (moved k closed) in
-    let a : Alike u (exec i.op u) (effect k i) = exec_alike i.op start in
-    let is : built_exec i.op u ≡ exec i.op u = thin_built i.op u (thin k i h) in
-    record {
-      end = sym a.end ∙ ap (λ (o : Out). o.end) (sym is) ∙ sym end;
-      keeps = Keeps-trans (subst (λ (o : Out). Keeps v o.state) is keeps) a.keeps;
-    }
+unfolding built_exec
+executed k u v i pc e at moved closed end keeps = go (is_built_op i.op u) refl end keeps
+  where
+    start : Keeps u (past k i)
+    start = subst (λ n. Keeps u (set_pc_of k n)) at (moved k closed)
 
--- it doesn't return
-pub never_returns : (k : Kept) (i : Instr) (x : Ref) (local : Bool) → Begins k i → (effect k i).end ≡ ends.Return x local → ⊥
-never_returns k i x local h e =
-    let stays : return_in (effect k i).end ≡ None = thin_stays i.op (set_pc_of k (pc_of k + i.len)) (thin k i h) in
-    let none : return_in (ends.Return x local) ≡ None = sym (ap return_in e) ∙ stays in
-    cc
+    a : Alike u (exec i.op u) (effect k i)
+    a = exec_alike i.op start
+
+    built : is_built_op i.op (past k i) ≡ is_built_op i.op u
+    built = equal (is_built_op_same start i.op)
+
+    go : (b : Bool) → is_built_op i.op u ≡ b → e ≡ (if b then exec i.op u else stop why.NotBuilt u).end → Keeps v (if b then exec i.op u else stop why.NotBuilt u).state → Executed k i v e
+    go true h end keeps = did (built ∙ h) (sym a.end ∙ sym end) (Keeps-trans keeps a.keeps)
+    go false h end keeps = did_not (built ∙ h) end
 
 -- ---- what a message names
 

@@ -1,6 +1,6 @@
 -- What a run has written stays in front of what it writes later.
-use Rattle.std.proofs.Common.{◌≡◌, ℕ, zero, suc, ◌+◌, ◌-◌, ◌<◌, ◌≤◌, Bool, true, false, refl, sym, ap, subst, ◌∙◌, arith, Option, Some, None, List, length, [], ◌++◌, nat_lt, option_and_then}
-use Rattle.std.specs.Prelude.{◌==◌, ◌&&◌, ◌||◌, if◌then◌else◌, not, slice_get}
+use Rattle.std.proofs.Common.{◌≡◌, ℕ, zero, suc, ◌+◌, ◌<◌, ◌≤◌, Bool, true, false, refl, sym, ap, subst, ◌∙◌, arith, Option, Some, None, List, length, [], ◌∷◌, ◌++◌, nat_lt, option_and_then}
+use Rattle.std.specs.Prelude.{◌==◌, ◌&&◌, ◌||◌, if◌then◌else◌, not}
 use Rattle.std.proofs.lemmas.List.{append-nil, append_assoc, length-append, take-append-le}
 use Rattle.cs_shelf.specs.Outside.{Appends, AppendsPart}
 use Rattle.std.proofs.lemmas.Bool.Decides.{nat_tests}
@@ -8,28 +8,27 @@ use Rattle.cs_model.specs.declared.stop.Stop.{Stop}
 use Rattle.cs_model.specs.declared.stop.Stop.TheVariants as why
 use Rattle.cs_model.specs.declared.instruction.Instr.{Instr}
 use Rattle.cs_model.specs.Ref.{Ref}
-use Rattle.cs_model.specs.Obj.{argument_count, bytecodes_in, first_pc, header_in, primitive_number}
-use Rattle.cs_model.specs.State.{Kept, Run, State, object_of}
-use Rattle.cs_model.specs.Read.{bytecodes_of, depth_of, literals_of, pc_of}
-use Rattle.cs_model.specs.Operation.{set_pc_of}
+use Rattle.cs_model.specs.Obj.{argument_count, bytecodes_in, context_in, header_in, primitive_number}
+use Rattle.cs_model.specs.State.{Kept, Run, State, object_at, object_of}
+use Rattle.cs_model.specs.Read.{active_birth, depth_of, pc_of}
+use Rattle.cs_model.specs.Operation.{cut_to_of, set_pc_of}
 use Rattle.cs_model.specs.Exec.{exec, small_operands}
 use Rattle.cs_model.specs.Lookup.{Sought}
 use Rattle.cs_model.specs.Lookup as sought
-use Rattle.cs_model.specs.Send.{begins_at, invoke, look_from, offer, send, send_found}
+use Rattle.cs_model.specs.Send.{begins_at, enter_out, invoke, look_from, offer, send, send_found}
+use Rattle.cs_model.specs.Return.{arrive, back, cannot_return_out, has_room, is_live, local_out, sender_birth}
 use Rattle.cs_model.specs.End as ends
-use Rattle.cs_model.specs.End.{Count, End, Out, given, no_count, stop}
+use Rattle.cs_model.specs.End.{Count, End, Out, done, given, made_context, no_count, stop}
 use Rattle.cs_model.specs.PrimAnswer.{answer, answer_if, argument, fail, receiver}
 use Rattle.cs_model.specs.Number.{number_result}
 use Rattle.cs_model.specs.PrimRun.{Result, bytes_to_write, fails, result, write_prim, written}
 use Rattle.cs_model.specs.PrimNumber.{number_prim}
 use Rattle.cs_model.specs.PrimTable.{kept_prim, prim}
-use Rattle.cs_model.specs.Decode.{decode_at}
 use Rattle.cs_model.specs.Due.{due, due_of, happened, is_idle, with_events}
 use Rattle.cs_model.specs.Step as step
-use Rattle.cs_model.specs.Step.{Steps, Quit, Idle, Stopped, add_count, bytecode, do_return, go_on, idle, obey, run_by, saved_fault, step}
-use Rattle.cs_core.proofs.Thin.{thin_instruction, thin_stays}
-use Rattle.cs_model.specs.Step.{Ending, Message, Step, birth_limit, completed, do_send, ends_with, finish, finish_of, followed, instruction_at, is_fail, message_in, next_step, primitive_in, return_in, sent, shape_fault, stops, with_kept, arguments_of, tried, try_primitive}
-use Rattle.cs_model.specs.Built.{answers, built_run, built_step, is_built, is_built_at, is_built_bytecode, is_built_byte, is_built_found, is_built_method, is_built_number, is_built_send}
+use Rattle.cs_model.specs.Step.{Steps, Quit, Idle, Stopped, add_count, bytecode, call_in, do_call, do_return, go_on, idle, obey, run_by, saved_fault, step}
+use Rattle.cs_model.specs.Step.{Ending, Message, Step, birth_limit, completed, do_send, ends_with, finish, finish_of, followed, instruction_at, is_fail, message_in, next_step, or_enter, primitive_in, return_in, sent, shape_fault, stops, with_kept, arguments_of, tried, try_performed, try_primitive}
+use Rattle.cs_model.specs.Built.{built_run, built_step, is_built, is_built_bytecode, is_built_found, is_built_from, is_built_method, is_built_number, is_built_op, is_built_out, is_built_return, is_built_send, is_built_target}
 
 -- a run that has written more, and has the same events left
 pub record Writes (r q : Run) : Type 0 where
@@ -99,68 +98,97 @@ built_leaves s args number h = go (number == 1) (number == 900) refl refl h
 
 -- ---- a send
 
-tried_writes : (s : State) (x : Ref) (p : Result) → is_fail p.out.end ≡ false → Leaves s p → Writes s.run (tried s x p).run
-tried_writes s x p holds l =
-    let is : tried s x p ≡ p = rw (holds, l.last) in
-    subst (λ (q : Result). Writes s.run q.run) (sym is) l.writes
+entered_last : (k : Kept) (x : Ref) (args : ℕ) (skip : Bool) → primitive_in (enter_out k x args skip).end ≡ None
+unfolding enter_out made_context
+entered_last k x args skip = refl
 
-primitive_writes : (s : State) (x : Ref) (number args : ℕ) → arguments_of s.kept x ≡ args → (is_built_number (Some number) && answers s args (Some number)) ≡ true → Writes s.run (try_primitive s x number).run
+entered_run : (r : Run) (k : Kept) (x : Ref) (args : ℕ) (skip : Bool) → (sent r (enter_out k x args skip)).run ≡ r
+entered_run r k x args skip =
+    ap (λ p. (given p (result (enter_out k x args skip) r) (λ q. step.counting (enter_out k x args skip).count (try_primitive (with_kept (enter_out k x args skip).state r) q.0 q.1))).run) (entered_last k x args skip)
+
+or_enter_writes : (s : State) (x : Ref) (p : Result) → Writes s.run p.run → Writes s.run (or_enter s x p).run
+or_enter_writes s x p h = go (is_fail p.out.end)
+  where
+    go : (b : Bool) → Writes s.run (if b then result (enter_out s.kept x (arguments_of s.kept x) true) s.run else p).run
+    go true = writes_none s.run
+    go false = h
+
+tried_writes : (s : State) (x : Ref) (p : Result) → Leaves s p → Writes s.run (tried s x p).run
+tried_writes s x p l =
+    subst (λ (o : Option (Ref × ℕ)). Writes s.run (given o (or_enter s x p) (λ q. step.counting p.out.count (try_performed (with_kept p.out.state p.run) q.0 q.1))).run) (sym l.last) (or_enter_writes s x p l.writes)
+
+primitive_writes : (s : State) (x : Ref) (number : ℕ) → is_built_number (Some number) ≡ true → Writes s.run (try_primitive s x number).run
 unfolding try_primitive
-primitive_writes s x number args is h =
-    subst (λ n. Writes s.run (tried s x (prim number n s)).run) (sym is) (go (is_built_number (Some number)) (is_fail (prim number args s).out.end) refl refl h)
-  where
-    go : (a f : Bool) → is_built_number (Some number) ≡ a → is_fail (prim number args s).out.end ≡ f → (a && not f) ≡ true → Writes s.run (tried s x (prim number args s)).run
-    go true false p q t = tried_writes s x (prim number args s) q (built_leaves s args number p)
-    go true true p q t = absurd (cc)
-    go false f p q t = absurd (cc)
+primitive_writes s x number h = tried_writes s x (prim number (arguments_of s.kept x) s) (built_leaves s (arguments_of s.kept x) number h)
 
-method_writes : (r : Run) (k : Kept) (x : Ref) (args : ℕ) → is_built_method (with_kept k r) x args ≡ true → Writes r (sent r (invoke k x args)).run
+method_writes : (r : Run) (k : Kept) (x : Ref) (args : ℕ) → is_built_method k x args ≡ true → Writes r (sent r (invoke k x args)).run
 unfolding invoke
-method_writes r k x args h = go (argument_count (header_in (object_of k x)) == args) refl (primitive_number (header_in (object_of k x)) (bytecodes_in (object_of k x))) h
+method_writes r k x args h = go (argument_count (header_in (object_of k x)) == args) (primitive_number (header_in (object_of k x)) (bytecodes_in (object_of k x))) h
   where
-    go : (b : Bool) → (argument_count (header_in (object_of k x)) == args) ≡ b → (o : Option ℕ) → (if b then is_built_number o && answers (with_kept k r) args o else true) ≡ true
-        → Writes r (sent r (if b then offer k x args o else stop why.BadArgs k)).run
-    go true p None t = absurd (cc)
-    go true p (Some n) t =
-        let is : arguments_of k x ≡ args = grind (arith, nat_tests, p) in
-        primitive_writes (with_kept k r) x n args is t
-    go false p o t = writes_none r
+    go : (b : Bool) (o : Option ℕ) → (if b then is_built_number o else true) ≡ true → Writes r (sent r (if b then offer k x args o else stop why.BadArgs k)).run
+    go true None t = subst (Writes r) (sym (entered_run r k x args false)) (writes_none r)
+    go true (Some n) t = primitive_writes (with_kept k r) x n t
+    go false o t = writes_none r
 
-send_writes : (r : Run) (k : Kept) (m : Message) → is_built_send (with_kept k r) m ≡ true → Writes r (do_send r k m.selector m.args m.above).run
+send_writes : (r : Run) (k : Kept) (m : Message) → is_built_send k m ≡ true → Writes r (do_send r k m.selector m.args m.above).run
 unfolding do_send send
 send_writes r k m h = go (nat_lt m.args (depth_of k)) (look_from k m.selector (begins_at k m.args m.above)) h
   where
-    go : (b : Bool) (l : Sought) → (if b then is_built_found (with_kept k r) m.args l else true) ≡ true
+    go : (b : Bool) (l : Sought) → (if b then is_built_found k m.args l else true) ≡ true
         → Writes r (sent r (if b then send_found k m.selector m.args l else stop why.StackUnder k)).run
     go true (sought.Method x) t = method_writes r k x m.args t
     go true sought.Missing t = absurd (cc)
     go true sought.Loop t = writes_none r
     go false l t = writes_none r
 
+-- ---- a return
+
+-- a built one calls nothing
+arrives_last : (k : Kept) (x : Ref) (o : Option ℕ) → is_built_target k o ≡ true → call_in (arrive k x (active_birth k ∷ []) o).end ≡ None
+arrives_last k x None h = absurd (cc)
+arrives_last k x (Some target) h = go (is_live k target) (target == active_birth k) (has_room (context_in (object_at k target))) h
+  where
+    go : (live same room : Bool) → (live && not same) ≡ true
+        → call_in (if live && not (same || false) then (if room then done (cut_to_of k (active_birth k ∷ []) target x) else stop why.StackOver k) else cannot_return_out k x).end ≡ None
+    go true false true h = refl
+    go true false false h = refl
+    go true true room h = absurd (cc)
+    go false same room h = absurd (cc)
+
+back_last : (k : Kept) (x : Ref) (local : Bool) → is_built_return k local ≡ true → call_in (back k x local).end ≡ None
+unfolding back local_out
+back_last k x true h = arrives_last k x (sender_birth k (active_birth k)) h
+back_last k x false h = absurd (cc)
+
+return_writes : (r : Run) (k : Kept) (x : Ref) (local : Bool) → is_built_return k local ≡ true → Writes r (do_return r k x local).run
+unfolding do_return
+return_writes r k x local h =
+    subst (λ (o : Option (ℕ × ℕ)). Writes r (given o (result (back k x local) r) (λ c. step.counting (back k x local).count (do_call r (back k x local).state c.0 c.1))).run) (sym (back_last k x local h)) (writes_none r)
+
 -- ---- a step
 
-followed_writes : (r : Run) (o : Out) → return_in o.end ≡ None → given (message_in o.end) true (λ m. is_built_send (with_kept o.state r) m) ≡ true → Writes r (followed r o).run
-followed_writes r o stays h = go (message_in o.end) h
+followed_writes : (r : Run) (o : Out) → is_built_out o ≡ true → Writes r (followed r o).run
+followed_writes r o h = go (message_in o.end) (return_in o.end) h
   where
-    none : Writes r (given (return_in o.end) (result o r) (λ p. step.counting o.count (do_return r o.state p.0 p.1))).run
-    none = subst (λ (q : Option (Ref × Bool)). Writes r (given q (result o r) (λ p. step.counting o.count (do_return r o.state p.0 p.1))).run) (sym stays) (writes_none r)
+    go : (m : Option Message) (p : Option (Ref × Bool)) → given m (given p true (λ p. is_built_return o.state p.1)) (λ m. is_built_send o.state m) ≡ true
+        → Writes r (given m (given p (result o r) (λ p. step.counting o.count (do_return r o.state p.0 p.1))) (λ m. step.counting o.count (do_send r o.state m.selector m.args m.above))).run
+    go None None t = writes_none r
+    go None (Some p) t = return_writes r o.state p.0 p.1 t
+    go (Some m) p t = send_writes r o.state m t
 
-    go : (m : Option Message) → given m true (λ m. is_built_send (with_kept o.state r) m) ≡ true
-        → Writes r (given m (given (return_in o.end) (result o r) (λ p. step.counting o.count (do_return r o.state p.0 p.1))) (λ m. step.counting o.count (do_send r o.state m.selector m.args m.above))).run
-    go None t = none
-    go (Some m) t = send_writes r o.state m t
-
-bytecode_writes : (k : Kept) (r : Run) → is_built_bytecode (with_kept k r) ≡ true → Writes r (bytecode (with_kept k r)).run
-unfolding is_built_bytecode bytecode instruction_at
-bytecode_writes k r h = go (is_built_byte (slice_get (bytecodes_of k) (pc_of k - first_pc (literals_of k)))) refl (decode_at (bytecodes_of k) (pc_of k - first_pc (literals_of k))) refl h
+bytecode_writes : (k : Kept) (r : Run) → is_built_bytecode k ≡ true → Writes r (bytecode (with_kept k r)).run
+unfolding is_built_bytecode bytecode
+bytecode_writes k r h = go (instruction_at k) h
   where
-    go : (b : Bool) → is_built_byte (slice_get (bytecodes_of k) (pc_of k - first_pc (literals_of k))) ≡ b → (o : Option Instr) → decode_at (bytecodes_of k) (pc_of k - first_pc (literals_of k)) ≡ o
-        → (b && given o true (λ i. is_built_at (with_kept k r) i)) ≡ true → Writes r (given o (result (stop why.BadCode k) r) (λ i. obey (with_kept k r) i)).run
-    go true p None q t = writes_none r
-    go true p (Some i) q t =
-        let thin = thin_instruction (bytecodes_of k) (pc_of k - first_pc (literals_of k)) i p q in
-        followed_writes r (exec i.op (set_pc_of k (pc_of k + i.len))) (thin_stays i.op (set_pc_of k (pc_of k + i.len)) thin) t
-    go false p o q t = absurd (cc)
+    built : (a b : Bool) → (a && b) ≡ true → b ≡ true
+    built true b h = h
+    built false b h = absurd (cc)
+
+    go : (o : Option Instr) → given o true (λ i. is_built_from (set_pc_of k (pc_of k + i.len)) i.op) ≡ true → Writes r (given o (result (stop why.BadCode k) r) (λ i. obey (with_kept k r) i)).run
+    go None q = writes_none r
+    go (Some i) q =
+        let o = exec i.op (set_pc_of k (pc_of k + i.len)) in
+        followed_writes r o (built (is_built_op i.op (set_pc_of k (pc_of k + i.len))) (is_built_out o) q)
 
 completed_writes : (s : State) (e : Ending) (x : Result) → Writes s.run x.run → Writes s.run (completed s e x).state.run
 completed_writes s e x h = go (shape_fault x.out.state)
@@ -189,12 +217,12 @@ finish_writes s x (ends.Stopped reason) h = writes_none s.run
 -- without events
 bare_writes : (k : Kept) (r : Run) → Writes (with_events [] r) (built_step (with_kept k (with_events [] r))).state.run
 unfolding built_step step due due_of is_built
-bare_writes k r = go (nat_lt birth_limit k.rest.next) (is_idle k) (is_built_bytecode s) refl
+bare_writes k r = go (nat_lt birth_limit k.rest.next) (is_idle k) (is_built_bytecode k) refl
   where
     s : State
     s = with_kept k (with_events [] r)
 
-    go : (births idles built : Bool) → is_built_bytecode s ≡ built
+    go : (births idles built : Bool) → is_built_bytecode k ≡ built
         → Writes s.run (if births || idles || built then (if births then stops s no_count why.BirthLimit else (if idles then idle (happened s) else add_count no_count (finish_of s (bytecode s)))) else stops s no_count why.NotBuilt).state.run
     go true idles built h = writes_none s.run
     go false true built h = writes_none s.run

@@ -3,11 +3,16 @@ mod Lasting
 mod Piecing
 mod Portions
 mod Summing
-pub mod Thin
-pub mod Resolving
-pub mod Places
-pub mod Rolling
+pub mod Laying
 pub mod Turning
+pub mod Carrying
+pub mod Resolving
+pub mod Returning
 pub mod Trying
+pub mod Asking
+pub mod Places
+pub mod Deepening
+pub mod Rolling
 mod Growing
 pub mod Beginning
+pub mod Stepping

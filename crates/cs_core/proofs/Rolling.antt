@@ -11,7 +11,7 @@ use Rattle.cs_model.specs.declared.stop.Stop.TheVariants as why
 use Rattle.cs_model.specs.State.{Kept, Rest, Run, State}
 use Rattle.cs_model.specs.Read.{IsRunning}
 use Rattle.cs_model.specs.Keeps.{Keeps}
-use Rattle.cs_model.specs.Alike.{AlikeStep}
+use Rattle.cs_model.specs.Alike.{AlikeResult, AlikeStep}
 use Rattle.cs_model.specs.End.{End, given, no_count}
 use Rattle.cs_model.specs.End as ends
 use Rattle.cs_model.specs.PrimRun.{Result}
@@ -21,14 +21,24 @@ use Rattle.cs_model.specs.Built.{built_step, is_built, is_built_bytecode}
 use Rattle.cs_model.specs.Report.{no_place, place_of}
 use Rattle.cs_model.proofs.Keeping.{Keeps-trans}
 use Rattle.cs_model.proofs.Building.{built_step_alike}
+use Rattle.cs_model.proofs.Stepping.{bytecode_alike}
 use Rattle.cs_model.proofs.Agreeing.{place_of-kept, is_idle-kept}
+use Rattle.cs_acts.specs.declared.act.Full.{Full as Why}
+use Rattle.cs_acts.specs.declared.act.Full.TheVariants.{Heap, Stack}
+use Rattle.cs_acts.specs.Full.{CausesFull}
+use Rattle.cs_acts.specs.Layout.{IsFresh, IsLaidOut, Layout}
+use Rattle.cs_model.specs.Demand.{words_in}
 use Rattle.cs_acts.specs.Names.{Store}
 use Rattle.cs_acts.specs.Ready.{IsReady, IsSound}
 use Rattle.cs_core.specs.declared.step.StepEnd.TheVariants as how
 use Rattle.cs_core.specs.declared.run.Ran.{Ran as Report}
 use Rattle.cs_core.specs.Stepped.{StepGives, run_at, state_at, step_at}
 use Rattle.cs_core.proofs.Growing.{part_of_more, run_writes}
-use Rattle.cs_core.specs.Running.{RunGives, RunFails, run_of, ending_of, ending_at_rest, place_by}
+use Rattle.cs_core.specs.declared.run.RunError.TheVariants.{Full, WriteFault}
+use Rattle.cs_core.specs.Deep.{AllBegun, run_of}
+use Rattle.cs_core.specs.Running.{HasNoRoom, RunGives, RunFails, ending_of, ending_at_rest, place_by}
+use Rattle.cs_core.proofs.Deepening.{begun_at_start, begun_on, is_deep}
+use Rattle.cs_core.proofs.Laying.{state_words_kept}
 use Rattle.cs_core.proofs.Places.{idle_place}
 
 -- ---- a run that has ended stays
@@ -112,7 +122,7 @@ chosen false false false x y z w h = absurd (cc)
 idle_step : (k : Kept) (output : List ℕ) (steps : ℕ) → is_idle k ≡ true
     → step_at k output steps ≡ (if nat_lt birth_limit k.rest.next then stops (state_at k output steps) no_count why.BirthLimit else idle (happened (state_at k output steps)))
 unfolding built_step is_built step due due_of
-idle_step k output steps h = chosen (nat_lt birth_limit k.rest.next) (is_idle k) (is_built_bytecode (state_at k output steps)) _ _ _ _ h
+idle_step k output steps h = chosen (nat_lt birth_limit k.rest.next) (is_idle k) (is_built_bytecode k) _ _ _ _ h
 
 idle_ending : (s : State) (b : Bool) → (if b then stops s no_count why.BirthLimit else idle (happened s)).ending ≡ (if b then Stopped why.BirthLimit else Idle)
 idle_ending s true = refl
@@ -188,8 +198,8 @@ appends_none : (old : Option (List ℕ)) → Appends old old []
 appends_none None = refl
 appends_none (Some bytes) = ap Some (sym (append-nil bytes))
 
--- i steps are done, and a process is active
-pub record Stands (k : Kept) (old now : Option (List ℕ)) (i : ℕ) (s : Store) (v : Kept) : Type 0 where
+-- i steps are done, a process is active, and all that has a frame has begun
+pub record Stands (k : Kept) (old now : Option (List ℕ)) (i : ℕ) (s : Store) (v : Kept) (l : Option Layout) : Type 0 where
   pub output : List ℕ
   pub ending : (run_of k i).ending ≡ Steps
   pub run : (run_of k i).state.run ≡ run_at output i
@@ -197,9 +207,10 @@ pub record Stands (k : Kept) (old now : Option (List ℕ)) (i : ℕ) (s : Store)
   pub keeps : Keeps v (run_of k i).state.kept
   pub ready : IsReady s v
   pub active : is_idle v ≡ false
+  pub begun : AllBegun k i l
 
-pub begins : (k : Kept) (old : Option (List ℕ)) (s : Store) → IsSound s k → (is_idle k ≡ false → IsRunning k) → is_idle k ≡ false → Stands k old old 0 s k
-begins k old s sound running active = record {
+pub begins : (k : Kept) (old : Option (List ℕ)) (s : Store) (l : Option Layout) → IsSound s k → (is_idle k ≡ false → IsRunning k) → is_idle k ≡ false → IsFresh k l → Stands k old old 0 s k l
+begins k old s l sound running active fresh = record {
   output = [];
   ending = started_ending k;
   run = ap (λ (s : State). s.run) (started_state k);
@@ -207,6 +218,7 @@ begins k old s sound running active = record {
   keeps = subst (λ (s : State). Keeps k s.kept) (sym (started_state k)) sound.closed;
   ready = record { sound = sound; running = running active };
   active = active;
+  begun = begun_at_start k l fresh;
 }
 
 pub begins_idle : (k : Kept) (old : Option (List ℕ)) (n : ℕ) (r : Report) → is_idle k ≡ true → r.steps ≡ 0 → place_by r.place ≡ no_place → ending_of r.ending ≡ ending_at_rest k.rest.next 0 n
@@ -216,10 +228,10 @@ begins_idle k old n r is_none steps place ending =
     rests_gives k old old [] 0 n k.rest.next r within (started_ending k) (ap (λ (s : State). s.run) (started_state k)) (subst (λ (s : State). is_idle s.kept ≡ true) (sym (started_state k)) is_none)
     (ap (λ (s : State). s.kept.rest.next) (started_state k)) (appends_none old) steps place ending
 
-next_alike : {k : Kept} {old now : Option (List ℕ)} {i : ℕ} {s : Store} {v : Kept} → (h : Stands k old now i s v) → AlikeStep v (step_at v h.output i) (built_step (run_of k i).state)
+next_alike : {k : Kept} {old now : Option (List ℕ)} {i : ℕ} {s : Store} {v : Kept} {l : Option Layout} → (h : Stands k old now i s v l) → AlikeStep v (step_at v h.output i) (built_step (run_of k i).state)
 next_alike h = built_step_alike (record { kept = h.keeps; run = sym h.run })
 
-more : {k : Kept} {old now : Option (List ℕ)} {i : ℕ} {s : Store} {v : Kept} → Stands k old now i s v → run_of k (i + 1) ≡ one_more (run_of k i) (built_step (run_of k i).state)
+more : {k : Kept} {old now : Option (List ℕ)} {i : ℕ} {s : Store} {v : Kept} {l : Option Layout} → Stands k old now i s v l → run_of k (i + 1) ≡ one_more (run_of k i) (built_step (run_of k i).state)
 more {k = k} {i = i} h = more_by built_step i (state_at k [] 0) h.ending
 
 -- the step that follows
@@ -228,7 +240,7 @@ record Follows (k : Kept) (i : ℕ) (t : Step) : Type 0 where
   pub run : (run_of k (i + 1)).state.run ≡ t.state.run
   pub keeps : Keeps t.state.kept (run_of k (i + 1)).state.kept
 
-follows : {k : Kept} {old now : Option (List ℕ)} {i : ℕ} {s : Store} {v : Kept} → (h : Stands k old now i s v) → Follows k i (step_at v h.output i)
+follows : {k : Kept} {old now : Option (List ℕ)} {i : ℕ} {s : Store} {v : Kept} {l : Option Layout} → (h : Stands k old now i s v l) → Follows k i (step_at v h.output i)
 follows {i = i} {v = v} h =
     let a = next_alike h in
     let m = more h in
@@ -238,8 +250,8 @@ follows {i = i} {v = v} h =
       keeps = subst (λ (r : Ran). Keeps (step_at v h.output i).state.kept r.state.kept) (sym m) a.state.kept;
     }
 
-pub goes_on : {k : Kept} {old now new : Option (List ℕ)} {i : ℕ} {s t : Store} {v w : Kept} → Stands k old now i s v → StepGives v now new t w how.Active → Stands k old new (i + 1) t w
-goes_on {old = old} {now = now} {new = new} {i = i} h g =
+pub goes_on : {k : Kept} {old now new : Option (List ℕ)} {i : ℕ} {s t : Store} {v w : Kept} {l n : Option Layout} → Stands k old now i s v l → StepGives v l now new t w n how.Active → Stands k old new (i + 1) t w n
+goes_on {k = k} {old = old} {now = now} {new = new} {i = i} {w = w} {l = l} {n = n} h g =
     let f = follows h in
     let done = g.2 h.output i in
     record {
@@ -250,11 +262,12 @@ goes_on {old = old} {now = now} {new = new} {i = i} h g =
       keeps = Keeps-trans (g.3 h.output i) f.keeps;
       ready = g.4;
       active = g.5;
+      begun = begun_on k w i l n (ap (λ (r : Rest). r.active) (sym (Keeps-trans (g.3 h.output i) f.keeps).rest)) h.begun g.6;
     }
 
-pub goes_idle : {k : Kept} {old now new : Option (List ℕ)} {i : ℕ} {s t : Store} {v w : Kept} (n : ℕ) (r : Report) → i < n → Stands k old now i s v → StepGives v now new t w how.Idle
+pub goes_idle : {k : Kept} {old now new : Option (List ℕ)} {i : ℕ} {s t : Store} {v w : Kept} {l : Option Layout} (b : Option Layout) (n : ℕ) (r : Report) → i < n → Stands k old now i s v l → StepGives v l now new t w b how.Idle
     → r.steps ≡ i + 1 → place_by r.place ≡ no_place → ending_of r.ending ≡ ending_at_rest w.rest.next (i + 1) n → RunGives k old new n r
-goes_idle {k = k} {old = old} {now = now} {new = new} {i = i} {w = w} n r below h g steps place ending =
+goes_idle {k = k} {old = old} {now = now} {new = new} {i = i} {w = w} b n r below h g steps place ending =
     let f = follows h in
     let done = g.2 h.output i in
     let none = g.3 h.output i in
@@ -262,9 +275,9 @@ goes_idle {k = k} {old = old} {now = now} {new = new} {i = i} {w = w} n r below 
     rests_gives k old new (h.output ++ g.0) (i + 1) n w.rest.next r within (f.ending ∙ done.0) (f.run ∙ done.1) (is_idle-kept _ _ f.keeps ∙ none.0)
     (sym (ap (λ (r : Rest). r.next) f.keeps.rest) ∙ none.1) (appends_then old now new h.output g.0 h.written g.1) steps place ending
 
-pub goes_no_further : {k : Kept} {old now new : Option (List ℕ)} {i : ℕ} {s : Store} {v : Kept} (t : Store) (w : Kept) (n : ℕ) (r : Report) (reason : Reason) → i < n → Stands k old now i s v → StepGives v now new t w (how.Stopped reason)
+pub goes_no_further : {k : Kept} {old now new : Option (List ℕ)} {i : ℕ} {s : Store} {v : Kept} {l : Option Layout} (t : Store) (w : Kept) (b : Option Layout) (n : ℕ) (r : Report) (reason : Reason) → i < n → Stands k old now i s v l → StepGives v l now new t w b (how.Stopped reason)
     → r.steps ≡ i → place_of v ≡ place_by r.place → ending_of r.ending ≡ Stopped reason → RunGives k old new n r
-goes_no_further {k = k} {old = old} {now = now} {new = new} {i = i} {v = v} t w n r reason below h g steps place ending =
+goes_no_further {k = k} {old = old} {now = now} {new = new} {i = i} {v = v} t w b n r reason below h g steps place ending =
     let f = follows h in
     let m = more h in
     let stopped : (run_of k (i + 1)).ending ≡ Stopped reason = f.ending ∙ g.1 h.output i in
@@ -290,15 +303,15 @@ append_part old now new xs ys h g =
     take-add (length xs) g.0 (xs ++ ys) ∙ ap (λ (zs : List ℕ). zs ++ take g.0 (drop (length xs) (xs ++ ys))) first ∙ ap (λ (zs : List ℕ). xs ++ take g.0 zs) rest in
     (length xs + g.0, below, subst (λ (zs : List ℕ). Appends old new zs) (sym parts) (appends_then old now new xs (take g.0 ys) h g.2))
 
-pub fails : {k : Kept} {old now new : Option (List ℕ)} {i : ℕ} {s : Store} {v : Kept} (t : Store) (w : Kept) (n : ℕ) → i < n → Stands k old now i s v → StepGives v now new t w how.WriteFault → RunFails k old new n
-fails {k = k} {old = old} {now = now} {new = new} {i = i} t w n below h g =
+pub fails : {k : Kept} {old now new : Option (List ℕ)} {i : ℕ} {s : Store} {v : Kept} {l : Option Layout} (t : Store) (w : Kept) (b : Option Layout) (n : ℕ) → i < n → Stands k old now i s v l → StepGives v l now new t w b how.WriteFault → RunFails k t old new n WriteFault
+fails {k = k} {old = old} {now = now} {new = new} {i = i} t w b n below h g =
     let f = follows h in
     let output : (run_of k (i + 1)).state.run.output ≡ h.output ++ g.0 = ap (λ (q : Run). q.output) (f.run ∙ (g.2 h.output i).1) in
     let part : AppendsPart old new (run_of k (i + 1)).state.run.output = subst (λ (bytes : List ℕ). AppendsPart old new bytes) (sym output) (append_part old now new h.output g.0 h.written g.1) in
     let later = run_writes (i + 1) (n - (i + 1)) n (state_at k [] 0) refl (omega (arith, below)) in
     part_of_more old new (run_of k (i + 1)).state.run.output later.more (run_of k n).state.run.output later.output part
 
-pub finishes : {k : Kept} {old now : Option (List ℕ)} {i : ℕ} {s : Store} {v : Kept} (n : ℕ) (r : Report) → i ≡ n → Stands k old now i s v
+pub finishes : {k : Kept} {old now : Option (List ℕ)} {i : ℕ} {s : Store} {v : Kept} {l : Option Layout} (n : ℕ) (r : Report) → i ≡ n → Stands k old now i s v l
     → r.steps ≡ n → place_of v ≡ place_by r.place → ending_of r.ending ≡ Steps → RunGives k old now n r
 finishes {k = k} {old = old} {now = now} {i = i} {v = v} n r all h steps place ending =
     subst (λ (n : ℕ). RunGives k old now n r) all (record {
@@ -307,6 +320,28 @@ finishes {k = k} {old = old} {now = now} {i = i} {v = v} n r all h steps place e
       place = place_of-kept v (run_of k i).state.kept h.keeps ∙ place;
       written = subst (λ (bytes : List ℕ). Appends old now bytes) (sym (ap (λ (q : Run). q.output) h.run)) h.written;
     })
+
+-- ---- no room
+
+pub fills : {k : Kept} {old now new : Option (List ℕ)} {i : ℕ} {s : Store} {v : Kept} {l : Option Layout} (t : Store) (w : Kept) (b : Option Layout) (n : ℕ) (why : Why) → i < n → Stands k old now i s v l → IsLaidOut s v l → StepGives v l now new t w b (how.Full why)
+    → RunFails k t old new n (Full why)
+fills {k = k} {old = old} {now = now} {i = i} {s = s} {v = v} {l = l} t w b n why below h laid g = record {
+  done = i;
+  fewer = below;
+  ending = h.ending;
+  written = subst (λ (o : Option (List ℕ)). Appends old o (run_of k i).state.run.output) (sym g.0) (subst (λ (bytes : List ℕ). Appends old now bytes) (sym (ap (λ (q : Run). q.output) h.run)) h.written);
+  room = room why (g.1 h.output i);
+}
+  where
+    m : State
+    m = (run_of k i).state
+
+    room : (why : Why) → CausesFull t l v 0 (bytecode (state_at v h.output i)).out.state why → HasNoRoom k t i why
+    room Heap c =
+        let a : AlikeResult v (bytecode (state_at v h.output i)) (bytecode (with_kept m.kept (run_at h.output i))) = bytecode_alike h.keeps (run_at h.output i) in
+        let more : words_in (bytecode (state_at v h.output i)).out.state ≤ words_in (bytecode (with_kept m.kept (run_at h.output i))).out.state = state_words_kept _ _ a.out.keeps in
+        subst (λ (r : Run). t.memory.limit < words_in (bytecode (with_kept m.kept r)).out.state) (sym h.run) (omega (arith, c.words, more))
+    room Stack c = is_deep k s v i l h.keeps h.ready laid h.begun c
 
 -- ---- faults
 

@@ -1,53 +1,82 @@
--- What the primitives that are built come to, and a send that offers one.
-use Rattle.std.proofs.Common.{◌≡◌, ℕ, ◌-◌, Bool, true, false, refl, sym, ap, ap₂, subst, ◌∙◌, Option, Some, None, List, length, [], ◌++◌, option_and_then, nat_lt, arith}
-use Rattle.std.specs.Prelude.{◌==◌, ◌&&◌, ◌||◌, if◌then◌else◌, not, slice_get, unwrap_or}
-use Rattle.std.proofs.lemmas.List.{append-nil}
+-- What the built primitives come to.
+use Rattle.std.proofs.Common.{◌≡◌, ℕ, ◌-◌, ◌<◌, Bool, true, false, refl, sym, ap, subst, ◌∙◌, arith, Option, Some, None, List, [], ◌++◌, length, nat_lt, option_and_then, unwrap_or}
+use Rattle.std.specs.Prelude.{◌==◌, if◌then◌else◌, slice_get}
 use Rattle.std.proofs.lemmas.Bool.Decides.{nat_tests}
+use Rattle.std.proofs.lemmas.List.{append-nil}
 use Rattle.cs_shelf.specs.Outside.{Appends, AppendsPart}
 use Rattle.cs_model.specs.declared.stop.Stop.{Stop as Reason}
 use Rattle.cs_model.specs.declared.stop.Stop.TheVariants as why
 use Rattle.cs_model.specs.Ref.{Ref}
 use Rattle.cs_model.specs.State.{Kept, Run, State}
 use Rattle.cs_model.specs.Keeps.{Keeps}
-use Rattle.cs_model.specs.Read.{from_top, stack_of}
+use Rattle.cs_model.specs.Read.{depth_of, stack_of}
 use Rattle.cs_model.specs.Operation.{drop_of, nil_of, push_of}
 use Rattle.cs_model.specs.Exec.{small_operands}
 use Rattle.cs_model.specs.Number.{number_result}
 use Rattle.cs_model.specs.End as ends
-use Rattle.cs_model.specs.End.{out}
+use Rattle.cs_model.specs.End.{Out, made_context}
 use Rattle.cs_model.specs.PrimAnswer.{answer, argument, fail, receiver}
 use Rattle.cs_model.specs.PrimNumber.{number_prim}
 use Rattle.cs_model.specs.PrimRun.{Result, bytes_to_write, fails, result, write_prim}
 use Rattle.cs_model.specs.PrimTable.{kept_prim, prim}
-use Rattle.cs_model.proofs.Same.{option_equal}
-use Rattle.cs_model.proofs.Stepping.{shape_fault_same}
-use Rattle.cs_model.specs.Step.{Message, is_fail, primitive_in, shape_fault, with_kept}
-use Rattle.cs_model.specs.Built.{answers, is_built_number}
+use Rattle.cs_model.specs.Send.{enter_out}
+use Rattle.cs_model.specs.Step.{arguments_of, tried, try_primitive, with_kept}
+use Rattle.cs_model.specs.Built.{is_built_number}
+use Rattle.cs_acts.specs.declared.act.Full.{Full as Why}
+use Rattle.cs_acts.specs.Full.{CausesFull}
+use Rattle.cs_acts.specs.Layout.{Layout}
 use Rattle.cs_acts.specs.Names.{Store}
 use Rattle.cs_acts.specs.Ready.{IsReady}
-use Rattle.cs_send.specs.Resolved.{Offered, Stops, resolve_of}
-use Rattle.cs_core.specs.Stepped.{CausedByFault, EndsBy, AnswersIn, TurnStops, unbuilt, stopped, lost, Turns, TurnGives, run_at, sending, state_at, trying}
+use Rattle.cs_send.specs.Sent.{Enters, Refuses}
+use Rattle.cs_core.specs.Stepped.{CausedByFault, DoneIn, EndsBy, Fails, FramesFrom, IsOver, unbuilt, lost, TurnGives, run_at, state_at, trying}
 use Rattle.cs_core.specs.declared.step.StepEnd.{StepEnd}
-use Rattle.cs_core.specs.declared.step.StepEnd.TheVariants.{Active, Idle, Stopped as Stop, WriteFault}
-use Rattle.cs_core.proofs.Resolving.{IsFinal, IsOffered, IsUnbuilt, offered_send, stopped_send, unbuilt_send}
+use Rattle.cs_core.specs.declared.step.StepEnd.TheVariants.{Active, Idle, Stopped as Stop, Full, WriteFault}
+use Rattle.cs_core.proofs.Laying.{entered_active, entered_frames}
+use Rattle.cs_core.proofs.Turning.{ends_by, ends_quietly, shape_kept}
 
--- ---- what a primitive comes to
+-- ---- what trying comes to
 
-shape_kept : (v m : Kept) → Keeps v m → shape_fault m ≡ shape_fault v
-shape_kept v m k = option_equal (shape_fault_same k)
+-- it answers
+tried_answer : (s : State) (x : Ref) (p : Result) → p.out.end ≡ ends.Answer → tried s x p ≡ p
+tried_answer s x p h = rw h
 
--- where it answered, the scheduler says how the step ends
-ends_by : (f : Turns) (v : Kept) (bytes : List ℕ) (old new : Option (List ℕ)) (s : Store) (e : StepEnd) → AnswersIn f v bytes → IsReady s v → Appends old new bytes → ((reason : Reason) → e ≡ Stop reason → new ≡ old)
-    → EndsBy v e → TurnGives f old new s v e
-ends_by f v bytes old new s Active a ready told same b = (bytes, told, a, ready, b.0, b.1)
-ends_by f v bytes old new s Idle a ready told same b = (bytes, told, a, ready.sound, b.0, b.1)
-ends_by f v bytes old new s (Stop reason) a ready told same b = (
-  same reason refl,
-  λ output steps.
-      let t = a output steps in
-      lost t.built t.end (shape_kept v (f output steps).result.out.state t.state ∙ b),
-)
-ends_by f v bytes old new s WriteFault a ready told same b = absurd b
+-- it fails, and its method is entered
+tried_fail : (s : State) (x : Ref) (p : Result) → p.out.end ≡ ends.Fail → tried s x p ≡ result (enter_out s.kept x (arguments_of s.kept x) true) s.run
+tried_fail s x p h = rw h
+
+answered : (k : Kept) (x : Ref) (number args : ℕ) (output : List ℕ) (steps : ℕ) → arguments_of k x ≡ args → (prim number args (state_at k output steps)).out.end ≡ ends.Answer
+    → try_primitive (state_at k output steps) x number ≡ prim number args (state_at k output steps)
+unfolding try_primitive
+answered k x number args output steps count h =
+    ap (λ n. tried (state_at k output steps) x (prim number n (state_at k output steps))) count ∙ tried_answer (state_at k output steps) x (prim number args (state_at k output steps)) h
+
+failed : (k : Kept) (x : Ref) (number args : ℕ) (output : List ℕ) (steps : ℕ) → arguments_of k x ≡ args → (prim number (arguments_of k x) (state_at k output steps)).out.end ≡ ends.Fail
+    → try_primitive (state_at k output steps) x number ≡ result (enter_out k x args true) (run_at output steps)
+unfolding try_primitive
+failed k x number args output steps count h =
+    tried_fail (state_at k output steps) x (prim number (arguments_of k x) (state_at k output steps)) h ∙ ap (λ n. result (enter_out k x n true) (run_at output steps)) count
+
+-- ---- the method is entered
+
+pub enters_behind : (k v : Kept) (x : Ref) (args number : ℕ) (l n : Option Layout) (told : Option (List ℕ)) (old s : Store) (e : StepEnd) → arguments_of k x ≡ args → Fails k x number → Enters old s l n k v (enter_out k x args true) → EndsBy v e
+    → TurnGives (trying k x number) k l told told s v n e
+enters_behind k v x args number l n told old s e count f h by =
+    ends_quietly (trying k x number) k v l n told s e done h.ready (entered_frames k v k.rest.next l n (entered_active k v x args true h.state) h.laid) by
+  where
+    done : DoneIn (trying k x number) v []
+    done output steps =
+        let is = failed k x number args output steps count (f.end (run_at output steps)) in
+        record {
+          built = f.built;
+          over = subst (λ (p : Result). IsOver p.out.end) (sym is) (subst IsOver (sym h.end) tt);
+          state = subst (λ (p : Result). Keeps v p.out.state) (sym is) h.state;
+          run = ap (λ (p : Result). p.run) is ∙ ap (λ o. run_at o steps) (sym (append-nil output));
+        }
+
+pub full_behind : (k v : Kept) (x : Ref) (args number : ℕ) (l n : Option Layout) (told : Option (List ℕ)) (s : Store) (why : Why) → arguments_of k x ≡ args → Fails k x number → Refuses s l k (enter_out k x args true) why
+    → TurnGives (trying k x number) k l told told s v n (Full why)
+full_behind k v x args number l n told s why count f h =
+    (refl, λ output steps. subst (λ (p : Result). CausesFull s l k 0 p.out.state why) (sym (failed k x number args output steps count (f.end (run_at output steps)))) h.cause)
 
 -- ---- the sum
 
@@ -59,185 +88,115 @@ prim_no_sum : (k : Kept) (r : Run) → option_and_then (λ p. number_result k 1 
 unfolding prim kept_prim number_prim
 prim_no_sum k r h = rw h
 
-nothing_told : (old : Option (List ℕ)) → Appends old old []
-nothing_told None = refl
-nothing_told (Some told) = ap Some (sym (append-nil told))
+sum_else : (k : Kept) (r : Run) (args : ℕ) → (1 == args) ≡ false → (prim 1 args (with_kept k r)).out.end ≡ ends.Fail
+unfolding prim kept_prim number_prim
+sum_else k r args other = rw other
 
-answers_prim : (number : ℕ) (k v : Kept) (x : Ref) (bytes : List ℕ) → is_built_number (Some number) ≡ true
+other_count : (n : ℕ) → (n ≡ 1 → ⊥) → (1 == n) ≡ false
+other_count n h = go (1 == n) refl
+  where
+    go : (b : Bool) → (1 == n) ≡ b → (1 == n) ≡ false
+    go true p = absurd (h (grind (arith, nat_tests, p)))
+    go false p = p
+
+-- with another number of arguments it fails, and where there is no sum
+pub sum_fails_else : (k : Kept) (x : Ref) (args : ℕ) → arguments_of k x ≡ args → (args ≡ 1 → ⊥) → Fails k x 1
+sum_fails_else k x args count other = record { built = refl; end = λ r. ap (λ n. (prim 1 n (with_kept k r)).out.end) count ∙ sum_else k r args (other_count args other) }
+
+pub no_sum_fails : (k : Kept) (x : Ref) (args : ℕ) → arguments_of k x ≡ args → args ≡ 1 → option_and_then (λ p. number_result k 1 p.0 p.1) (small_operands k) ≡ None → Fails k x 1
+no_sum_fails k x args count one h = record { built = refl; end = λ r. ap (λ n. (prim 1 n (with_kept k r)).out.end) (count ∙ one) ∙ ap (λ (p : Result). p.out.end) (prim_no_sum k r h) }
+
+-- a primitive of one argument that answers
+answers_prim : (number : ℕ) (k v : Kept) (method x : Ref) (bytes : List ℕ) → arguments_of k method ≡ 1 → is_built_number (Some number) ≡ true
     → ((output : List ℕ) (steps : ℕ) → prim number 1 (state_at k output steps) ≡ result (answer k 1 x) (run_at (output ++ bytes) steps))
-    → Keeps v (push_of (drop_of k 2) x) → AnswersIn (trying k number) v bytes
+    → Keeps v (push_of (drop_of k 2) x) → DoneIn (trying k method number) v bytes
 unfolding answer
-answers_prim number k v x bytes built is keeps output steps =
+answers_prim number k v method x bytes count built is keeps output steps =
     let e = is output steps in
+    let all : try_primitive (state_at k output steps) method number ≡ result (answer k 1 x) (run_at (output ++ bytes) steps) = answered k method number 1 output steps count (ap (λ (p : Result). p.out.end) e) ∙ e in
     record {
-      built = ap₂ (λ b (p : Result). b && not (is_fail p.out.end)) built e;
-      end = ap (λ (p : Result). p.out.end) e;
-      state = subst (λ (p : Result). Keeps v p.out.state) (sym e) keeps;
-      run = ap (λ (p : Result). p.run) e;
+      built = built;
+      over = subst (λ (p : Result). IsOver p.out.end) (sym all) tt;
+      state = subst (λ (p : Result). Keeps v p.out.state) (sym all) keeps;
+      run = ap (λ (p : Result). p.run) all;
     }
 
-pub sum_gives : (k : Kept) (x : Ref) (s : Store) (v : Kept) (e : StepEnd) (told : Option (List ℕ)) → option_and_then (λ p. number_result k 1 p.0 p.1) (small_operands k) ≡ Some x → Keeps v (push_of (drop_of k 2) x) → IsReady s v
-    → EndsBy v e → TurnGives (trying k 1) told told s v e
-sum_gives k x s v e told h keeps ready by =
-    ends_by (trying k 1) v [] told told s e
-    (answers_prim 1 k v x [] refl (λ output steps. prim_sum k (run_at output steps) x h ∙ ap (λ o. result (answer k 1 x) (run_at o steps)) (sym (append-nil output))) keeps)
-    ready (nothing_told told) (λ reason _. refl) by
-
-pub no_sum : (k : Kept) (s : Store) (v : Kept) (told : Option (List ℕ)) → option_and_then (λ p. number_result k 1 p.0 p.1) (small_operands k) ≡ None → TurnGives (trying k 1) told told s v (Stop why.NotBuilt)
-no_sum k s v told h = (refl, λ output steps. unbuilt (ap (λ (p : Result). true && not (is_fail p.out.end)) (prim_no_sum k (run_at output steps) h)) refl)
+pub sum_gives : (k v : Kept) (method x : Ref) (args : ℕ) (l n : Option Layout) (told : Option (List ℕ)) (s : Store) (e : StepEnd) → arguments_of k method ≡ args → args ≡ 1
+    → option_and_then (λ p. number_result k 1 p.0 p.1) (small_operands k) ≡ Some x → Keeps v (push_of (drop_of k 2) x) → IsReady s v → FramesFrom l n v → EndsBy v e → TurnGives (trying k method 1) k l told told s v n e
+sum_gives k v method x args l n told s e count one h keeps ready frames by =
+    ends_quietly (trying k method 1) k v l n told s e
+    (answers_prim 1 k v method x [] (count ∙ one) refl (λ output steps. prim_sum k (run_at output steps) x h ∙ ap (λ o. result (answer k 1 x) (run_at o steps)) (sym (append-nil output))) keeps)
+    ready frames by
 
 -- ---- output
 
-argument_is : (k : Kept) (y : Ref) → from_top 0 (stack_of k) ≡ Some y → argument k 1 0 ≡ y
-argument_is k y h = ap (λ o. unwrap_or o (nil_of k)) h
+-- the two topmost values
+pub receiver_named : (k : Kept) (i : ℕ) (x : Ref) → i ≡ depth_of k - 2 → x ≡ unwrap_or (slice_get (stack_of k) i) (nil_of k) → receiver k 1 ≡ x
+receiver_named k i x at is = sym (is ∙ ap (λ n. unwrap_or (slice_get (stack_of k) n) (nil_of k)) at)
 
-receiver_is : (k : Kept) (x : Ref) → from_top 1 (stack_of k) ≡ Some x → receiver k 1 ≡ x
-receiver_is k x h = go (nat_lt 1 (length (stack_of k))) h
-  where
-    go : (b : Bool) → (if b then slice_get (stack_of k) (length (stack_of k) - 2) else None) ≡ Some x → unwrap_or (slice_get (stack_of k) (length (stack_of k) - 2)) (nil_of k) ≡ x
-    go true e = ap (λ o. unwrap_or o (nil_of k)) e
-    go false e = absurd (cc)
+pub argument_named : (k : Kept) (i : ℕ) (y : Ref) → 1 < depth_of k → i ≡ depth_of k - 1 → y ≡ unwrap_or (slice_get (stack_of k) i) (nil_of k) → argument k 1 0 ≡ y
+argument_named k i y there at is =
+    let some : nat_lt 0 (length (stack_of k)) ≡ true = grind (arith, nat_tests, there) in
+    ap (λ b. unwrap_or (if b then slice_get (stack_of k) (length (stack_of k) - 1) else None) (nil_of k)) some ∙ sym (is ∙ ap (λ n. unwrap_or (slice_get (stack_of k) n) (nil_of k)) at)
 
-prim_write : (k : Kept) (x y : Ref) (bytes output : List ℕ) (steps : ℕ) → from_top 1 (stack_of k) ≡ Some x → from_top 0 (stack_of k) ≡ Some y → bytes_to_write k y ≡ Some bytes
+prim_write : (k : Kept) (x y : Ref) (bytes output : List ℕ) (steps : ℕ) → receiver k 1 ≡ x → argument k 1 0 ≡ y → bytes_to_write k y ≡ Some bytes
     → prim 900 1 (state_at k output steps) ≡ result (answer k 1 x) (run_at (output ++ bytes) steps)
 unfolding prim write_prim
 prim_write k x y bytes output steps p q h =
-    let is : bytes_to_write k (argument k 1 0) ≡ Some bytes = ap (bytes_to_write k) (argument_is k y q) ∙ h in
+    let is : bytes_to_write k (argument k 1 0) ≡ Some bytes = ap (bytes_to_write k) q ∙ h in
     let first : prim 900 1 (state_at k output steps) ≡ result (answer k 1 (receiver k 1)) (run_at (output ++ bytes) steps) = rw is in
-    first ∙ ap (λ z. result (answer k 1 z) (run_at (output ++ bytes) steps)) (receiver_is k x p)
+    first ∙ ap (λ z. result (answer k 1 z) (run_at (output ++ bytes) steps)) p
 
-prim_no_write : (k : Kept) (y : Ref) (r : Run) → from_top 0 (stack_of k) ≡ Some y → bytes_to_write k y ≡ None → prim 900 1 (with_kept k r) ≡ fails (with_kept k r)
+prim_no_write : (k : Kept) (y : Ref) (r : Run) → argument k 1 0 ≡ y → bytes_to_write k y ≡ None → prim 900 1 (with_kept k r) ≡ fails (with_kept k r)
 unfolding prim write_prim
 prim_no_write k y r q h =
-    let is : bytes_to_write k (argument k 1 0) ≡ None = ap (bytes_to_write k) (argument_is k y q) ∙ h in
+    let is : bytes_to_write k (argument k 1 0) ≡ None = ap (bytes_to_write k) q ∙ h in
     rw is
 
-pub write_answers : (k : Kept) (x y : Ref) (bytes : List ℕ) (v : Kept) → from_top 1 (stack_of k) ≡ Some x → from_top 0 (stack_of k) ≡ Some y → bytes_to_write k y ≡ Some bytes → Keeps v (push_of (drop_of k 2) x)
-    → AnswersIn (trying k 900) v bytes
-write_answers k x y bytes v p q h keeps = answers_prim 900 k v x bytes refl (λ output steps. prim_write k x y bytes output steps p q h) keeps
+write_else : (k : Kept) (r : Run) (args : ℕ) → (1 == args) ≡ false → (prim 900 args (with_kept k r)).out.end ≡ ends.Fail
+unfolding prim write_prim
+write_else k r args other = rw other
 
--- it is written, or a first part of it is
-pub write_gives : (k v : Kept) (bytes : List ℕ) (old new : Option (List ℕ)) (s : Store) (e : StepEnd) → AnswersIn (trying k 900) v bytes → IsReady s v → EndsBy v e → ((reason : Reason) → e ≡ Stop reason → ⊥)
-    → Appends old new bytes → TurnGives (trying k 900) old new s v e
-write_gives k v bytes old new s e a ready by goes told = ends_by (trying k 900) v bytes old new s e a ready told (λ reason is. absurd (goes reason is)) by
+pub write_fails_else : (k : Kept) (x : Ref) (args : ℕ) → arguments_of k x ≡ args → (args ≡ 1 → ⊥) → Fails k x 900
+write_fails_else k x args count other = record { built = refl; end = λ r. ap (λ n. (prim 900 n (with_kept k r)).out.end) count ∙ write_else k r args (other_count args other) }
 
-pub write_fails : (k v : Kept) (bytes : List ℕ) (old new : Option (List ℕ)) (s : Store) (e : StepEnd) → AnswersIn (trying k 900) v bytes → EndsBy v e → ((reason : Reason) → e ≡ Stop reason → ⊥)
-    → AppendsPart old new bytes → TurnGives (trying k 900) old new s v WriteFault
-write_fails k v bytes old new s Active a by goes told = (bytes, told, a, by.0)
-write_fails k v bytes old new s Idle a by goes told = (bytes, told, a, by.0)
-write_fails k v bytes old new s (Stop reason) a by goes told = absurd (goes reason refl)
-write_fails k v bytes old new s WriteFault a by goes told = absurd by
+pub no_write_fails : (k : Kept) (x : Ref) (args : ℕ) (y : Ref) → arguments_of k x ≡ args → args ≡ 1 → argument k 1 0 ≡ y → bytes_to_write k y ≡ None → Fails k x 900
+no_write_fails k x args y count one q h =
+    record { built = refl; end = λ r. ap (λ n. (prim 900 n (with_kept k r)).out.end) (count ∙ one) ∙ ap (λ (p : Result). p.out.end) (prim_no_write k y r q h) }
 
--- where the step stops at its end, nothing is written
-pub write_lost : (k v : Kept) (bytes : List ℕ) (old : Option (List ℕ)) (s : Store) (reason : Reason) → AnswersIn (trying k 900) v bytes → EndsBy v (Stop reason) → TurnGives (trying k 900) old old s v (Stop reason)
-write_lost k v bytes old s reason a by = (
-  refl,
-  λ output steps.
-      let t = a output steps in
-      lost t.built t.end (shape_kept v (trying k 900 output steps).result.out.state t.state ∙ by),
-)
+pub write_answers : (k : Kept) (method : Ref) (args : ℕ) (x y : Ref) (bytes : List ℕ) (v : Kept) → arguments_of k method ≡ args → args ≡ 1 → receiver k 1 ≡ x → argument k 1 0 ≡ y → bytes_to_write k y ≡ Some bytes
+    → Keeps v (push_of (drop_of k 2) x) → DoneIn (trying k method 900) v bytes
+write_answers k method args x y bytes v count one p q h keeps = answers_prim 900 k v method x bytes (count ∙ one) refl (λ output steps. prim_write k x y bytes output steps p q h) keeps
 
-pub no_write : (k : Kept) (y : Ref) (s : Store) (v : Kept) (old : Option (List ℕ)) → from_top 0 (stack_of k) ≡ Some y → bytes_to_write k y ≡ None → TurnGives (trying k 900) old old s v (Stop why.NotBuilt)
-no_write k y s v old q h = (refl, λ output steps. unbuilt (ap (λ (p : Result). true && not (is_fail p.out.end)) (prim_no_write k y (run_at output steps) q h)) refl)
+module _ (k v : Kept) (method : Ref) (l n : Option Layout) (bytes : List ℕ) (old : Option (List ℕ)) (s : Store) (a : DoneIn (trying k method 900) v bytes) where
+  -- it is written, or a first part of it is
+  pub write_gives : (new : Option (List ℕ)) (e : StepEnd) → IsReady s v → FramesFrom l n v → EndsBy v e → ((reason : Reason) → e ≡ Stop reason → ⊥) → Appends old new bytes → TurnGives (trying k method 900) k l old new s v n e
+  write_gives new e ready frames by goes told = ends_by (trying k method 900) k v l n bytes old new s e a ready frames told (λ reason is. absurd (goes reason is)) by
+
+  pub write_fails : (new : Option (List ℕ)) (e : StepEnd) → EndsBy v e → ((reason : Reason) → e ≡ Stop reason → ⊥) → AppendsPart old new bytes → TurnGives (trying k method 900) k l old new s v n WriteFault
+  write_fails new Active by goes told = (bytes, told, a, by.0)
+  write_fails new Idle by goes told = (bytes, told, a, by.0)
+  write_fails new (Stop reason) by goes told = absurd (goes reason refl)
+  write_fails new (Full why) by goes told = absurd by
+  write_fails new WriteFault by goes told = absurd by
+
+  -- where the step stops at its end, nothing is written
+  pub write_lost : (reason : Reason) → EndsBy v (Stop reason) → TurnGives (trying k method 900) k l old old s v n (Stop reason)
+  write_lost reason by = (
+    refl,
+    λ output steps.
+        let t = a output steps in
+        lost t.built t.over (shape_kept v (trying k method 900 output steps).result.out.state t.state ∙ by),
+  )
 
 -- no other primitive is built
-pub no_number : (k : Kept) (number : ℕ) (s : Store) (v : Kept) (old : Option (List ℕ)) → is_built_number (Some number) ≡ false → TurnGives (trying k number) old old s v (Stop why.NotBuilt)
-no_number k number s v old h = (refl, λ output steps. unbuilt (ap (λ b. b && answers (state_at k output steps) 1 (Some number)) h) refl)
-
--- ---- a send that offers a primitive
-
--- what was tried with one argument is what the send comes to
-offered_turn : (k : Kept) (m : Message) (method : Ref) (number : ℕ) (output : List ℕ) (steps : ℕ) → resolve_of k m.selector m.args m.above ≡ Offered method number → m.args ≡ 1
-    → IsOffered (state_at k output steps) 1 number (sending k m output steps).built (sending k m output steps).result
-offered_turn k m method number output steps e one =
-    subst (λ n. IsOffered (state_at k output steps) n number (sending k m output steps).built (sending k m output steps).result) one
-    (offered_send (run_at output steps) k m method number e)
-
-final_answer : (r : Result) → r.out.end ≡ ends.Answer → IsFinal r
-final_answer r e = record { holds = ap is_fail e; last = ap primitive_in e }
-
-final_stop : (r : Result) (reason : Reason) → r.out.end ≡ ends.Stopped reason → IsFinal r
-final_stop r reason e = record { holds = ap is_fail e; last = ap primitive_in e }
-
-pub offered_gives : (k : Kept) (m : Message) (method : Ref) (number : ℕ) (old new : Option (List ℕ)) (s : Store) (v : Kept) (e : StepEnd) → resolve_of k m.selector m.args m.above ≡ Offered method number → m.args ≡ 1
-    → TurnGives (trying k number) old new s v e → TurnGives (sending k m) old new s v e
-offered_gives k m method number old new s v e offer one gives = go e gives
-  where
-    over : (bytes : List ℕ) → AnswersIn (trying k number) v bytes → AnswersIn (sending k m) v bytes
-    over bytes a output steps =
-        let t = a output steps in
-        let o = offered_turn k m method number output steps offer one in
-        let f = final_answer (trying k number output steps).result t.end in
-        record { built = o.built ∙ t.built; end = o.end f ∙ t.end; state = subst (Keeps v) (sym (o.state f)) t.state; run = o.run f ∙ t.run }
-
-    stop : (reason : Reason) (output : List ℕ) (steps : ℕ) → TurnStops (trying k number output steps) reason → TurnStops (sending k m output steps) reason
-    stop reason output steps (unbuilt b is) = unbuilt ((offered_turn k m method number output steps offer one).built ∙ b) is
-    stop reason output steps (stopped b end) =
-        let o = offered_turn k m method number output steps offer one in
-        stopped (o.built ∙ b) (o.end (final_stop (trying k number output steps).result reason end) ∙ end)
-    stop reason output steps (lost b end fault) =
-        let o = offered_turn k m method number output steps offer one in
-        let f = final_answer (trying k number output steps).result end in
-        lost (o.built ∙ b) (o.end f ∙ end) (ap shape_fault (o.state f) ∙ fault)
-
-    go : (e : StepEnd) → TurnGives (trying k number) old new s v e → TurnGives (sending k m) old new s v e
-    go Active (bytes, told, a, ready, shape, active) = (bytes, told, over bytes a, ready, shape, active)
-    go Idle (bytes, told, a, sound, shape, idle) = (bytes, told, over bytes a, sound, shape, idle)
-    go (Stop reason) (none, f) = (none, λ output steps. stop reason output steps (f output steps))
-    go WriteFault (bytes, told, a, shape) = (bytes, told, over bytes a, shape)
-
-sum_fails : (s : State) (args : ℕ) → (1 == args) ≡ false → is_fail (prim 1 args s).out.end ≡ true
-unfolding prim kept_prim number_prim
-sum_fails s args other = rw other
-
-write_fails_else : (s : State) (args : ℕ) → (1 == args) ≡ false → is_fail (prim 900 args s).out.end ≡ true
-unfolding prim write_prim
-write_fails_else s args other = rw other
-
--- with another number of arguments no built primitive answers
-fails_else : (s : State) (args number : ℕ) → (1 == args) ≡ false → (is_built_number (Some number) && answers s args (Some number)) ≡ false
-fails_else s args number other = go (number == 1) (number == 900) refl refl
-  where
-    sum : is_fail (prim 1 args s).out.end ≡ true
-    sum = sum_fails s args other
-
-    write : is_fail (prim 900 args s).out.end ≡ true
-    write = write_fails_else s args other
-
-    go : (a b : Bool) → (number == 1) ≡ a → (number == 900) ≡ b → ((a || b) && answers s args (Some number)) ≡ false
-    go true b p q = let is : number ≡ 1 = grind (arith, nat_tests, p) in ap not (ap (λ n. is_fail (prim n args s).out.end) is ∙ sum)
-    go false true p q = let is : number ≡ 900 = grind (arith, nat_tests, q) in ap not (ap (λ n. is_fail (prim n args s).out.end) is ∙ write)
-    go false false p q = refl
-
-pub else_gives : (k : Kept) (m : Message) (method : Ref) (number : ℕ) (s : Store) (v : Kept) (old : Option (List ℕ)) → resolve_of k m.selector m.args m.above ≡ Offered method number → (1 == m.args) ≡ false
-    → TurnGives (sending k m) old old s v (Stop why.NotBuilt)
-else_gives k m method number s v old offer other = (
-  refl,
-  λ output steps. unbuilt
-      ((offered_send (run_at output steps) k m method number offer).built ∙ fails_else (state_at k output steps) m.args number other) refl,
-)
-
-pub stops_gives : (k : Kept) (m : Message) (reason : Reason) (s : Store) (v : Kept) (old : Option (List ℕ)) → resolve_of k m.selector m.args m.above ≡ Stops reason → TurnGives (sending k m) old old s v (Stop reason)
-stops_gives k m reason s v old e = (
-  refl,
-  λ output steps.
-      let d = stopped_send (run_at output steps) k m reason e in
-      stopped d.built d.end,
-)
-
-pub unbuilt_gives : (k : Kept) (m : Message) (s : Store) (v : Kept) (old : Option (List ℕ)) → IsUnbuilt (resolve_of k m.selector m.args m.above) → TurnGives (sending k m) old old s v (Stop why.NotBuilt)
-unbuilt_gives k m s v old h = (refl, λ output steps. unbuilt (unbuilt_send (run_at output steps) k m h) refl)
+pub no_number : (k : Kept) (method : Ref) (number : ℕ) (l n : Option Layout) (s : Store) (v : Kept) (old : Option (List ℕ)) → is_built_number (Some number) ≡ false → TurnGives (trying k method number) k l old old s v n (Stop why.NotBuilt)
+no_number k method number l n s v old h = (refl, λ output steps. unbuilt h refl)
 
 -- a step that ends by the scheduler needs no fault
 pub no_cause : (v : Kept) (e : StepEnd) (old new : ℕ) → EndsBy v e → CausedByFault old new e
 no_cause v Active old new by = tt
 no_cause v Idle old new by = tt
 no_cause v (Stop reason) old new by = tt
+no_cause v (Full why) old new by = absurd by
 no_cause v WriteFault old new by = absurd by
-
-pub other_count : (n : ℕ) → (n ≡ 1 → ⊥) → (1 == n) ≡ false
-other_count n h = go (1 == n) refl
-  where
-    go : (b : Bool) → (1 == n) ≡ b → (1 == n) ≡ false
-    go true p = absurd (h (grind (arith, nat_tests, p)))
-    go false p = p

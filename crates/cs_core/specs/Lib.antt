@@ -1,4 +1,5 @@
 pub mod Pieces
 pub mod Sum
 pub mod Stepped
+pub mod Deep
 pub mod Running

@@ -1,17 +1,22 @@
 -- What a run gives, beside the run of the model.
-use Rattle.std.specs.Prelude.{◌≡◌, ℕ, ◌==◌, nat_lt, if◌then◌else◌, List, [], Option}
-use Rattle.cs_shelf.specs.Outside.{Appends, AppendsPart}
+use Rattle.std.specs.Prelude.{◌≡◌, ℕ, ◌<◌, ◌==◌, nat_lt, if◌then◌else◌, List, Option}
+use Rattle.cs_shelf.specs.Outside.{Appends, AppendsPart, Rose}
 use Rattle.cs_model.specs.declared.stop.Stop.TheVariants as why
 use Rattle.cs_model.specs.State.{Kept}
 use Rattle.cs_model.specs.Report.{Place as ModelPlace, place_of}
 use Rattle.cs_model.specs.Step as model
-use Rattle.cs_model.specs.Step.{Ran as ModelRan, birth_limit}
-use Rattle.cs_model.specs.Built.{built_run}
+use Rattle.cs_model.specs.Step.{birth_limit, bytecode}
+use Rattle.cs_acts.specs.declared.act.Full.{Full as Why}
+use Rattle.cs_acts.specs.declared.act.Full.TheVariants.{Heap, Stack}
+use Rattle.cs_acts.specs.Names.{Store}
+use Rattle.cs_model.specs.Demand.{words_in}
 use Rattle.cs_core.specs.declared.run.Ending.{Ending}
 use Rattle.cs_core.specs.declared.run.Ending.TheVariants.{Steps, Idle, Stopped}
 use Rattle.cs_core.specs.declared.run.Place.{Place}
 use Rattle.cs_core.specs.declared.run.Ran.{Ran}
-use Rattle.cs_core.specs.Stepped.{state_at}
+use Rattle.cs_core.specs.declared.run.RunError.{RunError}
+use Rattle.cs_core.specs.declared.run.RunError.TheVariants.{Full, WriteFault}
+use Rattle.cs_core.specs.Deep.{IsDeep, run_of}
 
 -- what an ending and a place of the code mean in the model
 abbrev pub ending_of : Ending → model.Ending
@@ -26,10 +31,6 @@ place_by p = record { process = p.process; context = p.context; pc = p.pc }
 abbrev pub ending_at_rest : ℕ → ℕ → ℕ → model.Ending
 ending_at_rest next steps n = if steps == n then model.Steps else (if nat_lt birth_limit next then model.Stopped why.BirthLimit else model.Idle)
 
--- the run of the model from a state that is opened, without events
-abbrev pub run_of : Kept → ℕ → ModelRan
-run_of k n = built_run n (state_at k [] 0)
-
 -- A run of n steps from the state k, with what the sink tells before and behind it.
 pub record RunGives (k : Kept) (old new : Option (List ℕ)) (n : ℕ) (r : Ran) : Type 0 where
   pub ending : (run_of k n).ending ≡ ending_of r.ending
@@ -37,6 +38,26 @@ pub record RunGives (k : Kept) (old new : Option (List ℕ)) (n : ℕ) (r : Ran)
   pub place : place_of (run_of k n).state.kept ≡ place_by r.place
   pub written : Appends old new (run_of k n).state.run.output
 
--- where the sink fails, a first part was written of what the model writes in so many steps
-abbrev pub RunFails : Kept → Option (List ℕ) → Option (List ℕ) → ℕ → Type 0
-RunFails k old new n = AppendsPart old new (run_of k n).state.run.output
+-- Why a run finds no room behind so many steps: the words of the state that the next bytecode leads to exceed the limit of the heap,
+-- or the active context has too many senders that have begun.
+abbrev pub HasNoRoom : Kept → Store → ℕ → Why → Type 0
+HasNoRoom k s done Heap = s.memory.limit < words_in (bytecode (run_of k done).state).out.state
+HasNoRoom k s done Stack = IsDeep k done
+
+-- so many steps of n are done, all that they write is written, and then there is no room
+pub record RunFills (k : Kept) (s : Store) (old new : Option (List ℕ)) (n : ℕ) (why : Why) : Type 0 where
+  pub done : ℕ
+  pub fewer : done < n
+  pub ending : (run_of k done).ending ≡ model.Steps
+  pub written : Appends old new (run_of k done).state.run.output
+  pub room : HasNoRoom k s done why
+
+-- A run that breaks off. Where the sink fails, a first part was written of what the model writes in so many steps.
+abbrev pub RunFails : Kept → Store → Option (List ℕ) → Option (List ℕ) → ℕ → RunError → Type 0
+RunFails k s old new n (Full why) = RunFills k s old new n why
+RunFails k s old new n WriteFault = AppendsPart old new (run_of k n).state.run.output
+
+-- a fault of the sink has been counted where that is why
+abbrev pub CausedByFault : ℕ → ℕ → RunError → Type 0
+CausedByFault old new (Full why) = Unit {0}
+CausedByFault old new WriteFault = Rose old new

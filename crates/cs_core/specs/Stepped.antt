@@ -16,7 +16,6 @@ use Rattle.cs_model.specs.PrimRun.{Result}
 use Rattle.cs_model.specs.PrimTable.{prim}
 use Rattle.cs_model.specs.Step.{arguments_of, Message, Step, Steps, Stopped, bytecode, do_return, do_send, shape_fault, try_primitive, with_kept}
 use Rattle.cs_model.specs.Built.{built_step, is_built_number, is_built_return, is_built_send}
-use Rattle.cs_acts.specs.declared.act.Full.{Full as Why}
 use Rattle.cs_acts.specs.Full.{CausesFull}
 use Rattle.cs_acts.specs.Layout.{Layout, is_frame}
 use Rattle.cs_acts.specs.Names.{Store}

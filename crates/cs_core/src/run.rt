@@ -1,19 +1,20 @@
 //! A run of steps.
-ghost use Rattle.std.specs.Prelude.{◌≡◌, ◌≤◌, false, OnErr, IfOk};
-ghost use Rattle.cs_shelf.specs.Outside.{Rose};
+ghost use Rattle.std.specs.Prelude.{◌≡◌, ◌≤◌, false, IfErr, IfOk};
 ghost use Rattle.cs_model.specs.Due.{is_idle};
 ghost use Rattle.cs_model.specs.Read.{IsRunning};
 ghost use Rattle.cs_model.specs.Ref.{birth_of};
 ghost use Rattle.cs_model.specs.Report.{no_place, place_of};
+ghost use Rattle.cs_acts.specs.Layout.{IsFresh, IsLaidOut};
 ghost use Rattle.cs_acts.specs.Names.{IsNamed, name_of};
 ghost use Rattle.cs_acts.specs.Ready.{IsSound};
-ghost use Rattle.cs_core.specs.Running.{RunFails, RunGives, ending_at_rest, ending_of, place_by};
+ghost use Rattle.cs_core.specs.Running.{CausedByFault, RunFails, RunGives, ending_at_rest, ending_of, place_by};
 
 use crate::step::{BIRTH_LIMIT, StepEnd, step};
-use cs_acts::World;
 use cs_acts::read::{active_process, nil, same};
+use cs_acts::{Full, World};
 use cs_model::Stop;
-use cs_shelf::{Failed, Sink};
+use cs_send::Sender;
+use cs_shelf::Sink;
 use cs_word::{Kind, Oop};
 
 /// How a run ends.
@@ -51,6 +52,15 @@ pub struct Ran {
     pub place: Place,
 }
 
+/// Why a run breaks off.
+#[derive(Clone, Copy, PartialEq, Eq, Debug)]
+pub enum RunError {
+    /// The world has no room for what the next bytecode leads to.
+    Full(Full),
+    /// The sink failed.
+    WriteFault,
+}
+
 /// Where no process is active.
 const NOWHERE: Place = Place {
     process: None,
@@ -74,8 +84,10 @@ fn birth_of<W: World>(w: &W, o: Oop) -> Option<u64>
 fn place_of<W: World>(w: &W) -> Place
     requires sound { IsSound (W.stored w.now) (W.view w.now) }
     requires running { is_idle (W.view w.now) ≡ false → IsRunning (W.view w.now) }
-    ensures { place_of (W.view w.now) ≡ place_by result }
+    ensures place { place_of (W.view w.now) ≡ place_by result }
+    ensures laid { IsLaidOut (W.stored w.now) (W.view w.now) (W.layout w.now) }
 {
+    let active = w.active();
     let Some(process) = active_process(w) else {
         return NOWHERE;
     };
@@ -84,7 +96,7 @@ fn place_of<W: World>(w: &W) -> Place
     }
     Place {
         process: birth_of(w, process),
-        context: Some(w.act_birth(w.active())),
+        context: Some(w.act_birth(active)),
         pc: Some(w.pc()),
     }
 }
@@ -102,21 +114,28 @@ fn is_idle<W: World>(w: &W) -> bool
 
 /// Runs `n` steps, or fewer where one of them ends the run.
 ///
-/// `Failed` comes only where the sink failed. Then it has taken a first part of what the run writes.
-pub fn run<W: World, K: Sink>(w: &mut W, n: u64, out: &mut K) -> Result<Ran, Failed>
+/// An error breaks the run off. Where the sink failed, it has taken a first part of what the run writes; where there is no
+/// room for what a bytecode leads to, it has taken all that the steps before wrote.
+pub fn run<W: World, K: Sink>(
+    w: &mut W,
+    sender: &mut Sender,
+    n: u64,
+    out: &mut K,
+) -> Result<Ran, RunError>
     requires sound { IsSound (W.stored w.old) (W.view w.old) }
     requires running { is_idle (W.view w.old) ≡ false → IsRunning (W.view w.old) }
+    requires fresh { IsFresh (W.view w.old) (W.layout w.old) }
     ensures ran { IfOk result (λ r. RunGives (W.view w.old) (K.taken out.old) (K.taken out.new) n r) }
-    ensures failed { OnErr result (RunFails (W.view w.old) (K.taken out.old) (K.taken out.new) n) }
+    ensures failed { IfErr result (λ e. RunFails (W.view w.old) (W.stored w.new) (K.taken out.old) (K.taken out.new) n e) }
     ensures never_falls { K.fault_count out.old ≤ K.fault_count out.new }
-    ensures cause { OnErr result (Rose (K.fault_count out.old) (K.fault_count out.new)) }
+    ensures cause { IfErr result (λ e. CausedByFault (K.fault_count out.old) (K.fault_count out.new) e) }
 {
     if is_idle(w) {
         return Ok(at_rest(w, 0, n));
     }
     for steps in 0..n {
         let before = place_of(w);
-        match step(w, out) {
+        match step(w, sender, out) {
             StepEnd::Active => {}
             StepEnd::Idle => return Ok(at_rest(w, steps + 1, n)),
             StepEnd::Stopped(reason) => return Ok(Ran {
@@ -124,7 +143,8 @@ pub fn run<W: World, K: Sink>(w: &mut W, n: u64, out: &mut K) -> Result<Ran, Fai
                 steps,
                 place: before,
             }),
-            StepEnd::WriteFault => return Err(Failed),
+            StepEnd::Full(why) => return Err(RunError::Full(why)),
+            StepEnd::WriteFault => return Err(RunError::WriteFault),
         }
     }
     Ok(Ran {

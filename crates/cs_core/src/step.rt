@@ -11,7 +11,7 @@ ghost use Rattle.cs_send.specs.Sent.{message_of};
 ghost use Rattle.cs_core.specs.Stepped.{CausedByFault, EndsBy, Fails, IsTarget, StepGives, TurnGives, returning, sending, trying};
 
 use crate::primitive::{answer, piece_of, sum, write};
-use cs_acts::read::{from_top, instruction};
+use cs_acts::read::instruction;
 use cs_acts::{Act, Full, Shape, World, shape_of};
 use cs_code::{CodeEnd, exec};
 use cs_model::Stop;
@@ -144,9 +144,9 @@ fn write_or_enter<W: World, K: Sink>(w: &mut W, out: &mut K, method: Oop, args: 
     if args != 1 {
         return enter_behind(w, method, args);
     }
-    let (Some(receiver), Some(argument)) = (from_top(w, 1), from_top(w, 0)) else {
-        unreachable!()
-    };
+    let depth = w.depth();
+    let receiver = w.stack_at(depth - 2);
+    let argument = w.stack_at(depth - 1);
     let Some(piece) = piece_of(w, argument) else {
         return enter_behind(w, method, args);
     };

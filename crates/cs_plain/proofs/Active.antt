@@ -14,6 +14,7 @@ use Rattle.cs_model.specs.Obj.{Ctx, is_context_at}
 use Rattle.cs_model.specs.Read.{active_birth, active_context}
 use Rattle.cs_acts.specs.Ready.{IsReady, IsSound}
 use Rattle.cs_plain.specs.declared.PlainWorld.{PlainWorld}
+use Rattle.cs_plain.proofs.Pcs.{KeepsPcs}
 use Rattle.cs_plain.specs.View.{active_in, birth_at, birth_in, stored_of, view_of}
 
 -- the active context is the object x of the heap, at this address
@@ -51,8 +52,8 @@ active_is w a ready known = go (object_at w.heap.objects a.0) refl
     go (Some x) e = (x, is_active x (is_context x) refl e)
 
 -- a whole heap is a sound world
-pub sound_world : (w : PlainWorld) → IsWhole w.heap.objects w.classes w.roots → used w.heap.objects ≤ w.heap.limit → w.heap.limit ≤ 67108864 → IsSound (stored_of w) (view_of w)
-sound_world w whole within most = record {
+pub sound_world : (w : PlainWorld) → IsWhole w.heap.objects w.classes w.roots → used w.heap.objects ≤ w.heap.limit → w.heap.limit ≤ 67108864 → KeepsPcs (view_of w) → IsSound (stored_of w) (view_of w)
+sound_world w whole within most pcs = record {
   closed = record {
     same = λ i o h. h;
     whole = λ i o h other. h;
@@ -60,6 +61,7 @@ sound_world w whole within most = record {
     roots = kept_of-roots w.heap.objects w.classes w.roots (active_in w.heap.objects w.active) whole (λ i e. held w.active i e);
     rest = refl;
   };
+  pcs = pcs;
   holds = record {
     whole = whole;
     object = λ j x h other. get-objects_of-element w.heap.objects j x whole.heap.apart h;

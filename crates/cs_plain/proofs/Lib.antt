@@ -1,3 +1,4 @@
+mod Pcs
 mod Active
 mod Slots
 mod Edits
@@ -6,3 +7,10 @@ mod Writing
 mod Storing
 mod Opening
 mod Scheduled
+mod Copying
+mod Words
+mod Acts
+mod Leaving
+mod Making
+mod Entering
+mod Entered

@@ -29,6 +29,7 @@ use Rattle.cs_acts.proofs.Named.{field_at, has_slots_read, slots_there}
 use Rattle.cs_plain.specs.declared.PlainWorld.{PlainWorld}
 use Rattle.cs_plain.specs.View.{active_in, birth_at, birth_in, stored_of, taken_of, view_of}
 use Rattle.cs_plain.proofs.Active.{meaning_there, sound_world}
+use Rattle.cs_plain.proofs.Pcs.{KeepsPcs, pcs-rest, pcs-store}
 use Rattle.cs_plain.proofs.Storing.{kind_address}
 
 -- ---- the active process
@@ -126,13 +127,14 @@ module _ {w : PlainWorld} (p c nil : Oop) (sound : IsSound (stored_of w) (view_o
       ∙ ap (λ y. open_at k (name_of (stored_of w) p) (ref.birth_of y)) is
       ∙ ap (λ m. resume_of m i) (sym stored) in
       let at = address_of-object os c.0 i kept.sound is in
+      let pcs : KeepsPcs (kept_of us w.classes w.roots active) = subst KeepsPcs (sym stored) (pcs-store k (name_of (stored_of w) p) 1 (nil_of k) sound.pcs) in
       let between : PlainWorld = record w { heap = record w.heap { objects = us }; active = None } in
       let within = subst (λ n. n ≤ w.heap.limit) (sym (used-with_slot os p.0 1 nil.0)) sound.holds.within in
-      let birth : birth_at us c ≡ Some i = context_active between c us i (sound_world between does.whole within sound.holds.most) refl
+      let birth : birth_at us c ≡ Some i = context_active between c us i (sound_world between does.whole within sound.holds.most (pcs-rest (view_of between).rest (kept_of us w.classes w.roots active) pcs)) refl
       (is_object-with_slot os p.0 1 nil.0 c.0 ∙ at.0) (birth_of-with_slot os p.0 1 nil.0 c.0 ∙ at.1) (subst IsRunning taken running) in
       record {
         view = ap (kept_of us w.classes w.roots) birth ∙ sym taken;
-        sound = sound_world (with_taken w p nil c) does.whole within sound.holds.most;
+        sound = sound_world (with_taken w p nil c) does.whole within sound.holds.most (pcs-rest (view_of (with_taken w p nil c)).rest (kept_of us w.classes w.roots active) pcs);
       }
 
   -- it does, for else no context would run

@@ -1,30 +1,27 @@
 -- What the slots of the active context are in the state.
-use Rattle.std.proofs.Common.{IsSome, IfSome, ◌≡◌, ℕ, ◌+◌, ◌-◌, ◌<◌, ◌≤◌, ◌^◌, Bool, true, false, refl, sym, ap, ◌∙◌, Option, Some, None, unwrap_or, List, length, map, take, drop, length-take, length-drop, get_or, option_map, arith}
-use Rattle.std.specs.Prelude.{if◌then◌else◌, ◌==◌, ◌||◌, slice_get, slice_index}
+use Rattle.std.proofs.Common.{◌≡◌, ℕ, ◌+◌, ◌-◌, ◌<◌, ◌≤◌, ◌^◌, true, sym, ap, ◌∙◌, Option, Some, unwrap_or, List, length, map, take, drop, length-take, length-drop, get_or, option_map, arith}
+use Rattle.std.specs.Prelude.{◌==◌, ◌||◌, slice_get, slice_index}
 use Rattle.std.specs.Option.{option_map_or}
 use Rattle.std.proofs.lemmas.List.{get_or-drop, get_or-take}
 use Rattle.std.proofs.lemmas.List.Elements.{All-get_or}
 use Rattle.std.proofs.lemmas.Bool.Decides.{nat_tests}
 use Rattle.std.proofs.lemmas.Option.{slice_get-map, slice_get-get_or}
 use Rattle.cs_word.specs.declared.Oop.{Oop}
-use Rattle.cs_heap.specs.Object.{Object, object_at, slot_count_of, slot_of}
-use Rattle.cs_classes.specs.Meaning.{is_context, context_of, count_of, depth_in, ref_of}
+use Rattle.cs_heap.specs.Object.{Object, slot_count_of, slot_of}
+use Rattle.cs_classes.specs.Meaning.{context_of, count_of, depth_in, ref_of}
 use Rattle.cs_classes.specs.Sound.{IsSoundObject, is_reference}
 use Rattle.cs_classes.proofs.Contexts.{depth_is}
-use Rattle.cs_classes.proofs.Sorts.{obj_of-context}
 use Rattle.cs_classes.proofs.Sounds.{IsWholeContext, sound_at, whole_context}
 use Rattle.cs_model.specs.Ref.{Ref}
-use Rattle.cs_model.specs.Obj.{Context, context_in, lies_in}
+use Rattle.cs_model.specs.Obj.{Context, lies_in}
 use Rattle.cs_model.specs.State.{object_of}
 use Rattle.cs_model.specs.Read.{active_context, depth_of, method_of, pc_of, size_of, stack_of}
 use Rattle.cs_acts.specs.Names.{Names}
-use Rattle.cs_model.specs.Operation.{nil_of}
-use Rattle.cs_model.specs.Return.{closure_at, closure_in}
-use Rattle.cs_acts.specs.Ready.{IsReady, IsSound}
+use Rattle.cs_acts.specs.Ready.{IsReady}
 use Rattle.cs_acts.proofs.Sizes.{pc_small}
 use Rattle.cs_plain.specs.declared.PlainWorld.{PlainWorld}
-use Rattle.cs_plain.specs.View.{birth_at, birth_in, stored_of, view_of}
-use Rattle.cs_plain.proofs.Active.{Active, meaning_there}
+use Rattle.cs_plain.specs.View.{stored_of, view_of}
+use Rattle.cs_plain.proofs.Active.{Active}
 
 slots_at_most : (n : ℕ) → (n == 22 || n == 62) ≡ true → n ≤ 62
 slots_at_most n h = grind (arith, nat_tests)
@@ -70,6 +67,10 @@ module _ {w : PlainWorld} {a : Oop} {x : Object} (ready : IsReady (stored_of w) 
   unfolding context_of
   receiver_is_read = ap (λ (c : Context). c.receiver) active.is
 
+  pub sender_is_read : ref_of w.heap.objects (slice_index x.words 0) ≡ (active_context (view_of w)).sender
+  unfolding context_of
+  sender_is_read = ap (λ (c : Context). c.sender) active.is
+
   pub method_is_read : ref_of w.heap.objects (slice_index x.words 3) ≡ (active_context (view_of w)).method
   unfolding context_of
   method_is_read = ap (λ (c : Context). c.method) active.is
@@ -80,7 +81,7 @@ module _ {w : PlainWorld} {a : Oop} {x : Object} (ready : IsReady (stored_of w) 
   pub depth_within : depth_of (view_of w) ≤ length x.words - 6
   depth_within = omega (arith, depth_is_read, whole_active.depth)
 
-  stack_words : stack_of (view_of w) ≡ map (ref_of w.heap.objects) (take (depth_in x.words) (drop 6 x.words))
+  pub stack_words : stack_of (view_of w) ≡ map (ref_of w.heap.objects) (take (depth_in x.words) (drop 6 x.words))
   unfolding context_of
   stack_words = ap (λ (c : Context). c.stack) (sym active.is)
 
@@ -101,40 +102,3 @@ module _ {w : PlainWorld} {a : Oop} {x : Object} (ready : IsReady (stored_of w) 
       pc_small (stored_of w) (view_of w) word pc ready.sound.holds
       (All-get_or (λ (u : ℕ). is_reference w.heap.objects u ≡ true) x.words 3 0 (omega (arith, fields_within)) whole_active.references)
       (ap (λ m. lies_in (object_of (view_of w) m) pc) method_is_read ∙ lies)
-
-closure_of : (refer : ℕ → Ref) (x : Object) → refer (slice_index x.words 4) ≡ (context_of refer x.hash x.words).closure
-unfolding context_of
-closure_of refer x = refl
-
--- the closure of any context
-pub closure_within : (w : PlainWorld) (a : Oop) → IsSound (stored_of w) (view_of w) → IsSome (birth_at w.heap.objects a) → 4 < slot_count_of w.heap.objects a.0
-closure_within w a sound some = go (object_at w.heap.objects a.0) refl some
-  where
-    is : (x : Object) (c : Bool) → is_context x ≡ c → object_at w.heap.objects a.0 ≡ Some x → IsSome (if c then Some x.birth else None) → 4 < slot_count_of w.heap.objects a.0
-    is x false o e s = absurd (cc)
-    is x true o e s =
-        let whole = whole_context w.heap.objects x (sound_at w.heap.objects a.0 x sound.holds.whole.heap e) o in
-        omega (arith, whole.fields, ap (λ (y : Option Object). option_map_or (λ (z : Object). length z.words) y 0) e)
-
-    go : (y : Option Object) → object_at w.heap.objects a.0 ≡ y → IsSome (birth_in y) → 4 < slot_count_of w.heap.objects a.0
-    go None e s = absurd (cc)
-    go (Some x) e s = is x (is_context x) refl e s
-
-pub closure_read : (w : PlainWorld) (a v : Oop) → IsSound (stored_of w) (view_of w) → v.0 ≡ slot_of w.heap.objects a.0 4
-    → IfSome (birth_at w.heap.objects a) (λ birth. Names (stored_of w) v (closure_at (view_of w) birth))
-closure_read w a v sound read = go (object_at w.heap.objects a.0) refl
-  where
-    is : (x : Object) (c : Bool) → is_context x ≡ c → object_at w.heap.objects a.0 ≡ Some x → IfSome (if c then Some x.birth else None) (λ birth. Names (stored_of w) v (closure_at (view_of w) birth))
-    is x false o e = tt
-    is x true o e =
-        let whole = whole_context w.heap.objects x (sound_at w.heap.objects a.0 x sound.holds.whole.heap e) o in
-        let word : v.0 ≡ slice_index x.words 4 = read ∙ ap (λ (y : Option Object). option_map_or (λ (z : Object). slice_index z.words 4) y 0) e in
-        let means = meaning_there w a.0 x sound.holds.whole e ∙ ap (λ y. Some y) (obj_of-context (ref_of w.heap.objects) x o) in
-        record {
-          sound = ap (is_reference w.heap.objects) word ∙ All-get_or (λ (u : ℕ). is_reference w.heap.objects u ≡ true) x.words 4 0 (omega (arith, whole.fields)) whole.references;
-          is = ap (ref_of w.heap.objects) word ∙ closure_of (ref_of w.heap.objects) x ∙ sym (ap (λ y. closure_in (nil_of (view_of w)) (context_in y)) means);
-        }
-
-    go : (y : Option Object) → object_at w.heap.objects a.0 ≡ y → IfSome (birth_in y) (λ birth. Names (stored_of w) v (closure_at (view_of w) birth))
-    go None e = tt
-    go (Some x) e = is x (is_context x) refl e

@@ -33,7 +33,8 @@ use Rattle.cs_plain.specs.View.{active_in, stored_of, view_of}
 use Rattle.cs_plain.proofs.Active.{meaning_there, sound_world}
 use Rattle.cs_plain.proofs.Edits.{edited}
 use Rattle.cs_plain.proofs.Written.{active-same, keeps_names, with_objects}
-use Rattle.cs_plain.proofs.Writing.{Writes, held_by}
+use Rattle.cs_plain.proofs.Pcs.{KeepsPcs, pcs-store}
+use Rattle.cs_plain.proofs.Writing.{Writes, held_by, same_kept}
 
 -- an object that may be stored into, where it stands, and what the store does
 pub record Storable (w : PlainWorld) (o : Oop) (i : ℕ) (v : ℕ) (x : Object) : Type 0 where
@@ -54,7 +55,7 @@ kind_address word a h = go (word % 2 == 1) (word % 4 == 2) (word % 8 == 0) h
     go false false false e = absurd (cc)
 
 -- what is no context in the heap is none in the state
-no_context : (refer : ℕ → Ref) (x : Object) → is_context x ≡ false → obj.is_context (obj_of refer x) ≡ false
+pub no_context : (refer : ℕ → Ref) (x : Object) → is_context x ≡ false → obj.is_context (obj_of refer x) ≡ false
 unfolding method_of
 no_context refer x other = go (sort_of x)
   where
@@ -136,8 +137,10 @@ writes-store w o v i x ready named value s =
     let running = running-put (view_of w) x.birth old (f old) ready.running found (no_context (ref_of os) x s.other) s.lies in
     record {
       state = λ m k. subst (λ u. Keeps u (store_of m (name_of (stored_of w) o) i (name_of (stored_of w) v))) (sym view) (store_moved k (held_by w o ready named) i (held_by w v ready value)).keeps;
+      exact = same_kept _ _ view;
       ready = record {
-        sound = sound_world (with_objects w us) does.whole (subst (λ n. n ≤ w.heap.limit) (sym edit.words) ready.sound.holds.within) ready.sound.holds.most;
+        sound = sound_world (with_objects w us) does.whole (subst (λ n. n ≤ w.heap.limit) (sym edit.words) ready.sound.holds.within) ready.sound.holds.most
+            (subst KeepsPcs (sym view) (pcs-store (view_of w) (name_of (stored_of w) o) i (name_of (stored_of w) v) ready.sound.pcs));
         running = subst IsRunning (sym (view ∙ put_is)) running;
       };
       names = keeps_names w us edit;

@@ -11,8 +11,8 @@ use Rattle.cs_classes.proofs.Refs.{count_of-small, is_reference-small, small_nat
 use Rattle.cs_classes.proofs.Wholes.{ref_of-held}
 use Rattle.cs_classes.proofs.Writes.{Does, Holds, does-pop, does-push, does-set_pc, does-set_stack}
 use Rattle.cs_model.specs.Obj.{edit_context, lies_in, popped, pushed, stored, with_pc}
-use Rattle.cs_model.specs.State.{IsHeld, Kept}
-use Rattle.cs_model.specs.Keeps.{Keeps}
+use Rattle.cs_model.specs.State.{IsHeld, Kept, object_at}
+use Rattle.cs_model.specs.Keeps.{Keeps, SameKept}
 use Rattle.cs_model.specs.Read.{depth_of, method_of, pc_of, size_of}
 use Rattle.cs_model.specs.Operation.{drop_of, edit_active, edit_object, push_of, set_pc_of, set_stack_of}
 use Rattle.cs_model.proofs.Same.{Same, is, same}
@@ -29,8 +29,12 @@ use Rattle.cs_plain.proofs.Written.{with_objects, written}
 -- the operation on every state that is kept; then the world is ready, and words mean what they meant
 pub record Writes (w v : PlainWorld) (op : Kept → Kept) : Type 0 where
   pub state : (m : Kept) → Keeps (view_of w) m → Keeps (view_of v) (op m)
+  pub exact : SameKept (view_of v) (op (view_of w))
   pub ready : IsReady (stored_of v) (view_of v)
   pub names : KeepsNames (stored_of w) (stored_of v)
+
+pub same_kept : (a b : Kept) → a ≡ b → SameKept a b
+same_kept a b e = record { objects = λ i. ap (λ k. object_at k i) e; rest = ap (λ k. k.rest) e }
 
 -- the same where the heap is told by an equation
 pub along : (w : PlainWorld) (h : Memory) (us : List Object) (op : Kept → Kept) → h ≡ record w.heap { objects = us } → Writes w (with_objects w us) op → Writes w (record w { heap = h }) op
@@ -63,6 +67,7 @@ module _ {w : PlainWorld} {a : Oop} {x : Object} (ready : IsReady (stored_of w) 
       let done = written w a x _ (with_pc (count_of (small_word (pos pc)))) pc ready active does (slot_edited 1 (small_word (pos pc))) count refl lies in
       record {
         state = λ m k. subst (λ v. Keeps v (set_pc_of m pc)) (sym (done.view ∙ ap (λ p. edit_active (view_of w) (with_pc p)) count)) (set_pc_moved k (is pc)).keeps;
+        exact = same_kept _ _ (done.view ∙ ap (λ p. edit_active (view_of w) (with_pc p)) count);
         ready = done.ready;
         names = done.names;
       }
@@ -79,6 +84,7 @@ module _ {w : PlainWorld} {a : Oop} {x : Object} (ready : IsReady (stored_of w) 
       ready.running.live refl ready.running.method in
       record {
         state = λ m k. subst (λ u. Keeps u (set_stack_of m i (name_of (stored_of w) v))) (sym done.view) (set_stack_moved k i (held_by w v ready named)).keeps;
+        exact = same_kept _ _ done.view;
         ready = done.ready;
         names = done.names;
       }
@@ -100,6 +106,7 @@ module _ {w : PlainWorld} {a : Oop} {x : Object} (ready : IsReady (stored_of w) 
       let done = written w a x _ (pushed (name_of (stored_of w) v)) (pc_of (view_of w)) ready active does (subst (Edited os) (sym twice) edit) ready.running.live refl ready.running.method in
       record {
         state = λ m k. subst (λ u. Keeps u (push_of m (name_of (stored_of w) v))) (sym done.view) (push_moved k (held_by w v ready named)).keeps;
+        exact = same_kept _ _ done.view;
         ready = done.ready;
         names = done.names;
       }
@@ -113,6 +120,7 @@ module _ {w : PlainWorld} {a : Oop} {x : Object} (ready : IsReady (stored_of w) 
       let done = written w a x _ (popped 1) (pc_of (view_of w)) ready active does (slot_edited 2 (small_word (pos (d - 1)))) ready.running.live refl ready.running.method in
       record {
         state = λ m k. subst (λ u. Keeps u (drop_of m 1)) (sym done.view) (drop_moved k 1).keeps;
+        exact = same_kept _ _ done.view;
         ready = done.ready;
         names = done.names;
       }

@@ -10,7 +10,7 @@ use Rattle.cs_classes.proofs.Writes.{Does}
 use Rattle.cs_model.specs.Ref.{Ref}
 use Rattle.cs_model.specs.Ref as ref
 use Rattle.cs_model.specs.Obj.{Context, edit_context, lies_in}
-use Rattle.cs_model.specs.State.{Kept}
+use Rattle.cs_model.specs.State.{Kept, PcLies, object_of}
 use Rattle.cs_model.specs.Read.{IsRunning, active_birth, active_context, method_of}
 use Rattle.cs_model.specs.Operation.{edit_active, edit_found, edit_object}
 use Rattle.cs_acts.specs.Names.{KeepsNames}
@@ -20,6 +20,7 @@ use Rattle.cs_plain.specs.declared.PlainWorld.{PlainWorld}
 use Rattle.cs_plain.specs.View.{active_in, stored_of, view_of}
 use Rattle.cs_plain.proofs.Active.{Active, sound_world}
 use Rattle.cs_plain.proofs.Edits.{Edited}
+use Rattle.cs_plain.proofs.Pcs.{KeepsPcs, pcs-edit_active}
 
 -- the world with other objects in its heap
 abbrev pub with_objects : PlainWorld → List Object → PlainWorld
@@ -42,6 +43,15 @@ pub active-same : (os us : List Object) (active : Option Oop) → Edited os us �
 active-same os us None same = refl
 active-same os us (Some a) same = same.births a
 
+pub written_view : (w : PlainWorld) (a : Oop) (x : Object) (us : List Object) (g : Context → Context) → IsReady (stored_of w) (view_of w) → Active w a x
+    → Does w.heap.objects us w.classes w.roots (λ k. edit_object k (ref_of w.heap.objects a.0) (edit_context g))
+    → Edited w.heap.objects us → view_of (with_objects w us) ≡ edit_active (view_of w) g
+written_view w a x us g ready active does same =
+    let os = w.heap.objects in
+    let name : ref_of os a.0 ≡ ref.Obj (active_birth (view_of w)) = ref_of-object os a.0 (is_object-object_at os a.0 x active.there) ∙ ap (λ b. ref.Obj b) (sym active.birth) in
+    ap (kept_of us w.classes w.roots) (active-same os us w.active same) ∙ does.kept (active_in os w.active)
+    ∙ ap (λ r. edit_object (view_of w) r (edit_context g)) name ∙ edit_object-active (view_of w) g ready.running
+
 pub written : (w : PlainWorld) (a : Oop) (x : Object) (us : List Object) (g : Context → Context) (pc : ℕ)
     → IsReady (stored_of w) (view_of w) → Active w a x
     → Does w.heap.objects us w.classes w.roots (λ k. edit_object k (ref_of w.heap.objects a.0) (edit_context g))
@@ -49,17 +59,20 @@ pub written : (w : PlainWorld) (a : Oop) (x : Object) (us : List Object) (g : Co
     → (g (active_context (view_of w))).pc ≡ Some pc → (g (active_context (view_of w))).method ≡ (active_context (view_of w)).method
     → lies_in (method_of (view_of w)) pc ≡ true
     → Written w (with_objects w us) g
+unfolding method_of
 written w a x us g pc ready active does same at method lies =
-    let os = w.heap.objects in
-    let name : ref_of os a.0 ≡ ref.Obj (active_birth (view_of w)) = ref_of-object os a.0 (is_object-object_at os a.0 x active.there) ∙ ap (λ b. ref.Obj b) (sym active.birth) in
-    let view : view_of (with_objects w us) ≡ edit_active (view_of w) g =
-    ap (kept_of us w.classes w.roots) (active-same os us w.active same) ∙ does.kept (active_in os w.active)
-    ∙ ap (λ r. edit_object (view_of w) r (edit_context g)) name ∙ edit_object-active (view_of w) g ready.running in
+    let view = written_view w a x us g ready active does same in
+    let kept : KeepsPcs (edit_active (view_of w) g) = pcs-edit_active (view_of w) g ready.running ready.sound.pcs (lies_there (g (active_context (view_of w))) at method) in
     record {
       view = view;
       ready = record {
-        sound = sound_world (with_objects w us) does.whole (subst (λ n. n ≤ w.heap.limit) (sym same.words) ready.sound.holds.within) ready.sound.holds.most;
+        sound = sound_world (with_objects w us) does.whole (subst (λ n. n ≤ w.heap.limit) (sym same.words) ready.sound.holds.within) ready.sound.holds.most (subst KeepsPcs (sym view) kept);
         running = subst IsRunning (sym view) (running-edit (view_of w) g pc ready.running at method lies);
       };
       names = keeps_names w us same;
     }
+  where
+    lies_there : (c : Context) → c.pc ≡ Some pc → c.method ≡ (active_context (view_of w)).method → PcLies (view_of w) c
+    lies_there c live same p e =
+        let is : pc ≡ p = cc in
+        ap (λ m. lies_in (object_of (view_of w) m) p) same ∙ ap (lies_in (object_of (view_of w) (active_context (view_of w)).method)) (sym is) ∙ lies

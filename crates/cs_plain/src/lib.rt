@@ -4,16 +4,20 @@
 //! stands between.
 #![tactic(auto)]
 
-ghost use Rattle.std.specs.Prelude.{◌≡◌, ◌<◌, ◌^◌, pos, Some, unwrap_or};
+ghost use Rattle.std.specs.Prelude.{◌≡◌, ◌<◌, ◌≤◌, ◌+◌, ◌*◌, ◌^◌, if◌then◌else◌, is_some, pos, Some, unwrap_or};
 ghost use Rattle.cs_word.specs.Word.{small_word};
+ghost use Rattle.cs_heap.specs.Object.{slot_count_of};
 ghost use Rattle.cs_classes.specs.Meaning.{count_of};
+ghost use Rattle.cs_model.specs.Obj.{context_size, literal_count, temporary_count};
 ghost use Rattle.cs_model.specs.Ref.{natural_of};
+ghost use Rattle.cs_acts.specs.Reading.{is_context_at};
 ghost use Rattle.cs_acts.specs.Ready.{IsReady};
+ghost use Rattle.cs_plain.specs.Storing.{buried, copied, with_fields};
 
 use cs_acts::read::{active_process, nil, same, slot};
-use cs_acts::{Act, Loaded, Roots, World};
+use cs_acts::{Act, Full, Loaded, Roots, World};
 use cs_classes::Classes;
-use cs_heap::Heap;
+use cs_heap::{BASE, Heap};
 use cs_word::{Kind, Oop};
 use std::alloc::{AllocError, Global};
 
@@ -27,6 +31,8 @@ pub struct PlainWorld {
 }
 
 /// The slots of a context, in the order of the Blue Book: sender, pc, stackp, method, closure, receiver, and then its stack.
+const SENDER: u32 = 0;
+
 const PC: u32 = 1;
 
 const STACKP: u32 = 2;
@@ -38,6 +44,11 @@ const CLOSURE: u32 = 4;
 const RECEIVER: u32 = 5;
 
 const STACK: u32 = 6;
+
+/// The class index of contexts, and their format: one with named and indexed fields.
+const CONTEXT: u32 = 36;
+
+const FIELDS_AND_INDICES: u8 = 3;
 
 /// The slots of a process, and the one in which it keeps its context while it doesn't run.
 const PROCESS_SLOTS: u32 = 4;
@@ -70,8 +81,103 @@ fn count_word(count: u32) -> Oop
     Oop(2 * count + 1)
 }
 
+/// Whether a word is a SmallInteger that isn't negative.
+#[tactic(auto, unfolding(cs_classes::specs::Meaning::count_of))]
+fn is_count(word: Oop) -> bool
+    ensures { result ≡ is_some (count_of word.0) }
+{
+    match word.kind() {
+        Kind::Small(value) => value >= 0,
+        _ => false,
+    }
+}
+
+/// Whether a word is the address of a context.
+fn is_context(heap: &Heap, o: Oop) -> bool
+    ensures { result ≡ is_context_at heap.now.objects o.0 }
+{
+    heap.is_object(o) && heap.class_index(o) == CONTEXT
+}
+
+/// How many slots a context has for a method of this header: 56 values fit on a large stack, and 16 on another.
+fn context_slots(header: u32) -> u32
+    ensures { result ≡ 6 + context_size header }
+{
+    if header / (1 << 17) % 2 == 1 {
+        STACK + 56
+    } else {
+        STACK + 16
+    }
+}
+
+/// How many temporaries a method of this header has, its arguments among them.
+fn temporaries(header: u32) -> u32
+    ensures { result ≡ temporary_count header }
+{
+    header / (1 << 18) % (1 << 6)
+}
+
+/// The pc at which a method of this header is entered: its first one, or with `skip` that behind the three bytes that name a
+/// primitive.
+fn entry_pc(header: u32, skip: bool) -> u32
+    ensures { result ≡ 4 * (literal_count header + 1) + 1 + (if skip then 3 else 0) }
+{
+    let first = 4 * (header % (1 << 15) + 1) + 1;
+    if skip { first + 3 } else { first }
+}
+
+/// What a new context has in its fields but the closure, which is nil.
+#[derive(Clone, Copy)]
+struct Fields {
+    sender: Oop,
+    pc: Oop,
+    stackp: Oop,
+    method: Oop,
+    receiver: Oop,
+}
+
+/// Writes the fields of a context.
+#[tactic(auto, using(cs_heap::proofs::Laws::heap_laws))]
+fn write_fields(heap: &mut Heap, context: Oop, fields: Fields)
+    requires { 5 < slot_count_of heap.old.objects context.0 }
+    ensures { heap.new ≡ record heap.old { objects = with_fields heap.old.objects context.0 fields } }
+{
+    heap.set_slot(context, SENDER, fields.sender);
+    heap.set_slot(context, PC, fields.pc);
+    heap.set_slot(context, STACKP, fields.stackp);
+    heap.set_slot(context, METHOD, fields.method);
+    heap.set_slot(context, RECEIVER, fields.receiver);
+}
+
+/// Copies so many slots of one object, from this one on, to another object, from the first slot of a stack on.
+fn copy_slots(heap: &mut Heap, from: Oop, at: u32, to: Oop, count: u32)
+    requires from { at + count ≤ slot_count_of heap.old.objects from.0 }
+    requires to { 6 + count ≤ slot_count_of heap.old.objects to.0 }
+    requires few { slot_count_of heap.old.objects from.0 < 2 ^ 31 }
+    requires small { count < 2 ^ 31 }
+    ensures { heap.new ≡ record heap.old { objects = copied heap.old.objects from.0 at to.0 count } }
+{
+    for i in 0..count {
+        let value = heap.slot(from, at + i);
+        heap.set_slot(to, STACK + i, value);
+    }
+}
+
+/// Makes a context dead: its sender and pc are nil, and its stack is empty.
+#[tactic(auto, using(cs_heap::proofs::Laws::heap_laws))]
+fn bury(heap: &mut Heap, context: Oop)
+    requires { 5 < slot_count_of heap.old.objects context.0 }
+    ensures { heap.new ≡ record heap.old { objects = buried heap.old.objects context.0 } }
+{
+    heap.set_slot(context, SENDER, Oop(BASE));
+    heap.set_slot(context, PC, Oop(BASE));
+    heap.set_slot(context, STACKP, count_word(0));
+}
+
 impl PlainWorld {
-    ghost use Rattle.std.specs.Prelude.{IfOk, false, None};
+    ghost use Rattle.std.specs.Prelude.{ℕ, IfOk, false, None};
+    ghost use Rattle.cs_model.specs.Obj.{Context, Ctx};
+    ghost use Rattle.cs_model.specs.State.{PcLies, object_at};
     ghost use Rattle.cs_classes.specs.Sound.{IsWhole};
     ghost use Rattle.cs_model.specs.Read.{IsRunning};
     ghost use Rattle.cs_model.specs.Due.{is_idle};
@@ -84,10 +190,12 @@ impl PlainWorld {
 
     /// Opens a loaded image: the active process gives its context to the machine. With no active process none is active.
     ///
-    /// Where a process is active, the context that it gives must be live, at a pc that lies in its method.
+    /// Where a process is active, the context that it gives must be live. The pc of each context must be nil or lie in its
+    /// method.
     pub fn new(_alloc: Global, loaded: Loaded) -> Result<PlainWorld, AllocError>
         requires whole { IsWhole loaded.heap.objects loaded.classes loaded.roots }
         requires running { is_idle (loaded_kept loaded) ≡ false → IsRunning (open_kept (loaded_kept loaded)) }
+        requires pcs { (i : ℕ) (c : Context) → object_at (loaded_kept loaded) i ≡ Some (Ctx c) → PcLies (loaded_kept loaded) c }
         ensures view { IfOk result (λ w. view_of w ≡ open_kept (loaded_kept loaded)) }
         ensures sound { IfOk result (λ w. IsSound (stored_of w) (view_of w)) }
         ensures limit { IfOk result (λ w. (stored_of w).memory.limit ≡ loaded.heap.limit) }
@@ -161,6 +269,7 @@ impl PlainWorld {
 }
 
 impl World for PlainWorld {
+    ghost use Rattle.std.specs.Prelude.{None};
     ghost use Rattle.cs_plain.specs.View.{act_of, stored_of, view_of};
 
     ghost view = { view_of };
@@ -168,6 +277,8 @@ impl World for PlainWorld {
     ghost stored = { stored_of };
 
     ghost act = { act_of };
+
+    ghost layout = { λ w. None };
 
     fn heap(&self) -> &Heap {
         &self.heap
@@ -198,6 +309,43 @@ impl World for PlainWorld {
     fn act_closure(&self, a: Act) -> Oop {
         match a {
             Act::Context(context) => self.heap.slot(context, CLOSURE),
+            _ => unreachable!(),
+        }
+    }
+
+    fn act_method(&self, a: Act) -> Oop {
+        match a {
+            Act::Context(context) => self.heap.slot(context, METHOD),
+            _ => unreachable!(),
+        }
+    }
+
+    fn act_live(&self, a: Act) -> bool {
+        match a {
+            Act::Context(context) => is_count(self.heap.slot(context, PC)),
+            _ => unreachable!(),
+        }
+    }
+
+    fn act_full(&self, a: Act) -> bool {
+        match a {
+            Act::Context(context) => {
+                count(self.heap.slot(context, STACKP)) >= self.heap.slot_count(context) - STACK
+            }
+            _ => unreachable!(),
+        }
+    }
+
+    fn sender_act(&self, a: Act) -> Act {
+        match a {
+            Act::Context(context) => {
+                let sender = self.heap.slot(context, SENDER);
+                if is_context(&self.heap, sender) {
+                    Act::Context(sender)
+                } else {
+                    Act::Gone
+                }
+            }
             _ => unreachable!(),
         }
     }
@@ -253,5 +401,41 @@ impl World for PlainWorld {
         let value = self.stack_at(depth - 1);
         self.heap.set_slot(context, STACKP, count_word(depth - 1));
         value
+    }
+
+    fn enter(&mut self, method: Oop, args: u32, skip: bool) -> Result<(), Full> {
+        let sender = self.active_context();
+        let depth = self.depth();
+        let header = count(self.heap.slot(method, 0));
+        let left = depth - (args + 1);
+        let fields = Fields {
+            sender,
+            pc: count_word(entry_pc(header, skip)),
+            stackp: count_word(temporaries(header)),
+            method,
+            receiver: self.stack_at(left),
+        };
+        let birth = self.roots.next_birth;
+        let Ok(context) = self
+            .heap
+            .allocate(CONTEXT, FIELDS_AND_INDICES, context_slots(header), birth)
+        else {
+            return Err(Full::Heap);
+        };
+        write_fields(&mut self.heap, context, fields);
+        copy_slots(&mut self.heap, sender, STACK + left + 1, context, args);
+        self.heap.set_slot(sender, STACKP, count_word(left));
+        self.roots.next_birth = birth + 1;
+        self.active = Some(context);
+        Ok(())
+    }
+
+    fn leave(&mut self, v: Oop) -> Result<(), Full> {
+        let context = self.active_context();
+        let sender = self.heap.slot(context, SENDER);
+        bury(&mut self.heap, context);
+        self.active = Some(sender);
+        self.push(v);
+        Ok(())
     }
 }

@@ -1,5 +1,5 @@
 use Rattle.std.proofs.Common.{◌∙◌, ◌≡◌, sym, refl, arith}
-use Rattle.cs_core.proofs.Rolling.{begins, begins_idle, goes_on, goes_idle, goes_no_further, fails, finishes, rose_before}
+use Rattle.cs_core.proofs.Rolling.{begins, begins_idle, goes_on, goes_idle, goes_no_further, fails, fills, finishes, rose_before}
 use Rattle.cs_core.proofs.run.run.Goals as goal
 
 pub returns-then-is_idle-clause-ran : goal.returns-then-is_idle-clause-ran
@@ -9,7 +9,7 @@ returns-then-is_idle-clause-ran g c =
 pub loop-steps-init : goal.loop-steps-init
 loop-steps-init g c =
     record {
-      stands = begins (g.W.World.view c.args.w.now) _ (g.W.World.stored c.args.w.now) c.requires.sound c.requires.running (sym c.is_idle.ensures ∙ c.if-is_idle.false);
+      stands = begins (g.W.World.view c.args.w.now) _ (g.W.World.stored c.args.w.now) (g.W.World.layout c.args.w.now) c.requires.sound c.requires.running (sym c.is_idle.ensures ∙ c.if-is_idle.false) c.requires.fresh;
       never_falls = omega arith;
     }
 
@@ -27,7 +27,7 @@ step-requires-clause-active g c = c.loop-steps.invariant.stands.active
 
 pub returns-in-Idle-clause-ran : goal.returns-in-Idle-clause-ran
 returns-in-Idle-clause-ran g c =
-    goes_idle c.args.n c.at_rest-in-Idle.result c.loop-steps-test.true c.loop-steps.invariant.stands c.in-Idle.ensures.gives c.at_rest-in-Idle.ensures.steps c.at_rest-in-Idle.ensures.place
+    goes_idle (g.W.World.layout c.step.new.w) c.args.n c.at_rest-in-Idle.result c.loop-steps-test.true c.loop-steps.invariant.stands c.in-Idle.ensures.gives c.at_rest-in-Idle.ensures.steps c.at_rest-in-Idle.ensures.place
     c.at_rest-in-Idle.ensures.ending
 
 pub returns-in-Idle-clause-never_falls : goal.returns-in-Idle-clause-never_falls
@@ -35,15 +35,22 @@ returns-in-Idle-clause-never_falls g c = omega (arith, c.loop-steps.invariant.ne
 
 pub returns-in-Stopped-clause-ran : goal.returns-in-Stopped-clause-ran
 returns-in-Stopped-clause-ran g c =
-    goes_no_further (g.W.World.stored c.step.new.w) (g.W.World.view c.step.new.w) c.args.n _ c.in-Stopped.reason c.loop-steps-test.true c.loop-steps.invariant.stands c.in-Stopped.ensures.gives
-    refl c.place_of-before.ensures refl
+    goes_no_further (g.W.World.stored c.step.new.w) (g.W.World.view c.step.new.w) (g.W.World.layout c.step.new.w) c.args.n _ c.in-Stopped.reason c.loop-steps-test.true c.loop-steps.invariant.stands c.in-Stopped.ensures.gives
+    refl c.place_of-before.ensures.place refl
 
 pub returns-in-Stopped-clause-never_falls : goal.returns-in-Stopped-clause-never_falls
 returns-in-Stopped-clause-never_falls g c = omega (arith, c.loop-steps.invariant.never_falls, c.step.ensures.never_falls)
 
+pub returns-in-Full-clause-failed : goal.returns-in-Full-clause-failed
+returns-in-Full-clause-failed g c =
+    fills (g.W.World.stored c.step.new.w) (g.W.World.view c.step.new.w) (g.W.World.layout c.step.new.w) c.args.n c.in-Full.why c.loop-steps-test.true c.loop-steps.invariant.stands c.place_of-before.ensures.laid c.in-Full.ensures.gives
+
+pub returns-in-Full-clause-never_falls : goal.returns-in-Full-clause-never_falls
+returns-in-Full-clause-never_falls g c = omega (arith, c.loop-steps.invariant.never_falls, c.step.ensures.never_falls)
+
 pub returns-in-WriteFault-clause-failed : goal.returns-in-WriteFault-clause-failed
 returns-in-WriteFault-clause-failed g c =
-    fails (g.W.World.stored c.step.new.w) (g.W.World.view c.step.new.w) c.args.n c.loop-steps-test.true c.loop-steps.invariant.stands c.in-WriteFault.ensures.gives
+    fails (g.W.World.stored c.step.new.w) (g.W.World.view c.step.new.w) (g.W.World.layout c.step.new.w) c.args.n c.loop-steps-test.true c.loop-steps.invariant.stands c.in-WriteFault.ensures.gives
 
 pub returns-in-WriteFault-clause-never_falls : goal.returns-in-WriteFault-clause-never_falls
 returns-in-WriteFault-clause-never_falls g c = omega (arith, c.loop-steps.invariant.never_falls, c.step.ensures.never_falls)
@@ -67,7 +74,7 @@ place_of-requires-clause-running g c = λ active. c.loop-steps.invariant.stands.
 pub returns-clause-ran : goal.returns-clause-ran
 returns-clause-ran g c =
     let all : c.loop-steps.steps ≡ c.args.n = omega (arith, c.loop-steps-test.false, c.loop-steps.auto.steps-end) in
-    finishes c.args.n _ all c.loop-steps.invariant.stands refl c.place_of.ensures refl
+    finishes c.args.n _ all c.loop-steps.invariant.stands refl c.place_of.ensures.place refl
 
 pub returns-clause-never_falls : goal.returns-clause-never_falls
 returns-clause-never_falls g c = c.loop-steps.invariant.never_falls

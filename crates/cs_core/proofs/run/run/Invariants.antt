@@ -6,6 +6,6 @@ use Rattle.cs_core.proofs.run.run.Given as goal
 abbrev pub invariant-loop-steps : goal.invariant-loop-steps
 invariant-loop-steps g l =
     record {
-      stands : Stands (g.W.World.view l.fn.w) (g.K.Sink.taken l.fn.out) (g.K.Sink.taken l.out) l.steps (g.W.World.stored l.w) (g.W.World.view l.w);
+      stands : Stands (g.W.World.view l.fn.w) (g.K.Sink.taken l.fn.out) (g.K.Sink.taken l.out) l.steps (g.W.World.stored l.w) (g.W.World.view l.w) (g.W.World.layout l.w);
       never_falls : g.K.Sink.fault_count l.fn.out ≤ g.K.Sink.fault_count l.out;
     }

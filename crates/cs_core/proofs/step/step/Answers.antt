@@ -1,29 +1,24 @@
 use Rattle.std.proofs.Common.{ap, ap₂, subst, sym, ◌∙◌, ◌+◌}
 use Rattle.cs_model.specs.Obj.{lies_in}
 use Rattle.cs_model.specs.Read.{method_of}
+use Rattle.cs_acts.specs.Names.{name_of}
 use Rattle.cs_acts.proofs.Held.{named_held}
 use Rattle.cs_code.specs.Gives.{IsNamedEnd, end_of}
-use Rattle.cs_core.specs.Stepped.{message_of}
-use Rattle.cs_core.proofs.Beginning.{births_beyond, births_left, byte_is, executed, held_above, lies_behind, never_returns}
-use Rattle.cs_core.proofs.Turning.{Begins, births_used, done_gives, no_instruction, not_built, send_gives, stop_gives}
+use Rattle.cs_send.specs.Sent.{message_of}
+use Rattle.cs_core.proofs.Beginning.{Executed, births_beyond, births_left, executed, held_above, lies_behind}
+use Rattle.cs_core.proofs.Laying.{frames_stay}
+use Rattle.cs_core.proofs.Stepping.{births_few, done_gives, return_gives, send_gives, stop_gives}
+use Rattle.cs_core.proofs.Turning.{Begins, births_used, no_instruction}
 use Rattle.cs_core.proofs.step.step.Goals as goal
 
 pub returns-then-roots-gt-BIRTH_LIMIT-clause-gives : goal.returns-then-roots-gt-BIRTH_LIMIT-clause-gives
 returns-then-roots-gt-BIRTH_LIMIT-clause-gives g c =
-    births_used _ (g.W.World.stored c.args.w.now) (g.W.World.view c.args.w.now) _
-    (births_beyond (g.W.World.stored c.args.w.now) (g.W.World.view c.args.w.now) c.roots.result.now c.requires.ready.sound c.roots.ensures c.if-roots-gt-BIRTH_LIMIT.true)
-
-pub returns-then-not-is_built-clause-gives : goal.returns-then-not-is_built-clause-gives
-returns-then-not-is_built-clause-gives g c =
-    not_built _ (g.W.World.stored c.args.w.now) (g.W.World.view c.args.w.now) _
-    (births_left (g.W.World.stored c.args.w.now) (g.W.World.view c.args.w.now) c.roots.result.now c.requires.ready.sound c.roots.ensures c.if-roots-gt-BIRTH_LIMIT.false)
-    c.requires.active (byte_is c.byte.ensures c.is_built.ensures c.if-not-is_built.true)
+    births_used (g.W.World.view c.args.w.now) (g.W.World.layout c.args.w.now) (g.W.World.layout c.args.w.now) (g.W.World.stored c.args.w.now) (g.W.World.view c.args.w.now) _ (births_beyond (g.W.World.stored c.args.w.now) (g.W.World.view c.args.w.now) c.roots.result.now c.requires.ready.sound c.roots.ensures c.if-roots-gt-BIRTH_LIMIT.true)
 
 pub returns-in_default-clause-gives : goal.returns-in_default-clause-gives
 returns-in_default-clause-gives g c =
-    no_instruction _ (g.W.World.stored c.args.w.now) (g.W.World.view c.args.w.now) _
-    (births_left (g.W.World.stored c.args.w.now) (g.W.World.view c.args.w.now) c.roots.result.now c.requires.ready.sound c.roots.ensures c.if-roots-gt-BIRTH_LIMIT.false)
-    c.requires.active (byte_is c.byte.ensures c.is_built.ensures c.if-not-is_built.false) (sym c.instruction.ensures.value ∙ c.in_default.is)
+    no_instruction (g.W.World.view c.args.w.now) (g.W.World.layout c.args.w.now) (g.W.World.layout c.args.w.now) (g.W.World.stored c.args.w.now) (g.W.World.view c.args.w.now) _ (births_left (g.W.World.stored c.args.w.now) (g.W.World.view c.args.w.now) c.roots.result.now c.requires.ready.sound c.roots.ensures c.if-roots-gt-BIRTH_LIMIT.false)
+    c.requires.active (sym c.instruction.ensures.value ∙ c.in_default.is)
 
 pub set_pc-requires-clause-lies : goal.set_pc-requires-clause-lies
 set_pc-requires-clause-lies g c =
@@ -35,47 +30,58 @@ returns-in-Done-clause-gives g c =
     let begins : Begins (g.W.World.view c.args.w.now) c.in-Some.instruction = record {
       births = births_left (g.W.World.stored c.args.w.now) (g.W.World.view c.args.w.now) c.roots.result.now c.requires.ready.sound c.roots.ensures c.if-roots-gt-BIRTH_LIMIT.false;
       active = c.requires.active;
-      byte = byte_is c.byte.ensures c.is_built.ensures c.if-not-is_built.false;
       instruction = sym c.instruction.ensures.value ∙ c.in-Some.is;
     } in
-    let x = executed (g.W.World.view c.args.w.now) (g.W.World.view c.set_pc.new.self) (g.W.World.view c.exec.new.w) c.in-Some.instruction (c.pc.result + c.from.result) _ begins
-    (ap₂ (λ a b. a + b) c.pc.ensures c.from.ensures) c.set_pc.ensures.state c.requires.ready.sound.closed c.exec.ensures.end c.exec.ensures.state in
-    done_gives (g.W.World.view c.args.w.now) c.in-Some.instruction (g.W.World.stored c.exec.new.w) (g.W.World.view c.exec.new.w) _ _ begins (x.end ∙ ap (end_of (g.W.World.stored c.exec.new.w)) c.in-Done.is) x.keeps c.exec.ensures.ready c.finish.ensures
+    let x = executed (g.W.World.view c.args.w.now) (g.W.World.view c.set_pc.new.self) (g.W.World.view c.exec.new.w) c.in-Some.instruction (c.pc.result + c.from.result) _ (ap₂ (λ a b. a + b) c.pc.ensures c.from.ensures) c.set_pc.ensures.state c.requires.ready.sound.closed
+    c.exec.ensures.gives.end c.exec.ensures.gives.state in
+    done_gives (g.W.World.view c.args.w.now) c.in-Some.instruction (g.W.World.layout c.args.w.now) (g.W.World.layout c.exec.new.w) (g.W.World.stored c.exec.new.w) (g.W.World.view c.exec.new.w) begins _ c.finish.result (subst (Executed (g.W.World.view c.args.w.now) c.in-Some.instruction (g.W.World.view c.exec.new.w)) (ap (end_of (g.W.World.stored c.exec.new.w)) c.in-Done.is) x) c.exec.ensures.gives.ready
+    (frames_stay (g.W.World.layout c.args.w.now) (g.W.World.layout c.exec.new.w) (g.W.World.view c.exec.new.w) (c.exec.ensures.layout ∙ c.set_pc.ensures.layout)) c.finish.ensures
+
+pub send-requires-clause-births : goal.send-requires-clause-births
+send-requires-clause-births g c =
+    let x = executed (g.W.World.view c.args.w.now) (g.W.World.view c.set_pc.new.self) (g.W.World.view c.exec.new.w) c.in-Some.instruction (c.pc.result + c.from.result) _ (ap₂ (λ a b. a + b) c.pc.ensures c.from.ensures) c.set_pc.ensures.state c.requires.ready.sound.closed
+    c.exec.ensures.gives.end c.exec.ensures.gives.state in
+    births_few (g.W.World.stored c.args.w.now) (g.W.World.view c.args.w.now) (g.W.World.view c.exec.new.w) c.in-Some.instruction c.roots.result.now _ _ _ c.requires.ready c.roots.ensures c.if-roots-gt-BIRTH_LIMIT.false (subst (Executed (g.W.World.view c.args.w.now) c.in-Some.instruction (g.W.World.view c.exec.new.w)) (ap (end_of (g.W.World.stored c.exec.new.w)) c.in-Send.is) x)
 
 pub returns-in-Send-clause-gives : goal.returns-in-Send-clause-gives
 returns-in-Send-clause-gives g c =
     let begins : Begins (g.W.World.view c.args.w.now) c.in-Some.instruction = record {
       births = births_left (g.W.World.stored c.args.w.now) (g.W.World.view c.args.w.now) c.roots.result.now c.requires.ready.sound c.roots.ensures c.if-roots-gt-BIRTH_LIMIT.false;
       active = c.requires.active;
-      byte = byte_is c.byte.ensures c.is_built.ensures c.if-not-is_built.false;
       instruction = sym c.instruction.ensures.value ∙ c.in-Some.is;
     } in
-    let x = executed (g.W.World.view c.args.w.now) (g.W.World.view c.set_pc.new.self) (g.W.World.view c.exec.new.w) c.in-Some.instruction (c.pc.result + c.from.result) _ begins
-    (ap₂ (λ a b. a + b) c.pc.ensures c.from.ensures) c.set_pc.ensures.state c.requires.ready.sound.closed c.exec.ensures.end c.exec.ensures.state in
-    let named = subst (IsNamedEnd (g.W.World.stored c.exec.new.w)) c.in-Send.is c.exec.ensures.named in
-    send_gives (g.W.World.view c.args.w.now) c.in-Some.instruction (g.W.World.view c.exec.new.w) (message_of (g.W.World.stored c.exec.new.w) c.in-Send.selector c.in-Send.args c.in-Send.above) _ _ _ _ _ begins (x.end ∙ ap (end_of (g.W.World.stored c.exec.new.w)) c.in-Send.is) x.keeps
-    (named_held (g.W.World.stored c.exec.new.w) (g.W.World.view c.exec.new.w) c.in-Send.selector c.exec.ensures.ready.sound.holds named.0, held_above (g.W.World.stored c.exec.new.w) (g.W.World.view c.exec.new.w) c.in-Send.above c.exec.ensures.ready.sound.holds named.1) c.send.ensures.gives
+    let x = executed (g.W.World.view c.args.w.now) (g.W.World.view c.set_pc.new.self) (g.W.World.view c.exec.new.w) c.in-Some.instruction (c.pc.result + c.from.result) _ (ap₂ (λ a b. a + b) c.pc.ensures c.from.ensures) c.set_pc.ensures.state c.requires.ready.sound.closed
+    c.exec.ensures.gives.end c.exec.ensures.gives.state in
+    let named = subst (IsNamedEnd (g.W.World.stored c.exec.new.w)) c.in-Send.is c.exec.ensures.gives.named in
+    send_gives (g.W.World.view c.args.w.now) c.in-Some.instruction (g.W.World.layout c.args.w.now) (g.W.World.layout c.send.new.w) (g.W.World.stored c.send.new.w) (g.W.World.view c.send.new.w) begins (g.W.World.view c.exec.new.w) (message_of (g.W.World.stored c.exec.new.w) c.in-Send.selector c.in-Send.args c.in-Send.above) (g.W.World.layout c.exec.new.w) _ _ c.send.result
+    c.requires.ready.running (subst (Executed (g.W.World.view c.args.w.now) c.in-Some.instruction (g.W.World.view c.exec.new.w)) (ap (end_of (g.W.World.stored c.exec.new.w)) c.in-Send.is) x)
+    (named_held (g.W.World.stored c.exec.new.w) (g.W.World.view c.exec.new.w) c.in-Send.selector c.exec.ensures.gives.ready.sound.holds named.0, held_above (g.W.World.stored c.exec.new.w) (g.W.World.view c.exec.new.w) c.in-Send.above c.exec.ensures.gives.ready.sound.holds named.1)
+    (c.exec.ensures.layout ∙ c.set_pc.ensures.layout) c.send.ensures.gives
 
 pub returns-in-Return-clause-gives : goal.returns-in-Return-clause-gives
 returns-in-Return-clause-gives g c =
     let begins : Begins (g.W.World.view c.args.w.now) c.in-Some.instruction = record {
       births = births_left (g.W.World.stored c.args.w.now) (g.W.World.view c.args.w.now) c.roots.result.now c.requires.ready.sound c.roots.ensures c.if-roots-gt-BIRTH_LIMIT.false;
       active = c.requires.active;
-      byte = byte_is c.byte.ensures c.is_built.ensures c.if-not-is_built.false;
       instruction = sym c.instruction.ensures.value ∙ c.in-Some.is;
     } in
-    let x = executed (g.W.World.view c.args.w.now) (g.W.World.view c.set_pc.new.self) (g.W.World.view c.exec.new.w) c.in-Some.instruction (c.pc.result + c.from.result) _ begins
-    (ap₂ (λ a b. a + b) c.pc.ensures c.from.ensures) c.set_pc.ensures.state c.requires.ready.sound.closed c.exec.ensures.end c.exec.ensures.state in
-    absurd (never_returns (g.W.World.view c.args.w.now) c.in-Some.instruction _ _ begins (x.end ∙ ap (end_of (g.W.World.stored c.exec.new.w)) c.in-Return.is))
+    let x = executed (g.W.World.view c.args.w.now) (g.W.World.view c.set_pc.new.self) (g.W.World.view c.exec.new.w) c.in-Some.instruction (c.pc.result + c.from.result) _ (ap₂ (λ a b. a + b) c.pc.ensures c.from.ensures) c.set_pc.ensures.state c.requires.ready.sound.closed
+    c.exec.ensures.gives.end c.exec.ensures.gives.state in
+    let named = subst (IsNamedEnd (g.W.World.stored c.exec.new.w)) c.in-Return.is c.exec.ensures.gives.named in
+    return_gives (g.W.World.view c.args.w.now) c.in-Some.instruction (g.W.World.layout c.args.w.now) (g.W.World.layout c.give_back.new.w) (g.W.World.stored c.give_back.new.w) (g.W.World.view c.give_back.new.w) begins (g.W.World.view c.exec.new.w) (name_of (g.W.World.stored c.exec.new.w) c.in-Return.value) c.in-Return.local (g.W.World.layout c.exec.new.w) (g.K.Sink.taken c.args.out.now) c.give_back.result
+    c.requires.ready.running (subst (Executed (g.W.World.view c.args.w.now) c.in-Some.instruction (g.W.World.view c.exec.new.w)) (ap (end_of (g.W.World.stored c.exec.new.w)) c.in-Return.is) x) (named_held (g.W.World.stored c.exec.new.w) (g.W.World.view c.exec.new.w) c.in-Return.value c.exec.ensures.gives.ready.sound.holds named)
+    (c.exec.ensures.layout ∙ c.set_pc.ensures.layout) (c.give_back.ensures.gives (g.K.Sink.taken c.args.out.now))
+
+pub returns-in-Return-clause-cause : goal.returns-in-Return-clause-cause
+returns-in-Return-clause-cause g c = c.give_back.ensures.cause (g.K.Sink.fault_count c.args.out.now)
 
 pub returns-in-Stop-clause-gives : goal.returns-in-Stop-clause-gives
 returns-in-Stop-clause-gives g c =
     let begins : Begins (g.W.World.view c.args.w.now) c.in-Some.instruction = record {
       births = births_left (g.W.World.stored c.args.w.now) (g.W.World.view c.args.w.now) c.roots.result.now c.requires.ready.sound c.roots.ensures c.if-roots-gt-BIRTH_LIMIT.false;
       active = c.requires.active;
-      byte = byte_is c.byte.ensures c.is_built.ensures c.if-not-is_built.false;
       instruction = sym c.instruction.ensures.value ∙ c.in-Some.is;
     } in
-    let x = executed (g.W.World.view c.args.w.now) (g.W.World.view c.set_pc.new.self) (g.W.World.view c.exec.new.w) c.in-Some.instruction (c.pc.result + c.from.result) _ begins
-    (ap₂ (λ a b. a + b) c.pc.ensures c.from.ensures) c.set_pc.ensures.state c.requires.ready.sound.closed c.exec.ensures.end c.exec.ensures.state in
-    stop_gives (g.W.World.view c.args.w.now) c.in-Some.instruction (g.W.World.stored c.exec.new.w) (g.W.World.view c.exec.new.w) _ c.in-Stop.reason begins (x.end ∙ ap (end_of (g.W.World.stored c.exec.new.w)) c.in-Stop.is)
+    let x = executed (g.W.World.view c.args.w.now) (g.W.World.view c.set_pc.new.self) (g.W.World.view c.exec.new.w) c.in-Some.instruction (c.pc.result + c.from.result) _ (ap₂ (λ a b. a + b) c.pc.ensures c.from.ensures) c.set_pc.ensures.state c.requires.ready.sound.closed
+    c.exec.ensures.gives.end c.exec.ensures.gives.state in
+    stop_gives (g.W.World.view c.args.w.now) c.in-Some.instruction (g.W.World.layout c.args.w.now) (g.W.World.layout c.exec.new.w) (g.W.World.stored c.exec.new.w) (g.W.World.view c.exec.new.w) begins _ c.in-Stop.reason (subst (Executed (g.W.World.view c.args.w.now) c.in-Some.instruction (g.W.World.view c.exec.new.w)) (ap (end_of (g.W.World.stored c.exec.new.w)) c.in-Stop.is) x)

@@ -14,6 +14,7 @@ open-requires-clause-sound c =
     sound_world w c.requires.whole
     (subst (λ n. n ≤ w.heap.limit) c.used_words-used.ensures.value c.used_words-used.ensures.within)
     (subst (λ n. n ≤ 67108864) c.limit_words-limit.ensures.value c.limit_words-limit.ensures.most)
+    c.requires.pcs
 
 pub returns-clause-idle : goal.returns-clause-idle
 returns-clause-idle c = ap is_idle c.open.ensures.view ∙ (scheduled (loaded_kept c.args.loaded) refl c.requires.running).idle

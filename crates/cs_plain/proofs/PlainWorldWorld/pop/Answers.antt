@@ -22,6 +22,9 @@ set_slot-requires c =
 pub returns-clause-state : goal.returns-clause-state
 returns-clause-state c m k = (along c.args.self.now _ _ (λ m. drop_of m 1) (c.set_slot.ensures ∙ ap (λ v. record c.args.self.now.heap { objects = with_slot c.args.self.now.heap.objects c.active_context-context.result.0 2 v }) c.count_word.ensures) (writes-pop c.requires.ready (active_is _ _ c.requires.ready c.active_context-context.ensures).1 c.depth-depth.result c.depth-depth.ensures.value)).state m k
 
+pub returns-clause-exact : goal.returns-clause-exact
+returns-clause-exact c none = (along c.args.self.now _ _ (λ m. drop_of m 1) (c.set_slot.ensures ∙ ap (λ v. record c.args.self.now.heap { objects = with_slot c.args.self.now.heap.objects c.active_context-context.result.0 2 v }) c.count_word.ensures) (writes-pop c.requires.ready (active_is _ _ c.requires.ready c.active_context-context.ensures).1 c.depth-depth.result c.depth-depth.ensures.value)).exact
+
 pub returns-clause-ready : goal.returns-clause-ready
 returns-clause-ready c = (along c.args.self.now _ _ (λ m. drop_of m 1) (c.set_slot.ensures ∙ ap (λ v. record c.args.self.now.heap { objects = with_slot c.args.self.now.heap.objects c.active_context-context.result.0 2 v }) c.count_word.ensures) (writes-pop c.requires.ready (active_is _ _ c.requires.ready c.active_context-context.ensures).1 c.depth-depth.result c.depth-depth.ensures.value)).ready
 

@@ -19,6 +19,9 @@ set_slot-requires c =
 pub returns-clause-state : goal.returns-clause-state
 returns-clause-state c m k = (along c.args.self.now _ _ (λ m. set_pc_of m c.args.pc) (c.set_slot.ensures ∙ ap (λ v. record c.args.self.now.heap { objects = with_slot c.args.self.now.heap.objects c.active_context-context.result.0 1 v }) c.count_word.ensures) (writes-set_pc c.requires.ready (active_is _ _ c.requires.ready c.active_context-context.ensures).1 c.args.pc (omega (arith, pc_within c.requires.ready (active_is _ _ c.requires.ready c.active_context-context.ensures).1 c.args.pc c.requires.lies)) c.requires.lies)).state m k
 
+pub returns-clause-exact : goal.returns-clause-exact
+returns-clause-exact c none = (along c.args.self.now _ _ (λ m. set_pc_of m c.args.pc) (c.set_slot.ensures ∙ ap (λ v. record c.args.self.now.heap { objects = with_slot c.args.self.now.heap.objects c.active_context-context.result.0 1 v }) c.count_word.ensures) (writes-set_pc c.requires.ready (active_is _ _ c.requires.ready c.active_context-context.ensures).1 c.args.pc (omega (arith, pc_within c.requires.ready (active_is _ _ c.requires.ready c.active_context-context.ensures).1 c.args.pc c.requires.lies)) c.requires.lies)).exact
+
 pub returns-clause-ready : goal.returns-clause-ready
 returns-clause-ready c = (along c.args.self.now _ _ (λ m. set_pc_of m c.args.pc) (c.set_slot.ensures ∙ ap (λ v. record c.args.self.now.heap { objects = with_slot c.args.self.now.heap.objects c.active_context-context.result.0 1 v }) c.count_word.ensures) (writes-set_pc c.requires.ready (active_is _ _ c.requires.ready c.active_context-context.ensures).1 c.args.pc (omega (arith, pc_within c.requires.ready (active_is _ _ c.requires.ready c.active_context-context.ensures).1 c.args.pc c.requires.lies)) c.requires.lies)).ready
 

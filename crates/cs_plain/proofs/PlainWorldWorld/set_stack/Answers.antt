@@ -20,6 +20,9 @@ set_slot-requires c =
 pub returns-clause-state : goal.returns-clause-state
 returns-clause-state c m k = (along c.args.self.now _ _ (λ m. set_stack_of m c.args.i (name_of (stored_of c.args.self.now) c.args.v)) c.set_slot.ensures (writes-set_stack c.requires.ready (active_is _ _ c.requires.ready c.active_context-context.ensures).1 c.args.i c.args.v c.requires.named)).state m k
 
+pub returns-clause-exact : goal.returns-clause-exact
+returns-clause-exact c none = (along c.args.self.now _ _ (λ m. set_stack_of m c.args.i (name_of (stored_of c.args.self.now) c.args.v)) c.set_slot.ensures (writes-set_stack c.requires.ready (active_is _ _ c.requires.ready c.active_context-context.ensures).1 c.args.i c.args.v c.requires.named)).exact
+
 pub returns-clause-ready : goal.returns-clause-ready
 returns-clause-ready c = (along c.args.self.now _ _ (λ m. set_stack_of m c.args.i (name_of (stored_of c.args.self.now) c.args.v)) c.set_slot.ensures (writes-set_stack c.requires.ready (active_is _ _ c.requires.ready c.active_context-context.ensures).1 c.args.i c.args.v c.requires.named)).ready
 

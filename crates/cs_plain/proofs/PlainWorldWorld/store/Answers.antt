@@ -16,6 +16,9 @@ set_slot-requires c =
 pub returns-clause-state : goal.returns-clause-state
 returns-clause-state c m k = (along c.args.self.now c.set_slot.new.self _ (λ m. store_of m (name_of (stored_of c.args.self.now) c.args.o) c.args.i (name_of (stored_of c.args.self.now) c.args.v)) c.set_slot.ensures (writes-store c.args.self.now c.args.o c.args.v c.args.i (storable c.requires.ready c.args.i c.args.v.0 c.args.o c.requires.object c.requires.there).0 c.requires.ready c.requires.object c.requires.named (storable c.requires.ready c.args.i c.args.v.0 c.args.o c.requires.object c.requires.there).1)).state m k
 
+pub returns-clause-exact : goal.returns-clause-exact
+returns-clause-exact c none = (along c.args.self.now c.set_slot.new.self _ (λ m. store_of m (name_of (stored_of c.args.self.now) c.args.o) c.args.i (name_of (stored_of c.args.self.now) c.args.v)) c.set_slot.ensures (writes-store c.args.self.now c.args.o c.args.v c.args.i (storable c.requires.ready c.args.i c.args.v.0 c.args.o c.requires.object c.requires.there).0 c.requires.ready c.requires.object c.requires.named (storable c.requires.ready c.args.i c.args.v.0 c.args.o c.requires.object c.requires.there).1)).exact
+
 pub returns-clause-ready : goal.returns-clause-ready
 returns-clause-ready c = (along c.args.self.now c.set_slot.new.self _ (λ m. store_of m (name_of (stored_of c.args.self.now) c.args.o) c.args.i (name_of (stored_of c.args.self.now) c.args.v)) c.set_slot.ensures (writes-store c.args.self.now c.args.o c.args.v c.args.i (storable c.requires.ready c.args.i c.args.v.0 c.args.o c.requires.object c.requires.there).0 c.requires.ready c.requires.object c.requires.named (storable c.requires.ready c.args.i c.args.v.0 c.args.o c.requires.object c.requires.there).1)).ready
 

@@ -1,0 +1,160 @@
+-- Where the frames of a world come from, and what the frames of a page count.
+use Rattle.std.proofs.Common.{◌≡◌, ◌⊎◌, inl, inr, ℕ, zero, suc, ◌+◌, ◌≤◌, Bool, true, false, refl, sym, ap, subst, ◌∙◌, arith, Option, Some, None, List, [], ◌∷◌, ◌++◌, nat_le}
+use Rattle.std.specs.Prelude.{◌==◌, ◌||◌, if◌then◌else◌, not}
+use Rattle.std.specs.List.{filter}
+use Rattle.std.proofs.lemmas.Bool.Decides.{nat_tests}
+use Rattle.std.proofs.lemmas.List.Folds.{list_any-append}
+use Rattle.cs_model.specs.Ref.{Ref}
+use Rattle.cs_model.specs.Obj.{Obj, context_in}
+use Rattle.cs_model.specs.State.{Kept, Rest, object_at}
+use Rattle.cs_model.specs.Keeps.{Keeps}
+use Rattle.cs_model.specs.End.{made_context}
+use Rattle.cs_model.specs.Operation.{enter_of, enter_with}
+use Rattle.cs_model.specs.Send.{enter_out}
+use Rattle.cs_acts.specs.Full.{CausesFull}
+use Rattle.cs_acts.specs.declared.act.Full.{Full as Why}
+use Rattle.cs_acts.specs.declared.act.Full.TheVariants.{Heap, Stack}
+use Rattle.cs_acts.specs.Layout.{LaidBy, Layout, depth_in, entered, first_page, frame_words, is_frame, is_on, left, page_words, touched}
+use Rattle.cs_acts.specs.Names.{Store}
+use Rattle.cs_model.specs.Demand.{words_at, words_below, words_in}
+use Rattle.cs_core.specs.Stepped.{FramesFrom}
+
+-- ---- frames
+
+either : (a b : Bool) → (a || b) ≡ true → (a ≡ true) ⊎ (b ≡ true)
+either true b h = inl refl
+either false b h = inr h
+
+pub left_true : (a b : Bool) → a ≡ true → (a || b) ≡ true
+left_true a b h = ap (λ c. c || b) h
+
+pub right_true : (a b : Bool) → b ≡ true → (a || b) ≡ true
+right_true true b h = refl
+right_true false b h = h
+
+-- a frame of pages with one more frame in front, or with one page more, is that frame or one of the others
+abbrev FromPages : List (List ℕ) → List (List ℕ) → ℕ → Type 0
+FromPages old new active = (i : ℕ) → is_frame i new ≡ true → (is_frame i old ≡ true) ⊎ (i ≡ active)
+
+pub is_same : (i j : ℕ) → (i == j) ≡ true → i ≡ j
+is_same i j h = grind (arith, nat_tests, h)
+
+only : (i j : ℕ) → is_on i (j ∷ []) ≡ true → i ≡ j
+only i j h = go (i == j) refl h
+  where
+    go : (b : Bool) → (i == j) ≡ b → (b || false) ≡ true → i ≡ j
+    go true e h = is_same i j e
+    go false e h = absurd (cc)
+
+alone : (active : ℕ) (pages : List (List ℕ)) → FromPages pages ((active ∷ []) ∷ pages) active
+alone active pages i h = elim (either (is_on i (active ∷ [])) (is_frame i pages) h) [ inl e ↦ inr (only i active e) | inr e ↦ inl e ]
+
+above : (active : ℕ) (page : List ℕ) (pages : List (List ℕ)) → FromPages (page ∷ pages) ((active ∷ page) ∷ pages) active
+above active page pages i h = elim (either (is_on i (active ∷ page)) (is_frame i pages) h) [
+  | inl e ↦ elim (either (i == active) (is_on i page) e) [ inl s ↦ inr (is_same i active s) | inr s ↦ inl (left_true (is_on i page) (is_frame i pages) s) ]
+  | inr e ↦ inl (right_true (is_on i page) (is_frame i pages) e)
+]
+
+entered_from : (k : Kept) (active : ℕ) (pages : List (List ℕ)) → FromPages pages (entered k active pages) active
+entered_from k active [] = alone active []
+entered_from k active (page ∷ pages) = go (nat_le (page_words k page + 66) 4096)
+  where
+    go : (b : Bool) → FromPages (page ∷ pages) (if b then (active ∷ page) ∷ pages else (active ∷ []) ∷ page ∷ pages) active
+    go true = above active page pages
+    go false = alone active (page ∷ pages)
+
+filtered : (i : ℕ) (test : List ℕ → Bool) (pages : List (List ℕ)) → is_frame i (filter test pages) ≡ true → is_frame i pages ≡ true
+filtered i test [] h = h
+filtered i test (page ∷ pages) h = go (λ e. filtered i test pages e) (test page) h
+  where
+    go : (is_frame i (filter test pages) ≡ true → is_frame i pages ≡ true) → (b : Bool) → is_frame i (if b then page ∷ filter test pages else filter test pages) ≡ true → (is_on i page || is_frame i pages) ≡ true
+    go rest true h = elim (either (is_on i page) (is_frame i (filter test pages)) h) [ inl e ↦ left_true (is_on i page) (is_frame i pages) e | inr e ↦ right_true (is_on i page) (is_frame i pages) (rest e) ]
+    go rest false h = right_true (is_on i page) (is_frame i pages) (rest h)
+
+touched_from : (target : ℕ) (pages : List (List ℕ)) → FromPages pages (touched target pages) target
+touched_from target pages i h = go (is_frame target pages) h
+  where
+    go : (b : Bool) → is_frame i (if b then filter (is_on target) pages ++ filter (λ page. not (is_on target page)) pages else (target ∷ []) ∷ pages) ≡ true → (is_frame i pages ≡ true) ⊎ (i ≡ target)
+    go true h =
+        elim (either (is_frame i (filter (is_on target) pages)) (is_frame i (filter (λ page. not (is_on target page)) pages)) (sym (list_any-append (is_on i) (filter (is_on target) pages) (filter (λ page. not (is_on target page)) pages)) ∙ h)) [
+          | inl e ↦ inl (filtered i (is_on target) pages e)
+          | inr e ↦ inl (filtered i (λ page. not (is_on target page)) pages e)
+        ]
+    go false h = alone target pages i h
+
+behind_page : (page : List ℕ) (pages new : List (List ℕ)) (target : ℕ) → FromPages pages new target → FromPages (page ∷ pages) new target
+behind_page page pages new target f i h = elim (f i h) [ inl e ↦ inl (right_true (is_on i page) (is_frame i pages) e) | inr e ↦ inr e ]
+
+left_from : (target : ℕ) (pages : List (List ℕ)) → FromPages pages (left target pages) target
+left_from target [] = touched_from target []
+left_from target ([] ∷ pages) = behind_page [] pages (touched target pages) target (touched_from target pages)
+left_from target ((i ∷ []) ∷ pages) = behind_page (i ∷ []) pages (touched target pages) target (touched_from target pages)
+left_from target ((i ∷ j ∷ is) ∷ pages) = λ b h. elim (either (is_on b (j ∷ is)) (is_frame b pages) h) [
+  | inl e ↦ inl (left_true (is_on b (i ∷ j ∷ is)) (is_frame b pages) (right_true (b == i) (is_on b (j ∷ is)) e))
+  | inr e ↦ inl (right_true (is_on b (i ∷ j ∷ is)) (is_frame b pages) e)
+]
+
+laid_from : (f : List (List ℕ) → List (List ℕ)) (active : ℕ) → ((pages : List (List ℕ)) → FromPages pages (f pages) active) → (old new : Option Layout) (v : Kept) → v.rest.active ≡ Some active → LaidBy f old new → FramesFrom old new v
+laid_from f active h None new v is laid = laid
+laid_from f active h (Some l) new v is laid =
+    subst (λ n. FramesFrom (Some l) n v) (sym laid) (λ i e. elim (h l.pages i e) [ inl a ↦ inl a | inr a ↦ inr (is ∙ ap Some (sym a)) ])
+
+pub entered_frames : (k v : Kept) (active : ℕ) (old new : Option Layout) → v.rest.active ≡ Some active → LaidBy (entered k active) old new → FramesFrom old new v
+entered_frames k v active old new is laid = laid_from (entered k active) active (entered_from k active) old new v is laid
+
+pub left_frames : (v : Kept) (target : ℕ) (old new : Option Layout) → v.rest.active ≡ Some target → LaidBy (left target) old new → FramesFrom old new v
+left_frames v target old new is laid = laid_from (left target) target (left_from target) old new v is laid
+
+-- entering makes the next birth active
+enter_active : (k : Kept) (x : Ref) (args : ℕ) (skip : Bool) → (enter_out k x args skip).state.rest.active ≡ Some k.rest.next
+unfolding enter_out made_context enter_of enter_with
+enter_active k x args skip = refl
+
+pub entered_active : (k v : Kept) (x : Ref) (args : ℕ) (skip : Bool) → Keeps v (enter_out k x args skip).state → v.rest.active ≡ Some k.rest.next
+entered_active k v x args skip h = ap (λ (r : Rest). r.active) h.rest ∙ enter_active k x args skip
+
+same_frames : (l : Option Layout) (v : Kept) → FramesFrom l l v
+same_frames None v = refl
+same_frames (Some l) v = λ i h. inl h
+
+pub frames_stay : (old new : Option Layout) (v : Kept) → new ≡ old → FramesFrom old new v
+frames_stay old new v e = subst (λ n. FramesFrom old n v) (sym e) (same_frames old v)
+
+pub frames_before : (a b c : Option Layout) (v : Kept) → b ≡ a → FramesFrom b c v → FramesFrom a c v
+frames_before a b c v e f = subst (λ l. FramesFrom l c v) e f
+
+-- ---- words
+
+-- a state counts no more words than one that it keeps
+words_kept : (v m : Kept) → Keeps v m → (n : ℕ) → words_below n v ≤ words_below n m
+unfolding words_below
+words_kept v m k zero = omega arith
+words_kept v m k (suc n) = go (words_kept v m k n) (object_at v n) refl
+  where
+    go : words_below n v ≤ words_below n m → (o : Option Obj) → object_at v n ≡ o → words_below n v + words_at o ≤ words_below n m + words_at (object_at m n)
+    go before None e = omega (arith, before)
+    go before (Some o) e =
+        let is : words_at (object_at m n) ≡ words_at (Some o) = ap words_at (k.same n o e) in
+        omega (arith, before, is)
+
+pub state_words_kept : (v m : Kept) → Keeps v m → words_in v ≤ words_in m
+state_words_kept v m k = subst (λ (r : Rest). words_in v ≤ words_below r.next m) k.rest (words_kept v m k v.rest.next)
+
+pub page_words_kept : (v m : Kept) → Keeps v m → (page : List ℕ) → page_words v page ≤ page_words m page
+unfolding page_words
+page_words_kept v m k [] = omega arith
+page_words_kept v m k (i ∷ is) = go (page_words_kept v m k is) (object_at v i) refl
+  where
+    go : page_words v is ≤ page_words m is → (o : Option Obj) → object_at v i ≡ o → page_words v is + (10 + depth_in (context_in o)) ≤ page_words m is + frame_words m i
+    go before None e = omega (arith, before)
+    go before (Some o) e =
+        let is : frame_words m i ≡ 10 + depth_in (context_in (Some o)) = ap (λ o. 10 + depth_in (context_in o)) (k.same i o e) in
+        omega (arith, before, is)
+
+-- ---- no room
+
+-- the cause of a refusal is one from a state with no fewer words, for a call that leads to no fewer
+pub causes_more : (s : Store) (l : Option Layout) (u k t x : Kept) (why : Why) → ((page : List ℕ) → page_words u page ≤ page_words k page) → words_in t ≤ words_in x → CausesFull s l u 0 t why → CausesFull s l k 0 x why
+causes_more s l u k t x Heap pages words h = record { words = omega (arith, words, h.words); room = h.room }
+causes_more s None u k t x Stack pages words h = h
+causes_more s (Some l) u k t x Stack pages words h = (h.0, omega (arith, pages (first_page l.pages), h.1))

@@ -1,0 +1,73 @@
+-- From what the instruction did to the whole step.
+use Rattle.std.proofs.Common.{◌≡◌, ℕ, ◌≤◌, Bool, sym, ap, subst, ◌∙◌, arith, Option, List}
+use Rattle.cs_classes.specs.declared.Roots.{Roots}
+use Rattle.cs_model.specs.declared.stop.Stop.{Stop as Reason}
+use Rattle.cs_model.specs.declared.stop.Stop.TheVariants as why
+use Rattle.cs_model.specs.declared.instruction.Instr.{Instr}
+use Rattle.cs_model.specs.Ref.{Ref}
+use Rattle.cs_model.specs.State.{IsHeld, Kept}
+use Rattle.cs_model.specs.Read.{IsRunning}
+use Rattle.cs_model.specs.End as ends
+use Rattle.cs_model.specs.End.{End}
+use Rattle.cs_model.specs.Step.{Message}
+use Rattle.cs_model.proofs.Stepping.{MessageHeld}
+use Rattle.cs_acts.specs.Layout.{Layout}
+use Rattle.cs_acts.specs.Names.{Store}
+use Rattle.cs_acts.specs.Ready.{IsReady}
+use Rattle.cs_core.specs.Stepped.{EndsBy, FramesFrom, StepGives, TurnGives, returning, sending}
+use Rattle.cs_core.specs.declared.step.StepEnd.{StepEnd}
+use Rattle.cs_core.specs.declared.step.StepEnd.TheVariants.{Stopped as Stop}
+use Rattle.cs_core.proofs.Asking.{behind_return, behind_send}
+use Rattle.cs_core.proofs.Beginning.{Executed, did, did_not, next_is}
+use Rattle.cs_core.proofs.Carrying.{carried, done_turn, returns_same, sends_same, stop_turn, unbuilt_turn}
+use Rattle.cs_core.proofs.Turning.{Begins, model_turn, turn_gives}
+
+reason_in : Reason → End → Reason
+reason_in other (ends.Stopped reason) = reason
+reason_in other ends.Done = other
+reason_in other (ends.Send selector args above) = other
+reason_in other (ends.Return value local) = other
+reason_in other ends.Entered = other
+reason_in other (ends.Primitive method number) = other
+reason_in other (ends.Call special args) = other
+reason_in other ends.Answer = other
+reason_in other ends.Fail = other
+reason_in other ends.Quit = other
+reason_in other ends.Snapshot = other
+
+same_reason : (a b : Reason) → ends.Stopped a ≡ ends.Stopped b → a ≡ b
+unfolding reason_in
+same_reason a b e = ap (reason_in a) e
+
+module _ (k : Kept) (i : Instr) (l n : Option Layout) (s : Store) (v : Kept) (h : Begins k i) where
+  pub done_gives : (told : Option (List ℕ)) (e : StepEnd) → Executed k i v ends.Done → IsReady s v → FramesFrom l n v → EndsBy v e → StepGives k l told told s v n e
+  done_gives told e (did op end keeps) ready frames by = turn_gives k i l n told told s v e h (done_turn k i l n told s v e op end keeps ready frames by)
+  done_gives told e (did_not op is) ready frames by = absurd (cc)
+
+  pub stop_gives : (told : Option (List ℕ)) (reason : Reason) → Executed k i v (ends.Stopped reason) → StepGives k l told told s v n (Stop reason)
+  stop_gives told reason (did op end keeps) = turn_gives k i l n told told s v (Stop reason) h (stop_turn k i l n told s v reason op end)
+  stop_gives told reason (did_not op is) =
+      subst (λ r. StepGives k l told told s v n (Stop r)) (sym (same_reason reason why.NotBuilt is)) (turn_gives k i l n told told s v (Stop why.NotBuilt) h (unbuilt_turn k i l n told s v op))
+
+  pub send_gives : (u : Kept) (m : Message) (b : Option Layout) (old new : Option (List ℕ)) (e : StepEnd) → IsRunning k → Executed k i u (ends.Send m.selector m.args m.above) → MessageHeld u m → b ≡ l
+      → TurnGives (sending u m) u b old new s v n e → StepGives k l old new s v n e
+  send_gives u m b old new e running (did op end keeps) held same gives =
+      turn_gives k i l n old new s v e h
+      (carried (sending u m) (model_turn k i) u k l n old new s v e (sends_same k i u m op end keeps held) (behind_send k u i m.selector m.args m.above running op end keeps).words
+      (subst (λ b. TurnGives (sending u m) u b old new s v n e) same gives))
+  send_gives u m b old new e running (did_not op is) held same gives = absurd (cc)
+
+  pub return_gives : (u : Kept) (x : Ref) (local : Bool) (b : Option Layout) (told : Option (List ℕ)) (e : StepEnd) → IsRunning k → Executed k i u (ends.Return x local) → IsHeld u x → b ≡ l
+      → TurnGives (returning u x local) u b told told s v n e → StepGives k l told told s v n e
+  return_gives u x local b told e running (did op end keeps) held same gives =
+      turn_gives k i l n told told s v e h
+      (carried (returning u x local) (model_turn k i) u k l n told told s v e (returns_same k i u x local op end keeps held) (behind_return k u i x local running op end keeps).words
+      (subst (λ b. TurnGives (returning u x local) u b told told s v n e) same gives))
+  return_gives u x local b told e running (did_not op is) held same gives = absurd (cc)
+
+-- a send doesn't change the next birth
+pub births_few : (s : Store) (k u : Kept) (i : Instr) (r : Roots) (selector : Ref) (args : ℕ) (above : Option Ref) → IsReady s k → r ≡ s.roots → r.next_birth ≤ 4611686018427387840 → Executed k i u (ends.Send selector args above) → u.rest.next ≤ 4611686018427387840
+births_few s k u i r selector args above ready is few (did op end keeps) =
+    let same : u.rest.next ≡ r.next_birth = (behind_send k u i selector args above ready.running op end keeps).next ∙ next_is s k ready.sound ∙ ap (λ (x : Roots). x.next_birth) (sym is) in
+    omega (arith, same, few)
+births_few s k u i r selector args above ready is few (did_not op end) = absurd (cc)
