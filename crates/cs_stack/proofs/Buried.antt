@@ -1,21 +1,20 @@
 -- A context of the heap that is buried: the heap is whole, and the context is dead.
-use Rattle.std.proofs.Common.{◌≡◌, ◌≢◌, ◌⊎◌, ℕ, pos, ◌+◌, ◌-◌, ◌<◌, ◌≤◌, Bool, true, false, refl, sym, ap, ap₂, subst, ◌∙◌, arith, Option, Some, None, is_some, List, [], ◌∷◌, length, map, take, drop, option_map, unwrap_or, get_or, get_or-set_same, get_or-set_other, length-set, set, inl, inr}
+use Rattle.std.proofs.Common.{◌≡◌, ◌≢◌, ◌⊎◌, ℕ, pos, true, false, refl, sym, ap, subst, ◌∙◌, arith, Option, Some, None, is_some, List, [], option_map, get_or-set_same, get_or-set_other, length-set, set, inl, inr}
 use Rattle.std.specs.Prelude.{slice_get, slice_index, ◌==◌, ◌||◌}
 use Rattle.std.specs.Ordering.{nat_cmp}
-use Rattle.std.specs.FinMap.{FinMap, get, insert}
+use Rattle.std.specs.FinMap.{FinMap}
 use Rattle.std.proofs.lemmas.Bool.{cases_eq}
 use Rattle.std.proofs.lemmas.Bool.Decides.{eqb_tells}
 use Rattle.cs_word.specs.Word.{small_word}
 use Rattle.cs_heap.specs.Object.{Object, at_index, object_at, set_word, used, with_object, with_slot}
 use Rattle.cs_heap.proofs.Laws.{object_at-with_object_other, object_at-with_object_same, used-with_object}
 use Rattle.cs_classes.specs.declared.Roots.{Roots}
-use Rattle.cs_classes.specs.Meaning.{context_of, count_of, is_context, kept_of, meaning_at, obj_of, objects_of, ref_of}
-use Rattle.cs_classes.specs.Sound.{IsWhole, is_reference, nil_of}
+use Rattle.cs_classes.specs.Meaning.{context_of, count_of, is_context, kept_of, meaning_at, obj_of, ref_of}
+use Rattle.cs_classes.specs.Sound.{IsWhole, is_reference}
 use Rattle.cs_classes.proofs.Heaps.{IsEdit, birth_of-object_at, is_object-object_at, set_word-IsEdit, slice_get-at_index_other, slice_get-at_index_same, stands, with_object-stands, with_object-twice}
 use Rattle.cs_classes.proofs.Refs.{is_reference-with_object, ref_of-object, ref_of-with_object}
 use Rattle.cs_classes.proofs.Sorts.{obj_of-context}
-use Rattle.cs_classes.proofs.Sounds.{whole_context}
-use Rattle.cs_classes.proofs.Writes.{Does, Holds, does-set_pc, does-set_sender, does-set_stackp}
+use Rattle.cs_classes.proofs.Writes.{Does, does-set_pc, does-set_sender, does-set_stackp}
 use Rattle.cs_frame.specs.Frame.{nil}
 use Rattle.cs_model.specs.Ref.{Ref}
 use Rattle.cs_model.specs.Ref as ref

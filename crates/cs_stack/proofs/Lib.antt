@@ -7,6 +7,7 @@ pub mod Buried
 pub mod Leaving
 pub mod Unwinding
 pub mod Taking
+pub mod Opening
 pub mod Scheduled
 pub mod Maps
 pub mod Framed

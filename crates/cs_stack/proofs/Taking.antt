@@ -1,32 +1,29 @@
 -- The active process gives its context to the machine: that becomes the base frame.
-use Rattle.std.proofs.Common.{◌≡◌, ◌≢◌, ◌↔◌, ℕ, ◌-◌, ◌/◌, ◌%◌, ◌<◌, ◌≤◌, Bool, true, false, refl, sym, ap, subst, ◌∙◌, arith, Option, Some, None, IsSome, is_some, IsNone, IfSome, List, [], ◌∷◌, length, option_and_then, option_map}
-use Rattle.std.specs.Prelude.{slice_get, slice_index, nat_le, nat_lt, if◌then◌else◌}
+use Rattle.std.proofs.Common.{◌≡◌, ◌↔◌, ℕ, Bool, true, false, refl, sym, ap, subst, ◌∙◌, arith, Option, Some, None, IsSome, is_some, IsNone, IfSome, List, [], ◌∷◌, length, option_and_then}
+use Rattle.std.specs.Prelude.{slice_get, nat_le, nat_lt, if◌then◌else◌}
 use Rattle.std.specs.FinMap.{get}
 use Rattle.std.proofs.lemmas.Bool.Decides.{nat_tests}
 use Rattle.cs_word.specs.declared.Oop.{Oop}
-use Rattle.cs_heap.specs.Object.{Memory, Object, birth_of, is_object, object_at, slot_of}
-use Rattle.cs_classes.specs.Meaning.{context_of, count_of, is_context, kept_of, obj_of, objects_of, ref_of}
-use Rattle.cs_classes.specs.Sound.{is_reference}
+use Rattle.cs_heap.specs.Object.{Object, birth_of, is_object, object_at, slot_of}
+use Rattle.cs_classes.specs.Meaning.{context_of, count_of, kept_of, obj_of, objects_of, ref_of}
 use Rattle.cs_classes.proofs.Heaps.{birth_of-object_at, object_there}
 use Rattle.cs_classes.proofs.Sorts.{context_is}
 use Rattle.cs_classes.proofs.Sounds.{sound_at}
 use Rattle.cs_classes.proofs.Wholes.{kept_of-below}
-use Rattle.cs_frame.specs.Frame.{Frame}
 use Rattle.cs_pages.specs.Order.{IsFree, Order}
 use Rattle.cs_model.specs.Ref.{Ref, Small, Char}
 use Rattle.cs_model.specs.Ref as ref
 use Rattle.cs_model.specs.Obj.{Context, Ctx, Method, Obj, Ptr, Raw, at_least, slots_in}
-use Rattle.cs_model.specs.State as state
 use Rattle.cs_model.specs.State.{Kept, object_of, slots_of}
 use Rattle.cs_model.specs.Read.{IsRunning, active_birth, active_context}
 use Rattle.cs_model.specs.Operation.{nil_of, resume_of, store_of}
 use Rattle.cs_model.specs.Settle.{context_kept, open_at}
-use Rattle.cs_acts.specs.Names.{IsNamed, KeepsNames, Names, NamesOption, name_of}
+use Rattle.cs_acts.specs.Names.{KeepsNames, Names, NamesOption, name_of}
 use Rattle.cs_acts.specs.Ready.{is_storable}
 use Rattle.cs_stack.specs.declared.parts.Parts.{Parts}
 use Rattle.cs_stack.specs.View.{active_in, frames_onto, page_of, stored_of, view_of}
-use Rattle.cs_stack.specs.Good.{IsGood, used_pages}
-use Rattle.cs_stack.specs.Moved.{CanBase, IsContextAt, base_frame, based, taken_of}
+use Rattle.cs_stack.specs.Good.{IsGood}
+use Rattle.cs_stack.specs.Moved.{CanBase, IsContextAt, based, taken_of}
 use Rattle.cs_stack.proofs.Framed.{meaning_there}
 use Rattle.cs_stack.proofs.Tops.{view_at}
 use Rattle.cs_stack.proofs.Basing.{slot_is}

@@ -1,15 +1,13 @@
 -- The active context dies and its sender is active: the frame below it, or a context of the heap that becomes the base frame.
-use Rattle.std.proofs.Common.{◌≡◌, ◌≢◌, ◌⊎◌, ℕ, ◌-◌, ◌/◌, ◌%◌, ◌<◌, ◌≤◌, Bool, true, false, refl, sym, ap, subst, ◌∙◌, arith, Option, Some, None, IsSome, is_some, List, [], ◌∷◌, length, map, option_and_then, suc, inl, inr}
+use Rattle.std.proofs.Common.{◌≡◌, ◌≢◌, ℕ, ◌-◌, ◌/◌, ◌%◌, ◌<◌, ◌≤◌, Bool, true, false, refl, sym, ap, subst, ◌∙◌, arith, Option, Some, None, IsSome, is_some, List, [], ◌∷◌, length, option_and_then, suc, inl, inr}
 use Rattle.std.specs.Prelude.{IfSome, slice_get, slice_index, ◌==◌, if◌then◌else◌}
 use Rattle.std.specs.Option.{option_map_or}
 use Rattle.std.proofs.lemmas.List.{nil_from_length}
-use Rattle.std.specs.Ordering.{nat_cmp}
-use Rattle.std.specs.FinMap.{FinMap, get, insert}
-use Rattle.cs_word.specs.declared.Oop.{Oop}
+use Rattle.std.specs.FinMap.{get}
 use Rattle.cs_word.specs.declared.Kind.{Kind}
 use Rattle.cs_word.specs.declared.Kind.TheVariants as kind
 use Rattle.cs_word.specs.Word.{kind_of, small_value}
-use Rattle.cs_heap.specs.Object.{Object, birth_of, hash_of, is_object, object_at, slot_count_of, slot_of, used}
+use Rattle.cs_heap.specs.Object.{Object, birth_of, is_object, object_at, slot_count_of, slot_of}
 use Rattle.cs_classes.specs.Meaning.{context_of, count_of, is_context, kept_of, obj_of, objects_of, ref_of, ref_of_kind}
 use Rattle.cs_classes.specs.Sound.{is_reference, is_reference_kind}
 use Rattle.cs_classes.proofs.Heaps.{birth_of-object_at, object_there}
@@ -27,21 +25,20 @@ use Rattle.cs_model.specs.Obj.{Context, Ctx, Obj, context_in, dead}
 use Rattle.cs_model.specs.State as state
 use Rattle.cs_model.specs.State.{Kept, Rest, put}
 use Rattle.cs_model.specs.Read.{active_birth, active_context}
-use Rattle.cs_model.specs.Operation.{activate}
 use Rattle.cs_model.specs.Return.{sender_birth}
 use Rattle.cs_model.proofs.Objects.{object_at-put_other, object_at-put_same}
 use Rattle.cs_acts.specs.Layout.{LaidBy, left}
 use Rattle.cs_acts.specs.Ready.{IsReady}
 use Rattle.cs_acts.proofs.Firsts.{nil_names}
 use Rattle.cs_stack.specs.declared.parts.Parts.{Parts}
-use Rattle.cs_stack.specs.View.{births_of, frame_context, frame_sender, frames_onto, layout_of, page_of, pages_of, stored_of, view_of}
+use Rattle.cs_stack.specs.View.{frame_context, frame_sender, frames_onto, layout_of, page_of, pages_of, stored_of, view_of}
 use Rattle.cs_stack.specs.Good.{FrameFits, FramesFit, HasHome, IsGood, Lacks, PcFits, StandsAt, used_pages}
-use Rattle.cs_stack.specs.Moved.{CanBase, IsContextAt, Unwinds, Unwound, based, base_frame, buried, buried_objects}
-use Rattle.cs_stack.proofs.Maps.{Objects, get_apart}
+use Rattle.cs_stack.specs.Moved.{CanBase, IsContextAt, Unwound, based, buried, buried_objects}
+use Rattle.cs_stack.proofs.Maps.{get_apart}
 use Rattle.cs_stack.proofs.Framed.{meaning_there, onto_bare}
-use Rattle.cs_stack.proofs.Tops.{Opened, view_at}
+use Rattle.cs_stack.proofs.Tops.{Opened}
 use Rattle.cs_stack.proofs.Basing.{count_is, only_base, six, slot_is}
-use Rattle.cs_stack.proofs.Based.{base_fits, based_view, birth_is}
+use Rattle.cs_stack.proofs.Based.{base_fits, based_view}
 use Rattle.cs_stack.proofs.Buried.{buried_kept, buried_other, buried_pcs, buried_refers, buried_sound, buried_whole, buried_words}
 use Rattle.cs_stack.proofs.Edits.{top_frame, top_ref}
 use Rattle.cs_stack.proofs.Entering.{first_at}
@@ -50,7 +47,7 @@ use Rattle.cs_stack.proofs.Leaving.{Target, tell}
 abbrev pub order_by : List Frame → Order
 order_by fs = record { total = 1; recent = used_pages fs }
 
-kind_address : (w a : ℕ) → kind_of w ≡ kind.Object a → a ≡ w
+pub kind_address : (w a : ℕ) → kind_of w ≡ kind.Object a → a ≡ w
 kind_address w a e = go (w % 2 == 1) (w % 4 == 2) (w % 8 == 0) e
   where
     go : (p q r : Bool) → (if p then kind.Small (small_value w) else (if q then kind.Character (w / 4) else (if r then kind.Object w else kind.Link w))) ≡ kind.Object a → a ≡ w

@@ -108,9 +108,11 @@ impl StackWorld {
     /// Takes the context of the active process, if one is active.
     #[tactic(auto, unfolding(cs_model::specs::Settle::open_kept))]
     fn open(&mut self)
+        requires sound { IsSound (stored_of self.old) (view_of self.old) }
         requires closed { page_of self.old ≡ [] }
         requires running { is_idle (view_of self.old) ≡ false → IsRunning (open_kept (view_of self.old)) }
         ensures view { view_of self.new ≡ open_kept (view_of self.old) }
+        ensures sound { IsSound (stored_of self.new) (view_of self.new) }
         ensures limit { self.new.heap.limit ≡ self.old.heap.limit }
     {
         let nil = nil(self);
@@ -128,6 +130,7 @@ impl StackWorld {
         requires nil { Names (stored_of self.old) nil (nil_of (view_of self.old)) }
         requires running { IsRunning (taken_of (view_of self.old) (name_of (stored_of self.old) process)) }
         ensures view { view_of self.new ≡ taken_of (view_of self.old) (name_of (stored_of self.old) process) }
+        ensures sound { IsSound (stored_of self.new) (view_of self.new) }
         ensures limit { self.new.heap.limit ≡ self.old.heap.limit }
     {
         if let Some(context) = slot(self, process, PROCESS_SLOTS, parts::SUSPENDED_CONTEXT) {

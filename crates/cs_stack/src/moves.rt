@@ -169,8 +169,7 @@ impl Parts {
         let frame = self.frames.build(PAGE, new);
         self.frames
             .set_sender(frame, self.heap.slot(context, SENDER));
-        self.frames
-            .set_saved_pc(frame, self.heap.slot(context, PC));
+        self.frames.set_saved_pc(frame, self.heap.slot(context, PC));
         self.frames.set_context(frame, context);
         self.copy_stack(frame, context);
     }

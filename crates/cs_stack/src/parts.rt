@@ -23,10 +23,15 @@ use cs_word::Oop;
 /// Heap, class table and roots, which stack pages are used, and the frames on them.
 #[derive(Drop)]
 pub struct Parts {
+    /// All objects, and each context that has an object. The words of one that has a frame are stale.
     pub heap: Heap,
+    /// The class table.
     pub classes: Classes,
+    /// What an image keeps beside its objects.
     pub roots: Roots,
+    /// Which pages are used. There is one, and it is used where it has a frame.
     pub pages: Pages,
+    /// The frames of the pages.
     pub frames: Frames,
 }
 
@@ -121,6 +126,7 @@ impl Parts {
         }
     }
 
+    /// The birth of the context that an act stands for.
     pub(crate) fn act_birth(&self, a: Act) -> u64
         requires good { IsGood self.now }
         requires stands { IsSome (act_of self.now a) }
@@ -133,6 +139,7 @@ impl Parts {
         }
     }
 
+    /// Its closure, or nil.
     pub(crate) fn act_closure(&self, a: Act) -> Oop
         requires good { IsGood self.now }
         requires stands { IsSome (act_of self.now a) }
@@ -145,6 +152,7 @@ impl Parts {
         }
     }
 
+    /// Its method.
     pub(crate) fn act_method(&self, a: Act) -> Oop
         requires good { IsGood self.now }
         requires stands { IsSome (act_of self.now a) }
@@ -157,6 +165,7 @@ impl Parts {
         }
     }
 
+    /// Whether it is live. A frame always is.
     pub(crate) fn act_live(&self, a: Act) -> bool
         requires good { IsGood self.now }
         requires stands { IsSome (act_of self.now a) }
@@ -169,6 +178,7 @@ impl Parts {
         }
     }
 
+    /// Whether its stack holds as many values as its size.
     pub(crate) fn act_full(&self, a: Act) -> bool
         requires good { IsGood self.now }
         requires stands { IsSome (act_of self.now a) }
@@ -193,6 +203,7 @@ impl Parts {
         self.frames.depth(f) >= self.frame_size(f)
     }
 
+    /// What stands for its sender; Gone exactly where that names no context.
     pub(crate) fn sender_act(&self, a: Act) -> Act
         requires good { IsGood self.now }
         requires stands { IsSome (act_of self.now a) }
@@ -206,6 +217,7 @@ impl Parts {
         }
     }
 
+    /// What stands for the sender of a frame: the frame below it, or below the base frame what its sender cell names.
     fn frame_sender(&self, f: FrameRef) -> Act
         requires good { IsGood self.now }
         requires stands { IsSome (act_of self.now (Act.Frame f.page f.at)) }
@@ -218,6 +230,7 @@ impl Parts {
         }
     }
 
+    /// The receiver of the active context.
     pub(crate) fn receiver(&self) -> Oop
         requires good { IsGood self.now }
         requires ready { IsReady (stored_of self.now) (view_of self.now) }
@@ -226,6 +239,7 @@ impl Parts {
         self.frames.receiver(self.top())
     }
 
+    /// The method of the active context.
     pub(crate) fn method(&self) -> Oop
         requires good { IsGood self.now }
         requires ready { IsReady (stored_of self.now) (view_of self.now) }
@@ -234,6 +248,7 @@ impl Parts {
         self.frames.method(self.top())
     }
 
+    /// The pc of the active context.
     pub(crate) fn pc(&self) -> u32
         requires good { IsGood self.now }
         requires ready { IsReady (stored_of self.now) (view_of self.now) }
@@ -242,6 +257,7 @@ impl Parts {
         count(self.frames.saved_pc(self.top()))
     }
 
+    /// How many values the active stack holds.
     pub(crate) fn depth(&self) -> u32
         requires good { IsGood self.now }
         requires ready { IsReady (stored_of self.now) (view_of self.now) }
@@ -251,6 +267,7 @@ impl Parts {
         self.frames.depth(self.top())
     }
 
+    /// How many values it may hold.
     pub(crate) fn size(&self) -> u32
         requires good { IsGood self.now }
         requires ready { IsReady (stored_of self.now) (view_of self.now) }
@@ -259,6 +276,7 @@ impl Parts {
         self.frame_size(self.top())
     }
 
+    /// Value i of the active stack, counted from 0 at the bottom.
     pub(crate) fn stack_at(&self, i: u32) -> Oop
         requires good { IsGood self.now }
         requires ready { IsReady (stored_of self.now) (view_of self.now) }
@@ -268,6 +286,7 @@ impl Parts {
         self.frames.slot(self.top(), i)
     }
 
+    /// Moves the pc of the active context.
     pub(crate) fn set_pc(&mut self, pc: u32)
         requires good { IsGood self.old }
         requires ready { IsReady (stored_of self.old) (view_of self.old) }
@@ -281,6 +300,7 @@ impl Parts {
         self.frames.set_saved_pc(top, count_word(pc));
     }
 
+    /// Writes value i of the active stack.
     pub(crate) fn set_stack(&mut self, i: u32, v: Oop)
         requires good { IsGood self.old }
         requires ready { IsReady (stored_of self.old) (view_of self.old) }
@@ -295,6 +315,7 @@ impl Parts {
         self.frames.set_slot(top, i, v);
     }
 
+    /// Writes slot i of an object that is no context.
     pub(crate) fn store(&mut self, o: Oop, i: u32, v: Oop)
         requires good { IsGood self.old }
         requires there { is_storable (object_of (view_of self.old) (name_of (stored_of self.old) o)) i ≡ true }
@@ -309,6 +330,7 @@ impl Parts {
         self.heap.set_slot(o, i, v);
     }
 
+    /// Pushes a value onto the active stack.
     pub(crate) fn push(&mut self, v: Oop)
         requires good { IsGood self.old }
         requires ready { IsReady (stored_of self.old) (view_of self.old) }
@@ -323,6 +345,7 @@ impl Parts {
         self.frames.push(top, v);
     }
 
+    /// Pops the topmost value.
     pub(crate) fn pop(&mut self) -> Oop
         requires good { IsGood self.old }
         requires ready { IsReady (stored_of self.old) (view_of self.old) }

@@ -1,10 +1,5 @@
-use Rattle.std.proofs.Common.{◌≡◌, ap, sym, subst, refl, ◌∙◌}
-use Rattle.cs_model.specs.Settle.{context_kept}
-use Rattle.cs_frame.specs.Page.{frames_of}
-use Rattle.cs_pages.specs.Order.{Order}
-use Rattle.cs_stack.specs.declared.parts.Parts.{Parts}
-use Rattle.cs_stack.specs.Good.{IsGood, used_pages}
-use Rattle.cs_stack.specs.Moved.{based, taken_of}
+use Rattle.std.proofs.Common.{ap, sym, subst, refl, ◌∙◌}
+use Rattle.cs_stack.specs.Good.{IsGood}
 use Rattle.cs_stack.specs.View.{page_of, view_of}
 use Rattle.cs_stack.proofs.Unwinding.{order_by}
 use Rattle.cs_stack.proofs.Taking.{can_take, page_taken, process_stores, taken_good, taken_view}

@@ -1,4 +1,4 @@
-use Rattle.std.proofs.Common.{None, refl}
+use Rattle.std.proofs.Common.{refl}
 use Rattle.cs_stack.proofs.Tops.{opened}
 use Rattle.cs_stack.proofs.Edits.{top_is_frame}
 use Rattle.cs_stack.proofs.Leaving.{target}
