@@ -1,3 +1,4 @@
 pub mod NumberLemmas
 pub mod Writings
 pub mod Images
+pub mod Breaking

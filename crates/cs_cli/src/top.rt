@@ -7,18 +7,17 @@ ghost use Rattle.cs_model.specs.Read.{IsRunning};
 ghost use Rattle.cs_acts.specs.Layout.{IsFresh};
 ghost use Rattle.cs_acts.specs.Ready.{IsSound};
 ghost use Rattle.cs_core.specs.Running.{ending_of};
-ghost use Rattle.cs_stack.specs.View.{layout_of, stored_of, view_of};
 ghost use Rattle.cs_shelf.specs.Outside.{Appends, AppendsPart, Rose};
 ghost use Rattle.cs_cli.specs.Answer.{Answered, Begun, Printed, Reported, answering, failed_read, read_text, run_status};
 ghost use Rattle.cs_cli.specs.Opening.{Opens};
 
 use crate::line::parse;
 use crate::report::report;
-use cs_acts::Full;
+use cs_acts::{Full, World};
 use cs_core::run::{Ending, RunError, run};
 use cs_image::{ImageError, load};
+use cs_plain::PlainWorld;
 use cs_send::Sender;
-use cs_stack::StackWorld;
 use cs_shelf::{Failed, ReadError, Shelf, Sink, read_whole, write_whole};
 use std::alloc::Global;
 
@@ -27,9 +26,6 @@ const LONGEST_IMAGE: usize = 536_870_912;
 
 /// The heap limit, in words of 4 bytes.
 const HEAP_LIMIT: u32 = 16_777_216;
-
-/// The pages of the stack.
-const STACK_PAGES: u32 = 1;
 
 /// The statuses of the program.
 const STOPPED: u8 = 1;
@@ -117,7 +113,7 @@ fn write_read<K: Sink>(out: &mut K, name: &str) -> Result<(), Failed>
 }
 
 /// Reads, loads and opens an image.
-fn open<S: Shelf>(alloc: Global, shelf: &mut S, file: &str) -> Result<StackWorld, Refusal>
+fn open<S: Shelf>(alloc: Global, shelf: &mut S, file: &str) -> Result<PlainWorld, Refusal>
     requires name { length file.now ≤ 4096 }
     ensures opens { Opens file.now (record { content = S.content shelf.old; before = S.fault_count shelf.old; behind = S.fault_count shelf.new; last = S.last_fault shelf.new }) result }
     ensures contents { (name : List ℕ) → S.content shelf.new name ≡ S.content shelf.old name }
@@ -129,7 +125,7 @@ fn open<S: Shelf>(alloc: Global, shelf: &mut S, file: &str) -> Result<StackWorld
         Err(ReadError::NoMemory) => return Err(Refusal::Memory),
     };
     match load(alloc, bytes.as_slice(), HEAP_LIMIT) {
-        Ok(loaded) => match StackWorld::new(alloc, loaded, STACK_PAGES) {
+        Ok(loaded) => match PlainWorld::new(alloc, loaded) {
             Ok(world) => Ok(world),
             Err(_) => Err(Refusal::Memory),
         },
@@ -141,11 +137,11 @@ fn open<S: Shelf>(alloc: Global, shelf: &mut S, file: &str) -> Result<StackWorld
 }
 
 /// Runs an image, where memory for what sends its messages is had.
-fn begin<K: Sink>(alloc: Global, world: StackWorld, steps: u64, out: &mut K) -> u8
-    requires sound { IsSound (stored_of world) (view_of world) }
-    requires running { is_idle (view_of world) ≡ false → IsRunning (view_of world) }
-    requires fresh { IsFresh (view_of world) (layout_of world) }
-    ensures { Begun (view_of world) steps
+fn begin<W: World + Drop, K: Sink>(alloc: Global, world: W, steps: u64, out: &mut K) -> u8
+    requires sound { IsSound (W.stored world) (W.view world) }
+    requires running { is_idle (W.view world) ≡ false → IsRunning (W.view world) }
+    requires fresh { IsFresh (W.view world) (W.layout world) }
+    ensures { Begun (W.view world) steps
         (record { old = K.taken out.old; new = K.taken out.new; before = K.fault_count out.old; behind = K.fault_count out.new }) result }
 {
     match Sender::new(alloc) {
@@ -155,11 +151,11 @@ fn begin<K: Sink>(alloc: Global, world: StackWorld, steps: u64, out: &mut K) -> 
 }
 
 /// Runs an image, and reports where it comes to.
-fn run_and_report<K: Sink>(world: StackWorld, sender: Sender, steps: u64, out: &mut K) -> u8
-    requires sound { IsSound (stored_of world) (view_of world) }
-    requires running { is_idle (view_of world) ≡ false → IsRunning (view_of world) }
-    requires fresh { IsFresh (view_of world) (layout_of world) }
-    ensures { Reported (view_of world) steps
+fn run_and_report<W: World + Drop, K: Sink>(world: W, sender: Sender, steps: u64, out: &mut K) -> u8
+    requires sound { IsSound (W.stored world) (W.view world) }
+    requires running { is_idle (W.view world) ≡ false → IsRunning (W.view world) }
+    requires fresh { IsFresh (W.view world) (W.layout world) }
+    ensures { Reported (W.view world) steps
         (record { old = K.taken out.old; new = K.taken out.new; before = K.fault_count out.old; behind = K.fault_count out.new }) result }
 {
     let mut world = world;
