@@ -62,6 +62,7 @@ impl Parts {
         ensures layout { OnOk result (LaidBy (entered (view_of self.old) (view_of self.old).rest.next) (layout_of self.old) (layout_of self.new)) }
         ensures names { OnOk result (KeepsNames (stored_of self.old) (stored_of self.new)) }
         ensures full { IfErr result (CausesFull (stored_of self.new) (layout_of self.old) (view_of self.old) 0 (enter_of (view_of self.old) (name_of (stored_of self.old) method) args skip)) }
+        ensures limit { self.new.heap.limit ≡ self.old.heap.limit }
     {
         if self.frames.room(PAGE) < FRAME_ROOM {
             return Err(Full::Stack);
@@ -108,6 +109,7 @@ impl Parts {
         ensures layout { IfSome (sender_birth (view_of self.old) (active_birth (view_of self.old))) (λ target. LaidBy (left target) (layout_of self.old) (layout_of self.new)) }
         ensures ready { IsReady (stored_of self.new) (view_of self.new) }
         ensures names { KeepsNames (stored_of self.old) (stored_of self.new) }
+        ensures limit { self.new.heap.limit ≡ self.old.heap.limit }
     {
         self.unwind();
         self.push(v);
@@ -119,6 +121,7 @@ impl Parts {
         requires ready { IsReady (stored_of self.old) (view_of self.old) }
         requires target { IsSomeAnd (sender_birth (view_of self.old) (active_birth (view_of self.old))) (CanArrive (view_of self.old)) }
         ensures unwound { IfSome (sender_birth (view_of self.old) (active_birth (view_of self.old))) (Unwound self.old self.new) }
+        ensures limit { self.new.heap.limit ≡ self.old.heap.limit }
     {
         let top = self.top();
         match self.frames.caller(top) {
