@@ -10,7 +10,7 @@ ghost use Rattle.cs_model.specs.Return.{sender_birth};
 ghost use Rattle.cs_model.specs.Settle.{context_kept};
 ghost use Rattle.cs_model.specs.State.{Kept};
 ghost use Rattle.cs_acts.specs.Full.{CausesFull};
-ghost use Rattle.cs_acts.specs.Layout.{LaidBy, entered, left};
+ghost use Rattle.cs_acts.specs.Layout.{IsFresh, LaidBy, entered, left};
 ghost use Rattle.cs_acts.specs.Names.{IsNamed, KeepsNames, Names, NamesOption, name_of};
 ghost use Rattle.cs_acts.specs.Ready.{IsReady};
 ghost use Rattle.cs_acts.specs.Targets.{CanArrive, CanEnter};
@@ -44,6 +44,7 @@ impl Parts {
         requires running { IsRunning (taken_of (view_of self.old) (name_of (stored_of self.old) process)) }
         ensures good { IsGood self.new }
         ensures view { view_of self.new ≡ taken_of (view_of self.old) (name_of (stored_of self.old) process) }
+        ensures fresh { IsFresh (view_of self.new) (layout_of self.new) }
         ensures limit { self.new.heap.limit ≡ self.old.heap.limit }
     {
         self.store(process, SUSPENDED_CONTEXT, nil);
