@@ -50,7 +50,7 @@ impl Model for StackWorld {
 const PROCESS_SLOTS: u32 = 4;
 
 impl StackWorld {
-    ghost use Rattle.std.specs.Prelude.{◌≤◌, ℕ, IfOk, false, None, Some, []};
+    ghost use Rattle.std.specs.Prelude.{◌≤◌, length, ℕ, IfOk, false, None, Some, []};
     ghost use Rattle.cs_classes.specs.Sound.{IsWhole};
     ghost use Rattle.cs_model.specs.Due.{is_idle};
     ghost use Rattle.cs_model.specs.Obj.{Context, Ctx};
@@ -59,10 +59,11 @@ impl StackWorld {
     ghost use Rattle.cs_model.specs.Settle.{open_kept};
     ghost use Rattle.cs_model.specs.State.{PcLies, object_at};
     ghost use Rattle.cs_model.specs.Step.{shape_fault};
+    ghost use Rattle.cs_acts.specs.Layout.{IsFresh};
     ghost use Rattle.cs_acts.specs.Names.{IsNamed, Names, name_of};
     ghost use Rattle.cs_acts.specs.Ready.{IsReady, IsSound};
     ghost use Rattle.cs_stack.specs.Moved.{taken_of};
-    ghost use Rattle.cs_stack.specs.View.{loaded_kept, page_of, stored_of, view_of};
+    ghost use Rattle.cs_stack.specs.View.{layout_of, loaded_kept, page_of, stored_of, view_of};
 
     /// Opens a loaded image on one stack page: the active process gives its context to the machine. With no active process none
     /// is active. The only error is that memory is refused.
@@ -77,6 +78,7 @@ impl StackWorld {
         requires running { is_idle (loaded_kept loaded) ≡ false → IsRunning (open_kept (loaded_kept loaded)) }
         ensures view { IfOk result (λ w. view_of w ≡ open_kept (loaded_kept loaded)) }
         ensures sound { IfOk result (λ w. IsSound (stored_of w) (view_of w)) }
+        ensures fresh { IfOk result (λ w. IsFresh (view_of w) (layout_of w)) }
         ensures limit { IfOk result (λ w. (stored_of w).memory.limit ≡ loaded.heap.limit) }
         ensures idle { IfOk result (λ w. is_idle (view_of w) ≡ is_idle (loaded_kept loaded)) }
         ensures shape { IfOk result (λ w. shape_fault (view_of w) ≡ None) }
@@ -113,6 +115,7 @@ impl StackWorld {
         requires running { is_idle (view_of self.old) ≡ false → IsRunning (open_kept (view_of self.old)) }
         ensures view { view_of self.new ≡ open_kept (view_of self.old) }
         ensures sound { IsSound (stored_of self.new) (view_of self.new) }
+        ensures one { length (page_of self.new) ≤ 1 }
         ensures limit { self.new.heap.limit ≡ self.old.heap.limit }
     {
         let nil = nil(self);
@@ -131,6 +134,7 @@ impl StackWorld {
         requires running { IsRunning (taken_of (view_of self.old) (name_of (stored_of self.old) process)) }
         ensures view { view_of self.new ≡ taken_of (view_of self.old) (name_of (stored_of self.old) process) }
         ensures sound { IsSound (stored_of self.new) (view_of self.new) }
+        ensures one { length (page_of self.new) ≤ 1 }
         ensures limit { self.new.heap.limit ≡ self.old.heap.limit }
     {
         if let Some(context) = slot(self, process, PROCESS_SLOTS, parts::SUSPENDED_CONTEXT) {

@@ -44,6 +44,7 @@ impl Parts {
         requires running { IsRunning (taken_of (view_of self.old) (name_of (stored_of self.old) process)) }
         ensures good { IsGood self.new }
         ensures view { view_of self.new ≡ taken_of (view_of self.old) (name_of (stored_of self.old) process) }
+        ensures one { length (page_of self.new) ≤ 1 }
         ensures limit { self.new.heap.limit ≡ self.old.heap.limit }
     {
         self.store(process, SUSPENDED_CONTEXT, nil);
@@ -60,6 +61,7 @@ impl Parts {
         ensures good { IsGood self.new }
         ensures view { OnOk result (view_of self.new ≡ enter_of (view_of self.old) (name_of (stored_of self.old) method) args skip) }
         ensures layout { OnOk result (LaidBy (entered (view_of self.old) (view_of self.old).rest.next) (layout_of self.old) (layout_of self.new)) }
+        ensures limit { self.new.heap.limit ≡ self.old.heap.limit }
         ensures names { OnOk result (KeepsNames (stored_of self.old) (stored_of self.new)) }
         ensures full { IfErr result (CausesFull (stored_of self.new) (layout_of self.old) (view_of self.old) 0 (enter_of (view_of self.old) (name_of (stored_of self.old) method) args skip)) }
     {
@@ -106,6 +108,7 @@ impl Parts {
         ensures good { IsGood self.new }
         ensures state { (m : Kept) → Keeps (view_of self.old) m → Keeps (view_of self.new) (leave_of m (name_of (stored_of self.old) v)) }
         ensures layout { IfSome (sender_birth (view_of self.old) (active_birth (view_of self.old))) (λ target. LaidBy (left target) (layout_of self.old) (layout_of self.new)) }
+        ensures limit { self.new.heap.limit ≡ self.old.heap.limit }
         ensures ready { IsReady (stored_of self.new) (view_of self.new) }
         ensures names { KeepsNames (stored_of self.old) (stored_of self.new) }
     {
@@ -118,6 +121,7 @@ impl Parts {
         requires good { IsGood self.old }
         requires ready { IsReady (stored_of self.old) (view_of self.old) }
         requires target { IsSomeAnd (sender_birth (view_of self.old) (active_birth (view_of self.old))) (CanArrive (view_of self.old)) }
+        ensures limit { self.new.heap.limit ≡ self.old.heap.limit }
         ensures unwound { IfSome (sender_birth (view_of self.old) (active_birth (view_of self.old))) (Unwound self.old self.new) }
     {
         let top = self.top();
