@@ -13,7 +13,7 @@ use Rattle.cs_model.specs.Ref as ref
 use Rattle.cs_model.specs.Obj.{Context, Ctx, context_in, is_context_at}
 use Rattle.cs_model.specs.State.{Kept, object_at}
 use Rattle.cs_model.specs.Return.{context_birth, sender_birth}
-use Rattle.cs_acts.specs.Layout.{IsApart, IsCalled, IsLaid, IsLaidOut, IsPage, depth_in, first_page, is_frame, is_on, last_frame, page_words}
+use Rattle.cs_acts.specs.Layout.{IsApart, IsCalled, IsFresh, IsLaid, IsLaidOut, IsPage, depth_in, first_page, is_frame, is_on, last_frame, page_words}
 use Rattle.cs_stack.specs.declared.parts.Parts.{Parts}
 use Rattle.cs_stack.specs.View.{active_in, births_of, frame_context, layout_of, page_of, pages_of, stored_of, view_of}
 use Rattle.cs_stack.specs.Good.{FrameFits, FramesFit, IsGood, Lacks}
@@ -121,3 +121,15 @@ laid w good = record {
     whole : (i : ℕ) (c : Context) → object_at (view_of w) i ≡ Some (Ctx c) → Which i (page_of w) → (is_some (get (objects_of w.heap.objects) i) || is_frame i (pages_of (page_of w))) ≡ true
     whole i c h (Framed f gs on is) = or_right (is_some (get (objects_of w.heap.objects) i)) (is_frame i (pages_of (page_of w))) (on_pages i on is)
     whole i c h (Bare l) = or_left (is_some (get (objects_of w.heap.objects) i)) (is_frame i (pages_of (page_of w))) (ap is_some (sym (onto_bare w.heap.objects (page_of w) (objects_of w.heap.objects) i l) ∙ h))
+
+-- on a page with one frame at most no context but the active one has a frame
+pub fresh_one : (w : Parts) → length (page_of w) ≤ 1 → IsFresh (view_of w) (layout_of w)
+fresh_one w few = go (page_of w) few
+  where
+    go : (fs : List Frame) → length fs ≤ 1 → (birth : ℕ) → is_frame birth (pages_of fs) ≡ true → active_in fs ≡ Some birth
+    go [] few birth h = absurd (cc)
+    go (f ∷ []) few birth h = elim (eqb_tells birth f.birth) [
+      | inl e ↦ ap (λ n. Some n) (sym e.1)
+      | inr e ↦ absurd (let no : false ≡ true = sym (ap (λ b. (b || false) || false) e.0) ∙ h in cc)
+    ]
+    go (f ∷ g ∷ gs) few birth h = absurd (omega (arith, few))

@@ -50,7 +50,7 @@ impl Model for StackWorld {
 const PROCESS_SLOTS: u32 = 4;
 
 impl StackWorld {
-    ghost use Rattle.std.specs.Prelude.{◌≤◌, ℕ, IfOk, false, None, Some, []};
+    ghost use Rattle.std.specs.Prelude.{◌≤◌, length, ℕ, IfOk, false, None, Some, []};
     ghost use Rattle.cs_classes.specs.Sound.{IsWhole};
     ghost use Rattle.cs_model.specs.Due.{is_idle};
     ghost use Rattle.cs_model.specs.Obj.{Context, Ctx};
@@ -78,8 +78,8 @@ impl StackWorld {
         requires running { is_idle (loaded_kept loaded) ≡ false → IsRunning (open_kept (loaded_kept loaded)) }
         ensures view { IfOk result (λ w. view_of w ≡ open_kept (loaded_kept loaded)) }
         ensures sound { IfOk result (λ w. IsSound (stored_of w) (view_of w)) }
-        ensures limit { IfOk result (λ w. (stored_of w).memory.limit ≡ loaded.heap.limit) }
         ensures fresh { IfOk result (λ w. IsFresh (view_of w) (layout_of w)) }
+        ensures limit { IfOk result (λ w. (stored_of w).memory.limit ≡ loaded.heap.limit) }
         ensures idle { IfOk result (λ w. is_idle (view_of w) ≡ is_idle (loaded_kept loaded)) }
         ensures shape { IfOk result (λ w. shape_fault (view_of w) ≡ None) }
         ensures ready { IfOk result (λ w. is_idle (view_of w) ≡ false → IsReady (stored_of w) (view_of w)) }
@@ -114,8 +114,8 @@ impl StackWorld {
         requires closed { page_of self.old ≡ [] }
         requires running { is_idle (view_of self.old) ≡ false → IsRunning (open_kept (view_of self.old)) }
         ensures view { view_of self.new ≡ open_kept (view_of self.old) }
-        ensures fresh { IsFresh (view_of self.new) (layout_of self.new) }
         ensures sound { IsSound (stored_of self.new) (view_of self.new) }
+        ensures one { length (page_of self.new) ≤ 1 }
         ensures limit { self.new.heap.limit ≡ self.old.heap.limit }
     {
         let nil = nil(self);
@@ -133,8 +133,8 @@ impl StackWorld {
         requires nil { Names (stored_of self.old) nil (nil_of (view_of self.old)) }
         requires running { IsRunning (taken_of (view_of self.old) (name_of (stored_of self.old) process)) }
         ensures view { view_of self.new ≡ taken_of (view_of self.old) (name_of (stored_of self.old) process) }
-        ensures fresh { IsFresh (view_of self.new) (layout_of self.new) }
         ensures sound { IsSound (stored_of self.new) (view_of self.new) }
+        ensures one { length (page_of self.new) ≤ 1 }
         ensures limit { self.new.heap.limit ≡ self.old.heap.limit }
     {
         if let Some(context) = slot(self, process, PROCESS_SLOTS, parts::SUSPENDED_CONTEXT) {

@@ -10,7 +10,7 @@ ghost use Rattle.cs_model.specs.Return.{sender_birth};
 ghost use Rattle.cs_model.specs.Settle.{context_kept};
 ghost use Rattle.cs_model.specs.State.{Kept};
 ghost use Rattle.cs_acts.specs.Full.{CausesFull};
-ghost use Rattle.cs_acts.specs.Layout.{IsFresh, LaidBy, entered, left};
+ghost use Rattle.cs_acts.specs.Layout.{LaidBy, entered, left};
 ghost use Rattle.cs_acts.specs.Names.{IsNamed, KeepsNames, Names, NamesOption, name_of};
 ghost use Rattle.cs_acts.specs.Ready.{IsReady};
 ghost use Rattle.cs_acts.specs.Targets.{CanArrive, CanEnter};
@@ -44,7 +44,7 @@ impl Parts {
         requires running { IsRunning (taken_of (view_of self.old) (name_of (stored_of self.old) process)) }
         ensures good { IsGood self.new }
         ensures view { view_of self.new ≡ taken_of (view_of self.old) (name_of (stored_of self.old) process) }
-        ensures fresh { IsFresh (view_of self.new) (layout_of self.new) }
+        ensures one { length (page_of self.new) ≤ 1 }
         ensures limit { self.new.heap.limit ≡ self.old.heap.limit }
     {
         self.store(process, SUSPENDED_CONTEXT, nil);
@@ -61,9 +61,9 @@ impl Parts {
         ensures good { IsGood self.new }
         ensures view { OnOk result (view_of self.new ≡ enter_of (view_of self.old) (name_of (stored_of self.old) method) args skip) }
         ensures layout { OnOk result (LaidBy (entered (view_of self.old) (view_of self.old).rest.next) (layout_of self.old) (layout_of self.new)) }
+        ensures limit { self.new.heap.limit ≡ self.old.heap.limit }
         ensures names { OnOk result (KeepsNames (stored_of self.old) (stored_of self.new)) }
         ensures full { IfErr result (CausesFull (stored_of self.new) (layout_of self.old) (view_of self.old) 0 (enter_of (view_of self.old) (name_of (stored_of self.old) method) args skip)) }
-        ensures limit { self.new.heap.limit ≡ self.old.heap.limit }
     {
         if self.frames.room(PAGE) < FRAME_ROOM {
             return Err(Full::Stack);
@@ -108,9 +108,9 @@ impl Parts {
         ensures good { IsGood self.new }
         ensures state { (m : Kept) → Keeps (view_of self.old) m → Keeps (view_of self.new) (leave_of m (name_of (stored_of self.old) v)) }
         ensures layout { IfSome (sender_birth (view_of self.old) (active_birth (view_of self.old))) (λ target. LaidBy (left target) (layout_of self.old) (layout_of self.new)) }
+        ensures limit { self.new.heap.limit ≡ self.old.heap.limit }
         ensures ready { IsReady (stored_of self.new) (view_of self.new) }
         ensures names { KeepsNames (stored_of self.old) (stored_of self.new) }
-        ensures limit { self.new.heap.limit ≡ self.old.heap.limit }
     {
         self.unwind();
         self.push(v);
@@ -121,8 +121,8 @@ impl Parts {
         requires good { IsGood self.old }
         requires ready { IsReady (stored_of self.old) (view_of self.old) }
         requires target { IsSomeAnd (sender_birth (view_of self.old) (active_birth (view_of self.old))) (CanArrive (view_of self.old)) }
-        ensures unwound { IfSome (sender_birth (view_of self.old) (active_birth (view_of self.old))) (Unwound self.old self.new) }
         ensures limit { self.new.heap.limit ≡ self.old.heap.limit }
+        ensures unwound { IfSome (sender_birth (view_of self.old) (active_birth (view_of self.old))) (Unwound self.old self.new) }
     {
         let top = self.top();
         match self.frames.caller(top) {

@@ -295,6 +295,7 @@ impl Parts {
         ensures view { view_of self.new ≡ set_pc_of (view_of self.old) pc }
         ensures stored { stored_of self.new ≡ stored_of self.old }
         ensures layout { layout_of self.new ≡ layout_of self.old }
+        ensures limit { self.new.heap.limit ≡ self.old.heap.limit }
     {
         let top = self.top();
         self.frames.set_saved_pc(top, count_word(pc));
@@ -310,6 +311,7 @@ impl Parts {
         ensures view { view_of self.new ≡ set_stack_of (view_of self.old) i (name_of (stored_of self.old) v) }
         ensures stored { stored_of self.new ≡ stored_of self.old }
         ensures layout { layout_of self.new ≡ layout_of self.old }
+        ensures limit { self.new.heap.limit ≡ self.old.heap.limit }
     {
         let top = self.top();
         self.frames.set_slot(top, i, v);
@@ -340,6 +342,7 @@ impl Parts {
         ensures view { view_of self.new ≡ push_of (view_of self.old) (name_of (stored_of self.old) v) }
         ensures stored { stored_of self.new ≡ stored_of self.old }
         ensures layout { layout_of self.new ≡ layout_of self.old }
+        ensures limit { self.new.heap.limit ≡ self.old.heap.limit }
     {
         let top = self.top();
         self.frames.push(top, v);
@@ -355,6 +358,7 @@ impl Parts {
         ensures view { view_of self.new ≡ pop_of (view_of self.old) }
         ensures stored { stored_of self.new ≡ stored_of self.old }
         ensures layout { layout_of self.new ≡ layout_of self.old }
+        ensures limit { self.new.heap.limit ≡ self.old.heap.limit }
     {
         let top = self.top();
         self.frames.pop(top)

@@ -5,6 +5,7 @@ use Rattle.cs_model.specs.Settle.{open_kept}
 use Rattle.cs_model.specs.Step.{shape_fault}
 use Rattle.cs_stack.specs.View.{loaded_kept}
 use Rattle.cs_stack.proofs.Closed.{good_sound}
+use Rattle.cs_stack.proofs.Laid.{fresh_one}
 use Rattle.cs_stack.proofs.Opening.{opened_good, opened_runs, opened_view}
 use Rattle.cs_stack.proofs.Scheduled.{scheduled}
 use Rattle.cs_stack.proofs.StackWorld.new.Goals as goal
@@ -46,3 +47,6 @@ returns-clause-ready c active =
     let view = c.open.ensures.view ∙ ap open_kept (opened_view c.args.loaded c.args.pages c.in_ok-order.order c.in_ok-frames.frames c.requires.one c.in_ok-frames.ensures.empty) in
     let idle = ap is_idle view ∙ (scheduled (loaded_kept c.args.loaded) refl c.requires.running).idle in
     record { sound = c.open.ensures.sound; running = subst IsRunning (sym view) (c.requires.running (sym idle ∙ active)) }
+
+pub returns-clause-fresh : goal.returns-clause-fresh
+returns-clause-fresh c = fresh_one c.open.new.self c.open.ensures.one

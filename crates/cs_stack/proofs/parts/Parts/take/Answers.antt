@@ -1,7 +1,7 @@
-use Rattle.std.proofs.Common.{ap, sym, subst, refl, ◌∙◌}
+use Rattle.std.proofs.Common.{ap, arith, length, sym, subst, refl, ◌∙◌, ◌≤◌}
+use Rattle.cs_stack.specs.declared.parts.Parts.{Parts}
 use Rattle.cs_stack.specs.Good.{IsGood}
 use Rattle.cs_stack.specs.View.{page_of, view_of}
-use Rattle.cs_stack.proofs.Fresh.{fresh_one}
 use Rattle.cs_stack.proofs.Unwinding.{order_by}
 use Rattle.cs_stack.proofs.Taking.{can_take, page_taken, process_stores, taken_good, taken_view}
 use Rattle.cs_stack.proofs.parts.Parts.take.Goals as goal
@@ -28,5 +28,5 @@ returns-clause-view c =
     ap view_of c.base.ensures ∙ taken_view c.args.self.now c.store.new.self c.requires.closed c.args.process c.args.nil c.args.context c.requires.nil c.requires.kept c.requires.running c.store.ensures.good c.store.ensures.view
     c.store.ensures.names same c.take_free-page.new.self
 
-pub returns-clause-fresh : goal.returns-clause-fresh
-returns-clause-fresh c = fresh_one c.base.new.self _ (ap page_of c.base.ensures)
+pub returns-clause-one : goal.returns-clause-one
+returns-clause-one c = subst (λ (w : Parts). length (page_of w) ≤ 1) (sym c.base.ensures) (omega arith)
