@@ -1,15 +1,14 @@
 -- A lookup reads nothing but what stands in the heap, so there it finds what it finds in the state.
-use Rattle.std.proofs.Common.{◌≡◌, ℕ, zero, suc, Bool, true, false, refl, sym, ap, subst, ◌∙◌, Option, Some, None, List, [], ◌∷◌, drop, option_and_then, is_some}
+use Rattle.std.proofs.Common.{◌≡◌, ℕ, zero, suc, Bool, true, false, refl, sym, ap, ◌∙◌, Option, Some, None, List, [], ◌∷◌, drop, option_and_then, is_some}
 use Rattle.std.specs.Prelude.{slice_get, if◌then◌else◌}
 use Rattle.std.specs.FinMap.{get}
 use Rattle.cs_heap.specs.Object.{Object}
 use Rattle.cs_classes.specs.Meaning.{is_context, obj_of, objects_of, ref_of}
-use Rattle.cs_classes.proofs.Objects.{Comes, objects_of-comes}
+use Rattle.cs_classes.proofs.Objects.{objects_of-comes}
 use Rattle.cs_classes.proofs.Sorts.{obj_of-context}
 use Rattle.cs_model.specs.Ref.{Char, Ref, Small, same_ref}
 use Rattle.cs_model.specs.Ref as ref
 use Rattle.cs_model.specs.Obj.{Ctx, Method, Obj, Ptr, Raw, at_least, is_context_at, is_method, slots_in}
-use Rattle.cs_model.specs.Obj as obj
 use Rattle.cs_model.specs.State.{Kept, object_at, object_of, slots_of}
 use Rattle.cs_model.specs.Lookup.{Sought, class_limit, find_among, find_in, find_in_dictionary, if_method, in_class, list_or_empty, lookup, lookup_within, or_above, or_else, slot_in}
 use Rattle.cs_acts.specs.Names.{Store}

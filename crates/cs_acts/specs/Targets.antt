@@ -1,6 +1,5 @@
 -- What entering and leaving an activation ask for.
 use Rattle.std.specs.Prelude.{◌≡◌, ◌≢◌, ℕ, ◌<◌, Bool, true, false, Option, Some, None}
-use Rattle.cs_word.specs.declared.Oop.{Oop}
 use Rattle.cs_model.specs.Ref.{Ref}
 use Rattle.cs_model.specs.Obj as obj
 use Rattle.cs_model.specs.Obj.{argument_count, bytecodes_in, context_in, header_in, is_method, primitive_number}
@@ -8,7 +7,7 @@ use Rattle.cs_model.specs.State.{Kept, object_at, object_of}
 use Rattle.cs_model.specs.Read.{active_birth, depth_of}
 use Rattle.cs_acts.specs.declared.act.Act.{Act}
 use Rattle.cs_acts.specs.declared.act.Act.TheVariants.{Frame, Context, Gone}
-use Rattle.cs_model.specs.Return.{has_room, is_live, sender_birth}
+use Rattle.cs_model.specs.Return.{has_room, is_live}
 
 -- A reference is a method that takes so many arguments, they are there with the receiver, and with `skip` it has a primitive.
 pub record CanEnter (k : Kept) (x : Ref) (args : ℕ) (skip : Bool) : Type 0 where
