@@ -1,14 +1,13 @@
 -- Acts: frames by their places, and contexts of the heap that have none.
-use Rattle.std.proofs.Common.{◌≡◌, ◌≢◌, ℕ, suc, ◌+◌, ◌-◌, ◌<◌, ◌≤◌, Bool, true, false, refl, sym, ap, subst, ◌∙◌, Option, Some, None, IsSome, IfSome, is_some, List, [], ◌∷◌, length, map, unwrap_or, option_and_then, arith, inl, inr}
-use Rattle.std.specs.Prelude.{◌==◌, ◌&&◌, if◌then◌else◌, nat_lt, not, slice_index, slice_get}
+use Rattle.std.proofs.Common.{◌≡◌, ℕ, suc, ◌+◌, ◌-◌, ◌<◌, ◌≤◌, Bool, true, false, refl, sym, ap, subst, ◌∙◌, Option, Some, None, IsSome, IfSome, is_some, List, [], ◌∷◌, length, unwrap_or, option_and_then, arith, inl, inr}
+use Rattle.std.specs.Prelude.{◌==◌, if◌then◌else◌, nat_lt, slice_index}
 use Rattle.std.specs.Option.{option_map_or}
 use Rattle.std.specs.FinMap.{get}
 use Rattle.std.proofs.lemmas.Bool.Decides.{eqb_tells}
 use Rattle.std.proofs.lemmas.List.Elements.{All-get_or}
 use Rattle.cs_word.specs.declared.Oop.{Oop}
 use Rattle.cs_heap.specs.Object.{Object, birth_of, is_object, object_at, slot_count_of, slot_of}
-use Rattle.cs_heap.specs.Object as memory
-use Rattle.cs_classes.specs.Meaning.{context_of, count_of, depth_in, is_context, meaning_at, obj_of, objects_of, ref_of}
+use Rattle.cs_classes.specs.Meaning.{context_of, count_of, is_context, obj_of, objects_of, ref_of}
 use Rattle.cs_classes.specs.Sound.{IsSound, is_reference}
 use Rattle.cs_classes.proofs.Contexts.{depth_is}
 use Rattle.cs_classes.proofs.Refs.{is_reference-object}
@@ -17,8 +16,8 @@ use Rattle.cs_model.specs.Operation.{nil_of}
 use Rattle.cs_model.specs.Return.{closure_at, closure_in, context_birth, has_room, is_live, sender_birth}
 use Rattle.cs_acts.specs.Names.{Names}
 use Rattle.cs_acts.specs.Targets.{method_in}
-use Rattle.cs_classes.proofs.Heaps.{birth_of-object_at, is_object-object_at, object_there}
-use Rattle.cs_classes.proofs.Refs.{ref_of-object, same_births}
+use Rattle.cs_classes.proofs.Heaps.{birth_of-object_at, is_object-object_at}
+use Rattle.cs_classes.proofs.Refs.{same_births}
 use Rattle.cs_classes.proofs.Sorts.{obj_of-context}
 use Rattle.cs_classes.proofs.Sounds.{IsWholeContext, sound_at, whole_context}
 use Rattle.cs_frame.specs.declared.FrameRef.{FrameRef}
@@ -31,10 +30,9 @@ use Rattle.cs_model.specs.Ref as ref
 use Rattle.cs_model.specs.Obj.{Context, Ctx, Obj, context_in}
 use Rattle.cs_model.specs.State as state
 use Rattle.cs_model.specs.State.{Kept}
-use Rattle.cs_acts.specs.declared.act.Act.{Act}
 use Rattle.cs_acts.specs.declared.act.Act.TheVariants as act
 use Rattle.cs_stack.specs.declared.parts.Parts.{Parts}
-use Rattle.cs_stack.specs.View.{act_of, base_context, birth_from, birth_in, frame_context, frame_size, frames_onto, hides, page_of, size_from, stored_of, view_of}
+use Rattle.cs_stack.specs.View.{act_of, base_context, birth_from, birth_in, frame_context, frame_size, hides, page_of, size_from, stored_of, view_of}
 use Rattle.cs_stack.specs.Good.{FrameFits, FramesFit, IsGood, Lacks}
 use Rattle.cs_stack.proofs.Lives.{Lives, lives}
 use Rattle.cs_stack.proofs.Framed.{IsOn, above, below_on, fits_on, here, meaning_there, onto_bare, onto_frame}

@@ -1,12 +1,11 @@
 -- The base frame of a page, the sizes of frames, and what stands for the context that a word names.
-use Rattle.std.proofs.Common.{◌≡◌, ◌≢◌, ℕ, suc, ◌+◌, ◌-◌, ◌<◌, ◌≤◌, Bool, true, false, refl, sym, ap, ap₂, subst, ◌∙◌, Option, Some, None, IsSome, is_some, List, [], ◌∷◌, length, unwrap_or, option_and_then, arith, inl, inr}
+use Rattle.std.proofs.Common.{◌≡◌, ◌≢◌, ℕ, suc, ◌-◌, ◌<◌, ◌≤◌, Bool, true, false, refl, sym, ap, subst, ◌∙◌, Option, Some, None, is_some, List, [], ◌∷◌, length, unwrap_or, option_and_then, arith, inl, inr}
 use Rattle.std.specs.Prelude.{◌==◌, ◌&&◌, if◌then◌else◌, nat_lt, nat_le, not, slice_index}
 use Rattle.std.specs.Option.{option_map_or}
 use Rattle.std.proofs.lemmas.Bool.Decides.{eqb_tells, nat_tests}
 use Rattle.cs_word.specs.declared.Oop.{Oop}
-use Rattle.cs_heap.specs.Object.{Object, birth_of, class_of, is_object, object_at, slot_count_of, slot_of}
-use Rattle.cs_classes.specs.Meaning.{count_of, header_in, is_context, obj_of, objects_of, ref_of}
-use Rattle.cs_classes.specs.Sound.{is_reference}
+use Rattle.cs_heap.specs.Object.{Object, class_of, is_object, object_at, slot_count_of, slot_of}
+use Rattle.cs_classes.specs.Meaning.{count_of, is_context}
 use Rattle.cs_classes.proofs.Heaps.{birth_of-object_at, is_object-object_at, object_there}
 use Rattle.cs_classes.proofs.Refs.{ref_of-object}
 use Rattle.cs_classes.proofs.Sounds.{sound_at, whole_context}
@@ -16,12 +15,11 @@ use Rattle.cs_frame.specs.Page as page
 use Rattle.cs_frame.specs.Page.{IsFrame, frames_of, index_of, used}
 use Rattle.cs_model.specs.Ref.{Ref}
 use Rattle.cs_model.specs.Ref as ref
-use Rattle.cs_model.specs.Obj.{Context, Ctx, Obj, context_class, context_in, context_size}
+use Rattle.cs_model.specs.Obj.{Context, Obj, context_class, context_in, context_size}
 use Rattle.cs_model.specs.State as state
 use Rattle.cs_model.specs.State.{object_of}
 use Rattle.cs_model.specs.Context.{is_context_ref}
 use Rattle.cs_model.specs.Return.{context_birth}
-use Rattle.cs_acts.specs.declared.act.Act.{Act}
 use Rattle.cs_acts.specs.declared.act.Act.TheVariants as act
 use Rattle.cs_acts.specs.Names.{IsNamed, name_of}
 use Rattle.cs_acts.specs.Targets.{is_gone}
@@ -32,12 +30,12 @@ use Rattle.cs_model.specs.Read.{size_of}
 use Rattle.cs_acts.specs.Ready.{IsReady}
 use Rattle.cs_stack.proofs.Tops.{opened}
 use Rattle.cs_stack.proofs.Edits.{size_read, top_ref}
-use Rattle.cs_stack.specs.View.{act_of, active_in, base_context, birth_from, frame_context, frame_size, header_at, header_if, hides, page_of, size_from, stored_of, view_of}
+use Rattle.cs_stack.specs.View.{act_of, active_in, base_context, birth_from, frame_size, header_at, header_if, hides, page_of, size_from, stored_of, view_of}
 use Rattle.cs_stack.specs.Good.{FrameFits, FramesFit, IsGood, StandsAt}
 use Rattle.cs_stack.proofs.Lives.{Lives, lives}
 use Rattle.cs_stack.proofs.Closed.{good_sound}
 use Rattle.cs_stack.proofs.Framed.{IsOn, above, here}
-use Rattle.cs_stack.proofs.Acts.{Begins, ContextAct, FrameAct, answers, context_there, frame_there}
+use Rattle.cs_stack.proofs.Acts.{FrameAct, answers, context_there, frame_there}
 
 -- ---- the base frame
 

@@ -1,14 +1,14 @@
 -- A frame that changes in its pc or its stack: it fits as before, and its context changes alike.
-use Rattle.std.proofs.Common.{◌≡◌, ◌≢◌, ℕ, ◌+◌, ◌-◌, ◌%◌, ◌<◌, ◌≤◌, true, false, refl, sym, ap, subst, ◌∙◌, Some, List, [], ◌∷◌, ◌++◌, length, map, take, arith, set}
+use Rattle.std.proofs.Common.{◌≡◌, ℕ, ◌-◌, ◌<◌, ◌≤◌, true, false, refl, sym, ap, ◌∙◌, List, [], ◌∷◌, ◌++◌, length, map, take, arith}
 use Rattle.std.specs.Prelude.{◌==◌, ◌||◌, if◌then◌else◌, Bool, slice_set}
 use Rattle.std.specs.List.{AllPass}
 use Rattle.std.specs.Option.{option_map_or}
-use Rattle.std.proofs.lemmas.List.{length-map, length-set, map-set, map_push}
+use Rattle.std.proofs.lemmas.List.{length-map, map-set, map_push}
 use Rattle.std.specs.List.{take-map}
 use Rattle.std.proofs.lemmas.Bool.Decides.{nat_tests}
 use Rattle.cs_word.specs.Word.{kind_of}
 use Rattle.cs_word.proofs.Words.{kind_of-link}
-use Rattle.cs_heap.specs.Object.{Object, slot_count_of}
+use Rattle.cs_heap.specs.Object.{Object}
 use Rattle.cs_classes.specs.Meaning.{count_of, meaning_at, ref_of}
 use Rattle.cs_classes.specs.Sound.{IsSound, is_reference, is_reference_kind}
 use Rattle.cs_classes.proofs.Sounds.{sound_at}

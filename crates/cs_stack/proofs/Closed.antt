@@ -1,10 +1,10 @@
 -- A good world names only what it has, and its heap has what it must.
-use Rattle.std.proofs.Common.{◌≡◌, ℕ, true, false, refl, sym, ap, subst, ◌∙◌, Option, Some, None, IsSome, is_some, List, [], ◌∷◌, length, map, option_map, suc, arith}
-use Rattle.std.specs.Prelude.{slice_get, slice_index, ◌≤◌}
+use Rattle.std.proofs.Common.{◌≡◌, ℕ, true, false, refl, sym, ap, subst, ◌∙◌, Option, Some, None, IsSome, is_some, List, [], ◌∷◌, map, option_map, suc, arith}
+use Rattle.std.specs.Prelude.{slice_get, slice_index}
 use Rattle.std.specs.List.{AllByRecursion, AllPass}
 use Rattle.std.specs.Ordering.{nat_cmp}
 use Rattle.std.specs.FinMap.{FinMap, get}
-use Rattle.cs_heap.specs.Object.{Object, birth_of}
+use Rattle.cs_heap.specs.Object.{Object}
 use Rattle.cs_classes.specs.declared.Roots.{Roots}
 use Rattle.cs_classes.specs.Meaning.{context_of, count_of, is_context, kept_of, meaning_at, obj_of, objects_of, ref_of}
 use Rattle.cs_classes.specs.Sound.{IsWhole, is_reference}
@@ -18,13 +18,12 @@ use Rattle.cs_model.specs.Ref as ref
 use Rattle.cs_model.specs.Obj.{Context, Ctx, Obj, context_in, is_context_at, lies_in}
 use Rattle.cs_model.specs.Obj as obj
 use Rattle.cs_model.specs.State.{ContextHeld, IsHeld, Kept, NamesHeld, PcLies, RestHeld, object_at, object_of}
-use Rattle.cs_model.specs.Read.{IsRunning, active_birth, active_context, method_of, pc_of}
 use Rattle.cs_model.specs.Keeps.{Grows, Keeps}
 use Rattle.cs_model.proofs.Keeping.{IsHeld-grows, NamesHeld-grows}
-use Rattle.cs_acts.specs.Ready.{Holds, IsReady, IsSound}
+use Rattle.cs_acts.specs.Ready.{IsSound}
 use Rattle.cs_stack.specs.declared.parts.Parts.{Parts}
-use Rattle.cs_stack.specs.View.{active_in, frame_context, frames_onto, over, page_of, stored_of, view_of}
-use Rattle.cs_stack.specs.Good.{FrameFits, FramesFit, IsGood, Lacks, PcFits}
+use Rattle.cs_stack.specs.View.{active_in, frame_context, over, page_of, stored_of, view_of}
+use Rattle.cs_stack.specs.Good.{FrameFits, FramesFit, IsGood, PcFits}
 use Rattle.cs_stack.proofs.Lives.{Lives, lives, lives_if_live}
 use Rattle.cs_stack.proofs.Framed.{Bare, Framed, IsOn, Which, a_context, below_on, fits_on, here, meaning_there, no_context, onto_bare, onto_frame, onto_some, plain_lacks, which}
 

@@ -1,14 +1,12 @@
 -- What each write to the last frame does to the world, and what is read of that frame.
-use Rattle.std.proofs.Common.{◌≡◌, ℕ, pos, ◌+◌, ◌-◌, ◌<◌, ◌≤◌, ◌^◌, true, false, refl, sym, ap, subst, ◌∙◌, Option, Some, List, [], ◌∷◌, ◌++◌, length, length-take, map, take, arith, option_map, unwrap_or, get_or, zero, suc, inl, inr}
+use Rattle.std.proofs.Common.{◌≡◌, ℕ, pos, ◌-◌, ◌<◌, ◌^◌, true, refl, sym, ap, subst, ◌∙◌, Some, List, [], ◌∷◌, ◌++◌, length, length-take, map, take, arith, option_map, unwrap_or, suc, inl, inr}
 use Rattle.std.specs.Prelude.{slice_get, slice_index, slice_set, if◌then◌else◌}
-use Rattle.std.specs.List.{AllPass}
 use Rattle.std.proofs.lemmas.List.{length-append, length-map, length-set}
 use Rattle.std.proofs.lemmas.List.Elements.{All-get_or, All-push, All-set, All-take}
 use Rattle.std.proofs.lemmas.Option.{slice_get-get_or, slice_get-map}
 use Rattle.std.proofs.lemmas.Bool.Decides.{eqb_tells}
 use Rattle.cs_word.specs.declared.Oop.{Oop}
 use Rattle.cs_word.specs.Word.{small_word}
-use Rattle.cs_heap.specs.Object.{Object}
 use Rattle.cs_classes.specs.Meaning.{count_of, meaning_at, ref_of}
 use Rattle.cs_classes.specs.Sound.{is_reference}
 use Rattle.cs_classes.proofs.Heaps.{is_object-object_at}
@@ -29,7 +27,7 @@ use Rattle.cs_acts.specs.Names.{IsNamed, Names, name_of}
 use Rattle.cs_acts.proofs.Sizes.{pc_small}
 use Rattle.cs_stack.specs.declared.parts.Parts.{Parts}
 use Rattle.cs_stack.specs.View.{frame_context, frame_size, page_of, stored_of, view_of}
-use Rattle.cs_stack.specs.Good.{FrameFits, FramesFit, IsGood}
+use Rattle.cs_stack.specs.Good.{IsGood}
 use Rattle.cs_stack.proofs.Lives.{Lives, lives}
 use Rattle.cs_stack.proofs.Closed.{good_sound, method_there}
 use Rattle.cs_stack.proofs.Tops.{Edited, Opened, edited, view_at, with_frames}

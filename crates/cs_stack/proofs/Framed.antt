@@ -1,10 +1,9 @@
 -- What stands at a birth where frames hide what the heap has.
-use Rattle.std.proofs.Common.{◌≡◌, ◌≢◌, ◌⊎◌, ℕ, Bool, true, false, refl, sym, ap, subst, ◌∙◌, Option, Some, None, IsSome, is_some, List, [], ◌∷◌, inl, inr}
-use Rattle.std.specs.Prelude.{slice_get}
-use Rattle.std.specs.FinMap.{get, insert}
+use Rattle.std.proofs.Common.{◌≡◌, ◌≢◌, ℕ, true, false, refl, sym, ap, ◌∙◌, Option, Some, None, IsSome, List, [], ◌∷◌, inl, inr}
+use Rattle.std.specs.FinMap.{get}
 use Rattle.std.proofs.lemmas.Bool.Decides.{eqb_tells}
 use Rattle.cs_heap.specs.Object.{Object, object_at}
-use Rattle.cs_classes.specs.Meaning.{context_of, is_context, method_of, obj_of, objects_of, ref_of}
+use Rattle.cs_classes.specs.Meaning.{is_context, method_of, obj_of, objects_of, ref_of}
 use Rattle.cs_classes.specs.Sound.{IsSound}
 use Rattle.cs_classes.proofs.Heaps.{stands}
 use Rattle.cs_classes.proofs.Objects.{get-objects_of-element}
@@ -14,7 +13,7 @@ use Rattle.cs_model.specs.Ref.{Ref}
 use Rattle.cs_model.specs.Obj.{Ctx, Obj}
 use Rattle.cs_model.specs.Obj as obj
 use Rattle.cs_stack.specs.View.{frame_context, frames_onto}
-use Rattle.cs_stack.specs.Good.{FrameFits, FramesFit, Lacks, StandsAt}
+use Rattle.cs_stack.specs.Good.{FrameFits, FramesFit, Lacks}
 use Rattle.cs_stack.proofs.Maps.{Objects, get_apart, get_here, get_some}
 
 -- f is one of these frames, and stands above gs

@@ -1,24 +1,23 @@
 -- The layout of a good world keeps its rules.
-use Rattle.std.proofs.Common.{◌≡◌, ℕ, suc, ◌+◌, ◌<◌, ◌≤◌, Bool, true, false, refl, sym, ap, ap₂, subst, ◌∙◌, Option, Some, None, is_some, List, [], ◌∷◌, length, option_and_then, arith, inl, inr}
+use Rattle.std.proofs.Common.{◌≡◌, ℕ, ◌+◌, ◌≤◌, Bool, true, false, refl, sym, ap, ap₂, subst, ◌∙◌, Some, is_some, List, [], ◌∷◌, length, option_and_then, arith, inl, inr}
 use Rattle.std.specs.Prelude.{◌||◌, ◌==◌}
-use Rattle.std.specs.List.{AllByRecursion, list_any}
+use Rattle.std.specs.List.{AllByRecursion}
 use Rattle.std.specs.FinMap.{get}
 use Rattle.std.proofs.lemmas.Bool.Decides.{eqb_tells}
 use Rattle.std.proofs.lemmas.List.{length-map}
-use Rattle.cs_heap.specs.Object.{Object}
 use Rattle.cs_classes.specs.Meaning.{objects_of, ref_of}
 use Rattle.cs_frame.specs.Frame.{Frame}
 use Rattle.cs_frame.specs.Page.{used}
 use Rattle.cs_model.specs.Ref as ref
 use Rattle.cs_model.specs.Obj.{Context, Ctx, context_in, is_context_at}
-use Rattle.cs_model.specs.State.{Kept, object_at}
+use Rattle.cs_model.specs.State.{object_at}
 use Rattle.cs_model.specs.Return.{context_birth, sender_birth}
-use Rattle.cs_acts.specs.Layout.{IsApart, IsCalled, IsFresh, IsLaid, IsLaidOut, IsPage, depth_in, first_page, is_frame, is_on, last_frame, page_words}
+use Rattle.cs_acts.specs.Layout.{IsApart, IsCalled, IsFresh, IsLaidOut, IsPage, depth_in, first_page, is_frame, is_on, last_frame, page_words}
 use Rattle.cs_stack.specs.declared.parts.Parts.{Parts}
 use Rattle.cs_stack.specs.View.{active_in, births_of, frame_context, layout_of, page_of, pages_of, stored_of, view_of}
 use Rattle.cs_stack.specs.Good.{FrameFits, FramesFit, IsGood, Lacks}
 use Rattle.cs_stack.proofs.Framed.{Bare, Framed, IsOn, Which, above, here, onto_bare, onto_frame, which}
-use Rattle.cs_stack.proofs.Changes.{size_few, stack_is}
+use Rattle.cs_stack.proofs.Changes.{size_few}
 
 module _ (w : Parts) (good : IsGood w) where
   found : (f : Frame) (gs : List Frame) → IsOn f gs (page_of w) → object_at (view_of w) f.birth ≡ Some (Ctx (frame_context w.heap.objects f gs))

@@ -1,11 +1,10 @@
 -- A word and a pc that lies in the method that the word names.
-use Rattle.std.proofs.Common.{◌≡◌, ℕ, Bool, true, false, refl, sym, ap, subst, ◌∙◌, Option, Some, None, List, option_map}
+use Rattle.std.proofs.Common.{◌≡◌, ℕ, true, false, refl, ap, Option, Some, None, List, option_map}
 use Rattle.cs_heap.specs.Format.{is_method}
-use Rattle.cs_heap.specs.Object.{Object, is_object, object_at}
+use Rattle.cs_heap.specs.Object.{Object, object_at}
 use Rattle.cs_classes.specs.Meaning.{is_context, meaning_at, method_of, obj_of, ref_of}
-use Rattle.cs_classes.proofs.Heaps.{is_object-object_at}
-use Rattle.cs_classes.proofs.Sorts.{AContext, AMethod, Bytes, Pointers, Sort, obj_of-bytes, obj_of-context, obj_of-method, obj_of-pointers, sort_of}
-use Rattle.cs_model.specs.Obj.{Obj, lies_in}
+use Rattle.cs_classes.proofs.Sorts.{AContext, AMethod, Bytes, Pointers, Sort, obj_of-bytes, obj_of-context, obj_of-pointers, sort_of}
+use Rattle.cs_model.specs.Obj.{lies_in}
 use Rattle.cs_model.specs.Context.{lies_if_index, lies_if_live}
 
 pub record Lives (os : List Object) (m : ℕ) (at : Option ℕ) : Type 0 where

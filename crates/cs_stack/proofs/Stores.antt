@@ -1,20 +1,18 @@
 -- A store into an object that is no context.
-use Rattle.std.proofs.Common.{◌≡◌, ◌≢◌, ℕ, ◌+◌, ◌*◌, ◌-◌, ◌/◌, ◌%◌, ◌<◌, ◌≤◌, Bool, true, false, refl, sym, ap, subst, ◌∙◌, Option, Some, None, option_map, List, [], ◌∷◌, length, map, drop, length-take, length-drop, length-set, arith, inl, inr, unwrap_or, get_or}
+use Rattle.std.proofs.Common.{◌≡◌, ◌≢◌, ℕ, ◌+◌, ◌*◌, ◌-◌, ◌/◌, ◌%◌, ◌<◌, ◌≤◌, Bool, true, false, refl, sym, ap, subst, ◌∙◌, Option, Some, None, option_map, List, [], ◌∷◌, length, map, drop, length-take, length-drop, length-set, arith, inl, inr, unwrap_or}
 use Rattle.std.specs.Prelude.{◌&&◌, ◌==◌, if◌then◌else◌, nat_lt, nat_le, slice_get, slice_index}
 use Rattle.std.specs.List.{AllPass}
 use Rattle.std.specs.Option.{option_map_or}
-use Rattle.std.specs.Ordering.{nat_cmp}
-use Rattle.std.specs.FinMap.{FinMap, get, insert}
+use Rattle.std.specs.FinMap.{get, insert}
 use Rattle.std.proofs.lemmas.List.{get_or-set_other, length-map}
 use Rattle.std.proofs.lemmas.Bool.Decides.{eqb_tells, nat_tests}
 use Rattle.cs_word.specs.declared.Oop.{Oop}
 use Rattle.cs_word.specs.declared.Kind.{Kind}
 use Rattle.cs_word.specs.declared.Kind.TheVariants as kind
 use Rattle.cs_word.specs.Word.{kind_of, small_value}
-use Rattle.cs_heap.specs.Format.{is_method, is_pointers}
-use Rattle.cs_heap.specs.Object.{Memory, Object, at_index, birth_of, hash_of, is_object, object_at, set_word, slot_count_of, slot_of, used, with_slot}
+use Rattle.cs_heap.specs.Format.{is_method}
+use Rattle.cs_heap.specs.Object.{Memory, Object, at_index, birth_of, hash_of, is_object, object_at, set_word, slot_count_of, slot_of, with_slot}
 use Rattle.cs_heap.proofs.Laws.{hash_of-with_slot, object_at-with_object_other, object_at-with_object_same, slot_count_of-with_slot, slot_of-with_slot_other_object, used-with_slot}
-use Rattle.cs_classes.specs.declared.Roots.{Roots}
 use Rattle.cs_classes.specs.Meaning.{code_in, count_of, header_in, is_context, kept_of, literals_in, meaning_at, method_of, obj_of, objects_of, ref_of, ref_of_kind, used_bytes}
 use Rattle.cs_classes.specs.Sound.{IsWhole, is_reference, is_reference_kind}
 use Rattle.cs_classes.proofs.Edits.{obj_of-set_literal, obj_of-set_word}
@@ -36,8 +34,8 @@ use Rattle.cs_acts.specs.Names.{IsNamed, KeepsNames, Store, name_of}
 use Rattle.cs_acts.specs.Ready.{Holds, is_storable}
 use Rattle.cs_frame.specs.Frame.{Frame}
 use Rattle.cs_stack.specs.declared.parts.Parts.{Parts}
-use Rattle.cs_stack.specs.View.{active_in, frame_context, frame_size, frames_onto, header_at, header_if, over, page_of, stored_of, view_of}
-use Rattle.cs_stack.specs.Good.{FrameFits, FrameNames, FramesFit, HasHome, IsGood, Lacks, PcFits, StandsAt}
+use Rattle.cs_stack.specs.View.{active_in, frame_context, frame_size, frames_onto, header_at, header_if, page_of, stored_of, view_of}
+use Rattle.cs_stack.specs.Good.{FrameFits, FramesFit, HasHome, IsGood, Lacks, PcFits, StandsAt}
 use Rattle.cs_stack.proofs.Maps.{Objects, get_apart, insert_swap}
 use Rattle.cs_stack.proofs.Framed.{meaning_there, no_context, plain_lacks}
 use Rattle.cs_stack.proofs.Lives.{Lives, lives}

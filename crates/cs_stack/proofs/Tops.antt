@@ -1,14 +1,13 @@
 -- The last frame of a good world is its active context.
-use Rattle.std.proofs.Common.{◌≡◌, ℕ, true, refl, sym, ap, subst, ◌∙◌, Option, Some, None, List, [], ◌∷◌, unwrap_or}
+use Rattle.std.proofs.Common.{◌≡◌, ℕ, refl, sym, ap, subst, ◌∙◌, Some, List, [], ◌∷◌, unwrap_or}
 use Rattle.std.specs.Ordering.{nat_cmp}
 use Rattle.std.specs.FinMap.{FinMap, insert}
 use Rattle.cs_heap.specs.Object.{Object}
 use Rattle.cs_classes.specs.declared.Roots.{Roots}
-use Rattle.cs_classes.specs.Meaning.{count_of, kept_of, meaning_at, objects_of, ref_of}
+use Rattle.cs_classes.specs.Meaning.{count_of, kept_of, meaning_at, objects_of}
 use Rattle.cs_classes.specs.Sound.{IsWhole}
 use Rattle.cs_frame.specs.Frame.{Frame}
-use Rattle.cs_pages.specs.Order.{Order}
-use Rattle.cs_model.specs.Obj.{Context, Ctx, Obj, context_in, lies_in}
+use Rattle.cs_model.specs.Obj.{Context, Ctx, context_in, lies_in}
 use Rattle.cs_model.specs.State.{Kept, object_at, object_of, put}
 use Rattle.cs_model.specs.Read.{IsRunning, active_birth, active_context, blank, method_of, pc_of}
 use Rattle.cs_model.specs.Operation.{edit_active}
@@ -17,7 +16,7 @@ use Rattle.cs_stack.specs.declared.parts.Parts.{Parts}
 use Rattle.cs_stack.specs.View.{active_in, births_of, frame_context, frames_onto, layout_of, over, page_of, pages_of, stored_of, view_of}
 use Rattle.cs_stack.specs.Good.{FrameFits, FramesFit, IsGood, used_pages}
 use Rattle.cs_stack.proofs.Maps.{Objects, get_here, insert_twice}
-use Rattle.cs_stack.proofs.Lives.{Lives, lives}
+use Rattle.cs_stack.proofs.Lives.{lives}
 use Rattle.cs_stack.proofs.Closed.{good_sound, method_there}
 
 -- what heap, table, roots and frames stand for

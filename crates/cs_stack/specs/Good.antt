@@ -1,5 +1,5 @@
 -- When heap and frames agree.
-use Rattle.std.specs.Prelude.{◌≡◌, ◌≢◌, ℕ, ◌+◌, ◌<◌, ◌≤◌, true, List, [], ◌∷◌, length, slice_index, slice_get, Option, Some, None}
+use Rattle.std.specs.Prelude.{◌≡◌, ◌≢◌, ℕ, ◌+◌, ◌<◌, ◌≤◌, true, List, [], ◌∷◌, length, slice_index, slice_get, Some, None}
 use Rattle.std.specs.List.{AllPass}
 use Rattle.std.specs.FinMap.{get}
 use Rattle.cs_heap.specs.Object.{Object, object_at, slot_of, used}

@@ -2,13 +2,11 @@
 use Rattle.std.specs.Prelude.{ℕ, ◌-◌, ◌==◌, Bool, false, List, [], ◌∷◌, map, if◌then◌else◌, Option, Some, None}
 use Rattle.std.specs.Ordering.{nat_cmp}
 use Rattle.std.specs.FinMap.{FinMap, insert}
-use Rattle.cs_word.specs.declared.Oop.{Oop}
-use Rattle.cs_heap.specs.Object.{Object, hash_of, object_at, slot_count_of, slot_of}
-use Rattle.cs_classes.specs.Meaning.{count_of, header_in, is_context, kept_of, objects_of, ref_of}
+use Rattle.cs_heap.specs.Object.{Object, hash_of, object_at, slot_count_of}
+use Rattle.cs_classes.specs.Meaning.{count_of, header_in, is_context, kept_of, ref_of}
 use Rattle.cs_classes.specs.declared.Loaded.{Loaded}
-use Rattle.cs_frame.specs.declared.FrameRef.{FrameRef}
 use Rattle.cs_frame.specs.Frame.{Frame}
-use Rattle.cs_frame.specs.Page.{frames_of, index_of, nth}
+use Rattle.cs_frame.specs.Page.{frames_of}
 use Rattle.cs_model.specs.Ref.{Ref}
 use Rattle.cs_model.specs.Ref as ref
 use Rattle.cs_model.specs.Obj.{Obj, Context, Ctx, context_fields, context_size}
