@@ -109,6 +109,7 @@ pub trait World {
         ensures state { (m : Kept) → Keeps (view self.old) m → Keeps (view self.new) (set_pc_of m pc) }
         ensures exact { layout self.old ≡ None → SameKept (view self.new) (set_pc_of (view self.old) pc) }
         ensures layout { layout self.new ≡ layout self.old }
+        ensures limit { (stored self.new).memory.limit ≡ (stored self.old).memory.limit }
         ensures ready { IsReady (stored self.new) (view self.new) }
         ensures names { KeepsNames (stored self.old) (stored self.new) };
 
@@ -137,6 +138,7 @@ pub trait World {
         ensures state { (m : Kept) → Keeps (view self.old) m → Keeps (view self.new) (set_stack_of m i (name_of (stored self.old) v)) }
         ensures exact { layout self.old ≡ None → SameKept (view self.new) (set_stack_of (view self.old) i (name_of (stored self.old) v)) }
         ensures layout { layout self.new ≡ layout self.old }
+        ensures limit { (stored self.new).memory.limit ≡ (stored self.old).memory.limit }
         ensures ready { IsReady (stored self.new) (view self.new) }
         ensures names { KeepsNames (stored self.old) (stored self.new) };
 
@@ -149,6 +151,7 @@ pub trait World {
         ensures state { (m : Kept) → Keeps (view self.old) m → Keeps (view self.new) (store_of m (name_of (stored self.old) o) i (name_of (stored self.old) v)) }
         ensures exact { layout self.old ≡ None → SameKept (view self.new) (store_of (view self.old) (name_of (stored self.old) o) i (name_of (stored self.old) v)) }
         ensures layout { layout self.new ≡ layout self.old }
+        ensures limit { (stored self.new).memory.limit ≡ (stored self.old).memory.limit }
         ensures ready { IsReady (stored self.new) (view self.new) }
         ensures names { KeepsNames (stored self.old) (stored self.new) };
 
@@ -160,6 +163,7 @@ pub trait World {
         ensures state { (m : Kept) → Keeps (view self.old) m → Keeps (view self.new) (push_of m (name_of (stored self.old) v)) }
         ensures exact { layout self.old ≡ None → SameKept (view self.new) (push_of (view self.old) (name_of (stored self.old) v)) }
         ensures layout { layout self.new ≡ layout self.old }
+        ensures limit { (stored self.new).memory.limit ≡ (stored self.old).memory.limit }
         ensures ready { IsReady (stored self.new) (view self.new) }
         ensures names { KeepsNames (stored self.old) (stored self.new) };
 
@@ -171,6 +175,7 @@ pub trait World {
         ensures state { (m : Kept) → Keeps (view self.old) m → Keeps (view self.new) (pop_of m) }
         ensures exact { layout self.old ≡ None → SameKept (view self.new) (pop_of (view self.old)) }
         ensures layout { layout self.new ≡ layout self.old }
+        ensures limit { (stored self.new).memory.limit ≡ (stored self.old).memory.limit }
         ensures ready { IsReady (stored self.new) (view self.new) }
         ensures names { KeepsNames (stored self.old) (stored self.new) };
 
@@ -185,6 +190,7 @@ pub trait World {
         ensures state { OnOk result ((m : Kept) → Keeps (view self.old) m → Keeps (view self.new) (enter_of m (name_of (stored self.old) method) args skip)) }
         ensures exact { OnOk result (layout self.old ≡ None → SameKept (view self.new) (enter_of (view self.old) (name_of (stored self.old) method) args skip)) }
         ensures layout { OnOk result (LaidBy (entered (view self.old) (view self.old).rest.next) (layout self.old) (layout self.new)) }
+        ensures limit { (stored self.new).memory.limit ≡ (stored self.old).memory.limit }
         ensures ready { OnOk result (IsReady (stored self.new) (view self.new)) }
         ensures names { OnOk result (KeepsNames (stored self.old) (stored self.new)) }
         ensures full { IfErr result (CausesFull (stored self.new) (layout self.old) (view self.old) 0 (enter_of (view self.old) (name_of (stored self.old) method) args skip)) };
@@ -199,6 +205,7 @@ pub trait World {
         ensures state { OnOk result ((m : Kept) → Keeps (view self.old) m → Keeps (view self.new) (leave_of m (name_of (stored self.old) v))) }
         ensures exact { OnOk result (layout self.old ≡ None → SameKept (view self.new) (leave_of (view self.old) (name_of (stored self.old) v))) }
         ensures layout { OnOk result (IfSome (sender_birth (view self.old) (active_birth (view self.old))) (λ target. LaidBy (left target) (layout self.old) (layout self.new))) }
+        ensures limit { (stored self.new).memory.limit ≡ (stored self.old).memory.limit }
         ensures ready { OnOk result (IsReady (stored self.new) (view self.new)) }
         ensures names { OnOk result (KeepsNames (stored self.old) (stored self.new)) }
         ensures full { IfErr result (CausesFull (stored self.new) (layout self.old) (view self.old) 0 (leave_of (view self.old) (name_of (stored self.old) v))) };

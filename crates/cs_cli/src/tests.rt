@@ -85,20 +85,23 @@ fn shelf_with(alloc: Global, image: &[u8], fail: &[u64]) -> Result<MemShelf, All
     Ok(shelf)
 }
 
-/// How much the sink takes, and which calls of the shelf and of the sink are to fail.
+/// The number of a call that isn't made.
+const NEVER: u64 = u64::MAX;
+
+/// How much the sink takes, and the call of the shelf and that of the sink that are to fail, counted from 0.
 #[derive(Clone, Copy)]
-struct Outside<'a> {
+struct Outside {
     room: usize,
-    shelf: &'a [u64],
-    sink: &'a [u64],
+    shelf: u64,
+    sink: u64,
 }
 
 /// An outside in which no call fails while there is room.
-fn with_room(room: usize) -> Outside<'static> {
+fn with_room(room: usize) -> Outside {
     Outside {
         room,
-        shelf: &[],
-        sink: &[],
+        shelf: NEVER,
+        sink: NEVER,
     }
 }
 
@@ -107,14 +110,14 @@ fn answer(
     alloc: Global,
     image: &[u8],
     line: &[&str],
-    outside: Outside<'_>,
+    outside: Outside,
 ) -> Result<(u8, MemShelf, MemSink), AllocError> {
     let mut words = Vec::new(alloc);
     for word in line {
         words.push(String::from_str(alloc, word)?)?;
     }
-    let mut shelf = shelf_with(alloc, image, outside.shelf)?;
-    let mut out = MemSink::new(alloc, outside.room, outside.sink)?;
+    let mut shelf = shelf_with(alloc, image, &[outside.shelf])?;
+    let mut out = MemSink::new(alloc, outside.room, &[outside.sink])?;
     let status = cogstack(alloc, words.as_slice(), &mut shelf, &mut out);
     Ok((status, shelf, out))
 }
@@ -246,7 +249,7 @@ fn a_name_has_at_most_4096_bytes(rt: HostRuntime) -> Result<(), AllocError> {
     Ok(())
 }
 
-/// The image with other bytes from a place on. Those that come to stand behind its end are added to it.
+/// An image with other bytes from a place on. Those that come to stand behind its end are added to it.
 fn damaged(
     alloc: Global,
     image: &[u8],
@@ -310,12 +313,8 @@ fn a_damaged_image_is_refused(rt: HostRuntime) -> Result<(), FromHexError> {
     ];
     for (what, place, digits, status, text) in rows {
         let image = damaged(alloc, adds.as_slice(), place, digits)?;
-        let (answered, _, out) = answer(
-            alloc,
-            image.as_slice(),
-            &["run", "a", "20"],
-            with_room(99),
-        )?;
+        let line = ["run", "a", "20"];
+        let (answered, _, out) = answer(alloc, image.as_slice(), &line, with_room(99))?;
         assert_eq!(rt; answered, status, "{what}");
         assert_eq!(rt; out.taken(), text.as_bytes(), "{what}");
     }
@@ -325,28 +324,16 @@ fn a_damaged_image_is_refused(rt: HostRuntime) -> Result<(), FromHexError> {
 #[test]
 fn a_cut_image_is_refused_and_one_with_births(rt: HostRuntime) -> Result<(), FromHexError> {
     let alloc = rt.alloc();
-    let adds = image_of(alloc, &ADDS)?;
-    let mut born = damaged(
-        alloc,
-        adds.as_slice(),
-        7608,
-        "94000000000000009400000000000000",
-    )?;
+    let mut born = image_of(alloc, &ADDS)?;
+    born.extend_from_slice(&148_u64.to_le_bytes())?;
+    born.extend_from_slice(&148_u64.to_le_bytes())?;
     for birth in 0..148_u64 {
         born.extend_from_slice(&birth.to_le_bytes())?;
     }
-    let (answered, _, out) = answer(alloc, born.as_slice(), &["run", "a", "20"], with_room(99))?;
-    assert_eq!(rt; answered, 3);
-    assert_eq!(rt; out.taken(), REFUSED.as_bytes());
-    for len in [0, 63, 64, 7607] {
-        let mut image = image_of(alloc, &ADDS)?;
-        image.truncate(len);
-        let (answered, _, out) = answer(
-            alloc,
-            image.as_slice(),
-            &["run", "a", "20"],
-            with_room(99),
-        )?;
+    for len in [8808, 7607, 64, 63, 0] {
+        born.truncate(len);
+        let line = ["run", "a", "20"];
+        let (answered, _, out) = answer(alloc, born.as_slice(), &line, with_room(99))?;
         assert_eq!(rt; answered, 3, "{len}");
         assert_eq!(rt; out.taken(), REFUSED.as_bytes(), "{len}");
     }
@@ -354,7 +341,7 @@ fn a_cut_image_is_refused_and_one_with_births(rt: HostRuntime) -> Result<(), Fro
 }
 
 #[test]
-fn each_write_may_fail(rt: HostRuntime) -> Result<(), FromHexError> {
+fn each_call_may_fail(rt: HostRuntime) -> Result<(), FromHexError> {
     let alloc = rt.alloc();
     let adds = image_of(alloc, &ADDS)?;
     let pops = image_of(alloc, &POPS_AN_EMPTY_STACK)?;
@@ -367,50 +354,23 @@ fn each_write_may_fail(rt: HostRuntime) -> Result<(), FromHexError> {
         (adds, ["run", "b", "20"], 6, "cogstack: read b\n"),
     ];
     for (image, line, status, text) in rows {
-        for k in 0..4_u64 {
-            let outside = Outside {
-                room: 99,
-                shelf: &[],
-                sink: &[k],
-            };
-            let (answered, _, out) = answer(alloc, image, &line, outside)?;
-            let is_whole = out.faults() == 0;
-            assert!(rt; k < 3 || is_whole, "no answer takes four writes");
-            assert_eq!(rt; answered, if is_whole { status } else { 7 }, "{text}");
-            assert_eq!(rt; out.taken() == text.as_bytes(), is_whole, "{text}");
-            assert!(rt; text.as_bytes().starts_with(out.taken()), "{text}");
-        }
-    }
-    Ok(())
-}
-
-#[test]
-fn each_read_may_fail(rt: HostRuntime) -> Result<(), FromHexError> {
-    let alloc = rt.alloc();
-    let adds = image_of(alloc, &ADDS)?;
-    let pops = image_of(alloc, &POPS_AN_EMPTY_STACK)?;
-    let rows = [
-        (adds.as_slice(), ["run", "a", "20"], 0, SUM),
-        (pops.as_slice(), ["run", "a", "5"], 1, POPPED),
-        (b"no image", ["run", "a", "20"], 3, REFUSED),
-    ];
-    for (image, line, status, text) in rows {
-        for k in 0..3_u64 {
-            let outside = Outside {
-                room: 99,
-                shelf: &[k],
-                sink: &[],
-            };
-            let (answered, shelf, out) = answer(alloc, image, &line, outside)?;
-            let is_read = shelf.faults() == 0;
-            assert!(rt; k < 2 || is_read, "no image takes three reads");
-            let want = if is_read {
-                (status, text)
-            } else {
-                (6, "cogstack: read a\n")
-            };
-            assert_eq!(rt; answered, want.0, "{text}");
-            assert_eq!(rt; out.taken(), want.1.as_bytes(), "{text}");
+        for k in 0..4 {
+            for (shelf, sink) in [(k, NEVER), (NEVER, k)] {
+                let room = 99;
+                let outside = Outside { room, shelf, sink };
+                let (answered, shelf, out) = answer(alloc, image, &line, outside)?;
+                let is_read = shelf.faults() == 0 || status == 6;
+                let (status, text) = if is_read {
+                    (status, text)
+                } else {
+                    (6, "cogstack: read a\n")
+                };
+                let is_whole = out.faults() == 0;
+                assert_eq!(rt; answered, if is_whole { status } else { 7 }, "{text}");
+                assert_eq!(rt; out.taken() == text.as_bytes(), is_whole, "{text}");
+                assert!(rt; text.as_bytes().starts_with(out.taken()), "{text}");
+                assert!(rt; k < 3 || is_read && is_whole, "no answer takes four calls");
+            }
         }
     }
     Ok(())

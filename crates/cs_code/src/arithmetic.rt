@@ -28,6 +28,7 @@ pub fn special<W: World>(w: &mut W, i: u8) -> CodeEnd
     requires { IsReady (W.stored w.old) (W.view w.old) }
     ensures gives { Gives (W.stored w.old) (W.stored w.new) (W.view w.new) result (special_out (W.view w.old) i) }
     ensures layout { W.layout w.new ≡ W.layout w.old }
+    ensures limit { (W.stored w.new).memory.limit ≡ (W.stored w.old).memory.limit }
 {
     match at_once(w, i) {
         Some(x) => replace_two(w, x),
@@ -41,6 +42,7 @@ pub fn common<W: World>(w: &mut W, i: u8) -> CodeEnd
     requires { IsReady (W.stored w.old) (W.view w.old) }
     ensures gives { Gives (W.stored w.old) (W.stored w.new) (W.view w.new) result (common_out (W.view w.old) i) }
     ensures layout { W.layout w.new ≡ W.layout w.old }
+    ensures limit { (W.stored w.new).memory.limit ≡ (W.stored w.old).memory.limit }
 {
     match i {
         6 => compare(w),
@@ -55,6 +57,7 @@ fn compare<W: World>(w: &mut W) -> CodeEnd
     requires { IsReady (W.stored w.old) (W.view w.old) }
     ensures gives { Gives (W.stored w.old) (W.stored w.new) (W.view w.new) result (same_out (W.view w.old)) }
     ensures layout { W.layout w.new ≡ W.layout w.old }
+    ensures limit { (W.stored w.new).memory.limit ≡ (W.stored w.old).memory.limit }
 {
     let Some(a) = from_top(w, 1) else {
         return CodeEnd::Stop(Stop::StackUnder);
@@ -73,6 +76,7 @@ fn push_class<W: World>(w: &mut W) -> CodeEnd
     requires { IsReady (W.stored w.old) (W.view w.old) }
     ensures gives { Gives (W.stored w.old) (W.stored w.new) (W.view w.new) result (class_out (W.view w.old)) }
     ensures layout { W.layout w.new ≡ W.layout w.old }
+    ensures limit { (W.stored w.new).memory.limit ≡ (W.stored w.old).memory.limit }
 {
     let Some(x) = from_top(w, 0) else {
         return CodeEnd::Stop(Stop::StackUnder);
@@ -102,6 +106,7 @@ fn replace_two<W: World>(w: &mut W, x: Oop) -> CodeEnd
     requires named { IsNamed (W.stored w.old) x }
     ensures gives { Gives (W.stored w.old) (W.stored w.new) (W.view w.new) result (done (push_of (drop_of (W.view w.old) 2) (name_of (W.stored w.old) x))) }
     ensures layout { W.layout w.new ≡ W.layout w.old }
+    ensures limit { (W.stored w.new).memory.limit ≡ (W.stored w.old).memory.limit }
 {
     let depth = w.depth();
     w.set_stack(depth - 2, x);

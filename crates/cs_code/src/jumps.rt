@@ -21,6 +21,7 @@ pub fn jump<W: World>(w: &mut W, offset: i32) -> CodeEnd
     requires { IsReady (W.stored w.old) (W.view w.old) }
     ensures gives { Gives (W.stored w.old) (W.stored w.new) (W.view w.new) result (jump_out (W.view w.old) offset) }
     ensures layout { W.layout w.new ≡ W.layout w.old }
+    ensures limit { (W.stored w.new).memory.limit ≡ (W.stored w.old).memory.limit }
 {
     match pc_after(w, offset) {
         Some(pc) => {
@@ -56,6 +57,7 @@ pub fn jump_if<W: World>(w: &mut W, wanted: bool, offset: u16) -> CodeEnd
     requires { IsReady (W.stored w.old) (W.view w.old) }
     ensures gives { Gives (W.stored w.old) (W.stored w.new) (W.view w.new) result (jump_if_out (W.view w.old) wanted offset) }
     ensures layout { W.layout w.new ≡ W.layout w.old }
+    ensures limit { (W.stored w.new).memory.limit ≡ (W.stored w.old).memory.limit }
 {
     let Some(condition) = from_top(w, 0) else {
         return CodeEnd::Stop(Stop::StackUnder);

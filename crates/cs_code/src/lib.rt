@@ -27,6 +27,7 @@ pub fn exec<W: World>(i: &Instr, w: &mut W) -> CodeEnd
     requires { IsReady (W.stored w.old) (W.view w.old) }
     ensures gives { Gives (W.stored w.old) (W.stored w.new) (W.view w.new) result (built_exec i.now.op (W.view w.old)) }
     ensures layout { W.layout w.new ≡ W.layout w.old }
+    ensures limit { (W.stored w.new).memory.limit ≡ (W.stored w.old).memory.limit }
 {
     match i.op {
         Op::PushRcvr(k) => variables::push_field(w, k),

@@ -24,6 +24,7 @@ pub fn push<W: World>(w: &mut W, x: Oop) -> CodeEnd
     requires named { IsNamed (W.stored w.old) x }
     ensures gives { Gives (W.stored w.old) (W.stored w.new) (W.view w.new) result (push_out (W.view w.old) (name_of (W.stored w.old) x)) }
     ensures layout { W.layout w.new ≡ W.layout w.old }
+    ensures limit { (W.stored w.new).memory.limit ≡ (W.stored w.old).memory.limit }
 {
     if w.depth() < w.size() {
         w.push(x);
@@ -39,6 +40,7 @@ pub fn push_temporary<W: World>(w: &mut W, i: u8) -> CodeEnd
     requires { IsReady (W.stored w.old) (W.view w.old) }
     ensures gives { Gives (W.stored w.old) (W.stored w.new) (W.view w.new) result (push_temp_out (W.view w.old) i) }
     ensures layout { W.layout w.new ≡ W.layout w.old }
+    ensures limit { (W.stored w.new).memory.limit ≡ (W.stored w.old).memory.limit }
 {
     match temporary(w, u32::from(i)) {
         Some(x) => push(w, x),
@@ -52,6 +54,7 @@ pub fn push_literal<W: World>(w: &mut W, i: u8) -> CodeEnd
     requires { IsReady (W.stored w.old) (W.view w.old) }
     ensures gives { Gives (W.stored w.old) (W.stored w.new) (W.view w.new) result (push_literal_out (W.view w.old) i) }
     ensures layout { W.layout w.new ≡ W.layout w.old }
+    ensures limit { (W.stored w.new).memory.limit ≡ (W.stored w.old).memory.limit }
 {
     match literal(w, u32::from(i)) {
         Some(x) => push(w, x),
@@ -64,6 +67,7 @@ pub fn push_receiver<W: World>(w: &mut W) -> CodeEnd
     requires { IsReady (W.stored w.old) (W.view w.old) }
     ensures gives { Gives (W.stored w.old) (W.stored w.new) (W.view w.new) result (push_out (W.view w.old) (receiver_of (W.view w.old))) }
     ensures layout { W.layout w.new ≡ W.layout w.old }
+    ensures limit { (W.stored w.new).memory.limit ≡ (W.stored w.old).memory.limit }
 {
     let x = w.receiver();
     push(w, x)
@@ -74,6 +78,7 @@ pub fn push_boolean<W: World>(w: &mut W, truth: bool) -> CodeEnd
     requires { IsReady (W.stored w.old) (W.view w.old) }
     ensures gives { Gives (W.stored w.old) (W.stored w.new) (W.view w.new) result (push_out (W.view w.old) (boolean_of (W.view w.old) truth)) }
     ensures layout { W.layout w.new ≡ W.layout w.old }
+    ensures limit { (W.stored w.new).memory.limit ≡ (W.stored w.old).memory.limit }
 {
     let x = boolean(w, truth);
     push(w, x)
@@ -84,6 +89,7 @@ pub fn push_nil<W: World>(w: &mut W) -> CodeEnd
     requires { IsReady (W.stored w.old) (W.view w.old) }
     ensures gives { Gives (W.stored w.old) (W.stored w.new) (W.view w.new) result (push_out (W.view w.old) (nil_of (W.view w.old))) }
     ensures layout { W.layout w.new ≡ W.layout w.old }
+    ensures limit { (W.stored w.new).memory.limit ≡ (W.stored w.old).memory.limit }
 {
     let x = nil(w);
     push(w, x)
@@ -94,6 +100,7 @@ pub fn push_small<W: World>(w: &mut W, z: i8) -> CodeEnd
     requires { IsReady (W.stored w.old) (W.view w.old) }
     ensures gives { Gives (W.stored w.old) (W.stored w.new) (W.view w.new) result (push_out (W.view w.old) (ref.Small z)) }
     ensures layout { W.layout w.new ≡ W.layout w.old }
+    ensures limit { (W.stored w.new).memory.limit ≡ (W.stored w.old).memory.limit }
 {
     let x = small_word(i32::from(z));
     push(w, x)
@@ -117,6 +124,7 @@ pub fn pop<W: World>(w: &mut W) -> CodeEnd
     requires { IsReady (W.stored w.old) (W.view w.old) }
     ensures gives { Gives (W.stored w.old) (W.stored w.new) (W.view w.new) result (pop_out (W.view w.old)) }
     ensures layout { W.layout w.new ≡ W.layout w.old }
+    ensures limit { (W.stored w.new).memory.limit ≡ (W.stored w.old).memory.limit }
 {
     match from_top(w, 0) {
         Some(_) => {
@@ -133,6 +141,7 @@ pub fn dup<W: World>(w: &mut W) -> CodeEnd
     requires { IsReady (W.stored w.old) (W.view w.old) }
     ensures gives { Gives (W.stored w.old) (W.stored w.new) (W.view w.new) result (dup_out (W.view w.old)) }
     ensures layout { W.layout w.new ≡ W.layout w.old }
+    ensures limit { (W.stored w.new).memory.limit ≡ (W.stored w.old).memory.limit }
 {
     match from_top(w, 0) {
         Some(x) => push(w, x),

@@ -58,6 +58,7 @@ pub fn return_top<W: World>(w: &mut W) -> CodeEnd
     requires { IsReady (W.stored w.old) (W.view w.old) }
     ensures gives { Gives (W.stored w.old) (W.stored w.new) (W.view w.new) result (with_top (W.view w.old) (λ x. return_out (pop_of (W.view w.old)) x (is_local (W.view w.old)))) }
     ensures layout { W.layout w.new ≡ W.layout w.old }
+    ensures limit { (W.stored w.new).memory.limit ≡ (W.stored w.old).memory.limit }
 {
     let local = is_local(w);
     pop_and_return(w, local)
@@ -68,6 +69,7 @@ pub fn return_to_sender<W: World>(w: &mut W) -> CodeEnd
     requires { IsReady (W.stored w.old) (W.view w.old) }
     ensures gives { Gives (W.stored w.old) (W.stored w.new) (W.view w.new) result (with_top (W.view w.old) (λ x. return_out (pop_of (W.view w.old)) x true)) }
     ensures layout { W.layout w.new ≡ W.layout w.old }
+    ensures limit { (W.stored w.new).memory.limit ≡ (W.stored w.old).memory.limit }
 {
     pop_and_return(w, true)
 }
@@ -77,6 +79,7 @@ fn pop_and_return<W: World>(w: &mut W, local: bool) -> CodeEnd
     requires { IsReady (W.stored w.old) (W.view w.old) }
     ensures gives { Gives (W.stored w.old) (W.stored w.new) (W.view w.new) result (with_top (W.view w.old) (λ x. return_out (pop_of (W.view w.old)) x local)) }
     ensures layout { W.layout w.new ≡ W.layout w.old }
+    ensures limit { (W.stored w.new).memory.limit ≡ (W.stored w.old).memory.limit }
 {
     match from_top(w, 0) {
         Some(value) => {

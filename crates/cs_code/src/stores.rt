@@ -24,6 +24,7 @@ fn store_temporary<W: World>(w: &mut W, i: u8, x: Oop) -> CodeEnd
     requires named { IsNamed (W.stored w.old) x }
     ensures gives { Gives (W.stored w.old) (W.stored w.new) (W.view w.new) result (store_temp_out (W.view w.old) i (name_of (W.stored w.old) x)) }
     ensures layout { W.layout w.new ≡ W.layout w.old }
+    ensures limit { (W.stored w.new).memory.limit ≡ (W.stored w.old).memory.limit }
 {
     let i = u32::from(i);
     if i < w.depth() {
@@ -41,6 +42,7 @@ fn store_variable<W: World>(w: &mut W, i: u8, x: Oop) -> CodeEnd
     requires named { IsNamed (W.stored w.old) x }
     ensures gives { Gives (W.stored w.old) (W.stored w.new) (W.view w.new) result (store_variable_out (W.view w.old) i (name_of (W.stored w.old) x)) }
     ensures layout { W.layout w.new ≡ W.layout w.old }
+    ensures limit { (W.stored w.new).memory.limit ≡ (W.stored w.old).memory.limit }
 {
     let Some(variable) = literal(w, u32::from(i)) else {
         return CodeEnd::Stop(Stop::BadLiteral);
@@ -61,6 +63,7 @@ fn store_vector<W: World>(w: &mut W, k: u8, j: u8, x: Oop) -> CodeEnd
     requires named { IsNamed (W.stored w.old) x }
     ensures gives { Gives (W.stored w.old) (W.stored w.new) (W.view w.new) result (store_vector_out (W.view w.old) k j (name_of (W.stored w.old) x)) }
     ensures layout { W.layout w.new ≡ W.layout w.old }
+    ensures limit { (W.stored w.new).memory.limit ≡ (W.stored w.old).memory.limit }
 {
     let Some(vector) = temporary(w, u32::from(j)) else {
         return CodeEnd::Stop(Stop::BadField);
@@ -82,6 +85,7 @@ fn store_field<W: World>(w: &mut W, i: u8, x: Oop) -> CodeEnd
     requires plain { is_context_ref (W.view w.old) (receiver_of (W.view w.old)) ≡ false }
     ensures gives { Gives (W.stored w.old) (W.stored w.new) (W.view w.new) result (store_receiver_out (W.view w.old) i (name_of (W.stored w.old) x)) }
     ensures layout { W.layout w.new ≡ W.layout w.old }
+    ensures limit { (W.stored w.new).memory.limit ≡ (W.stored w.old).memory.limit }
 {
     let receiver = w.receiver();
     match slot_if_any(w, receiver, u32::from(i)) {
@@ -99,6 +103,7 @@ pub fn keep_temporary<W: World>(w: &mut W, i: u8) -> CodeEnd
     requires { IsReady (W.stored w.old) (W.view w.old) }
     ensures gives { Gives (W.stored w.old) (W.stored w.new) (W.view w.new) result (store_into (W.view w.old) (λ t x. store_temp_out t i x)) }
     ensures layout { W.layout w.new ≡ W.layout w.old }
+    ensures limit { (W.stored w.new).memory.limit ≡ (W.stored w.old).memory.limit }
 {
     match from_top(w, 0) {
         Some(x) => store_temporary(w, i, x),
@@ -112,6 +117,7 @@ pub fn pop_temporary<W: World>(w: &mut W, i: u8) -> CodeEnd
     requires { IsReady (W.stored w.old) (W.view w.old) }
     ensures gives { Gives (W.stored w.old) (W.stored w.new) (W.view w.new) result (pop_into (W.view w.old) (λ t x. store_temp_out t i x)) }
     ensures layout { W.layout w.new ≡ W.layout w.old }
+    ensures limit { (W.stored w.new).memory.limit ≡ (W.stored w.old).memory.limit }
 {
     match from_top(w, 0) {
         Some(x) => {
@@ -128,6 +134,7 @@ pub fn keep_variable<W: World>(w: &mut W, i: u8) -> CodeEnd
     requires { IsReady (W.stored w.old) (W.view w.old) }
     ensures gives { Gives (W.stored w.old) (W.stored w.new) (W.view w.new) result (store_into (W.view w.old) (λ t x. store_variable_out t i x)) }
     ensures layout { W.layout w.new ≡ W.layout w.old }
+    ensures limit { (W.stored w.new).memory.limit ≡ (W.stored w.old).memory.limit }
 {
     match from_top(w, 0) {
         Some(x) => store_variable(w, i, x),
@@ -141,6 +148,7 @@ pub fn pop_variable<W: World>(w: &mut W, i: u8) -> CodeEnd
     requires { IsReady (W.stored w.old) (W.view w.old) }
     ensures gives { Gives (W.stored w.old) (W.stored w.new) (W.view w.new) result (pop_into (W.view w.old) (λ t x. store_variable_out t i x)) }
     ensures layout { W.layout w.new ≡ W.layout w.old }
+    ensures limit { (W.stored w.new).memory.limit ≡ (W.stored w.old).memory.limit }
 {
     match from_top(w, 0) {
         Some(x) => {
@@ -157,6 +165,7 @@ pub fn keep_vector<W: World>(w: &mut W, k: u8, j: u8) -> CodeEnd
     requires { IsReady (W.stored w.old) (W.view w.old) }
     ensures gives { Gives (W.stored w.old) (W.stored w.new) (W.view w.new) result (store_into (W.view w.old) (λ t x. store_vector_out t k j x)) }
     ensures layout { W.layout w.new ≡ W.layout w.old }
+    ensures limit { (W.stored w.new).memory.limit ≡ (W.stored w.old).memory.limit }
 {
     match from_top(w, 0) {
         Some(x) => store_vector(w, k, j, x),
@@ -170,6 +179,7 @@ pub fn pop_vector<W: World>(w: &mut W, k: u8, j: u8) -> CodeEnd
     requires { IsReady (W.stored w.old) (W.view w.old) }
     ensures gives { Gives (W.stored w.old) (W.stored w.new) (W.view w.new) result (pop_into (W.view w.old) (λ t x. store_vector_out t k j x)) }
     ensures layout { W.layout w.new ≡ W.layout w.old }
+    ensures limit { (W.stored w.new).memory.limit ≡ (W.stored w.old).memory.limit }
 {
     match from_top(w, 0) {
         Some(x) => {
@@ -186,6 +196,7 @@ pub fn keep_field<W: World>(w: &mut W, i: u8) -> CodeEnd
     requires { IsReady (W.stored w.old) (W.view w.old) }
     ensures gives { Gives (W.stored w.old) (W.stored w.new) (W.view w.new) result (built_exec (Op.StoreRcvr i) (W.view w.old)) }
     ensures layout { W.layout w.new ≡ W.layout w.old }
+    ensures limit { (W.stored w.new).memory.limit ≡ (W.stored w.old).memory.limit }
 {
     let receiver = w.receiver();
     if is_context(w, receiver) {
@@ -203,6 +214,7 @@ pub fn pop_field<W: World>(w: &mut W, i: u8) -> CodeEnd
     requires { IsReady (W.stored w.old) (W.view w.old) }
     ensures gives { Gives (W.stored w.old) (W.stored w.new) (W.view w.new) result (built_exec (Op.PopRcvr i) (W.view w.old)) }
     ensures layout { W.layout w.new ≡ W.layout w.old }
+    ensures limit { (W.stored w.new).memory.limit ≡ (W.stored w.old).memory.limit }
 {
     let receiver = w.receiver();
     if is_context(w, receiver) {

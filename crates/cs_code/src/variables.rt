@@ -43,6 +43,7 @@ pub fn push_variable<W: World>(w: &mut W, i: u8) -> CodeEnd
     requires { IsReady (W.stored w.old) (W.view w.old) }
     ensures gives { Gives (W.stored w.old) (W.stored w.new) (W.view w.new) result (push_variable_out (W.view w.old) i) }
     ensures layout { W.layout w.new ≡ W.layout w.old }
+    ensures limit { (W.stored w.new).memory.limit ≡ (W.stored w.old).memory.limit }
 {
     match variable_value(w, u32::from(i)) {
         Some(x) => push(w, x),
@@ -56,6 +57,7 @@ pub fn push_vector<W: World>(w: &mut W, k: u8, j: u8) -> CodeEnd
     requires { IsReady (W.stored w.old) (W.view w.old) }
     ensures gives { Gives (W.stored w.old) (W.stored w.new) (W.view w.new) result (push_vector_out (W.view w.old) k j) }
     ensures layout { W.layout w.new ≡ W.layout w.old }
+    ensures limit { (W.stored w.new).memory.limit ≡ (W.stored w.old).memory.limit }
 {
     match vector_slot(w, k, j) {
         Some(x) => push(w, x),
@@ -69,6 +71,7 @@ pub fn push_field<W: World>(w: &mut W, i: u8) -> CodeEnd
     requires { IsReady (W.stored w.old) (W.view w.old) }
     ensures gives { Gives (W.stored w.old) (W.stored w.new) (W.view w.new) result (built_exec (Op.PushRcvr i) (W.view w.old)) }
     ensures layout { W.layout w.new ≡ W.layout w.old }
+    ensures limit { (W.stored w.new).memory.limit ≡ (W.stored w.old).memory.limit }
 {
     let receiver = w.receiver();
     if is_context(w, receiver) {

@@ -34,6 +34,7 @@ pub fn answer<W: World>(w: &mut W, value: Oop)
     requires named { IsNamed (W.stored w.old) value }
     ensures state { Keeps (W.view w.new) (push_of (drop_of (W.view w.old) 2) (name_of (W.stored w.old) value)) }
     ensures layout { W.layout w.new ≡ W.layout w.old }
+    ensures limit { (W.stored w.new).memory.limit ≡ (W.stored w.old).memory.limit }
     ensures ready { IsReady (W.stored w.new) (W.view w.new) }
     ensures names { KeepsNames (W.stored w.old) (W.stored w.new) }
 {

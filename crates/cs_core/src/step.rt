@@ -42,6 +42,7 @@ pub fn step<W: World, K: Sink>(w: &mut W, sender: &mut Sender, out: &mut K) -> S
     requires ready { IsReady (W.stored w.old) (W.view w.old) }
     requires active { is_idle (W.view w.old) ≡ false }
     ensures gives { StepGives (W.view w.old) (W.layout w.old) (K.taken out.old) (K.taken out.new) (W.stored w.new) (W.view w.new) (W.layout w.new) result }
+    ensures limit { (W.stored w.new).memory.limit ≡ (W.stored w.old).memory.limit }
     ensures never_falls { K.fault_count out.old ≤ K.fault_count out.new }
     ensures cause { CausedByFault (K.fault_count out.old) (K.fault_count out.new) result }
 {
@@ -78,6 +79,7 @@ fn send<W: World, K: Sink>(
     requires selector { IsNamed (W.stored w.old) selector }
     requires above { IfSome above (λ o. IsNamed (W.stored w.old) o) }
     ensures gives { TurnGives (sending (W.view w.old) (message_of (W.stored w.old) selector args above)) (W.view w.old) (W.layout w.old) (K.taken out.old) (K.taken out.new) (W.stored w.new) (W.view w.new) (W.layout w.new) result }
+    ensures limit { (W.stored w.new).memory.limit ≡ (W.stored w.old).memory.limit }
     ensures never_falls { K.fault_count out.old ≤ K.fault_count out.new }
     ensures cause { CausedByFault (K.fault_count out.old) (K.fault_count out.new) result }
 {
@@ -101,6 +103,7 @@ fn try_primitive<W: World, K: Sink>(
     requires named { IsNamed (W.stored w.old) method }
     requires enters { CanEnter (W.view w.old) (name_of (W.stored w.old) method) args true }
     ensures gives { TurnGives (trying (W.view w.old) (name_of (W.stored w.old) method) number) (W.view w.old) (W.layout w.old) (K.taken out.old) (K.taken out.new) (W.stored w.new) (W.view w.new) (W.layout w.new) result }
+    ensures limit { (W.stored w.new).memory.limit ≡ (W.stored w.old).memory.limit }
     ensures never_falls { K.fault_count out.old ≤ K.fault_count out.new }
     ensures cause { CausedByFault (K.fault_count out.old) (K.fault_count out.new) result }
 {
@@ -117,6 +120,7 @@ fn add_or_enter<W: World>(w: &mut W, method: Oop, args: u32) -> StepEnd
     requires named { IsNamed (W.stored w.old) method }
     requires enters { CanEnter (W.view w.old) (name_of (W.stored w.old) method) args true }
     ensures gives { (told : Option (List ℕ)) → TurnGives (trying (W.view w.old) (name_of (W.stored w.old) method) 1) (W.view w.old) (W.layout w.old) told told (W.stored w.new) (W.view w.new) (W.layout w.new) result }
+    ensures limit { (W.stored w.new).memory.limit ≡ (W.stored w.old).memory.limit }
     ensures cause { (faults : ℕ) → CausedByFault faults faults result }
 {
     if args != 1 {
@@ -138,6 +142,7 @@ fn write_or_enter<W: World, K: Sink>(w: &mut W, out: &mut K, method: Oop, args: 
     requires named { IsNamed (W.stored w.old) method }
     requires enters { CanEnter (W.view w.old) (name_of (W.stored w.old) method) args true }
     ensures gives { TurnGives (trying (W.view w.old) (name_of (W.stored w.old) method) 900) (W.view w.old) (W.layout w.old) (K.taken out.old) (K.taken out.new) (W.stored w.new) (W.view w.new) (W.layout w.new) result }
+    ensures limit { (W.stored w.new).memory.limit ≡ (W.stored w.old).memory.limit }
     ensures never_falls { K.fault_count out.old ≤ K.fault_count out.new }
     ensures cause { CausedByFault (K.fault_count out.old) (K.fault_count out.new) result }
 {
@@ -167,6 +172,7 @@ fn enter_behind<W: World>(w: &mut W, method: Oop, args: u32) -> StepEnd
     requires named { IsNamed (W.stored w.old) method }
     requires enters { CanEnter (W.view w.old) (name_of (W.stored w.old) method) args true }
     ensures gives { (told : Option (List ℕ)) (number : ℕ) → Fails (W.view w.old) (name_of (W.stored w.old) method) number → TurnGives (trying (W.view w.old) (name_of (W.stored w.old) method) number) (W.view w.old) (W.layout w.old) told told (W.stored w.new) (W.view w.new) (W.layout w.new) result }
+    ensures limit { (W.stored w.new).memory.limit ≡ (W.stored w.old).memory.limit }
     ensures cause { (faults : ℕ) → CausedByFault faults faults result }
 {
     match enter(w, method, args, true) {
@@ -180,6 +186,7 @@ fn give_back<W: World>(w: &mut W, value: Oop, local: bool) -> StepEnd
     requires ready { IsReady (W.stored w.old) (W.view w.old) }
     requires named { IsNamed (W.stored w.old) value }
     ensures gives { (told : Option (List ℕ)) → TurnGives (returning (W.view w.old) (name_of (W.stored w.old) value) local) (W.view w.old) (W.layout w.old) told told (W.stored w.new) (W.view w.new) (W.layout w.new) result }
+    ensures limit { (W.stored w.new).memory.limit ≡ (W.stored w.old).memory.limit }
     ensures cause { (faults : ℕ) → CausedByFault faults faults result }
 {
     if !local {

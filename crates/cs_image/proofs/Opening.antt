@@ -1,5 +1,5 @@
 -- An image that loads can be opened: where a process is active, the opened state is running.
-use Rattle.std.proofs.Common.{◌≡◌, ◌≢◌, ℕ, ◌+◌, ◌*◌, ◌%◌, ◌<◌, ◌≤◌, ◌==◌, ◌&&◌, ◌||◌, leb, Bool, true, false, cond, not, List, [], ◌∷◌, length, map, drop, filter, get_or, Option, Some, None, refl, ap, sym, subst, ◌∙◌, arith, slice_get, option_map, option_and_then, is_some, unwrap_or, nat_cmp, length-drop}
+use Rattle.std.proofs.Common.{◌≡◌, ◌≢◌, ℕ, ◌+◌, ◌*◌, ◌%◌, ◌<◌, ◌≤◌, ◌==◌, ◌&&◌, ◌||◌, leb, Bool, true, false, cond, not, List, [], ◌∷◌, length, map, drop, filter, get_or, Option, Some, None, IsSome, refl, ap, sym, subst, ◌∙◌, arith, slice_get, option_map, option_and_then, is_some, unwrap_or, nat_cmp, length-drop}
 use Rattle.std.specs.Option.{option_map_or}
 use Rattle.std.specs.List.{find, range_with_len, slice_set}
 use Rattle.std.specs.Cmp.{nat_cmp_total}
@@ -70,8 +70,22 @@ beside k p q o x y there here apart = get-insert nat_cmp_total k.objects p o q
     some_same : (a b : Obj) → Some a ≡ Some b → a ≡ b
     some_same a b e = cc
 
+-- the active process, in which nil takes the place of the context
+unfoldable pub stored : (k : Kept) → CanOpen k → Obj
+stored k r = Ptr r.class r.format r.hash (slice_set r.slots 1 (nil_of k))
+
+pub stored_is : (k : Kept) (r : CanOpen k) → store_of k (ref.Obj r.p) 1 (nil_of k) ≡ put k r.p (stored k r)
+unfolding store_of stored
+stored_is k r = ap (λ (o : Option Obj). edit_found (with_slot 1 (nil_of k)) r.p o k) r.process
+
+pub opened_is : (k : Kept) (r : CanOpen k) → is_nil k (ref.Obj r.p) ≡ false → open_kept k ≡ resume_of (store_of k (ref.Obj r.p) 1 (nil_of k)) r.i
+unfolding open_kept
+opened_is k r filled = ap (open_if k) r.active
+    ∙ ap (λ b. cond b k (open_at k (ref.Obj r.p) (option_and_then (λ x. birth_of x) (context_kept k (ref.Obj r.p))))) filled
+    ∙ ap (λ (o : Option Ref). open_at k (ref.Obj r.p) (option_and_then (λ x. birth_of x) o)) r.keeps
+
 pub opens : (k : Kept) (r : CanOpen k) → is_nil k (ref.Obj r.p) ≡ false → IsRunning (open_kept k)
-unfolding open_kept store_of resume_of put active_context method_of
+unfolding resume_of put active_context method_of
 opens k r filled = subst IsRunning (sym is) (record {
   known = refl;
   found = found ∙ ap (λ (c : Context). Some (Ctx c)) (sym context);
@@ -82,20 +96,14 @@ opens k r filled = subst IsRunning (sym is) (record {
       ∙ r.lies;
 })
   where
-    stored : Obj
-    stored = Ptr r.class r.format r.hash (slice_set r.slots 1 (nil_of k))
-
     after : Kept
-    after = record { objects = insert k.objects r.p stored; rest = activate (Some r.i) k.rest }
+    after = record { objects = insert k.objects r.p (stored k r); rest = activate (Some r.i) k.rest }
 
     is : open_kept k ≡ after
-    is = ap (open_if k) r.active
-        ∙ ap (λ b. cond b k (open_at k (ref.Obj r.p) (option_and_then (λ x. birth_of x) (context_kept k (ref.Obj r.p))))) filled
-        ∙ ap (λ (o : Option Ref). open_at k (ref.Obj r.p) (option_and_then (λ x. birth_of x) o)) r.keeps
-        ∙ ap (λ (o : Option Obj). resume_of (edit_found (with_slot 1 (nil_of k)) r.p o k) r.i) r.process
+    is = opened_is k r filled ∙ ap (λ (t : Kept). resume_of t r.i) (stored_is k r)
 
-    found : get (insert k.objects r.p stored) r.i ≡ Some (Ctx r.context)
-    found = beside k r.p r.i stored (Ptr r.class r.format r.hash r.slots) (Ctx r.context) r.process r.found (λ e. absurd (cc))
+    found : get (insert k.objects r.p (stored k r)) r.i ≡ Some (Ctx r.context)
+    found = beside k r.p r.i (stored k r) (Ptr r.class r.format r.hash r.slots) (Ctx r.context) r.process r.found (λ e. absurd (cc))
 
     context : active_context after ≡ r.context
     context = ap (λ (o : Option Obj). unwrap_or (context_in o) blank) found
@@ -106,8 +114,8 @@ opens k r filled = subst IsRunning (sym is) (record {
     method : (active_context after).method ≡ ref.Obj r.m
     method = ap (λ (c : Context). c.method) context ∙ r.calls
 
-    code : get (insert k.objects r.p stored) r.m ≡ Some r.method
-    code = beside k r.p r.m stored (Ptr r.class r.format r.hash r.slots) r.method r.process r.code
+    code : get (insert k.objects r.p (stored k r)) r.m ≡ Some r.method
+    code = beside k r.p r.m (stored k r) (Ptr r.class r.format r.hash r.slots) r.method r.process r.code
         (λ e. let wrong : false ≡ true = ap (λ (o : Obj). lies_in (Some o) r.pc) e ∙ r.lies in absurd (cc))
 
 -- ---- options
@@ -183,17 +191,17 @@ pub record HasFile (f : File) (root : ℕ) (k : Kept) : Type 0 where
   pub special : k.rest.special ≡ birth f root
   pub nil : k.rest.nil ≡ 0
 
-record Held (f : File) (k : Kept) (word : ℕ) (x : FileObject) : Type 0 where
-  j : ℕ
-  there : slice_get (visible f) j ≡ Some x
-  at : object_at k (birth f word) ≡ Some (obj_by (meant f) x.class x.format x.hash x.words)
-  names : ref_by (meant f) word ≡ meant f word
+pub record Held (f : File) (k : Kept) (word : ℕ) (x : FileObject) : Type 0 where
+  pub j : ℕ
+  pub there : slice_get (visible f) j ≡ Some x
+  pub at : object_at k (birth f word) ≡ Some (obj_by (meant f) x.class x.format x.hash x.words)
+  pub names : ref_by (meant f) word ≡ meant f word
 
 visible_named : (f : File) (word : ℕ) (x : FileObject) → named f word ≡ Some x → is_visible x ≡ true → find (λ o. address_in f o == word) (visible f) ≡ Some x
 unfolding named visible
 visible_named f word x e v = find_visible (λ o. address_in f o == word) f.objects x e v
 
-held : (f : File) (special : ℕ) (k : Kept) → HasFile f special k → (word : ℕ) (x : FileObject) → named f word ≡ Some x → is_visible x ≡ true → Held f k word x
+pub held : (f : File) (special : ℕ) (k : Kept) → HasFile f special k → (word : ℕ) (x : FileObject) → named f word ≡ Some x → is_visible x ≡ true → Held f k word x
 held f special k h word x e v =
     let s = stands_named f word x e v in
     let there : slice_get (visible f) s.j ≡ Some x = sym (ap (option_and_then (slice_get (visible f))) s.number)
@@ -468,19 +476,48 @@ can_open f special k h w active process filled =
       lies = m.lies;
     }
 
--- where a process is active, the opened state is running
-pub file_opens : (f : File) (special : ℕ) (k : Kept) → HasFile f special k → is_idle k ≡ false → IsRunning (open_kept k)
+-- the scheduler has an active process, or nil in its place
+pub file_active : (f : File) (special : ℕ) (k : Kept) → HasFile f special k → IsSome (active_process k)
+unfolding is_bad_roots
+file_active f special k h =
+    let r = passes_some (is_process f) (active_process_in f special) (not_false _ h.ground_of.sound.roots) in
+    ap is_some (active_is f special k h r.0 r.1)
+
+-- the active process, which is not nil, keeps a live context
+pub record CanStart (k : Kept) : Type 0 where
+  pub can : CanOpen k
+  pub filled : is_nil k (ref.Obj can.p) ≡ false
+
+-- it does where a process is active
+pub file_can_open : (f : File) (special : ℕ) (k : Kept) → HasFile f special k → is_idle k ≡ false → CanStart k
 unfolding is_idle is_bad_roots
-file_opens f special k h busy =
+file_can_open f special k h busy =
     let r = passes_some (is_process f) (active_process_in f special) (not_false _ h.ground_of.sound.roots) in
     let active = active_is f special k h r.0 r.1 in
     let filled : is_nil k (ref_by (meant f) r.0) ≡ false = sym (ap (is_idle_at k) active) ∙ busy in
     let c = can_open f special k h r.0 r.1 r.2 (no_nil r.0 (file.is_nil f r.0) refl filled) in
-    opens k c (ap (is_idle_at k) (sym c.active) ∙ busy)
+    record { can = c; filled = ap (is_idle_at k) (sym c.active) ∙ busy }
   where
     no_nil : (w : ℕ) (b : Bool) → file.is_nil f w ≡ b → is_nil k (ref_by (meant f) w) ≡ false → file.is_nil f w ≡ false
     no_nil w false e n = e
     no_nil w true e n = absurd (cc (sym (nil_held f special k h w e) ∙ n))
+
+-- the state of a heap into which a file was loaded
+pub has_file : (f : File) (special : ℕ) (table : FinMap nat_cmp ℕ) (roots : Roots) → Ground f special → roots.special.0 ≡ address_named f special → roots.next_birth ≡ length (visible f)
+    → HasFile f special (kept_of (memory_of f) table roots None)
+has_file f special table roots g at next =
+    let three = visible_three f g.table in
+    record {
+      ground_of = g;
+      sound = (memory_whole f special roots g at next).heap;
+      objects = refl;
+      special = ap (heap.birth_of (memory_of f)) at ∙ birth_of-named f special (special_stands f special g.sound.roots);
+      nil = birth_is_place f (visible f) 0 (omega (arith, three));
+    }
+
+-- so the opened state is running where a process is active
+pub file_opens : (f : File) (special : ℕ) (k : Kept) → HasFile f special k → is_idle k ≡ false → IsRunning (open_kept k)
+file_opens f special k h busy = let c = file_can_open f special k h busy in opens k c.can c.filled
 
 -- what was built for a file without faults
 pub built_opens : (bytes : List ℕ) (file : File) (objects : List Object) (table : FinMap nat_cmp ℕ) (roots : Roots) → file ≡ file_of bytes → IsBuilt bytes file objects table roots
@@ -490,13 +527,6 @@ built_opens bytes file objects table roots same b base_is s =
     let f : File = file_of bytes in
     let special = special_address bytes in
     let r = built_roots bytes file objects table roots same b in
-    let g : Ground f special = ground_of bytes base_is s in
-    let three = visible_three f g.table in
     let P : List Object → Type 0 = λ os. is_idle (kept_of os table roots None) ≡ false → IsRunning (open_kept (kept_of os table roots None)) in
-    subst P (sym (b.objects_are ∙ ap (λ (f : File). loaded_from f 0 (visible f)) same)) (file_opens f special (kept_of (memory_of f) table roots None) (record {
-      ground_of = g;
-      sound = (memory_whole f special roots g r.special r.next).heap;
-      objects = refl;
-      special = ap (heap.birth_of (memory_of f)) r.special ∙ birth_of-named f special (special_stands f special s.roots);
-      nil = birth_is_place f (visible f) 0 (omega (arith, three));
-    }))
+    subst P (sym (b.objects_are ∙ ap (λ (f : File). loaded_from f 0 (visible f)) same))
+    (file_opens f special (kept_of (memory_of f) table roots None) (has_file f special table roots (ground_of bytes base_is s) r.special r.next))

@@ -1,5 +1,5 @@
 -- The pcs of an image that loads: each context has none, or one that lies in its method. And its births are few.
-use Rattle.std.proofs.Common.{◌≡◌, ℕ, ◌%◌, ◌≤◌, ◌==◌, Bool, true, false, List, [], ◌∷◌, length, map, Option, Some, None, refl, ap, sym, subst, ◌∙◌, arith}
+use Rattle.std.proofs.Common.{◌≡◌, ℕ, ◌%◌, ◌≤◌, ◌==◌, Bool, true, false, List, [], ◌∷◌, length, map, slice_get, Option, Some, None, refl, ap, sym, subst, ◌∙◌, arith}
 use Rattle.std.specs.FinMap.{FinMap, get}
 use Rattle.std.specs.Ordering.{nat_cmp}
 use Rattle.std.specs.List.{sum_by}
@@ -12,18 +12,16 @@ use Rattle.cs_model.specs.Words.{bytecodes_in_words, bytes_in_words, context_by,
 use Rattle.cs_model.specs.ImageFile.{FileObject, File, file_of, old_base, special_address, visible}
 use Rattle.cs_model.specs.ImageFault.{is_lost, is_over}
 use Rattle.cs_heap.specs.Object.{Object}
-use Rattle.cs_heap.specs.Object as heap
-use Rattle.cs_classes.specs.Meaning.{kept_of, obj_of, objects_of, ref_of}
+use Rattle.cs_classes.specs.Meaning.{kept_of, obj_of, ref_of}
 use Rattle.cs_classes.specs.declared.Roots.{Roots}
 use Rattle.cs_classes.proofs.Objects.{objects_of-comes}
 use Rattle.cs_image.specs.Loading.{loaded_from}
-use Rattle.cs_image.proofs.Naming.{birth_is_place, birth_of-named}
 use Rattle.cs_image.proofs.Wording.{memory_of, meant}
 use Rattle.cs_image.proofs.Elements.{object_same}
-use Rattle.cs_image.proofs.Soundness.{IsSoundFile, context_at, fine_at, seven, special_stands, visible_three}
+use Rattle.cs_image.proofs.Soundness.{IsSoundFile, context_at, fine_at, seven}
 use Rattle.cs_image.proofs.Describing.{IsBuilt, built_roots}
-use Rattle.cs_image.proofs.Wholeness.{Ground, ground_of, loaded_at, memory_whole}
-use Rattle.cs_image.proofs.Opening.{HasFile, equal, method_held, not_nil, or_second, slot}
+use Rattle.cs_image.proofs.Wholeness.{ground_of, loaded_at}
+use Rattle.cs_image.proofs.Opening.{HasFile, equal, has_file, method_held, not_nil, or_second, slot}
 
 record IsContextOf (named : ℕ → Ref) (class hash : ℕ) (words : List ℕ) (c : Context) : Type 0 where
   class_is : (class == context_class) ≡ true
@@ -53,23 +51,38 @@ context_of_words named class format hash words c h = go (class == context_class)
         let no : Raw class format hash (bytes_in_words format words) ≡ Ctx c = sym is ∙ h in
         absurd (cc)
 
+-- an object of the state is one of the file
+pub record FromFile (f : File) (o : Obj) : Type 0 where
+  pub place : ℕ
+  pub object : FileObject
+  pub there : slice_get (visible f) place ≡ Some object
+  pub means : obj_by (meant f) object.class object.format object.hash object.words ≡ o
+
+pub from_file : (f : File) (special : ℕ) (k : Kept) → HasFile f special k → (i : ℕ) (o : Obj) → object_at k i ≡ Some o → FromFile f o
+from_file f special k h i o there =
+    let from = objects_of-comes (memory_of f) i o h.sound.apart (ap (λ (m : FinMap nat_cmp Obj). get m i) (sym h.objects) ∙ there) in
+    let a = loaded_at f from.place from.object from.element in
+    record {
+      place = from.place;
+      object = a.o;
+      there = a.there;
+      means = sym (object_same f from.place a.o (fine_at f special from.place a.o h.ground_of.sound a.there)) ∙ ap (obj_of (ref_of (memory_of f))) a.is ∙ from.meaning;
+    }
+
 -- a pc of a context of the file lies in its method
 pub file_pcs : (f : File) (special : ℕ) (k : Kept) → HasFile f special k → (i : ℕ) (c : Context) → object_at k i ≡ Some (Ctx c) → PcLies k c
 file_pcs f special k h i c there pc live =
-    let e : get (objects_of (memory_of f)) i ≡ Some (Ctx c) = ap (λ (m : FinMap nat_cmp Obj). get m i) (sym h.objects) ∙ there in
-    let from = objects_of-comes (memory_of f) i (Ctx c) h.sound.apart e in
-    let a = loaded_at f from.place from.object from.element in
-    let fine = fine_at f special from.place a.o h.ground_of.sound a.there in
-    let means : obj_by (meant f) a.o.class a.o.format a.o.hash a.o.words ≡ Ctx c =
-    sym (object_same f from.place a.o fine) ∙ ap (obj_of (ref_of (memory_of f))) a.is ∙ from.meaning in
-    let s = context_of_words (meant f) a.o.class a.o.format a.o.hash a.o.words c means in
-    let parts = seven _ _ _ _ _ _ _ (context_at f special from.place a.o h.ground_of.sound a.there s.class_is) in
-    let three : a.o.format ≡ 3 = equal a.o.format 3 parts.format in
+    let a = from_file f special k h i (Ctx c) there in
+    let o = a.object in
+    let fine = fine_at f special a.place o h.ground_of.sound a.there in
+    let s = context_of_words (meant f) o.class o.format o.hash o.words c a.means in
+    let parts = seven _ _ _ _ _ _ _ (context_at f special a.place o h.ground_of.sound a.there s.class_is) in
+    let three : o.format ≡ 3 = equal o.format 3 parts.format in
     let long = (fine.context s.class_is).1 in
-    let kept : is_lost f (slot a.o 3) ≡ false = fine.pointers (ap is_pointer_format three) 3 (omega (arith, long)) in
-    let number : natural_in_word (slot a.o 1) ≡ Some pc = ap (λ (d : Context). d.pc) s.is ∙ live in
-    let m = method_held f special k h (slot a.o 3) (slot a.o 1) pc number kept
-    (or_second _ _ parts.pc (not_nil f special h.ground_of (slot a.o 1) pc number)) in
+    let kept : is_lost f (slot o 3) ≡ false = fine.pointers (ap is_pointer_format three) 3 (omega (arith, long)) in
+    let number : natural_in_word (slot o 1) ≡ Some pc = ap (λ (d : Context). d.pc) s.is ∙ live in
+    let m = method_held f special k h (slot o 3) (slot o 1) pc number kept
+    (or_second _ _ parts.pc (not_nil f special h.ground_of (slot o 1) pc number)) in
     ap (λ (d : Context). lies_in (object_of k d.method) pc) (sym s.is)
     ∙ ap (λ (x : Ref). lies_in (object_of k x) pc) m.names
     ∙ ap (λ (o : Option Obj). lies_in o pc) m.at
@@ -83,16 +96,9 @@ built_pcs bytes file objects table roots same b base_is s =
     let f : File = file_of bytes in
     let special = special_address bytes in
     let r = built_roots bytes file objects table roots same b in
-    let g : Ground f special = ground_of bytes base_is s in
-    let three = visible_three f g.table in
     let P : List Object → Type 0 = λ os. (i : ℕ) (c : Context) → object_at (kept_of os table roots None) i ≡ Some (Ctx c) → PcLies (kept_of os table roots None) c in
-    subst P (sym (b.objects_are ∙ ap (λ (f : File). loaded_from f 0 (visible f)) same)) (file_pcs f special (kept_of (memory_of f) table roots None) (record {
-      ground_of = g;
-      sound = (memory_whole f special roots g r.special r.next).heap;
-      objects = refl;
-      special = ap (heap.birth_of (memory_of f)) r.special ∙ birth_of-named f special (special_stands f special s.roots);
-      nil = birth_is_place f (visible f) 0 (omega (arith, three));
-    }))
+    subst P (sym (b.objects_are ∙ ap (λ (f : File). loaded_from f 0 (visible f)) same))
+    (file_pcs f special (kept_of (memory_of f) table roots None) (has_file f special table roots (ground_of bytes base_is s) r.special r.next))
 
 -- each object takes a word and more, so the births are at most the words of the limit
 pub few_births : (file : File) (limit : ℕ) → is_over file limit ≡ false → length (visible file) ≤ limit

@@ -234,10 +234,17 @@ all_below_at (suc n) i p all h = elim (eqb_tells i n) [
   | inr other ↦ all_below_at n i p (and_true (all_below n p) (p n) all).0 (omega (arith, h, other.1))
 ]
 
-class_stands : (f : File) (i word : ℕ) → names f (is_class i) word ≡ true → Stands f word
-class_stands f i word h = go (named f word) refl h
+-- what a class names: an object that is visible and is no context
+pub record NamesClass (f : File) (word : ℕ) : Type 0 where
+  pub class : FileObject
+  pub named_is : named f word ≡ Some class
+  pub visible_is : is_visible class ≡ true
+  pub plain : (class.class == context_class) ≡ false
+
+names_class : (f : File) (i word : ℕ) → names f (is_class i) word ≡ true → NamesClass f word
+names_class f i word h = go (named f word) refl h
   where
-    go : (r : Option FileObject) → named f word ≡ r → option_map_or (is_class i) r false ≡ true → Stands f word
+    go : (r : Option FileObject) → named f word ≡ r → option_map_or (is_class i) r false ≡ true → NamesClass f word
     go None e h = absurd (cc)
     go (Some x) e h =
         let a = and_true (is_visible x && leb 1 x.format && leb x.format 5 && not (x.class == context_class) && leb 3 (length x.words)) _ h in
@@ -245,32 +252,48 @@ class_stands f i word h = go (named f word) refl h
         let c = and_true (is_visible x && leb 1 x.format && leb x.format 5) _ b.0 in
         let d = and_true (is_visible x && leb 1 x.format) _ c.0 in
         let g = and_true (is_visible x) _ d.0 in
-        stands_named f word x e g.0
+        record { class = x; named_is = e; visible_is = g.0; plain = not_true (x.class == context_class) c.1 }
 
 or_third : (a b c : Bool) → (a || b || c) ≡ true → a ≡ false → b ≡ false → c ≡ true
 or_third true b c h x y = absurd (cc)
 or_third false true c h x y = absurd (cc)
 or_third false false c h x y = h
 
-other_entry : (f : File) (i : ℕ) → Table f → i < table_size → (i == 3) ≡ false → is_nil f (entry_in f i) ≡ false → Stands f (entry_in f i)
+other_entry : (f : File) (i : ℕ) → Table f → i < table_size → (i == 3) ≡ false → is_nil f (entry_in f i) ≡ false → NamesClass f (entry_in f i)
 other_entry f i t h three filled =
-    class_stands f i (entry_in f i) (or_third (i == 3) (is_nil f (entry_in f i)) _ (all_below_at table_size i (is_sound_entry f) t.entries h) three filled)
+    names_class f i (entry_in f i) (or_third (i == 3) (is_nil f (entry_in f i)) _ (all_below_at table_size i (is_sound_entry f) t.entries h) three filled)
 
--- each entry that is filled names an object that stands
-pub entry_stands : (f : File) (i : ℕ) → Table f → i < table_size → is_nil f (entry_in f i) ≡ false → Stands f (entry_in f i)
-entry_stands f i t h filled = elim (eqb_tells i 3) [
-  | inl three ↦
-      let a = and_true (not (has_entry f 0) && not (has_entry f 16) && has_entry f 1 && has_entry f 2 && has_entry f 36 && has_entry f 37 && entry_in f 3 == entry_in f 1) _ t.known in
-      let b = and_true (not (has_entry f 0) && not (has_entry f 16) && has_entry f 1 && has_entry f 2 && has_entry f 36 && has_entry f 37) _ a.0 in
-      let same : entry_in f 3 ≡ entry_in f 1 = equal (entry_in f 3) (entry_in f 1) b.1 in
-      let this : entry_in f i ≡ entry_in f 1 = ap (entry_in f) three.1 ∙ same in
-      let P : ℕ → Type 0 = Stands f in
-      subst P (sym this) (other_entry f 1 t (omega (arith, table_size_is)) refl (ap (is_nil f) (sym this) ∙ filled))
-  | inr other ↦ other_entry f i t h other.0 filled
-]
+-- what is known of the entries of 16 and 3
+pub record KnownClasses (f : File) : Type 0 where
+  pub free : has_entry f 16 ≡ false
+  pub same : entry_in f 3 ≡ entry_in f 1
+
+pub known_classes : (f : File) → Table f → KnownClasses f
+known_classes f t =
+    let a = and_true (not (has_entry f 0) && not (has_entry f 16) && has_entry f 1 && has_entry f 2 && has_entry f 36 && has_entry f 37 && entry_in f 3 == entry_in f 1) _ t.known in
+    let b = and_true (not (has_entry f 0) && not (has_entry f 16) && has_entry f 1 && has_entry f 2 && has_entry f 36 && has_entry f 37) _ a.0 in
+    let c = and_true (not (has_entry f 0) && not (has_entry f 16) && has_entry f 1 && has_entry f 2 && has_entry f 36) _ b.0 in
+    let d = and_true (not (has_entry f 0) && not (has_entry f 16) && has_entry f 1 && has_entry f 2) _ c.0 in
+    let e = and_true (not (has_entry f 0) && not (has_entry f 16) && has_entry f 1) _ d.0 in
+    let g = and_true (not (has_entry f 0) && not (has_entry f 16)) _ e.0 in
+    record { free = not_true (has_entry f 16) (and_true (not (has_entry f 0)) _ g.0).1; same = equal (entry_in f 3) (entry_in f 1) b.1 }
   where
     equal : (a b : ℕ) → (a == b) ≡ true → a ≡ b
     equal a b h = grind (arith, nat_tests, h)
+
+-- each entry that is filled names a class
+pub entry_names : (f : File) (i : ℕ) → Table f → i < table_size → is_nil f (entry_in f i) ≡ false → NamesClass f (entry_in f i)
+entry_names f i t h filled = elim (eqb_tells i 3) [
+  | inl three ↦
+      let this : entry_in f i ≡ entry_in f 1 = ap (entry_in f) three.1 ∙ (known_classes f t).same in
+      let P : ℕ → Type 0 = NamesClass f in
+      subst P (sym this) (other_entry f 1 t (omega (arith, table_size_is)) refl (ap (is_nil f) (sym this) ∙ filled))
+  | inr other ↦ other_entry f i t h other.0 filled
+]
+
+-- which stands
+pub entry_stands : (f : File) (i : ℕ) → Table f → i < table_size → is_nil f (entry_in f i) ≡ false → Stands f (entry_in f i)
+entry_stands f i t h filled = let c = entry_names f i t h filled in stands_named f (entry_in f i) c.class c.named_is c.visible_is
 
 -- ---- the roots
 

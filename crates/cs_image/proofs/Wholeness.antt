@@ -42,7 +42,7 @@ loaded_at f j x e = go (slice_get (visible f) j) refl (sym (slice_get-loaded_fro
 
 -- ---- nil
 
-nil_named : (f : File) (s : Firsts f) → named f (nil_in f) ≡ Some s.nil
+pub nil_named : (f : File) (s : Firsts f) → named f (nil_in f) ≡ Some s.nil
 unfolding named
 nil_named f s =
     let here : nil_in f ≡ address_in f s.nil = ap (λ (os : List FileObject). option_map_or (address_in f) (slice_get os 0) 0) s.objects in
@@ -52,7 +52,7 @@ nil_named f s =
     same_test : (a b : ℕ) → a ≡ b → (a == b) ≡ true
     same_test a b e = grind (arith, nat_tests, e)
 
-nil_visible : (f : File) (s : Firsts f) → is_visible s.nil ≡ true
+pub nil_visible : (f : File) (s : Firsts f) → is_visible s.nil ≡ true
 nil_visible f s = (and_true (is_visible s.nil) (s.nil.format == 0) s.oddball).0
 
 visible_begins : (f : File) (s : Firsts f) → visible f ≡ s.nil ∷ filter is_visible s.rest
@@ -332,15 +332,15 @@ get_filled f (suc n) i h e = go (is_nil f (entry_in f n)) refl (λ (below : i < 
         ∙ rest (omega (arith, h, other.1)))
 
 -- what the table has comes from an entry
-record FromEntry (f : File) (n i a : ℕ) : Type 0 where
-  below : i < n
-  filled : is_nil f (entry_in f i) ≡ false
-  address : a ≡ address_named f (entry_in f i)
+pub record FromEntry (f : File) (n i a : ℕ) : Type 0 where
+  pub below : i < n
+  pub filled : is_nil f (entry_in f i) ≡ false
+  pub address : a ≡ address_named f (entry_in f i)
 
 some_same : (a b : ℕ) → Some a ≡ Some b → a ≡ b
 some_same a b e = cc
 
-from_entry : (f : File) (n i a : ℕ) → get (classes_at f n) i ≡ Some a → FromEntry f n i a
+pub from_entry : (f : File) (n i a : ℕ) → get (classes_at f n) i ≡ Some a → FromEntry f n i a
 from_entry f zero i a h = let none = get-empty {X = ℕ} nat_cmp i in absurd (cc (sym none ∙ h))
 from_entry f (suc n) i a h = go (is_nil f (entry_in f n)) refl (from_entry f n i a) (eqb_tells i n)
   where
@@ -408,7 +408,7 @@ class_filled f special j o g e =
 
 -- ---- the whole
 
-nil_empty : (f : File) (special : ℕ) (g : Ground f special) → length g.first.nil.words ≡ 0
+pub nil_empty : (f : File) (special : ℕ) (g : Ground f special) → length g.first.nil.words ≡ 0
 nil_empty f special g =
     let s = g.first in
     let form : s.nil.format ≡ 0 = equal s.nil.format 0 (and_true (is_visible s.nil) (s.nil.format == 0) s.oddball).1 in

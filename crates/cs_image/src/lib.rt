@@ -18,7 +18,7 @@ mod roots;
 mod shape;
 mod table;
 
-ghost use Rattle.std.specs.Prelude.{◌≡◌, ℕ, ◌≤◌, false, length, slice_get, take, Some, None, Ok, IfOk, OnOk, ⊤};
+ghost use Rattle.std.specs.Prelude.{◌≡◌, ℕ, ◌≤◌, false, length, slice_get, take, Bool, List, Some, None, Ok, IfOk, OnOk, ⊤};
 ghost use Rattle.cs_model.specs.ImageFile.{file_of, has_births, visible, words_in, cut_of, special_address, last_hash_in};
 ghost use Rattle.cs_model.specs.ImageFault as fault;
 ghost use Rattle.cs_model.specs.ImageFault.{bad_object, is_over, table_size};
@@ -26,8 +26,9 @@ ghost use Rattle.cs_model.specs.Image.{at_word, fault_of, image_of};
 ghost use Rattle.cs_model.specs.Due.{is_idle};
 ghost use Rattle.cs_model.specs.Obj.{Context, Ctx};
 ghost use Rattle.cs_model.specs.Read.{IsRunning};
-ghost use Rattle.cs_model.specs.Settle.{open_kept};
-ghost use Rattle.cs_model.specs.State.{PcLies, object_at};
+ghost use Rattle.cs_model.specs.Settle.{open_kept, opened};
+ghost use Rattle.cs_model.specs.State.{IsValid, PcLies, object_at};
+ghost use Rattle.cs_model.specs.declared.event.Event.{Event};
 ghost use Rattle.cs_heap.specs.Object.{Object};
 ghost use Rattle.cs_classes.specs.Meaning.{kept_of};
 ghost use Rattle.cs_classes.specs.Sound.{IsWhole};
@@ -90,7 +91,7 @@ fn build(
 /// are skipped, and those of class index 16, the class table and its pages, are hidden and aren't loaded. Weak objects are
 /// read as ones with named and indexed fields, and ephemerons as ones with named fields. No context is active yet: where a
 /// process is active it keeps one that is live, so that the state can be opened and runs. The pc of a context is nil or lies
-/// in its method.
+/// in its method. Opened for a run of any events, the state is a valid one, and so is each that a run of it leaves.
 ///
 /// An error says what the first fault is (see `ImageError`). A file with a birth section isn't read yet: it is
 /// `HasBirths`, once its header has no fault.
@@ -104,6 +105,7 @@ pub fn load(alloc: Global, bytes: &[u8], limit_words: u32) -> Result<Loaded, Ima
     ensures births { IfOk result (λ l. (k : ℕ) (x : Object) → slice_get l.heap.objects k ≡ Some x → x.birth ≡ k) }
     ensures next { IfOk result (λ l. l.roots.next_birth ≤ limit_words) }
     ensures pcs { IfOk result (λ l. (i : ℕ) (c : Context) → object_at (kept_of l.heap.objects l.classes l.roots None) i ≡ Some (Ctx c) → PcLies (kept_of l.heap.objects l.classes l.roots None) c) }
+    ensures valid { IfOk result (λ l. (events : List Event) (snapping : Bool) → IsValid (opened (kept_of l.heap.objects l.classes l.roots None) events snapping)) }
     ensures limit { IfOk result (λ l. l.heap.limit ≡ limit_words) }
     ensures no_section { OnOk result (has_births bytes.now ≡ false) }
 {

@@ -1,6 +1,6 @@
--- Shallow runs: those of which it can be told, looks aside, how few contexts a machine of stack pages must make. Chains are
--- short, processes few and apart, each goes on where it stopped, and image code leaves the fields of activations alone that a
--- frame doesn't hold as they are (this machine's own).
+-- Shallow runs: chains are short, processes are few and apart, each goes on where it stopped, and image code writes no sender, pc,
+-- stackp, method or closure of an activation. Of such a run it can be told by its looks alone how few contexts a machine of stack
+-- pages has to make (this machine's own).
 use Rattle.std.specs.Prelude.{◌≡◌, ◌≢◌, ℕ, zero, suc, ◌+◌, ◌<◌, ◌≤◌, ◌==◌, ◌&&◌, ◌||◌, not, Bool, true, false, nat_lt, if◌then◌else◌, List, [], ◌∷◌, ◌++◌, length, Option, Some, None, option_map, option_and_then, slice_get}
 use Rattle.std.specs.List.{All, Contains, list_any}
 use Rattle.std.specs.Option.{option_to_list}

@@ -101,6 +101,7 @@ impl Sender {
         requires selector { IsNamed (W.stored w.old) selector }
         requires above { IfSome above (λ o. IsNamed (W.stored w.old) o) }
         ensures sent { Sends (W.stored w.old) (W.stored w.new) (W.layout w.old) (W.layout w.new) (W.view w.old) (W.view w.new) (message_of (W.stored w.old) selector args above) result }
+        ensures limit { (W.stored w.new).memory.limit ≡ (W.stored w.old).memory.limit }
         ensures still { Still result (w.new ≡ w.old) }
         ensures count { self.new ≡ counted (looks_up (W.view w.old) args (option_map (λ o. name_of (W.stored w.old) o) above)) self.old }
     {
@@ -160,6 +161,7 @@ pub fn enter<W: World>(w: &mut W, method: Oop, args: u32, skip: bool) -> Result<
     requires fits { CanEnter (W.view w.old) (name_of (W.stored w.old) method) args skip }
     ensures enters { OnOk result (Enters (W.stored w.old) (W.stored w.new) (W.layout w.old) (W.layout w.new) (W.view w.old) (W.view w.new) (enter_out (W.view w.old) (name_of (W.stored w.old) method) args skip)) }
     ensures full { IfErr result (Refuses (W.stored w.new) (W.layout w.old) (W.view w.old) (enter_out (W.view w.old) (name_of (W.stored w.old) method) args skip)) }
+    ensures limit { (W.stored w.new).memory.limit ≡ (W.stored w.old).memory.limit }
 {
     w.enter(method, args, skip)
 }

@@ -153,10 +153,10 @@ bare : (os : List Object) (next a : ℕ) (x : Object) (fs : List Frame) → IsSo
 bare os next a x [] sound fit there free = tt
 bare os next a x (f ∷ []) sound fit there free = (
   λ e.
-    let home = fit.0.home.0 in
-    let same : birth_of os f.context ≡ birth_of os a = birth_of-object_at os f.context home.object home.there ∙ home.birth_is ∙ sym e ∙ sym (birth_of-object_at os a x there) in
-    let is : f.context ≡ a = same_births os f.context a sound (is_object-object_at os f.context home.object home.there) (is_object-object_at os a x there) same in
-    elim (eqb_tells f.context a) [ inl t ↦ let no : true ≡ false = sym t.0 ∙ free in absurd (cc) | inr t ↦ absurd (t.1 is) ],
+      let home = fit.0.home.0 in
+      let same : birth_of os f.context ≡ birth_of os a = birth_of-object_at os f.context home.object home.there ∙ home.birth_is ∙ sym e ∙ sym (birth_of-object_at os a x there) in
+      let is : f.context ≡ a = same_births os f.context a sound (is_object-object_at os f.context home.object home.there) (is_object-object_at os a x there) same in
+      elim (eqb_tells f.context a) [ inl t ↦ let no : true ≡ false = sym t.0 ∙ free in absurd (cc) | inr t ↦ absurd (t.1 is) ],
   tt,
 )
 bare os next a x (f ∷ g ∷ gs) sound fit there free = (
@@ -286,7 +286,7 @@ module _ {w : Parts} {p at : ℕ} (good : IsGood w) (a : FrameAct w p at) where
 
   -- the frame below
   caller_of_top : (hs : List Frame) → gs ≡ hs → (IsBase w.frames (record { page = p; at = at }) → ⊥) → (g : FrameRef) → g ≡ page.ref_of p (caller_of w.frames (record { page = p; at = at }))
-      → act_of w (act.Frame g.page g.at) ≡ sender_birth (view_of w) f.birth
+      → (act_of w (act.Frame g.page g.at) ≡ sender_birth (view_of w) f.birth) × (is_some (act_of w (act.Frame g.page g.at)) ≡ true)
   unfolding frame_context
   caller_of_top [] e upper g is = absurd (upper (subst (λ fs. suc (index_of fs at) ≡ length fs) (sym frames_are) (omega (arith, a.begins_at.count, ap length e))))
   caller_of_top (h ∷ hs) e upper g is =
@@ -296,10 +296,11 @@ module _ {w : Parts} {p at : ℕ} (good : IsGood w) (a : FrameAct w p at) where
       let sender : sender_birth (view_of w) f.birth ≡ context_birth (view_of w) (ref.Obj h.birth) =
       reads_sender frame_reads ∙ ap (λ es. context_birth (view_of w) (frame_context w.heap.objects f es).sender) e in
       let found : state.object_at (view_of w) h.birth ≡ Some (Ctx (frame_context w.heap.objects h hs)) = onto_frame w.heap.objects w.roots.next_birth (objects_of w.heap.objects) on good.frames in
-      ap (λ (r : FrameRef). act_of w (act.Frame r.page r.at)) there ∙ birth_on w.heap.objects w.roots.next_birth on good.frames
-      ∙ sym (sender ∙ ap (λ y. option_and_then (λ c. Some h.birth) (context_in y)) found)
+      let stands : act_of w (act.Frame g.page g.at) ≡ Some h.birth = ap (λ (r : FrameRef). act_of w (act.Frame r.page r.at)) there ∙ birth_on w.heap.objects w.roots.next_birth on good.frames in
+      (stands ∙ sym (sender ∙ ap (λ y. option_and_then (λ c. Some h.birth) (context_in y)) found), ap is_some stands)
 
-  pub caller_act : (IsBase w.frames (record { page = p; at = at }) → ⊥) → (g : FrameRef) → g ≡ page.ref_of p (caller_of w.frames (record { page = p; at = at })) → act_of w (act.Frame g.page g.at) ≡ sender_birth (view_of w) f.birth
+  pub caller_act : (IsBase w.frames (record { page = p; at = at }) → ⊥) → (g : FrameRef) → g ≡ page.ref_of p (caller_of w.frames (record { page = p; at = at }))
+      → (act_of w (act.Frame g.page g.at) ≡ sender_birth (view_of w) f.birth) × (is_some (act_of w (act.Frame g.page g.at)) ≡ true)
   caller_act = caller_of_top gs refl
 
   -- the sender of a base frame
@@ -308,8 +309,7 @@ module _ {w : Parts} {p at : ℕ} (good : IsGood w) (a : FrameAct w p at) where
   unfolding frame_context
   base_frame (h ∷ hs) e base v is = absurd (let b = subst (λ fs. suc (index_of fs at) ≡ length fs) frames_are base in omega (arith, b, a.begins_at.count, ap length e))
   base_frame [] e base v is =
-      let fits : FrameFits w.heap.objects w.roots.next_birth f [] = subst (FrameFits w.heap.objects w.roots.next_birth f) e a.fits in
-      (
+      let fits : FrameFits w.heap.objects w.roots.next_birth f [] = subst (FrameFits w.heap.objects w.roots.next_birth f) e a.fits in (
         ap (is_reference w.heap.objects) is ∙ fits.home.1,
         reads_sender frame_reads ∙ ap (λ es. context_birth (view_of w) (frame_context w.heap.objects f es).sender) e ∙ ap (λ n. context_birth (view_of w) (ref_of w.heap.objects n)) (sym is),
       )

@@ -1,25 +1,23 @@
 -- A base frame is the context of the heap that it was made of: it fits, and hides its own likeness.
-use Rattle.std.proofs.Common.{◌≡◌, ◌≢◌, ℕ, ◌+◌, ◌-◌, ◌<◌, ◌≤◌, Bool, true, false, refl, sym, ap, ap₂, subst, ◌∙◌, arith, Option, Some, None, IsSome, is_some, List, [], ◌∷◌, length, map, take, drop, unwrap_or}
-use Rattle.std.specs.Prelude.{slice_get, slice_index}
+use Rattle.std.proofs.Common.{◌≡◌, ℕ, ◌-◌, ◌<◌, true, refl, sym, ap, ap₂, subst, ◌∙◌, arith, Option, Some, None, IsSome, List, [], ◌∷◌, map, drop}
+use Rattle.std.specs.Prelude.{slice_get}
 use Rattle.std.specs.Option.{option_map_or}
 use Rattle.std.specs.List.{AllPass}
 use Rattle.std.specs.Ordering.{nat_cmp}
 use Rattle.std.specs.FinMap.{FinMap, get, insert}
 use Rattle.std.proofs.lemmas.List.Elements.{All-drop, All-take}
-use Rattle.cs_heap.specs.Object.{Object, birth_of, hash_of, object_at, slot_count_of, slot_of}
+use Rattle.cs_heap.specs.Object.{Object, birth_of, slot_of}
 use Rattle.cs_classes.specs.declared.Roots.{Roots}
-use Rattle.cs_classes.specs.Meaning.{context_of, count_of, depth_in, is_context, kept_of, meaning_at, obj_of, objects_of, ref_of}
+use Rattle.cs_classes.specs.Meaning.{context_of, count_of, depth_in, is_context, kept_of, meaning_at, objects_of, ref_of}
 use Rattle.cs_classes.specs.Sound.{IsWhole, is_reference}
 use Rattle.cs_classes.proofs.Heaps.{birth_of-object_at, stands}
 use Rattle.cs_classes.proofs.Sorts.{obj_of-context}
 use Rattle.cs_frame.specs.Frame.{Frame}
-use Rattle.cs_model.specs.Ref.{Ref}
-use Rattle.cs_model.specs.Obj.{Context, Ctx, Obj}
+use Rattle.cs_model.specs.Obj.{Ctx, Obj}
 use Rattle.cs_model.specs.Context.{lies_if_index, lies_if_live}
-use Rattle.cs_model.specs.State.{Kept}
-use Rattle.cs_stack.specs.View.{frame_context, frame_size, frames_onto}
-use Rattle.cs_stack.specs.Good.{FrameFits, FramesFit, PcFits}
-use Rattle.cs_stack.specs.Moved.{IsContextAt, base_frame, stack_words}
+use Rattle.cs_stack.specs.View.{frame_context, frames_onto}
+use Rattle.cs_stack.specs.Good.{FramesFit, PcFits}
+use Rattle.cs_stack.specs.Moved.{IsContextAt, base_frame}
 use Rattle.cs_stack.proofs.Maps.{Objects, get_apart, get_here, same_at}
 use Rattle.cs_stack.proofs.Framed.{meaning_there}
 use Rattle.cs_stack.proofs.Tops.{view_at}
@@ -69,19 +67,21 @@ module _ {os : List Object} {table : FinMap nat_cmp ℕ} {roots : Roots} {a : �
       let s = stands os a at.object at.there in
       let fits = pcs s.0 at.object s.1.element at.context in
       let lies : lies_if_live (meaning_at os (slot_of os a 3)) (count_of (slot_of os a 1)) ≡ true =
-      ap₂ (λ (m : ℕ) (p : ℕ). lies_if_live (meaning_at os m) (count_of p)) (slot_is at 3) (slot_is at 1) ∙ fits in
-      (record {
-        names = record {
-          closure = slot_named at 4 (omega (arith, six at));
-          receiver = slot_named at 5 (omega (arith, six at));
-          stack = subst (AllPass (is_reference os)) (sym (stack_is at)) (All-take (λ (u : ℕ). is_reference os u ≡ true) (depth_in at.object.words) (drop 6 at.object.words)
-              (All-drop (λ (u : ℕ). is_reference os u ≡ true) 6 at.object.words (whole at).references));
-        };
-        lies = live_index (meaning_at os (slot_of os a 3)) (count_of (slot_of os a 1)) live lies;
-        fits = omega (arith, stack_long at, deep at);
-        stands = refl;
-        room = omega arith;
-        birth = subst (λ n. n < roots.next_birth) (sym birth_is) (heap.births s.0 at.object s.1.element);
-        apart = tt;
-        home = (record { object = at.object; there = at.there; context = at.context; birth_is = sym birth_is }, slot_named at 0 (omega (arith, six at)), refl, refl, refl);
-      }, tt)
+      ap₂ (λ (m : ℕ) (p : ℕ). lies_if_live (meaning_at os m) (count_of p)) (slot_is at 3) (slot_is at 1) ∙ fits in (
+        record {
+          names = record {
+            closure = slot_named at 4 (omega (arith, six at));
+            receiver = slot_named at 5 (omega (arith, six at));
+            stack = subst (AllPass (is_reference os)) (sym (stack_is at)) (All-take (λ (u : ℕ). is_reference os u ≡ true) (depth_in at.object.words) (drop 6 at.object.words)
+                (All-drop (λ (u : ℕ). is_reference os u ≡ true) 6 at.object.words (whole at).references));
+          };
+          lies = live_index (meaning_at os (slot_of os a 3)) (count_of (slot_of os a 1)) live lies;
+          fits = omega (arith, stack_long at, deep at);
+          stands = refl;
+          room = omega arith;
+          birth = subst (λ n. n < roots.next_birth) (sym birth_is) (heap.births s.0 at.object s.1.element);
+          apart = tt;
+          home = (record { object = at.object; there = at.there; context = at.context; birth_is = sym birth_is }, slot_named at 0 (omega (arith, six at)), refl, refl, refl);
+        },
+        tt,
+      )

@@ -24,6 +24,7 @@ use Rattle.cs_model.specs.Return.{context_birth}
 use Rattle.cs_acts.specs.declared.act.Act.{Act}
 use Rattle.cs_acts.specs.declared.act.Act.TheVariants as act
 use Rattle.cs_acts.specs.Names.{IsNamed, name_of}
+use Rattle.cs_acts.specs.Targets.{is_gone}
 use Rattle.cs_acts.specs.Reading as reading
 use Rattle.cs_acts.proofs.Named.{context_read}
 use Rattle.cs_stack.specs.declared.parts.Parts.{Parts}
@@ -164,6 +165,9 @@ module _ (w : Parts) (good : IsGood w) (o : Oop) (named : IsNamed (stored_of w) 
       found b None e = absurd (cc)
       found b (Some d) e = refl
 
+  pub names_some : reading.is_context_at os o.0 ≡ true → is_some (context_birth (view_of w) (name_of (stored_of w) o)) ≡ true
+  names_some h = ap is_some (names_context h).birth
+
   -- it has a frame: the base frame
   pub names_base : reading.is_context_at os o.0 ≡ true → hides (base_context (page_of w)) o.0 ≡ true → act_of w (act.Frame 0 0) ≡ context_birth (view_of w) (name_of (stored_of w) o)
   names_base h hidden = go (page_of w) refl
@@ -233,3 +237,10 @@ size_of_top w good ready r is =
 
 pub not_less : (a b : ℕ) → not (nat_le b a) ≡ nat_lt a b
 not_less a b = grind (arith, nat_tests)
+
+-- what stands for something isn't gone
+pub here_frame : (w : Parts) (p at : ℕ) (o : Option ℕ) → act_of w (act.Frame p at) ≡ o → is_some o ≡ true → is_gone (act.Frame p at) ≡ not (is_some (act_of w (act.Frame p at)))
+here_frame w p at o e some = ap not (sym (ap is_some e ∙ some))
+
+pub here_context : (w : Parts) (a : Oop) (o : Option ℕ) → act_of w (act.Context a) ≡ o → is_some o ≡ true → is_gone (act.Context a) ≡ not (is_some (act_of w (act.Context a)))
+here_context w a o e some = ap not (sym (ap is_some e ∙ some))

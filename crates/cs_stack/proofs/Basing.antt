@@ -1,10 +1,10 @@
 -- A context of the heap becomes the base frame of the empty page.
-use Rattle.std.proofs.Common.{◌≡◌, ◌≢◌, ℕ, pos, ◌+◌, ◌-◌, ◌*◌, ◌/◌, ◌%◌, ◌<◌, ◌≤◌, ◌^◌, Bool, true, false, refl, sym, ap, ap₂, subst, ◌∙◌, arith, Option, Some, None, IsSome, is_some, List, [], ◌∷◌, ◌++◌, length, length-take, length-drop, take, drop, zero, suc, unwrap_or, get_or, inl, inr}
+use Rattle.std.proofs.Common.{◌≡◌, ℕ, ◌+◌, ◌/◌, ◌%◌, ◌<◌, ◌≤◌, Bool, true, false, refl, sym, ap, subst, ◌∙◌, arith, Option, IsSome, is_some, List, [], ◌∷◌, ◌++◌, length, length-take, length-drop, take, drop, suc, unwrap_or, get_or, inl, inr}
 use Rattle.std.specs.Prelude.{slice_index, ◌==◌, ◌||◌, if◌then◌else◌}
 use Rattle.std.specs.Option.{option_map_or}
 use Rattle.std.proofs.lemmas.Bool.Decides.{eqb_tells, nat_tests}
 use Rattle.std.proofs.lemmas.List.{get_or-drop, get_or-take, take_more}
-use Rattle.cs_heap.specs.Object.{Object, object_at, slot_count_of, slot_of}
+use Rattle.cs_heap.specs.Object.{Object, slot_count_of, slot_of}
 use Rattle.cs_word.specs.declared.Kind.TheVariants as kind
 use Rattle.cs_word.specs.Word.{small_value}
 use Rattle.cs_classes.specs.Meaning.{count_of, count_of_kind, depth_in}

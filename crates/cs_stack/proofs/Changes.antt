@@ -51,21 +51,45 @@ module _ (os : List Object) (next : ℕ) (f : Frame) where
   pub fits_stack : (xs : List ℕ) (fs : List Frame) → FrameFits os next f fs → AllPass (is_reference os) xs → length xs ≤ frame_size os f fs → FrameFits os next (frame.with_stack xs f) fs
   fits_stack xs [] fits all few = record {
     names = record { closure = fits.names.closure; receiver = fits.names.receiver; stack = all };
-    lies = fits.lies; fits = few; stands = fits.stands; room = fits.room; birth = fits.birth; apart = fits.apart; home = fits.home;
+    lies = fits.lies;
+    fits = few;
+    stands = fits.stands;
+    room = fits.room;
+    birth = fits.birth;
+    apart = fits.apart;
+    home = fits.home;
   }
   fits_stack xs (g ∷ gs) fits all few = record {
     names = record { closure = fits.names.closure; receiver = fits.names.receiver; stack = all };
-    lies = fits.lies; fits = few; stands = fits.stands; room = fits.room; birth = fits.birth; apart = fits.apart; home = fits.home;
+    lies = fits.lies;
+    fits = few;
+    stands = fits.stands;
+    room = fits.room;
+    birth = fits.birth;
+    apart = fits.apart;
+    home = fits.home;
   }
 
   pub fits_pc : (v : ℕ) (fs : List Frame) → FrameFits os next f fs → lies_if_index (meaning_at os f.method) (count_of v) ≡ true → FrameFits os next (frame.with_saved_pc v f) fs
   fits_pc v [] fits lies = record {
     names = record { closure = fits.names.closure; receiver = fits.names.receiver; stack = fits.names.stack };
-    lies = lies; fits = fits.fits; stands = fits.stands; room = fits.room; birth = fits.birth; apart = fits.apart; home = fits.home;
+    lies = lies;
+    fits = fits.fits;
+    stands = fits.stands;
+    room = fits.room;
+    birth = fits.birth;
+    apart = fits.apart;
+    home = fits.home;
   }
   fits_pc v (g ∷ gs) fits lies = record {
     names = record { closure = fits.names.closure; receiver = fits.names.receiver; stack = fits.names.stack };
-    lies = lies; fits = fits.fits; stands = fits.stands; room = fits.room; birth = fits.birth; apart = fits.apart; home = fits.home;
+    lies = lies;
+    fits = fits.fits;
+    stands = fits.stands;
+    room = fits.room;
+    birth = fits.birth;
+    apart = fits.apart;
+    home = fits.home;
   }
 
   -- ---- contexts

@@ -140,8 +140,8 @@ module _ {w : Parts} (good : IsGood w) (o : Opened w) where
   push_edited v r ps named room is new =
       edited w good o (frames.pushed v.0 o.f) (obj.pushed (name_of (stored_of w) v)) ps (new ∙ page_changed r (frames.pushed v.0) is) refl
       (fits_stack w.heap.objects w.roots.next_birth o.f (o.f.stack ++ v.0 ∷ []) o.fs o.fits
-        (All-push (λ (u : ℕ). is_reference w.heap.objects u ≡ true) o.f.stack v.0 o.fits.names.stack named)
-        (omega (arith, length-append o.f.stack (v.0 ∷ []), depth_read, size_read, room)))
+      (All-push (λ (u : ℕ). is_reference w.heap.objects u ≡ true) o.f.stack v.0 o.fits.names.stack named)
+      (omega (arith, length-append o.f.stack (v.0 ∷ []), depth_read, size_read, room)))
       (context_pushed w.heap.objects w.roots.next_birth o.f v.0 o.fs)
 
   pub push_room : (r : FrameRef) → r ≡ page.ref_of 0 (page.top (page_of w)) → depth_of (view_of w) < size_of (view_of w) → used (page.frames_of w.frames r.page) < 4096
@@ -152,8 +152,8 @@ module _ {w : Parts} (good : IsGood w) (o : Opened w) where
   pop_edited r ps is new =
       edited w good o (frames.popped o.f) (obj.popped 1) ps (new ∙ page_changed r frames.popped is) refl
       (fits_stack w.heap.objects w.roots.next_birth o.f (take (length o.f.stack - 1) o.f.stack) o.fs o.fits
-        (All-take (λ (u : ℕ). is_reference w.heap.objects u ≡ true) (length o.f.stack - 1) o.f.stack o.fits.names.stack)
-        (omega (arith, length-take (length o.f.stack - 1) o.f.stack, o.fits.fits)))
+      (All-take (λ (u : ℕ). is_reference w.heap.objects u ≡ true) (length o.f.stack - 1) o.f.stack o.fits.names.stack)
+      (omega (arith, length-take (length o.f.stack - 1) o.f.stack, o.fits.fits)))
       (context_popped w.heap.objects w.roots.next_birth o.f o.fs)
 
   pub stack_edited : (i : ℕ) (v : Oop) (r : FrameRef) (ps : List (List Frame)) → IsNamed (stored_of w) v
@@ -161,8 +161,8 @@ module _ {w : Parts} (good : IsGood w) (o : Opened w) where
   stack_edited i v r ps named is new =
       edited w good o (frames.with_slot i v.0 o.f) (obj.stored i (name_of (stored_of w) v)) ps (new ∙ top_changed r (frames.with_slot i v.0) is) refl
       (fits_stack w.heap.objects w.roots.next_birth o.f (slice_set o.f.stack i v.0) o.fs o.fits
-        (All-set (λ (u : ℕ). is_reference w.heap.objects u ≡ true) o.f.stack i v.0 named o.fits.names.stack)
-        (omega (arith, length-set o.f.stack i v.0, o.fits.fits)))
+      (All-set (λ (u : ℕ). is_reference w.heap.objects u ≡ true) o.f.stack i v.0 named o.fits.names.stack)
+      (omega (arith, length-set o.f.stack i v.0, o.fits.fits)))
       (context_stored w.heap.objects w.roots.next_birth o.f i v.0 o.fs)
 
   -- the value that leaves a stack was the topmost one

@@ -1,9 +1,9 @@
 -- A method is entered: the frame of the new context stands above the active one.
-use Rattle.std.proofs.Common.{◌≡◌, ◌≢◌, ℕ, pos, ◌+◌, ◌-◌, ◌*◌, ◌<◌, ◌≤◌, ◌^◌, Bool, true, false, refl, sym, ap, ap₂, subst, ◌∙◌, arith, Option, Some, None, List, [], ◌∷◌, ◌++◌, length, length-take, length-drop, map, take, drop, zero, suc, replicate, unwrap_or, inl, inr}
+use Rattle.std.proofs.Common.{◌≡◌, ℕ, pos, ◌+◌, ◌-◌, ◌<◌, ◌≤◌, ◌^◌, Bool, true, refl, sym, ap, ap₂, subst, ◌∙◌, arith, Some, List, [], ◌∷◌, ◌++◌, length, length-take, length-drop, map, take, drop, zero, suc, replicate, unwrap_or, inl, inr}
 use Rattle.std.specs.Prelude.{slice_get, slice_index, nat_le, if◌then◌else◌}
-use Rattle.std.specs.List.{AllPass, take-map}
+use Rattle.std.specs.List.{take-map}
 use Rattle.std.specs.Ordering.{nat_cmp}
-use Rattle.std.specs.FinMap.{FinMap, get, insert}
+use Rattle.std.specs.FinMap.{FinMap, insert}
 use Rattle.std.proofs.lemmas.Bool.Decides.{eqb_tells, nat_tests}
 use Rattle.std.proofs.lemmas.List.{drop-map, length-append, length-map, length-replicate, map-append}
 use Rattle.std.proofs.lemmas.List.Elements.{All-append, All-drop, All-replicate, All-take}
@@ -11,7 +11,7 @@ use Rattle.cs_word.specs.declared.Oop.{Oop}
 use Rattle.cs_word.specs.Word.{small_word}
 use Rattle.cs_heap.specs.Object.{Object}
 use Rattle.cs_classes.specs.declared.Roots.{Roots}
-use Rattle.cs_classes.specs.Meaning.{count_of, kept_of, meaning_at, objects_of, ref_of}
+use Rattle.cs_classes.specs.Meaning.{count_of, meaning_at, objects_of, ref_of}
 use Rattle.cs_classes.specs.Sound.{IsWhole, is_reference}
 use Rattle.cs_classes.proofs.Objects.{get-objects_of-fresh}
 use Rattle.cs_classes.proofs.Refs.{count_of-small}
@@ -29,8 +29,8 @@ use Rattle.cs_model.specs.Obj.{Context, Ctx, Obj, context_in, context_size, lies
 use Rattle.cs_model.specs.Obj as obj
 use Rattle.cs_model.specs.Context.{lies_if_index}
 use Rattle.cs_model.specs.State.{Kept, object_of, put}
-use Rattle.cs_model.specs.Read.{active_birth, active_context, depth_of, stack_of}
-use Rattle.cs_model.specs.Operation.{activate, drop_of, enter_of, enter_with, last_values, method_context, nil_of, receiver_below, with_next}
+use Rattle.cs_model.specs.Read.{active_context, stack_of}
+use Rattle.cs_model.specs.Operation.{drop_of, enter_of, enter_with, last_values, method_context, nil_of, receiver_below}
 use Rattle.cs_acts.specs.declared.act.Full.{Full}
 use Rattle.cs_acts.specs.declared.act.Full.TheVariants as full
 use Rattle.cs_acts.specs.Full.{CausesFull}
@@ -45,7 +45,7 @@ use Rattle.cs_acts.proofs.Firsts.{nil_names}
 use Rattle.cs_acts.proofs.Held.{named_held}
 use Rattle.cs_acts.proofs.Sizes.{pc_small}
 use Rattle.cs_stack.specs.declared.parts.Parts.{Parts}
-use Rattle.cs_stack.specs.View.{births_of, frame_context, frame_size, frames_onto, header_at, layout_of, page_of, pages_of, stored_of, view_of}
+use Rattle.cs_stack.specs.View.{births_of, frame_context, frames_onto, header_at, layout_of, page_of, pages_of, stored_of, view_of}
 use Rattle.cs_stack.specs.Good.{FrameFits, FramesFit, IsGood, Lacks, used_pages}
 use Rattle.cs_stack.specs.Moved.{called_page, called_parts, callee, entry_of}
 use Rattle.cs_stack.proofs.Maps.{Objects, insert_twice}
@@ -107,7 +107,7 @@ module _ (os : List Object) (table : FinMap nat_cmp ℕ) (roots : Roots) (fs : L
   words_used f [] at = let b = here_words f [] at in omega (arith, b)
   words_used f (g ∷ hs) at = let a = words_used g hs (below_on at) in let b = here_words f (g ∷ hs) at in omega (arith, a, b)
 
-first_at : (f : Frame) (fs : List Frame) → page.index_of (f ∷ fs) f.at ≡ 0
+pub first_at : (f : Frame) (fs : List Frame) → page.index_of (f ∷ fs) f.at ≡ 0
 first_at f fs = elim (eqb_tells f.at f.at) [
   | inl e ↦ ap (λ b. if b then 0 else suc (page.index_of fs f.at)) e.0
   | inr e ↦ absurd (e.1 refl)

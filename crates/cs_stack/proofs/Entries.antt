@@ -1,13 +1,11 @@
 -- The method that is entered, as it lies in the heap, and the pc at which it is.
-use Rattle.std.proofs.Common.{◌≡◌, ◌≢◌, ℕ, zero, suc, pos, ◌+◌, ◌-◌, ◌*◌, ◌/◌, ◌%◌, ◌<◌, ◌≤◌, ◌^◌, Bool, true, false, refl, sym, ap, subst, ◌∙◌, arith, Option, Some, None, List, [], ◌∷◌, length, map, option_map}
-use Rattle.std.specs.Prelude.{◌==◌, ◌&&◌, if◌then◌else◌, nat_le, nat_lt, unwrap_or}
+use Rattle.std.proofs.Common.{◌≡◌, ◌≢◌, ℕ, ◌+◌, ◌*◌, ◌/◌, ◌%◌, ◌<◌, ◌≤◌, ◌^◌, Bool, true, false, refl, sym, ap, ◌∙◌, arith, Option, Some, None, List, [], ◌∷◌, length, map, option_map}
+use Rattle.std.specs.Prelude.{◌==◌, ◌&&◌, if◌then◌else◌, nat_le, unwrap_or}
 use Rattle.std.proofs.lemmas.Bool.Decides.{nat_tests}
 use Rattle.std.proofs.lemmas.List.{length-map}
 use Rattle.cs_word.specs.declared.Oop.{Oop}
-use Rattle.cs_heap.specs.Format.{is_method}
 use Rattle.cs_heap.specs.Object.{Object, object_at, slot_count_of, slot_of}
-use Rattle.cs_classes.specs.Meaning.{code_in, count_of, header_in, is_context, literals_in, meaning_at, obj_of, ref_of, used_bytes}
-use Rattle.cs_classes.specs.Sound.{IsSoundMethod, IsSoundObject}
+use Rattle.cs_classes.specs.Meaning.{code_in, count_of, header_in, literals_in, meaning_at, obj_of, ref_of, used_bytes}
 use Rattle.cs_classes.proofs.Sorts.{AContext, AMethod, Bytes, Pointers, Sort, obj_of-bytes, obj_of-method, not_pointers, obj_of-pointers, sort_of}
 use Rattle.cs_classes.proofs.Sounds.{method_other, sound_at}
 use Rattle.cs_model.specs.Obj.{Ctx, Method, Obj, Ptr, Raw, argument_count, bytecodes_in, context_size, first_pc, has_primitive, is_context_at, is_header, lies_in, literal_count, number_in, primitive_number, temporary_count}
@@ -19,8 +17,7 @@ use Rattle.cs_acts.specs.Ready.{Holds}
 use Rattle.cs_acts.specs.Reading.{object_named}
 use Rattle.cs_acts.specs.Targets.{CanEnter}
 use Rattle.cs_acts.proofs.Held.{Says, says}
-use Rattle.cs_acts.proofs.Methods.{IsMethodAt, at_word, header_is, length-literals, literals_fit, slots_fit}
-use Rattle.cs_acts.proofs.Sizes.{pc_small}
+use Rattle.cs_acts.proofs.Methods.{IsMethodAt, at_word, header_is, length-literals, slots_fit}
 use Rattle.cs_stack.specs.View.{header_at, header_if}
 use Rattle.cs_stack.specs.Moved.{entry_of}
 

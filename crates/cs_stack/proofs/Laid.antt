@@ -13,10 +13,10 @@ use Rattle.cs_model.specs.Ref as ref
 use Rattle.cs_model.specs.Obj.{Context, Ctx, context_in, is_context_at}
 use Rattle.cs_model.specs.State.{Kept, object_at}
 use Rattle.cs_model.specs.Return.{context_birth, sender_birth}
-use Rattle.cs_acts.specs.Layout.{IsCalled, IsLaid, IsLaidOut, IsPage, depth_in, first_page, is_frame, is_on, last_frame, page_words}
+use Rattle.cs_acts.specs.Layout.{IsApart, IsCalled, IsFresh, IsLaid, IsLaidOut, IsPage, depth_in, first_page, is_frame, is_on, last_frame, page_words}
 use Rattle.cs_stack.specs.declared.parts.Parts.{Parts}
 use Rattle.cs_stack.specs.View.{active_in, births_of, frame_context, layout_of, page_of, pages_of, stored_of, view_of}
-use Rattle.cs_stack.specs.Good.{FrameFits, FramesFit, IsGood}
+use Rattle.cs_stack.specs.Good.{FrameFits, FramesFit, IsGood, Lacks}
 use Rattle.cs_stack.proofs.Framed.{Bare, Framed, IsOn, Which, above, here, onto_bare, onto_frame, which}
 use Rattle.cs_stack.proofs.Changes.{size_few, stack_is}
 
@@ -53,6 +53,17 @@ module _ (w : Parts) (good : IsGood w) where
       let there = found g gs (within g gs (above e (g ∷ gs) here)) in
       (sender ∙ ap (λ o. option_and_then (λ c. Some g.birth) (context_in o)) there, called (g ∷ gs) (below e (g ∷ gs) within))
 
+  bare : (i : ℕ) (es : List Frame) → Lacks i es → is_on i (births_of es) ≡ false
+  bare i [] l = refl
+  bare i (e ∷ es) l = elim (eqb_tells i e.birth) [
+    | inl h ↦ absurd (l.0 h.1)
+    | inr h ↦ ap (λ b. b || is_on i (births_of es)) h.0 ∙ bare i es l.1
+  ]
+
+  apart : (es : List Frame) → FramesFit w.heap.objects w.roots.next_birth es → IsApart (births_of es)
+  apart [] fit = tt
+  apart (e ∷ es) fit = (bare e.birth es fit.0.apart, apart es fit.1)
+
   fits_page : (f : Frame) (fs : List Frame) → FrameFits w.heap.objects w.roots.next_birth f fs → used (f ∷ fs) ≤ 4096
   fits_page f fs fits = omega (arith, fits.stands, fits.room, fits.fits, size_few w.heap.objects w.roots.next_birth f fs good.whole.heap fits)
 
@@ -63,6 +74,7 @@ module _ (w : Parts) (good : IsGood w) where
       record {
         some = omega arith;
         contexts = contexts (f ∷ fs) within;
+        apart = apart (f ∷ fs) fit;
         words = subst (λ n. n ≤ 4096) (sym (words (f ∷ fs) within)) (fits_page f fs fit.0);
         called = called (f ∷ fs) within;
       }
@@ -109,3 +121,15 @@ laid w good = record {
     whole : (i : ℕ) (c : Context) → object_at (view_of w) i ≡ Some (Ctx c) → Which i (page_of w) → (is_some (get (objects_of w.heap.objects) i) || is_frame i (pages_of (page_of w))) ≡ true
     whole i c h (Framed f gs on is) = or_right (is_some (get (objects_of w.heap.objects) i)) (is_frame i (pages_of (page_of w))) (on_pages i on is)
     whole i c h (Bare l) = or_left (is_some (get (objects_of w.heap.objects) i)) (is_frame i (pages_of (page_of w))) (ap is_some (sym (onto_bare w.heap.objects (page_of w) (objects_of w.heap.objects) i l) ∙ h))
+
+-- on a page with one frame at most no context but the active one has a frame
+pub fresh_one : (w : Parts) → length (page_of w) ≤ 1 → IsFresh (view_of w) (layout_of w)
+fresh_one w few = go (page_of w) few
+  where
+    go : (fs : List Frame) → length fs ≤ 1 → (birth : ℕ) → is_frame birth (pages_of fs) ≡ true → active_in fs ≡ Some birth
+    go [] few birth h = absurd (cc)
+    go (f ∷ []) few birth h = elim (eqb_tells birth f.birth) [
+      | inl e ↦ ap (λ n. Some n) (sym e.1)
+      | inr e ↦ absurd (let no : false ≡ true = sym (ap (λ b. (b || false) || false) e.0) ∙ h in cc)
+    ]
+    go (f ∷ g ∷ gs) few birth h = absurd (omega (arith, few))

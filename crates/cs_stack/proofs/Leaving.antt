@@ -1,27 +1,23 @@
 -- A return: the active context dies, and its sender gets the value.
-use Rattle.std.proofs.Common.{◌≡◌, ◌≢◌, ◌⊎◌, ℕ, ◌<◌, Bool, true, false, refl, sym, ap, subst, ◌∙◌, arith, Option, Some, None, List, [], ◌∷◌, length, unwrap_or, inl, inr}
+use Rattle.std.proofs.Common.{◌≡◌, ℕ, ◌<◌, true, refl, sym, ap, subst, ◌∙◌, arith, Option, Some, None, length, unwrap_or}
 use Rattle.std.specs.Prelude.{IfSome, IsSomeAnd, nat_lt}
-use Rattle.std.specs.FinMap.{get}
 use Rattle.std.proofs.lemmas.Bool.Decides.{nat_tests}
 use Rattle.cs_word.specs.declared.Oop.{Oop}
-use Rattle.cs_classes.specs.Meaning.{objects_of}
-use Rattle.cs_frame.specs.Frame.{Frame}
 use Rattle.cs_model.specs.Ref.{Ref}
-use Rattle.cs_model.specs.Ref as ref
-use Rattle.cs_model.specs.Obj.{Context, Ctx, Obj, context_in}
+use Rattle.cs_model.specs.Obj.{Context, Ctx, context_in}
 use Rattle.cs_model.specs.Keeps.{Keeps}
 use Rattle.cs_model.specs.State.{Kept, Rest, IsHeld, object_at, put}
-use Rattle.cs_model.specs.Read.{IsRunning, active_birth, active_context, blank, depth_of, size_of}
+use Rattle.cs_model.specs.Read.{active_birth, active_context, blank, depth_of, size_of}
 use Rattle.cs_model.specs.Operation.{leave_of, push_of}
-use Rattle.cs_model.specs.Return.{context_birth, has_room, sender_birth}
+use Rattle.cs_model.specs.Return.{has_room, sender_birth}
 use Rattle.cs_acts.specs.Names.{IsNamed, name_of}
 use Rattle.cs_acts.specs.Ready.{IsReady}
 use Rattle.cs_acts.specs.Targets.{CanArrive}
 use Rattle.cs_acts.proofs.Held.{named_held}
 use Rattle.cs_stack.specs.declared.parts.Parts.{Parts}
-use Rattle.cs_stack.specs.View.{page_of, stored_of, view_of}
+use Rattle.cs_stack.specs.View.{stored_of, view_of}
 use Rattle.cs_stack.specs.Good.{IsGood}
-use Rattle.cs_stack.specs.Moved.{Unwinds, Unwound}
+use Rattle.cs_stack.specs.Moved.{Unwound}
 use Rattle.cs_stack.proofs.Closed.{good_sound}
 use Rattle.cs_stack.proofs.Tops.{good_ready, opened_at, ready_again}
 use Rattle.cs_stack.proofs.Returning.{Sends, keeps-left, sender_found}

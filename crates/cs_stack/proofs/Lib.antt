@@ -3,7 +3,12 @@ pub mod Entries
 pub mod Entering
 pub mod Basing
 pub mod Based
+pub mod Buried
 pub mod Leaving
+pub mod Unwinding
+pub mod Taking
+pub mod Opening
+pub mod Scheduled
 pub mod Maps
 pub mod Framed
 pub mod Lives

@@ -1,16 +1,16 @@
 -- A return to a sender, by states alone: a state that lacks the context that died keeps all that the return keeps.
-use Rattle.std.proofs.Common.{◌≡◌, ◌≢◌, ◌⊎◌, ℕ, Bool, true, false, refl, sym, ap, subst, ◌∙◌, Option, Some, None, IsSome, is_some, unwrap_or, option_and_then, inl, inr}
+use Rattle.std.proofs.Common.{◌≡◌, ◌≢◌, ℕ, true, false, refl, sym, ap, subst, ◌∙◌, Option, Some, None, IsSome, is_some, unwrap_or, option_and_then, inl, inr}
 use Rattle.std.proofs.lemmas.Bool.Decides.{eqb_tells}
 use Rattle.cs_model.specs.Ref.{Ref, Small, Char, birth_of}
 use Rattle.cs_model.specs.Ref as ref
-use Rattle.cs_model.specs.Obj.{Obj, Context, Ctx, Ptr, Raw, Method, context_in, dead, is_context, pushed}
-use Rattle.cs_model.specs.State.{IsHeld, Kept, Rest, object_at, object_of, put}
+use Rattle.cs_model.specs.Obj.{Obj, Context, Ctx, Ptr, Raw, Method, context_in, dead, is_context}
+use Rattle.cs_model.specs.State.{IsHeld, Kept, object_at, put}
 use Rattle.cs_model.specs.Keeps.{Keeps}
-use Rattle.cs_model.specs.Read.{IsRunning, active_birth, active_context, blank}
+use Rattle.cs_model.specs.Read.{IsRunning, active_birth, active_context}
 use Rattle.cs_model.specs.Operation.{activate, dead_object, edit_found, kill_of, leave_of, push_of, resume_of}
 use Rattle.cs_stack.specs.Moved.{Unwinds}
-use Rattle.cs_model.specs.Return.{context_at, context_birth, sender_birth}
-use Rattle.cs_model.proofs.Keeping.{Keeps-itself, Keeps-lost, Keeps-trans}
+use Rattle.cs_model.specs.Return.{context_birth, sender_birth}
+use Rattle.cs_model.proofs.Keeping.{Keeps-lost, Keeps-trans}
 use Rattle.cs_model.proofs.Objects.{object_at-put_other, object_at-put_same}
 use Rattle.cs_model.proofs.Operating.{kill_moved, push_moved, resume_moved}
 use Rattle.cs_model.proofs.Reading.{active_birth_same}

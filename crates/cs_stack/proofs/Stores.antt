@@ -12,8 +12,8 @@ use Rattle.cs_word.specs.declared.Kind.{Kind}
 use Rattle.cs_word.specs.declared.Kind.TheVariants as kind
 use Rattle.cs_word.specs.Word.{kind_of, small_value}
 use Rattle.cs_heap.specs.Format.{is_method, is_pointers}
-use Rattle.cs_heap.specs.Object.{Memory, Object, at_index, birth_of, hash_of, is_object, object_at, set_word, slot_count_of, used, with_slot}
-use Rattle.cs_heap.proofs.Laws.{hash_of-with_slot, object_at-with_object_other, object_at-with_object_same, slot_count_of-with_slot, used-with_slot}
+use Rattle.cs_heap.specs.Object.{Memory, Object, at_index, birth_of, hash_of, is_object, object_at, set_word, slot_count_of, slot_of, used, with_slot}
+use Rattle.cs_heap.proofs.Laws.{hash_of-with_slot, object_at-with_object_other, object_at-with_object_same, slot_count_of-with_slot, slot_of-with_slot_other_object, used-with_slot}
 use Rattle.cs_classes.specs.declared.Roots.{Roots}
 use Rattle.cs_classes.specs.Meaning.{code_in, count_of, header_in, is_context, kept_of, literals_in, meaning_at, method_of, obj_of, objects_of, ref_of, ref_of_kind, used_bytes}
 use Rattle.cs_classes.specs.Sound.{IsWhole, is_reference, is_reference_kind}
@@ -215,17 +215,27 @@ module _ (s : Store) (o i v : ℕ) (can : Storable s o i v) (whole : IsWhole s.m
   pub objects_new : objects_of new ≡ insert (objects_of old) can.x.birth (obj_of (ref_of old) (set_word i v can.x))
   objects_new = objects_of-with_object old o can.x (set_word i v) (set_word-IsEdit i v) whole.heap.apart can.there
 
+  -- no context is at the address of the store
+  apart_from : (a birth : ℕ) → StandsAt old a birth → a ≢ o
+  apart_from a birth h e =
+      let is : Some h.object ≡ Some can.x = sym h.there ∙ ap (object_at old) e ∙ can.there in
+      let same : h.object ≡ can.x = cc in
+      absurd (let no : true ≡ false = sym h.context ∙ ap is_context same ∙ can.other in cc)
+
   stands_kept : (a birth : ℕ) → StandsAt old a birth → StandsAt new a birth
-  stands_kept a birth h = elim (eqb_tells a o) [
-    | inl e ↦
-        let is : Some h.object ≡ Some can.x = sym h.there ∙ ap (object_at old) e.1 ∙ can.there in
-        let same : h.object ≡ can.x = cc in
-        absurd (let no : true ≡ false = sym h.context ∙ ap is_context same ∙ can.other in cc)
-    | inr e ↦ record { object = h.object; there = elsewhere a e.1 ∙ h.there; context = h.context; birth_is = h.birth_is }
-  ]
+  stands_kept a birth h = record { object = h.object; there = elsewhere a (apart_from a birth h) ∙ h.there; context = h.context; birth_is = h.birth_is }
+
+  slot_kept : (a birth j : ℕ) → StandsAt old a birth → slot_of new a j ≡ slot_of old a j
+  slot_kept a birth j h = slot_of-with_slot_other_object old o i v a j (λ e. apart_from a birth h (sym e))
 
   home_kept : (f : Frame) (fs : List Frame) → HasHome old f fs → HasHome new f fs
-  home_kept f [] h = (stands_kept f.context f.birth h.0, ap (λ p. p f.caller) sound ∙ h.1)
+  home_kept f [] h = (
+    stands_kept f.context f.birth h.0,
+    ap (λ p. p f.caller) sound ∙ h.1,
+    slot_kept f.context f.birth 3 h.0 ∙ h.2,
+    slot_kept f.context f.birth 4 h.0 ∙ h.3,
+    slot_kept f.context f.birth 5 h.0 ∙ h.4,
+  )
   home_kept f (g ∷ gs) h =
       let apart : f.birth ≢ can.x.birth = λ e. let no : ◌≡◌ {A = Option Obj} None (Some (obj_of (ref_of old) can.x)) = sym h ∙ ap (get (objects_of old)) e ∙ meaning_there old o can.x whole.heap can.there in absurd (cc) in
       ap (λ (m : Objects). get m f.birth) objects_new ∙ get_apart (objects_of old) can.x.birth f.birth _ apart ∙ h
@@ -233,8 +243,7 @@ module _ (s : Store) (o i v : ℕ) (can : Storable s o i v) (whole : IsWhole s.m
   pub fits_kept : (next : ℕ) (fs : List Frame) → FramesFit old next fs → FramesFit new next fs
   fits_kept next [] fit = tt
   fits_kept next (f ∷ fs) fit =
-      let h = fit.0 in
-      (
+      let h = fit.0 in (
         record {
           names = record {
             closure = ap (λ p. p f.closure) sound ∙ h.names.closure;
@@ -312,7 +321,7 @@ module _ (w : Parts) (good : IsGood w) (o i x : ℕ) (can : Storable (stored_of 
       onto_kept (stored_of w) o i x can good.whole w.roots.next_birth fs (objects_of us) good.frames
       ∙ ap (frames_onto w.heap.objects fs) (objects_new (stored_of w) o i x can good.whole ∙ ap (insert (objects_of w.heap.objects) can.x.birth) can.means)
       ∙ onto_insert w.heap.objects fs (objects_of w.heap.objects) can.x.birth (changed was)
-        (plain_lacks w.heap.objects w.roots.next_birth can.x.birth was fs good.whole.heap good.frames (meaning_there w.heap.objects o can.x good.whole.heap can.there) (no_context (ref_of w.heap.objects) can.x can.other))
+      (plain_lacks w.heap.objects w.roots.next_birth can.x.birth was fs good.whole.heap good.frames (meaning_there w.heap.objects o can.x good.whole.heap can.there) (no_context (ref_of w.heap.objects) can.x can.other))
 
   pub stored_into : StoredInto w (with_heap w (record w.heap { objects = us })) o i x
   unfolding put

@@ -50,13 +50,48 @@ impl Model for StackWorld {
 const PROCESS_SLOTS: u32 = 4;
 
 impl StackWorld {
-    /// Opens a loaded image: the active process gives its context to the machine. With no active process none is active.
-    pub fn new(alloc: Global, loaded: Loaded, pages: u32) -> Result<StackWorld, AllocError> {
+    ghost use Rattle.std.specs.Prelude.{◌≤◌, length, ℕ, IfOk, false, None, Some, []};
+    ghost use Rattle.cs_classes.specs.Sound.{IsWhole};
+    ghost use Rattle.cs_model.specs.Due.{is_idle};
+    ghost use Rattle.cs_model.specs.Obj.{Context, Ctx};
+    ghost use Rattle.cs_model.specs.Operation.{nil_of};
+    ghost use Rattle.cs_model.specs.Read.{IsRunning};
+    ghost use Rattle.cs_model.specs.Settle.{open_kept};
+    ghost use Rattle.cs_model.specs.State.{PcLies, object_at};
+    ghost use Rattle.cs_model.specs.Step.{shape_fault};
+    ghost use Rattle.cs_acts.specs.Layout.{IsFresh};
+    ghost use Rattle.cs_acts.specs.Names.{IsNamed, Names, name_of};
+    ghost use Rattle.cs_acts.specs.Ready.{IsReady, IsSound};
+    ghost use Rattle.cs_stack.specs.Moved.{taken_of};
+    ghost use Rattle.cs_stack.specs.View.{layout_of, loaded_kept, page_of, stored_of, view_of};
+
+    /// Opens a loaded image on one stack page: the active process gives its context to the machine. With no active process none
+    /// is active. The only error is that memory is refused.
+    ///
+    /// Births are below 2^62, and the pc of each context is nil or lies in its method. Where a process is active, the context
+    /// that it gives must be live.
+    pub fn new(alloc: Global, loaded: Loaded, pages: u32) -> Result<StackWorld, AllocError>
+        requires one { pages ≡ 1 }
+        requires whole { IsWhole loaded.heap.objects loaded.classes loaded.roots }
+        requires births { loaded.roots.next_birth ≤ 4611686018427387904 }
+        requires pcs { (i : ℕ) (c : Context) → object_at (loaded_kept loaded) i ≡ Some (Ctx c) → PcLies (loaded_kept loaded) c }
+        requires running { is_idle (loaded_kept loaded) ≡ false → IsRunning (open_kept (loaded_kept loaded)) }
+        ensures view { IfOk result (λ w. view_of w ≡ open_kept (loaded_kept loaded)) }
+        ensures sound { IfOk result (λ w. IsSound (stored_of w) (view_of w)) }
+        ensures fresh { IfOk result (λ w. IsFresh (view_of w) (layout_of w)) }
+        ensures limit { IfOk result (λ w. (stored_of w).memory.limit ≡ loaded.heap.limit) }
+        ensures idle { IfOk result (λ w. is_idle (view_of w) ≡ is_idle (loaded_kept loaded)) }
+        ensures shape { IfOk result (λ w. shape_fault (view_of w) ≡ None) }
+        ensures ready { IfOk result (λ w. is_idle (view_of w) ≡ false → IsReady (stored_of w) (view_of w)) }
+    {
         let Loaded {
             heap,
             classes,
             roots,
         } = loaded;
+        // for what their clauses say: the heap is within its limit
+        let _used = heap.used_words();
+        let _limit = heap.limit_words();
         let order = Pages::new(alloc, pages)?;
         let frames = Frames::new(alloc, pages)?;
         let mut world = StackWorld {
@@ -73,7 +108,16 @@ impl StackWorld {
     }
 
     /// Takes the context of the active process, if one is active.
-    fn open(&mut self) {
+    #[tactic(auto, unfolding(cs_model::specs::Settle::open_kept))]
+    fn open(&mut self)
+        requires sound { IsSound (stored_of self.old) (view_of self.old) }
+        requires closed { page_of self.old ≡ [] }
+        requires running { is_idle (view_of self.old) ≡ false → IsRunning (open_kept (view_of self.old)) }
+        ensures view { view_of self.new ≡ open_kept (view_of self.old) }
+        ensures sound { IsSound (stored_of self.new) (view_of self.new) }
+        ensures one { length (page_of self.new) ≤ 1 }
+        ensures limit { self.new.heap.limit ≡ self.old.heap.limit }
+    {
         let nil = nil(self);
         if let Some(process) = active_process(self) {
             if !same(self, process, nil) {
@@ -83,7 +127,16 @@ impl StackWorld {
     }
 
     /// Takes the context that a process keeps, and leaves nil there.
-    fn take_context(&mut self, process: Oop, nil: Oop) {
+    fn take_context(&mut self, process: Oop, nil: Oop)
+        requires closed { page_of self.old ≡ [] }
+        requires named { IsNamed (stored_of self.old) process }
+        requires nil { Names (stored_of self.old) nil (nil_of (view_of self.old)) }
+        requires running { IsRunning (taken_of (view_of self.old) (name_of (stored_of self.old) process)) }
+        ensures view { view_of self.new ≡ taken_of (view_of self.old) (name_of (stored_of self.old) process) }
+        ensures sound { IsSound (stored_of self.new) (view_of self.new) }
+        ensures one { length (page_of self.new) ≤ 1 }
+        ensures limit { self.new.heap.limit ≡ self.old.heap.limit }
+    {
         if let Some(context) = slot(self, process, PROCESS_SLOTS, parts::SUSPENDED_CONTEXT) {
             self.parts.take(process, nil, context);
         }

@@ -2,7 +2,7 @@
 ghost use Rattle.std.specs.Prelude.{◌≡◌, ◌≤◌, ◌+◌, [], ◌∷◌, IfErr, IfSome, IsSomeAnd, OnOk, Some, length};
 ghost use Rattle.cs_heap.specs.Object.{slot_count_of};
 ghost use Rattle.cs_frame.specs.Frame.{with_stack};
-ghost use Rattle.cs_frame.specs.Page.{IsTop, ref_of, top, used};
+ghost use Rattle.cs_frame.specs.Page.{IsBase, ref_of, top, used};
 ghost use Rattle.cs_model.specs.Keeps.{Keeps};
 ghost use Rattle.cs_model.specs.Operation.{enter_of, leave_of, nil_of};
 ghost use Rattle.cs_model.specs.Read.{IsRunning, active_birth};
@@ -44,9 +44,10 @@ impl Parts {
         requires running { IsRunning (taken_of (view_of self.old) (name_of (stored_of self.old) process)) }
         ensures good { IsGood self.new }
         ensures view { view_of self.new ≡ taken_of (view_of self.old) (name_of (stored_of self.old) process) }
+        ensures one { length (page_of self.new) ≤ 1 }
         ensures limit { self.new.heap.limit ≡ self.old.heap.limit }
     {
-        self.heap.set_slot(process, SUSPENDED_CONTEXT, nil);
+        self.store(process, SUSPENDED_CONTEXT, nil);
         let _page = self.pages.take_free();
         self.base(context);
     }
@@ -60,6 +61,7 @@ impl Parts {
         ensures good { IsGood self.new }
         ensures view { OnOk result (view_of self.new ≡ enter_of (view_of self.old) (name_of (stored_of self.old) method) args skip) }
         ensures layout { OnOk result (LaidBy (entered (view_of self.old) (view_of self.old).rest.next) (layout_of self.old) (layout_of self.new)) }
+        ensures limit { self.new.heap.limit ≡ self.old.heap.limit }
         ensures names { OnOk result (KeepsNames (stored_of self.old) (stored_of self.new)) }
         ensures full { IfErr result (CausesFull (stored_of self.new) (layout_of self.old) (view_of self.old) 0 (enter_of (view_of self.old) (name_of (stored_of self.old) method) args skip)) }
     {
@@ -106,6 +108,7 @@ impl Parts {
         ensures good { IsGood self.new }
         ensures state { (m : Kept) → Keeps (view_of self.old) m → Keeps (view_of self.new) (leave_of m (name_of (stored_of self.old) v)) }
         ensures layout { IfSome (sender_birth (view_of self.old) (active_birth (view_of self.old))) (λ target. LaidBy (left target) (layout_of self.old) (layout_of self.new)) }
+        ensures limit { self.new.heap.limit ≡ self.old.heap.limit }
         ensures ready { IsReady (stored_of self.new) (view_of self.new) }
         ensures names { KeepsNames (stored_of self.old) (stored_of self.new) }
     {
@@ -118,6 +121,7 @@ impl Parts {
         requires good { IsGood self.old }
         requires ready { IsReady (stored_of self.old) (view_of self.old) }
         requires target { IsSomeAnd (sender_birth (view_of self.old) (active_birth (view_of self.old))) (CanArrive (view_of self.old)) }
+        ensures limit { self.new.heap.limit ≡ self.old.heap.limit }
         ensures unwound { IfSome (sender_birth (view_of self.old) (active_birth (view_of self.old))) (Unwound self.old self.new) }
     {
         let top = self.top();
@@ -132,9 +136,8 @@ impl Parts {
         requires good { IsGood self.old }
         requires ready { IsReady (stored_of self.old) (view_of self.old) }
         requires target { IsSomeAnd (sender_birth (view_of self.old) (active_birth (view_of self.old))) (CanArrive (view_of self.old)) }
-        requires top { IsTop self.old.frames frame }
-        requires page { frame.page ≡ 0 }
-        requires alone { length (page_of self.old) ≡ 1 }
+        requires top { frame ≡ ref_of 0 (top (page_of self.old)) }
+        requires base { IsBase self.old.frames frame }
         ensures made { self.new ≡ based (top (page_of self.old)).caller (buried (top (page_of self.old)).context self.old) }
     {
         let sender = self.frames.sender(frame);
@@ -170,8 +173,7 @@ impl Parts {
         let frame = self.frames.build(PAGE, new);
         self.frames
             .set_sender(frame, self.heap.slot(context, SENDER));
-        self.frames
-            .set_saved_pc(frame, self.heap.slot(context, PC));
+        self.frames.set_saved_pc(frame, self.heap.slot(context, PC));
         self.frames.set_context(frame, context);
         self.copy_stack(frame, context);
     }

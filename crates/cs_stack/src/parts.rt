@@ -1,5 +1,5 @@
 //! What a world of frames keeps, and how its parts change.
-ghost use Rattle.std.specs.Prelude.{◌≡◌, ◌<◌, ◌≤◌, ◌-◌, length, nat_lt, Some, IfSome, IsSome, not, true, slice_get, unwrap_or};
+ghost use Rattle.std.specs.Prelude.{◌≡◌, ◌<◌, ◌≤◌, ◌-◌, length, nat_lt, Some, IfSome, IsSome, is_some, not, true, slice_get, unwrap_or};
 ghost use Rattle.cs_frame.specs.Page.{IsFrame, IsTop, frame, ref_of, top};
 ghost use Rattle.cs_model.specs.Obj.{context_in, lies_in};
 ghost use Rattle.cs_model.specs.Operation.{nil_of, pop_of, push_of, set_pc_of, set_stack_of, store_of};
@@ -8,13 +8,11 @@ ghost use Rattle.cs_model.specs.Return.{closure_at, context_birth, has_room, is_
 ghost use Rattle.cs_model.specs.State.{object_at, object_of};
 ghost use Rattle.cs_acts.specs.Names.{IsNamed, KeepsNames, Names, name_of};
 ghost use Rattle.cs_acts.specs.Ready.{IsReady, is_storable};
-ghost use Rattle.cs_acts.specs.Targets.{method_in};
+ghost use Rattle.cs_acts.specs.Targets.{is_gone, method_in};
 ghost use Rattle.cs_stack.specs.View.{act_of, base_context, hides, layout_of, page_of, size_from, stored_of, view_of};
 ghost use Rattle.cs_stack.specs.Good.{IsGood};
 
-use crate::words::{
-    context_size, count, count_word, header, is_context, is_count,
-};
+use crate::words::{context_size, count, count_word, header, is_context, is_count};
 use cs_acts::{Act, Roots};
 use cs_classes::Classes;
 use cs_frame::{FrameRef, Frames};
@@ -25,10 +23,15 @@ use cs_word::Oop;
 /// Heap, class table and roots, which stack pages are used, and the frames on them.
 #[derive(Drop)]
 pub struct Parts {
+    /// All objects, and each context that has an object. The words of one that has a frame are stale.
     pub heap: Heap,
+    /// The class table.
     pub classes: Classes,
+    /// What an image keeps beside its objects.
     pub roots: Roots,
+    /// Which pages are used. There is one, and it is used where it has a frame.
     pub pages: Pages,
+    /// The frames of the pages.
     pub frames: Frames,
 }
 
@@ -85,7 +88,8 @@ impl Parts {
     fn act_at(&self, word: Oop) -> Act
         requires good { IsGood self.now }
         requires named { IsNamed (stored_of self.now) word }
-        ensures { act_of self.now result ≡ context_birth (view_of self.now) (name_of (stored_of self.now) word) }
+        ensures value { act_of self.now result ≡ context_birth (view_of self.now) (name_of (stored_of self.now) word) }
+        ensures gone { is_gone result ≡ not (is_some (act_of self.now result)) }
     {
         if !is_context(&self.heap, word) {
             return Act::Gone;
@@ -122,6 +126,7 @@ impl Parts {
         }
     }
 
+    /// The birth of the context that an act stands for.
     pub(crate) fn act_birth(&self, a: Act) -> u64
         requires good { IsGood self.now }
         requires stands { IsSome (act_of self.now a) }
@@ -134,6 +139,7 @@ impl Parts {
         }
     }
 
+    /// Its closure, or nil.
     pub(crate) fn act_closure(&self, a: Act) -> Oop
         requires good { IsGood self.now }
         requires stands { IsSome (act_of self.now a) }
@@ -146,6 +152,7 @@ impl Parts {
         }
     }
 
+    /// Its method.
     pub(crate) fn act_method(&self, a: Act) -> Oop
         requires good { IsGood self.now }
         requires stands { IsSome (act_of self.now a) }
@@ -158,6 +165,7 @@ impl Parts {
         }
     }
 
+    /// Whether it is live. A frame always is.
     pub(crate) fn act_live(&self, a: Act) -> bool
         requires good { IsGood self.now }
         requires stands { IsSome (act_of self.now a) }
@@ -170,6 +178,7 @@ impl Parts {
         }
     }
 
+    /// Whether its stack holds as many values as its size.
     pub(crate) fn act_full(&self, a: Act) -> bool
         requires good { IsGood self.now }
         requires stands { IsSome (act_of self.now a) }
@@ -194,10 +203,12 @@ impl Parts {
         self.frames.depth(f) >= self.frame_size(f)
     }
 
+    /// What stands for its sender; Gone exactly where that names no context.
     pub(crate) fn sender_act(&self, a: Act) -> Act
         requires good { IsGood self.now }
         requires stands { IsSome (act_of self.now a) }
-        ensures { IfSome (act_of self.now a) (λ birth. act_of self.now result ≡ sender_birth (view_of self.now) birth) }
+        ensures value { IfSome (act_of self.now a) (λ birth. act_of self.now result ≡ sender_birth (view_of self.now) birth) }
+        ensures gone { is_gone result ≡ not (is_some (act_of self.now result)) }
     {
         match a {
             Act::Frame { page, at } => self.frame_sender(FrameRef { page, at }),
@@ -206,10 +217,12 @@ impl Parts {
         }
     }
 
+    /// What stands for the sender of a frame: the frame below it, or below the base frame what its sender cell names.
     fn frame_sender(&self, f: FrameRef) -> Act
         requires good { IsGood self.now }
         requires stands { IsSome (act_of self.now (Act.Frame f.page f.at)) }
-        ensures { IfSome (act_of self.now (Act.Frame f.page f.at)) (λ birth. act_of self.now result ≡ sender_birth (view_of self.now) birth) }
+        ensures value { IfSome (act_of self.now (Act.Frame f.page f.at)) (λ birth. act_of self.now result ≡ sender_birth (view_of self.now) birth) }
+        ensures gone { is_gone result ≡ not (is_some (act_of self.now result)) }
     {
         match self.frames.caller(f) {
             Some(caller) => act(caller),
@@ -217,6 +230,7 @@ impl Parts {
         }
     }
 
+    /// The receiver of the active context.
     pub(crate) fn receiver(&self) -> Oop
         requires good { IsGood self.now }
         requires ready { IsReady (stored_of self.now) (view_of self.now) }
@@ -225,6 +239,7 @@ impl Parts {
         self.frames.receiver(self.top())
     }
 
+    /// The method of the active context.
     pub(crate) fn method(&self) -> Oop
         requires good { IsGood self.now }
         requires ready { IsReady (stored_of self.now) (view_of self.now) }
@@ -233,6 +248,7 @@ impl Parts {
         self.frames.method(self.top())
     }
 
+    /// The pc of the active context.
     pub(crate) fn pc(&self) -> u32
         requires good { IsGood self.now }
         requires ready { IsReady (stored_of self.now) (view_of self.now) }
@@ -241,6 +257,7 @@ impl Parts {
         count(self.frames.saved_pc(self.top()))
     }
 
+    /// How many values the active stack holds.
     pub(crate) fn depth(&self) -> u32
         requires good { IsGood self.now }
         requires ready { IsReady (stored_of self.now) (view_of self.now) }
@@ -250,6 +267,7 @@ impl Parts {
         self.frames.depth(self.top())
     }
 
+    /// How many values it may hold.
     pub(crate) fn size(&self) -> u32
         requires good { IsGood self.now }
         requires ready { IsReady (stored_of self.now) (view_of self.now) }
@@ -258,6 +276,7 @@ impl Parts {
         self.frame_size(self.top())
     }
 
+    /// Value i of the active stack, counted from 0 at the bottom.
     pub(crate) fn stack_at(&self, i: u32) -> Oop
         requires good { IsGood self.now }
         requires ready { IsReady (stored_of self.now) (view_of self.now) }
@@ -267,6 +286,7 @@ impl Parts {
         self.frames.slot(self.top(), i)
     }
 
+    /// Moves the pc of the active context.
     pub(crate) fn set_pc(&mut self, pc: u32)
         requires good { IsGood self.old }
         requires ready { IsReady (stored_of self.old) (view_of self.old) }
@@ -275,11 +295,13 @@ impl Parts {
         ensures view { view_of self.new ≡ set_pc_of (view_of self.old) pc }
         ensures stored { stored_of self.new ≡ stored_of self.old }
         ensures layout { layout_of self.new ≡ layout_of self.old }
+        ensures limit { self.new.heap.limit ≡ self.old.heap.limit }
     {
         let top = self.top();
         self.frames.set_saved_pc(top, count_word(pc));
     }
 
+    /// Writes value i of the active stack.
     pub(crate) fn set_stack(&mut self, i: u32, v: Oop)
         requires good { IsGood self.old }
         requires ready { IsReady (stored_of self.old) (view_of self.old) }
@@ -289,11 +311,13 @@ impl Parts {
         ensures view { view_of self.new ≡ set_stack_of (view_of self.old) i (name_of (stored_of self.old) v) }
         ensures stored { stored_of self.new ≡ stored_of self.old }
         ensures layout { layout_of self.new ≡ layout_of self.old }
+        ensures limit { self.new.heap.limit ≡ self.old.heap.limit }
     {
         let top = self.top();
         self.frames.set_slot(top, i, v);
     }
 
+    /// Writes slot i of an object that is no context.
     pub(crate) fn store(&mut self, o: Oop, i: u32, v: Oop)
         requires good { IsGood self.old }
         requires there { is_storable (object_of (view_of self.old) (name_of (stored_of self.old) o)) i ≡ true }
@@ -303,10 +327,12 @@ impl Parts {
         ensures view { view_of self.new ≡ store_of (view_of self.old) (name_of (stored_of self.old) o) i (name_of (stored_of self.old) v) }
         ensures names { KeepsNames (stored_of self.old) (stored_of self.new) }
         ensures rest { self.new ≡ record self.old { heap = self.new.heap } }
+        ensures limit { self.new.heap.limit ≡ self.old.heap.limit }
     {
         self.heap.set_slot(o, i, v);
     }
 
+    /// Pushes a value onto the active stack.
     pub(crate) fn push(&mut self, v: Oop)
         requires good { IsGood self.old }
         requires ready { IsReady (stored_of self.old) (view_of self.old) }
@@ -316,11 +342,13 @@ impl Parts {
         ensures view { view_of self.new ≡ push_of (view_of self.old) (name_of (stored_of self.old) v) }
         ensures stored { stored_of self.new ≡ stored_of self.old }
         ensures layout { layout_of self.new ≡ layout_of self.old }
+        ensures limit { self.new.heap.limit ≡ self.old.heap.limit }
     {
         let top = self.top();
         self.frames.push(top, v);
     }
 
+    /// Pops the topmost value.
     pub(crate) fn pop(&mut self) -> Oop
         requires good { IsGood self.old }
         requires ready { IsReady (stored_of self.old) (view_of self.old) }
@@ -330,6 +358,7 @@ impl Parts {
         ensures view { view_of self.new ≡ pop_of (view_of self.old) }
         ensures stored { stored_of self.new ≡ stored_of self.old }
         ensures layout { layout_of self.new ≡ layout_of self.old }
+        ensures limit { self.new.heap.limit ≡ self.old.heap.limit }
     {
         let top = self.top();
         self.frames.pop(top)

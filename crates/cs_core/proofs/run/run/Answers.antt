@@ -11,6 +11,7 @@ loop-steps-init g c =
     record {
       stands = begins (g.W.World.view c.args.w.now) _ (g.W.World.stored c.args.w.now) (g.W.World.layout c.args.w.now) c.requires.sound c.requires.running (sym c.is_idle.ensures ∙ c.if-is_idle.false) c.requires.fresh;
       never_falls = omega arith;
+      limit = refl;
     }
 
 pub place_of-before-requires-clause-sound : goal.place_of-before-requires-clause-sound
@@ -63,6 +64,7 @@ loop-steps-preserved g c =
     record {
       stands = goes_on c.loop-steps.invariant.stands c.in-Active.ensures.gives;
       never_falls = omega (arith, c.loop-steps.invariant.never_falls, c.step.ensures.never_falls);
+      limit = c.step.ensures.limit ∙ c.loop-steps.invariant.limit;
     }
 
 pub place_of-requires-clause-sound : goal.place_of-requires-clause-sound
@@ -78,3 +80,18 @@ returns-clause-ran g c =
 
 pub returns-clause-never_falls : goal.returns-clause-never_falls
 returns-clause-never_falls g c = c.loop-steps.invariant.never_falls
+
+pub returns-in-Idle-clause-limit : goal.returns-in-Idle-clause-limit
+returns-in-Idle-clause-limit g c = c.step.ensures.limit ∙ c.loop-steps.invariant.limit
+
+pub returns-in-Stopped-clause-limit : goal.returns-in-Stopped-clause-limit
+returns-in-Stopped-clause-limit g c = c.step.ensures.limit ∙ c.loop-steps.invariant.limit
+
+pub returns-in-Full-clause-limit : goal.returns-in-Full-clause-limit
+returns-in-Full-clause-limit g c = c.step.ensures.limit ∙ c.loop-steps.invariant.limit
+
+pub returns-in-WriteFault-clause-limit : goal.returns-in-WriteFault-clause-limit
+returns-in-WriteFault-clause-limit g c = c.step.ensures.limit ∙ c.loop-steps.invariant.limit
+
+pub returns-clause-limit : goal.returns-clause-limit
+returns-clause-limit g c = c.loop-steps.invariant.limit

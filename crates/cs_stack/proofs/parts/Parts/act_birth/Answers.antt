@@ -1,4 +1,4 @@
-use Rattle.std.proofs.Common.{ap, refl, subst, sym, ◌∙◌, Some, IsSome, arith, not}
+use Rattle.std.proofs.Common.{ap, refl, subst, sym, ◌∙◌, Some, IsSome}
 use Rattle.cs_stack.specs.View.{act_of}
 use Rattle.cs_stack.proofs.Acts.{answers, birth_is, context_act, frame_act, object}
 use Rattle.cs_stack.proofs.parts.Parts.act_birth.Goals as goal

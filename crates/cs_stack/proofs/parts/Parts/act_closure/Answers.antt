@@ -1,4 +1,4 @@
-use Rattle.std.proofs.Common.{ap, refl, subst, sym, ◌∙◌, Some, IsSome, arith, not}
+use Rattle.std.proofs.Common.{ap, refl, subst, ◌∙◌, IsSome, arith}
 use Rattle.cs_stack.specs.View.{act_of}
 use Rattle.cs_stack.proofs.Acts.{answers, context_act, context_closure, frame_act, frame_closure, if_some, slot_within}
 use Rattle.cs_stack.proofs.parts.Parts.act_closure.Goals as goal

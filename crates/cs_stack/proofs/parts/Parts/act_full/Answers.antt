@@ -1,5 +1,5 @@
-use Rattle.std.proofs.Common.{ap, ap₂, arith, refl, subst, sym, ◌∙◌, ◌-◌, ◌≤◌, not, IsSome}
-use Rattle.std.specs.Prelude.{nat_le, nat_lt}
+use Rattle.std.proofs.Common.{ap, ap₂, arith, refl, subst, sym, ◌∙◌, ◌-◌, IsSome}
+use Rattle.std.specs.Prelude.{nat_lt}
 use Rattle.cs_stack.specs.View.{act_of}
 use Rattle.cs_stack.proofs.Acts.{answers, context_act, context_room, frame_act, frame_room, if_some, object, slot_within, slots_are}
 use Rattle.cs_stack.proofs.Bases.{not_less}

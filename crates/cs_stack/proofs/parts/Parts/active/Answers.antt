@@ -1,5 +1,5 @@
 use Rattle.std.proofs.lemmas.Bool.{true≢false}
-use Rattle.std.proofs.Common.{ap, refl, ◌∙◌}
+use Rattle.std.proofs.Common.{ap, ◌∙◌}
 use Rattle.cs_stack.specs.View.{act_of}
 use Rattle.cs_stack.proofs.Bases.{active_act}
 use Rattle.cs_stack.proofs.parts.Parts.active.Goals as goal

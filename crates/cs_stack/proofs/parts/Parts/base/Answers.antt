@@ -1,5 +1,4 @@
-use Rattle.std.proofs.Common.{◌≡◌, ◌<◌, ◌≤◌, ℕ, Option, Some, None, IsSome, ap, sym, subst, refl, ◌∙◌, arith, true, inl, inr}
-use Rattle.cs_heap.specs.Object.{slot_of}
+use Rattle.std.proofs.Common.{IsSome, ap, sym, subst, ◌∙◌, arith}
 use Rattle.cs_classes.specs.Meaning.{count_of}
 use Rattle.cs_classes.specs.Sound.{is_reference}
 use Rattle.cs_classes.proofs.Heaps.{is_object-object_at}

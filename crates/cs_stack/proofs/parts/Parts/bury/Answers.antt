@@ -1,5 +1,5 @@
-use Rattle.std.proofs.Common.{◌≡◌, ◌<◌, ◌≤◌, ap, sym, subst, ◌∙◌, arith}
-use Rattle.cs_heap.specs.Object.{Memory, slot_count_of, with_slot}
+use Rattle.std.proofs.Common.{ap, arith}
+use Rattle.cs_heap.specs.Object.{Memory, slot_count_of}
 use Rattle.cs_heap.proofs.Laws.{slot_count_of-with_slot}
 use Rattle.cs_stack.proofs.parts.Parts.bury.Goals as goal
 

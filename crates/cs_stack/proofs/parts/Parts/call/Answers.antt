@@ -1,13 +1,13 @@
-use Rattle.std.proofs.Common.{◌≡◌, ◌≤◌, ◌<◌, ◌+◌, ◌-◌, ℕ, List, length, subst, sym, ap, ◌∙◌, arith, pos}
+use Rattle.std.proofs.Common.{◌≡◌, ◌≤◌, ◌+◌, ◌-◌, List, length, subst, sym, ap, ◌∙◌, arith, pos}
 use Rattle.std.specs.Prelude.{slice_index}
 use Rattle.cs_word.specs.Word.{small_word}
 use Rattle.cs_frame.specs.Frame.{Frame}
-use Rattle.cs_model.specs.Obj.{context_size, temporary_count}
+use Rattle.cs_model.specs.Obj.{temporary_count}
 use Rattle.cs_stack.specs.declared.parts.Parts.{Parts}
 use Rattle.cs_stack.specs.Moved.{entry_of}
 use Rattle.cs_stack.proofs.Tops.{opened}
 use Rattle.cs_stack.proofs.Edits.{top_frame, top_is_frame}
-use Rattle.cs_stack.proofs.Entering.{can_call, e, frame_made, holds_values, small, there}
+use Rattle.cs_stack.proofs.Entering.{can_call, e, frame_made, holds_values, there}
 use Rattle.cs_stack.proofs.parts.Parts.call.Goals as goal
 
 pub header-head-requires : goal.header-head-requires

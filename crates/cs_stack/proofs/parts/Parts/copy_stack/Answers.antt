@@ -1,5 +1,5 @@
-use Rattle.std.proofs.Common.{◌≡◌, ℕ, ◌+◌, ◌<◌, List, [], ◌∷◌, ◌++◌, ap, sym, subst, ◌∙◌, arith, take, unwrap_or}
-use Rattle.cs_heap.specs.Object.{Object, slot_of}
+use Rattle.std.proofs.Common.{◌≡◌, ◌+◌, ◌<◌, List, [], ◌∷◌, ◌++◌, ap, sym, ◌∙◌, arith, take, unwrap_or}
+use Rattle.cs_heap.specs.Object.{slot_of}
 use Rattle.cs_classes.specs.Meaning.{count_of, depth_in}
 use Rattle.cs_classes.specs.Sound.{is_reference}
 use Rattle.cs_frame.specs.declared.FrameRef.{FrameRef}

@@ -1,4 +1,4 @@
-use Rattle.std.proofs.Common.{◌≡◌, List, [], ◌∷◌, take}
+use Rattle.std.proofs.Common.{◌≡◌, [], ◌∷◌, take}
 use Rattle.cs_frame.specs.Frame.{with_stack}
 use Rattle.cs_frame.specs.Page.{top}
 use Rattle.cs_stack.specs.Moved.{stack_words}

@@ -1,9 +1,7 @@
-use Rattle.std.proofs.Common.{◌≡◌, ◌≤◌, ◌<◌, ◌+◌, ℕ, List, ◌∷◌, ap, sym, subst, refl, ◌∙◌, arith}
-use Rattle.cs_frame.specs.Frame.{Frame}
+use Rattle.std.proofs.Common.{◌≡◌, ◌∷◌, ap, sym, subst, refl, ◌∙◌, arith}
 use Rattle.cs_frame.specs.Page.{used}
 use Rattle.cs_model.specs.Operation.{enter_of}
 use Rattle.cs_acts.specs.declared.act.Full.TheVariants as full
-use Rattle.cs_acts.specs.Layout.{LaidBy, entered}
 use Rattle.cs_acts.specs.Names.{name_of}
 use Rattle.cs_stack.specs.declared.parts.Parts.{Parts}
 use Rattle.cs_stack.specs.Good.{IsGood}

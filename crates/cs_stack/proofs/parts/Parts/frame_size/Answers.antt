@@ -1,4 +1,4 @@
-use Rattle.std.proofs.Common.{ap, refl, subst, sym, ◌∙◌, ◌-◌, ◌<◌, ◌≤◌, true, arith, unwrap_or}
+use Rattle.std.proofs.Common.{ap, subst, sym, ◌∙◌, ◌-◌, ◌<◌, ◌≤◌, unwrap_or}
 use Rattle.cs_heap.specs.Object.{is_object, slot_count_of, slot_of}
 use Rattle.cs_classes.specs.Meaning.{count_of}
 use Rattle.cs_model.specs.Obj.{context_size}

@@ -1,9 +1,7 @@
 use Rattle.std.proofs.lemmas.Bool.{true≢false}
-use Rattle.std.proofs.Common.{ap, refl, subst, sym, ◌∙◌, ◌<◌, length}
+use Rattle.std.proofs.Common.{ap, refl, sym, ◌∙◌}
 use Rattle.std.specs.Prelude.{◌==◌}
-use Rattle.cs_frame.specs.Page.{index_of}
-use Rattle.cs_stack.specs.Good.{FramesFit}
-use Rattle.cs_stack.specs.View.{hides, page_of}
+use Rattle.cs_stack.specs.View.{hides}
 use Rattle.cs_stack.proofs.Acts.{frame_there}
 use Rattle.cs_stack.proofs.Bases.{base_is, page_based}
 use Rattle.cs_stack.proofs.parts.Parts.is_hidden.Goals as goal

@@ -1,4 +1,3 @@
-use Rattle.std.specs.Prelude.{IfSome}
 use Rattle.cs_acts.specs.Names.{name_of}
 use Rattle.cs_stack.specs.Moved.{Unwound}
 use Rattle.cs_stack.specs.View.{stored_of, view_of}

@@ -1,5 +1,5 @@
 use Rattle.cs_stack.proofs.Tops.{opened}
-use Rattle.cs_stack.proofs.Edits.{names_word, receiver_name, top_frame, top_is_frame}
+use Rattle.cs_stack.proofs.Edits.{names_word, receiver_name, top_frame}
 use Rattle.std.proofs.Common.{ap, ◌∙◌}
 use Rattle.cs_stack.proofs.parts.Parts.receiver.Goals as goal
 

@@ -1,4 +1,4 @@
-use Rattle.std.proofs.Common.{ap, arith, refl, subst, sym, ◌∙◌, IsSome}
+use Rattle.std.proofs.Common.{ap, arith, refl, subst, ◌∙◌, IsSome}
 use Rattle.cs_stack.specs.View.{act_of}
 use Rattle.cs_stack.proofs.Acts.{answers, context_act, context_sender, if_some, slot_named, slot_within}
 use Rattle.cs_stack.proofs.parts.Parts.sender_act.Goals as goal
@@ -12,4 +12,7 @@ act_at-requires-clause-named c = slot_named (context_act c.args.self.now c.in-Co
 pub returns-in-Context : goal.returns-in-Context
 returns-in-Context c =
     let x = context_act c.args.self.now c.in-Context.context c.requires.good (subst (λ a. IsSome (act_of c.args.self.now a)) c.in-Context.is c.requires.stands) in
-    if_some _ _ _ (ap (act_of c.args.self.now) c.in-Context.is ∙ answers x c.in-Context.context refl) (c.act_at.ensures ∙ context_sender x c.slot.result.0 c.slot.ensures)
+    record {
+      value = if_some _ _ _ (ap (act_of c.args.self.now) c.in-Context.is ∙ answers x c.in-Context.context refl) (c.act_at.ensures.value ∙ context_sender x c.slot.result.0 c.slot.ensures);
+      gone = c.act_at.ensures.gone;
+    }

@@ -1,6 +1,4 @@
-use Rattle.std.proofs.Common.{ap, sym, ◌∙◌}
-use Rattle.cs_stack.specs.View.{page_of, size_from}
-use Rattle.cs_stack.proofs.Tops.{opened}
+use Rattle.std.proofs.Common.{◌∙◌}
 use Rattle.cs_stack.proofs.Bases.{size_of_top}
 use Rattle.cs_stack.proofs.parts.Parts.size.Goals as goal
 
