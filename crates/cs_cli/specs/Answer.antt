@@ -106,7 +106,7 @@ full_stack k done = answering 10 ((run_of k done).state.run.output ++ codes "cog
 -- contexts that have begun in the run and await a return need more than 3,900 words of the stack
 pub data Reported (k : Kept) (n : ℕ) (out : Writing) (status : ℕ) : Type 0 where
   ended : Printed (run_answer (run_of k n)) out status → Reported k n out status
-  heap : (done limit : ℕ) → IsUnderWay k n done → limit < words_in (bytecode (run_of k done).state).out.state → Printed (full_heap k done) out status → Reported k n out status
+  heap : (done : ℕ) → IsUnderWay k n done → heap_limit < words_in (bytecode (run_of k done).state).out.state → Printed (full_heap k done) out status → Reported k n out status
   stack : (done : ℕ) → IsUnderWay k n done → IsDeep k done → Printed (full_stack k done) out status → Reported k n out status
 
 -- or memory is wanted before the run begins

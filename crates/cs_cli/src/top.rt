@@ -8,7 +8,7 @@ ghost use Rattle.cs_acts.specs.Layout.{IsFresh};
 ghost use Rattle.cs_acts.specs.Ready.{IsSound};
 ghost use Rattle.cs_core.specs.Running.{ending_of};
 ghost use Rattle.cs_shelf.specs.Outside.{Appends, AppendsPart, Rose};
-ghost use Rattle.cs_cli.specs.Answer.{Answered, Begun, Printed, Reported, answering, failed_read, read_text, run_status};
+ghost use Rattle.cs_cli.specs.Answer.{Answered, Begun, Printed, Reported, answering, failed_read, heap_limit, read_text, run_status};
 ghost use Rattle.cs_cli.specs.Opening.{Opens};
 
 use crate::line::parse;
@@ -16,9 +16,9 @@ use crate::report::report;
 use cs_acts::{Full, World};
 use cs_core::run::{Ending, RunError, run};
 use cs_image::{ImageError, load};
-use cs_plain::PlainWorld;
 use cs_send::Sender;
 use cs_shelf::{Failed, ReadError, Shelf, Sink, read_whole, write_whole};
+use cs_stack::StackWorld;
 use std::alloc::Global;
 
 /// The longest image file, in bytes.
@@ -26,6 +26,9 @@ const LONGEST_IMAGE: usize = 536_870_912;
 
 /// The heap limit, in words of 4 bytes.
 const HEAP_LIMIT: u32 = 16_777_216;
+
+/// The pages of the stack.
+const STACK_PAGES: u32 = 1;
 
 /// The statuses of the program.
 const STOPPED: u8 = 1;
@@ -113,7 +116,7 @@ fn write_read<K: Sink>(out: &mut K, name: &str) -> Result<(), Failed>
 }
 
 /// Reads, loads and opens an image.
-fn open<S: Shelf>(alloc: Global, shelf: &mut S, file: &str) -> Result<PlainWorld, Refusal>
+fn open<S: Shelf>(alloc: Global, shelf: &mut S, file: &str) -> Result<StackWorld, Refusal>
     requires name { length file.now ≤ 4096 }
     ensures opens { Opens file.now (record { content = S.content shelf.old; before = S.fault_count shelf.old; behind = S.fault_count shelf.new; last = S.last_fault shelf.new }) result }
     ensures contents { (name : List ℕ) → S.content shelf.new name ≡ S.content shelf.old name }
@@ -125,7 +128,7 @@ fn open<S: Shelf>(alloc: Global, shelf: &mut S, file: &str) -> Result<PlainWorld
         Err(ReadError::NoMemory) => return Err(Refusal::Memory),
     };
     match load(alloc, bytes.as_slice(), HEAP_LIMIT) {
-        Ok(loaded) => match PlainWorld::new(alloc, loaded) {
+        Ok(loaded) => match StackWorld::new(alloc, loaded, STACK_PAGES) {
             Ok(world) => Ok(world),
             Err(_) => Err(Refusal::Memory),
         },
@@ -141,6 +144,7 @@ fn begin<W: World + Drop, K: Sink>(alloc: Global, world: W, steps: u64, out: &mu
     requires sound { IsSound (W.stored world) (W.view world) }
     requires running { is_idle (W.view world) ≡ false → IsRunning (W.view world) }
     requires fresh { IsFresh (W.view world) (W.layout world) }
+    requires limit { (W.stored world).memory.limit ≡ heap_limit }
     ensures { Begun (W.view world) steps
         (record { old = K.taken out.old; new = K.taken out.new; before = K.fault_count out.old; behind = K.fault_count out.new }) result }
 {
@@ -155,6 +159,7 @@ fn run_and_report<W: World + Drop, K: Sink>(world: W, sender: Sender, steps: u64
     requires sound { IsSound (W.stored world) (W.view world) }
     requires running { is_idle (W.view world) ≡ false → IsRunning (W.view world) }
     requires fresh { IsFresh (W.view world) (W.layout world) }
+    requires limit { (W.stored world).memory.limit ≡ heap_limit }
     ensures { Reported (W.view world) steps
         (record { old = K.taken out.old; new = K.taken out.new; before = K.fault_count out.old; behind = K.fault_count out.new }) result }
 {

@@ -1,6 +1,6 @@
-use Rattle.std.proofs.Common.{◌≡◌, ℕ, List, IfSome, subst, sym}
+use Rattle.std.proofs.Common.{◌≡◌, ◌∙◌, ℕ, List, IfSome, subst, sym}
 use Rattle.cs_acts.specs.declared.Loaded.{Loaded}
-use Rattle.cs_plain.specs.View.{loaded_kept}
+use Rattle.cs_stack.specs.View.{loaded_kept}
 use Rattle.cs_cli.proofs.Images.{refused_by, refused_read}
 use Rattle.cs_cli.proofs.top.open.Goals as goal
 
@@ -17,6 +17,8 @@ returns-in-Ok-new-clause-opens g c =
       view = c.in-Ok-new.ensures.view;
       sound = c.in-Ok-new.ensures.sound;
       running = λ active. (c.in-Ok-new.ensures.ready active).running;
+      fresh = c.in-Ok-new.ensures.fresh;
+      limit = c.in-Ok-new.ensures.limit ∙ c.in-Ok-load.ensures.limit;
     }
 
 pub returns-clause-opens : goal.returns-clause-opens
