@@ -191,6 +191,7 @@ fn runs_enter_and_return(rt: HostRuntime) -> Result<(), FromHexError> {
             0,
             "\nSteps steps=100 process=41 context=196 pc=9\n",
         ),
+        (recurses, "10000", 10, "cogstack: stack\n"),
         (
             none,
             "5",
