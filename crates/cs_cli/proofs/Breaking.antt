@@ -1,6 +1,8 @@
 -- A run that finds no room.
-use Rattle.std.proofs.Common.{◌≡◌, arith, inl, refl, ap, subst, ◌∙◌, ℕ, ◌≤◌, List, Option, codes}
+use Rattle.std.proofs.Common.{◌≡◌, inl, refl, ap, subst, ◌∙◌, ℕ, ◌<◌, ◌≤◌, List, Option, codes}
 use Rattle.cs_model.specs.State.{Kept}
+use Rattle.cs_model.specs.Demand.{words_in}
+use Rattle.cs_model.specs.Step.{bytecode}
 use Rattle.cs_acts.specs.declared.act.Full.{Full as Why}
 use Rattle.cs_acts.specs.declared.act.Full.TheVariants.{Heap, Stack}
 use Rattle.cs_acts.specs.Names.{Store}
@@ -8,7 +10,7 @@ use Rattle.cs_core.specs.declared.run.RunError.{RunError}
 use Rattle.cs_core.specs.declared.run.RunError.TheVariants.{Full}
 use Rattle.cs_core.specs.Deep.{run_of}
 use Rattle.cs_core.specs.Running.{RunFails, RunFills}
-use Rattle.cs_cli.specs.Answer.{IsUnderWay, heap_limit, Printed, Reported, answering}
+use Rattle.cs_cli.specs.Answer.{heap_limit, IsUnderWay, Printed, Reported, answering}
 use Rattle.cs_cli.specs.Answer as answer
 use Rattle.cs_cli.proofs.Writings.{printed_behind, writing}
 
@@ -18,10 +20,10 @@ fills k s a b n e why kind is same h = subst (RunFails k s a b n) (is ∙ ap Ful
 under_way : (k : Kept) (s : Store) (a b : Option (List ℕ)) (n : ℕ) (kind : Why) → (f : RunFills k s a b n kind) → IsUnderWay k n f.done
 under_way k s a b n kind f = record { fewer = f.fewer; ending = f.ending }
 
-pub heap_reported : (k : Kept) (s : Store) (a b : Option (List ℕ)) (i j n : ℕ) (e : RunError) (why : Why) → s.memory.limit ≡ heap_limit → e ≡ Full why → why ≡ Heap → RunFails k s a b n e → Reported k n (writing a b i j) 5
-heap_reported k s a b i j n e why limit is same h =
+pub heap_reported : (k : Kept) (s : Store) (a b : Option (List ℕ)) (i j n : ℕ) (e : RunError) (why : Why) → e ≡ Full why → why ≡ Heap → s.memory.limit ≡ heap_limit → RunFails k s a b n e → Reported k n (writing a b i j) 5
+heap_reported k s a b i j n e why is same limit h =
     let f = fills k s a b n e why Heap is same h in
-    answer.heap f.done (under_way k s a b n Heap f) (omega (arith, f.room, limit)) (inl (refl, f.written))
+    answer.heap f.done (under_way k s a b n Heap f) (subst (λ l. l < words_in (bytecode (run_of k f.done).state).out.state) limit f.room) (inl (refl, f.written))
 
 pub stack_reported : (k : Kept) (s : Store) (a b c : Option (List ℕ)) (i j l n : ℕ) (e : RunError) (why : Why) (status : ℕ) → e ≡ Full why → why ≡ Stack → RunFails k s a b n e → i ≤ j
     → Printed (answering 10 (codes "cogstack: stack\n")) (writing b c j l) status → Reported k n (writing a c i l) status

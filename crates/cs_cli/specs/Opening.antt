@@ -4,16 +4,16 @@ use Rattle.cs_model.specs.State.{Kept}
 use Rattle.cs_model.specs.Settle.{open_kept}
 use Rattle.cs_model.specs.Due.{is_idle}
 use Rattle.cs_model.specs.Read.{IsRunning}
-use Rattle.cs_acts.specs.Ready.{IsSound}
 use Rattle.cs_acts.specs.Layout.{IsFresh}
-use Rattle.cs_stack.specs.declared.parts.Parts.{Parts}
+use Rattle.cs_acts.specs.Ready.{IsSound}
+use Rattle.cs_stack.specs.declared.StackWorld.{StackWorld}
 use Rattle.cs_stack.specs.View.{layout_of, stored_of, view_of}
 use Rattle.cs_cli.specs.declared.top.Refusal.{Refusal}
 use Rattle.cs_cli.specs.declared.top.Refusal.TheVariants as refusal
-use Rattle.cs_cli.specs.Answer.{heap_limit, IsImage, IsRefused, ReadFailed, Reading}
+use Rattle.cs_cli.specs.Answer.{IsImage, IsRefused, ReadFailed, Reading, heap_limit}
 
 -- a world in which a run of the opened image begins
-pub record IsOpened (content : Option (List ℕ)) (w : Parts) : Type 0 where
+pub record IsOpened (content : Option (List ℕ)) (w : StackWorld) : Type 0 where
   pub image : Kept
   pub read : IsImage content image
   pub view : view_of w ≡ open_kept image
@@ -23,7 +23,7 @@ pub record IsOpened (content : Option (List ℕ)) (w : Parts) : Type 0 where
   pub limit : (stored_of w).memory.limit ≡ heap_limit
 
 -- the world, or why there is none
-abbrev pub Opens : List ℕ → Reading → Result Parts Refusal → Type 0
+abbrev pub Opens : List ℕ → Reading → Result StackWorld Refusal → Type 0
 Opens name shelf (Ok w) = IsOpened (shelf.content name) w
 Opens name shelf (Err refusal.Image) = IfSome (shelf.content name) IsRefused
 Opens name shelf (Err refusal.Read) = ReadFailed shelf name

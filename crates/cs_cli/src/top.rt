@@ -27,8 +27,8 @@ const LONGEST_IMAGE: usize = 536_870_912;
 /// The heap limit, in words of 4 bytes.
 const HEAP_LIMIT: u32 = 16_777_216;
 
-/// The pages of the stack.
-const STACK_PAGES: u32 = 1;
+/// The stack pages.
+const PAGES: u32 = 1;
 
 /// The statuses of the program.
 const STOPPED: u8 = 1;
@@ -128,7 +128,7 @@ fn open<S: Shelf>(alloc: Global, shelf: &mut S, file: &str) -> Result<StackWorld
         Err(ReadError::NoMemory) => return Err(Refusal::Memory),
     };
     match load(alloc, bytes.as_slice(), HEAP_LIMIT) {
-        Ok(loaded) => match StackWorld::new(alloc, loaded, STACK_PAGES) {
+        Ok(loaded) => match StackWorld::new(alloc, loaded, PAGES) {
             Ok(world) => Ok(world),
             Err(_) => Err(Refusal::Memory),
         },
