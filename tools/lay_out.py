@@ -5,7 +5,8 @@ A helper of the repository, and no part of the product: it makes the images that
 the tests of the program stand on. The product has a builder of its own, in proved code.
 
     lay_out.py TEXT IMAGE          writes the image to the file IMAGE
-    lay_out.py --rattle TEXT       prints the image as rows of a Rattle constant, for tests
+    lay_out.py --rattle TEXT [N]   prints the image as rows of a Rattle constant, for tests, each of
+                                   at most N bytes (40 where N isn't given)
 
 Builder text has one item a line; words stand apart by one space or more, and empty lines and lines
 that begin with `#` are skipped. A reference is a number, `$code`, `nil`, `true`, `false`,
@@ -563,13 +564,13 @@ NIL = struct.pack("<I", OLD_BASE)
 ROW_BYTES = 40
 
 
-def rows_of(image):
-    """The image as rows: how many nil words, and the bytes behind them up to more nils."""
+def rows_of(image, most):
+    """The image as rows: how many nil words, and at most so many bytes behind them up to more nils."""
     rows, nils, piece = [], 0, b""
     for at in range(0, len(image), 4):
         word = image[at:at + 4]
         is_run = word == NIL and (not piece or image[at:at + 12] == 3 * NIL)
-        if is_run or len(piece) == ROW_BYTES:
+        if is_run or len(piece) >= most:
             if piece:
                 rows.append((nils, piece))
                 nils, piece = 0, b""
@@ -582,8 +583,8 @@ def rows_of(image):
 
 def main(words):
     as_rattle = words[:1] == ["--rattle"]
-    if len(words) != 2:
-        sys.exit("usage: lay_out.py TEXT IMAGE, or lay_out.py --rattle TEXT")
+    if len(words) not in ((2, 3) if as_rattle else (2,)):
+        sys.exit("usage: lay_out.py TEXT IMAGE, or lay_out.py --rattle TEXT [N]")
     with open(words[1] if as_rattle else words[0], encoding="latin-1") as source:
         text = source.read()
     try:
@@ -591,7 +592,7 @@ def main(words):
     except LayoutError as error:
         sys.exit("lay_out.py: " + str(error))
     if as_rattle:
-        for nils, piece in rows_of(image):
+        for nils, piece in rows_of(image, int(words[2]) if len(words) == 3 else ROW_BYTES):
             print('    (%d, "%s"),' % (nils, piece.hex()))
     else:
         with open(words[1], "wb") as target:

@@ -1,6 +1,8 @@
 //! The program's top call: what its words say, and the report that it prints.
 #![tactic(auto)]
 
+#[cfg(test)]
+mod entering_images;
 mod line;
 mod report;
 #[cfg(test)]

@@ -4,7 +4,7 @@ use hex::FromHexError;
 use std::alloc::Global;
 
 /// So many words that name nil, and the bytes behind them in hexadecimal digits.
-type Row = (usize, &'static str);
+pub type Row = (usize, &'static str);
 
 /// A word that names nil, in an image whose base is 65,536.
 const NIL: [u8; 4] = [0, 0, 1, 0];

@@ -1,5 +1,6 @@
 //! Rows of the line, of the report and of the top call, and the images that the tests run.
 
+use crate::entering_images::{NO_INSTRUCTION, RECURSES, SENDS, SUM_OVERFLOWS};
 use crate::line::parse;
 use crate::report::report;
 use crate::test_images::{ADDS, POPS_AN_EMPTY_STACK, image_of};
@@ -150,6 +151,56 @@ fn the_call_answers_and_prints(rt: HostRuntime) -> Result<(), FromHexError> {
     ];
     for (image, line, room, status, text) in rows {
         let (answered, _, out) = answer(alloc, image, &line, with_room(room))?;
+        assert_eq!(rt; answered, status, "{text}");
+        assert_eq!(rt; out.taken(), text.as_bytes());
+    }
+    Ok(())
+}
+
+#[test]
+fn runs_enter_and_return(rt: HostRuntime) -> Result<(), FromHexError> {
+    let alloc = rt.alloc();
+    let adds = image_of(alloc, &SUM_OVERFLOWS)?;
+    let sends = image_of(alloc, &SENDS)?;
+    let recurses = image_of(alloc, &RECURSES)?;
+    let none = image_of(alloc, &NO_INSTRUCTION)?;
+    let (adds, sends) = (adds.as_slice(), sends.as_slice());
+    let (recurses, none) = (recurses.as_slice(), none.as_slice());
+    let rows = [
+        (
+            adds,
+            "3",
+            0,
+            "\nSteps steps=3 process=41 context=146 pc=8\n",
+        ),
+        (
+            adds,
+            "4",
+            0,
+            "\nSteps steps=4 process=41 context=40 pc=12\n",
+        ),
+        (
+            sends,
+            "1500",
+            0,
+            "\nSteps steps=1500 process=41 context=40 pc=9\n",
+        ),
+        (
+            recurses,
+            "100",
+            0,
+            "\nSteps steps=100 process=41 context=196 pc=9\n",
+        ),
+        (recurses, "10000", 10, "cogstack: stack\n"),
+        (
+            none,
+            "5",
+            1,
+            "\nStopped BadCode steps=0 process=40 context=39 pc=5\n",
+        ),
+    ];
+    for (image, steps, status, text) in rows {
+        let (answered, _, out) = answer(alloc, image, &["run", "a", steps], with_room(99))?;
         assert_eq!(rt; answered, status, "{text}");
         assert_eq!(rt; out.taken(), text.as_bytes());
     }
