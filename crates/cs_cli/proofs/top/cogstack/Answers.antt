@@ -1,4 +1,4 @@
-use Rattle.std.proofs.Common.{◌≡◌, ◌⊎◌, inl, inr, ℕ, subst}
+use Rattle.std.proofs.Common.{◌≡◌, inl, inr, ℕ, subst}
 use Rattle.cs_model.specs.State.{Kept}
 use Rattle.cs_model.specs.Line.{Said}
 use Rattle.cs_cli.specs.Answer.{AnsweredTo, Begun, IsImage, Reading, Writing}
