@@ -5,6 +5,7 @@ use Rattle.cs_model.specs.Demand.{words_in}
 use Rattle.cs_model.specs.Step.{bytecode}
 use Rattle.cs_acts.specs.declared.act.Full.{Full as Why}
 use Rattle.cs_acts.specs.declared.act.Full.TheVariants.{Heap, Stack}
+use Rattle.cs_acts.specs.Layout.{Layout}
 use Rattle.cs_acts.specs.Names.{Store}
 use Rattle.cs_core.specs.declared.run.RunError.{RunError}
 use Rattle.cs_core.specs.declared.run.RunError.TheVariants.{Full}
@@ -14,19 +15,19 @@ use Rattle.cs_cli.specs.Answer.{heap_limit, IsUnderWay, Printed, Reported, answe
 use Rattle.cs_cli.specs.Answer as answer
 use Rattle.cs_cli.proofs.Writings.{printed_behind, writing}
 
-fills : (k : Kept) (s : Store) (a b : Option (List ℕ)) (n : ℕ) (e : RunError) (why kind : Why) → e ≡ Full why → why ≡ kind → RunFails k s a b n e → RunFills k s a b n kind
-fills k s a b n e why kind is same h = subst (RunFails k s a b n) (is ∙ ap Full same) h
+fills : (k : Kept) (s : Store) (m : Option Layout) (a b : Option (List ℕ)) (n : ℕ) (e : RunError) (why kind : Why) → e ≡ Full why → why ≡ kind → RunFails k s m a b n e → RunFills k s m a b n kind
+fills k s m a b n e why kind is same h = subst (RunFails k s m a b n) (is ∙ ap Full same) h
 
-under_way : (k : Kept) (s : Store) (a b : Option (List ℕ)) (n : ℕ) (kind : Why) → (f : RunFills k s a b n kind) → IsUnderWay k n f.done
-under_way k s a b n kind f = record { fewer = f.fewer; ending = f.ending }
+under_way : (k : Kept) (s : Store) (m : Option Layout) (a b : Option (List ℕ)) (n : ℕ) (kind : Why) → (f : RunFills k s m a b n kind) → IsUnderWay k n f.done
+under_way k s m a b n kind f = record { fewer = f.fewer; ending = f.ending }
 
-pub heap_reported : (k : Kept) (s : Store) (a b : Option (List ℕ)) (i j n : ℕ) (e : RunError) (why : Why) → e ≡ Full why → why ≡ Heap → s.memory.limit ≡ heap_limit → RunFails k s a b n e → Reported k n (writing a b i j) 5
-heap_reported k s a b i j n e why is same limit h =
-    let f = fills k s a b n e why Heap is same h in
-    answer.heap f.done (under_way k s a b n Heap f) (subst (λ l. l < words_in (bytecode (run_of k f.done).state).out.state) limit f.room) (inl (refl, f.written))
+pub heap_reported : (k : Kept) (s : Store) (m : Option Layout) (a b : Option (List ℕ)) (i j n : ℕ) (e : RunError) (why : Why) → e ≡ Full why → why ≡ Heap → s.memory.limit ≡ heap_limit → RunFails k s m a b n e → Reported k n (writing a b i j) 5
+heap_reported k s m a b i j n e why is same limit h =
+    let f = fills k s m a b n e why Heap is same h in
+    answer.heap f.done (under_way k s m a b n Heap f) (subst (λ l. l < words_in (bytecode (run_of k f.done).state).out.state) limit f.room.words) (inl (refl, f.written))
 
-pub stack_reported : (k : Kept) (s : Store) (a b c : Option (List ℕ)) (i j l n : ℕ) (e : RunError) (why : Why) (status : ℕ) → e ≡ Full why → why ≡ Stack → RunFails k s a b n e → i ≤ j
+pub stack_reported : (k : Kept) (s : Store) (m : Option Layout) (a b c : Option (List ℕ)) (i j l n : ℕ) (e : RunError) (why : Why) (status : ℕ) → e ≡ Full why → why ≡ Stack → RunFails k s m a b n e → i ≤ j
     → Printed (answering 10 (codes "cogstack: stack\n")) (writing b c j l) status → Reported k n (writing a c i l) status
-stack_reported k s a b c i j l n e why status is same h le printed =
-    let f = fills k s a b n e why Stack is same h in
-    answer.stack f.done (under_way k s a b n Stack f) f.room (printed_behind a b c i j l (run_of k f.done).state.run.output (codes "cogstack: stack\n") 10 status f.written le printed)
+stack_reported k s m a b c i j l n e why status is same h le printed =
+    let f = fills k s m a b n e why Stack is same h in
+    answer.stack f.done (under_way k s m a b n Stack f) f.room (printed_behind a b c i j l (run_of k f.done).state.run.output (codes "cogstack: stack\n") 10 status f.written le printed)

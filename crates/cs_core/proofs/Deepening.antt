@@ -16,7 +16,7 @@ use Rattle.cs_acts.specs.Full.{IsFullStack}
 use Rattle.cs_acts.specs.Layout.{IsCalled, IsFresh, IsLaidOut, IsPage, Layout, first_page, is_frame, is_on, last_frame, page_words}
 use Rattle.cs_acts.specs.Names.{Store}
 use Rattle.cs_acts.specs.Ready.{IsReady}
-use Rattle.cs_core.specs.Deep.{AllBegun, HasBegun, IsDeep, state_of}
+use Rattle.cs_core.specs.Deep.{AllBegun, HasBegun, IsDeep, most_of, state_of}
 use Rattle.cs_core.specs.Stepped.{FramesFrom}
 use Rattle.cs_core.proofs.Laying.{left_true, page_words_kept, right_true}
 
@@ -40,7 +40,13 @@ now_begun k w n birth is active = record { step = n + 1; within = omega arith; a
 pub begun_on : (k w : Kept) (n : ℕ) (old new : Option Layout) → (state_of k (n + 1)).rest.active ≡ w.rest.active → AllBegun k n old → FramesFrom old new w → AllBegun k (n + 1) new
 begun_on k w n None new is begun frames = subst (AllBegun k (n + 1)) (sym frames) tt
 begun_on k w n (Some l) None is begun frames = absurd frames
-begun_on k w n (Some l) (Some m) is begun frames = λ birth h. elim (frames birth h) [ inl old ↦ later k n birth (begun birth old) | inr active ↦ now_begun k w n birth is active ]
+begun_on k w n (Some l) (Some m) is begun frames = λ birth h. elim (frames.1 birth h) [ inl old ↦ later k n birth (begun birth old) | inr active ↦ now_begun k w n birth is active ]
+
+-- so many pages there may be, as before
+pub most_stays : (old new : Option Layout) (w : Kept) → FramesFrom old new w → most_of new ≡ most_of old
+most_stays None new w frames = ap most_of frames
+most_stays (Some l) None w frames = absurd frames
+most_stays (Some l) (Some n) w frames = ap Some frames.0
 
 -- ---- the chain
 

@@ -97,7 +97,7 @@ left_from target ((i ∷ j ∷ is) ∷ pages) = λ b h. elim (either (is_on b (j
 laid_from : (f : List (List ℕ) → List (List ℕ)) (active : ℕ) → ((pages : List (List ℕ)) → FromPages pages (f pages) active) → (old new : Option Layout) (v : Kept) → v.rest.active ≡ Some active → LaidBy f old new → FramesFrom old new v
 laid_from f active h None new v is laid = laid
 laid_from f active h (Some l) new v is laid =
-    subst (λ n. FramesFrom (Some l) n v) (sym laid) (λ i e. elim (h l.pages i e) [ inl a ↦ inl a | inr a ↦ inr (is ∙ ap Some (sym a)) ])
+    subst (λ n. FramesFrom (Some l) n v) (sym laid) (refl, λ i e. elim (h l.pages i e) [ inl a ↦ inl a | inr a ↦ inr (is ∙ ap Some (sym a)) ])
 
 pub entered_frames : (k v : Kept) (active : ℕ) (old new : Option Layout) → v.rest.active ≡ Some active → LaidBy (entered k active) old new → FramesFrom old new v
 entered_frames k v active old new is laid = laid_from (entered k active) active (entered_from k active) old new v is laid
@@ -115,7 +115,7 @@ entered_active k v x args skip h = ap (λ (r : Rest). r.active) h.rest ∙ enter
 
 same_frames : (l : Option Layout) (v : Kept) → FramesFrom l l v
 same_frames None v = refl
-same_frames (Some l) v = λ i h. inl h
+same_frames (Some l) v = (refl, λ i h. inl h)
 
 pub frames_stay : (old new : Option Layout) (v : Kept) → new ≡ old → FramesFrom old new v
 frames_stay old new v e = subst (λ n. FramesFrom old n v) (sym e) (same_frames old v)

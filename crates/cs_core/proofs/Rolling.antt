@@ -1,5 +1,5 @@
 -- A run of the model, one step behind another.
-use Rattle.std.proofs.Common.{◌≡◌, ℕ, zero, suc, ◌+◌, ◌<◌, ◌≤◌, ◌==◌, Bool, true, false, refl, sym, ap, subst, ◌∙◌, Option, Some, None, List, [], ◌++◌, nat_lt, arith, length, take, drop, ◌-◌}
+use Rattle.std.proofs.Common.{◌≡◌, ℕ, zero, suc, ◌+◌, ◌<◌, ◌≤◌, ◌==◌, Bool, true, false, refl, sym, ap, subst, ◌∙◌, IfSome, ◌*◌, Option, Some, None, List, [], ◌++◌, nat_lt, arith, length, take, drop, ◌-◌}
 use Rattle.std.specs.Prelude.{if◌then◌else◌, ◌||◌}
 use Rattle.std.proofs.lemmas.Bool.{eqb-true, eqb-false}
 use Rattle.std.proofs.Math.Seq.{take-add}
@@ -29,13 +29,14 @@ use Rattle.cs_acts.specs.Full.{CausesFull}
 use Rattle.cs_acts.specs.Layout.{IsFresh, IsLaidOut, Layout}
 use Rattle.cs_model.specs.Demand.{words_in}
 use Rattle.cs_acts.specs.Names.{Store}
+use Rattle.cs_heap.specs.Object.{used}
 use Rattle.cs_acts.specs.Ready.{IsReady, IsSound}
 use Rattle.cs_core.specs.declared.step.StepEnd.TheVariants as how
 use Rattle.cs_core.specs.declared.run.Ran.{Ran as Report}
 use Rattle.cs_core.specs.Stepped.{StepGives, run_at, state_at, step_at}
 use Rattle.cs_core.proofs.Growing.{part_of_more, run_writes}
 use Rattle.cs_core.specs.declared.run.RunError.TheVariants.{Full, WriteFault}
-use Rattle.cs_core.specs.Deep.{AllBegun, run_of}
+use Rattle.cs_core.specs.Deep.{AllBegun, most_of, run_of}
 use Rattle.cs_core.specs.Running.{HasNoRoom, RunGives, RunFails, ending_of, ending_at_rest, place_by}
 use Rattle.cs_core.proofs.Deepening.{begun_at_start, begun_on, is_deep}
 use Rattle.cs_core.proofs.Laying.{state_words_kept}
@@ -303,8 +304,8 @@ append_part old now new xs ys h g =
     take-add (length xs) g.0 (xs ++ ys) ∙ ap (λ (zs : List ℕ). zs ++ take g.0 (drop (length xs) (xs ++ ys))) first ∙ ap (λ (zs : List ℕ). xs ++ take g.0 zs) rest in
     (length xs + g.0, below, subst (λ (zs : List ℕ). Appends old new zs) (sym parts) (appends_then old now new xs (take g.0 ys) h g.2))
 
-pub fails : {k : Kept} {old now new : Option (List ℕ)} {i : ℕ} {s : Store} {v : Kept} {l : Option Layout} (t : Store) (w : Kept) (b : Option Layout) (n : ℕ) → i < n → Stands k old now i s v l → StepGives v l now new t w b how.WriteFault → RunFails k t old new n WriteFault
-fails {k = k} {old = old} {now = now} {new = new} {i = i} t w b n below h g =
+pub fails : {k : Kept} {old now new : Option (List ℕ)} {i : ℕ} {s : Store} {v : Kept} {l : Option Layout} (t : Store) (w : Kept) (b first : Option Layout) (n : ℕ) → i < n → Stands k old now i s v l → StepGives v l now new t w b how.WriteFault → RunFails k t first old new n WriteFault
+fails {k = k} {old = old} {now = now} {new = new} {i = i} t w b first n below h g =
     let f = follows h in
     let output : (run_of k (i + 1)).state.run.output ≡ h.output ++ g.0 = ap (λ (q : Run). q.output) (f.run ∙ (g.2 h.output i).1) in
     let part : AppendsPart old new (run_of k (i + 1)).state.run.output = subst (λ (bytes : List ℕ). AppendsPart old new bytes) (sym output) (append_part old now new h.output g.0 h.written g.1) in
@@ -323,9 +324,18 @@ finishes {k = k} {old = old} {now = now} {i = i} {v = v} n r all h steps place e
 
 -- ---- no room
 
-pub fills : {k : Kept} {old now new : Option (List ℕ)} {i : ℕ} {s : Store} {v : Kept} {l : Option Layout} (t : Store) (w : Kept) (b : Option Layout) (n : ℕ) (why : Why) → i < n → Stands k old now i s v l → IsLaidOut s v l → StepGives v l now new t w b (how.Full why)
-    → RunFails k t old new n (Full why)
-fills {k = k} {old = old} {now = now} {i = i} {s = s} {v = v} {l = l} t w b n why below h laid g = record {
+-- the rule of room speaks of the pages alone that there may be
+most_room : (t : Store) (l : Option Layout) → IfSome l (λ laid. t.memory.limit < used t.memory.objects + 0 + 26304 * laid.most) → IfSome (most_of l) (λ n. t.memory.limit < used t.memory.objects + 26304 * n)
+most_room t None h = tt
+most_room t (Some l) h = omega (arith, h)
+
+by_most : (t : Store) (l : Option Layout) → IfSome (most_of l) (λ n. t.memory.limit < used t.memory.objects + 26304 * n) → IfSome l (λ laid. t.memory.limit < used t.memory.objects + 26304 * laid.most)
+by_most t None h = tt
+by_most t (Some l) h = h
+
+pub fills : {k : Kept} {old now new : Option (List ℕ)} {i : ℕ} {s : Store} {v : Kept} {l : Option Layout} (t : Store) (w : Kept) (b first : Option Layout) (n : ℕ) (why : Why) → most_of l ≡ most_of first → i < n → Stands k old now i s v l → IsLaidOut s v l → StepGives v l now new t w b (how.Full why)
+    → RunFails k t first old new n (Full why)
+fills {k = k} {old = old} {now = now} {i = i} {s = s} {v = v} {l = l} t w b first n why most below h laid g = record {
   done = i;
   fewer = below;
   ending = h.ending;
@@ -336,11 +346,14 @@ fills {k = k} {old = old} {now = now} {i = i} {s = s} {v = v} {l = l} t w b n wh
     m : State
     m = (run_of k i).state
 
-    room : (why : Why) → CausesFull t l v 0 (bytecode (state_at v h.output i)).out.state why → HasNoRoom k t i why
+    room : (why : Why) → CausesFull t l v 0 (bytecode (state_at v h.output i)).out.state why → HasNoRoom k t first i why
     room Heap c =
         let a : AlikeResult v (bytecode (state_at v h.output i)) (bytecode (with_kept m.kept (run_at h.output i))) = bytecode_alike h.keeps (run_at h.output i) in
         let more : words_in (bytecode (state_at v h.output i)).out.state ≤ words_in (bytecode (with_kept m.kept (run_at h.output i))).out.state = state_words_kept _ _ a.out.keeps in
-        subst (λ (r : Run). t.memory.limit < words_in (bytecode (with_kept m.kept r)).out.state) (sym h.run) (omega (arith, c.words, more))
+        record {
+          words = subst (λ (r : Run). t.memory.limit < words_in (bytecode (with_kept m.kept r)).out.state) (sym h.run) (omega (arith, c.words, more));
+          room = by_most t first (subst (λ o. IfSome o (λ n. t.memory.limit < used t.memory.objects + 26304 * n)) most (most_room t l c.room));
+        }
     room Stack c = is_deep k s v i l h.keeps h.ready laid h.begun c
 
 -- ---- faults

@@ -1,5 +1,5 @@
 -- Which activations stand on the stack in a run of the model.
-use Rattle.std.specs.Prelude.{◌≡◌, ℕ, ◌<◌, ◌≤◌, true, List, [], Option, Some, None}
+use Rattle.std.specs.Prelude.{◌≡◌, ℕ, ◌<◌, ◌≤◌, true, List, [], option_map, Option, Some, None}
 use Rattle.std.specs.List.{AllByRecursion}
 use Rattle.cs_model.specs.State.{Kept}
 use Rattle.cs_model.specs.Step.{Ran}
@@ -32,6 +32,10 @@ pub record IsDeep (k : Kept) (n : ℕ) : Type 0 where
   pub words : 3900 < page_words (state_of k n) contexts
 
 -- ---- where a world has its frames
+
+-- how many pages it may have
+abbrev pub most_of : Option Layout → Option ℕ
+most_of l = option_map (λ x. x.most) l
 
 -- each of them has begun
 abbrev pub AllBegun : Kept → ℕ → Option Layout → Type 0

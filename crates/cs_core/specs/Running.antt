@@ -1,5 +1,5 @@
 -- What a run gives, beside the run of the model.
-use Rattle.std.specs.Prelude.{◌≡◌, ℕ, ◌<◌, ◌==◌, nat_lt, if◌then◌else◌, List, Option}
+use Rattle.std.specs.Prelude.{◌≡◌, ℕ, ◌+◌, ◌*◌, ◌<◌, ◌==◌, nat_lt, if◌then◌else◌, List, Option, IfSome}
 use Rattle.cs_shelf.specs.Outside.{Appends, AppendsPart, Rose}
 use Rattle.cs_model.specs.declared.stop.Stop.TheVariants as why
 use Rattle.cs_model.specs.State.{Kept}
@@ -8,7 +8,9 @@ use Rattle.cs_model.specs.Step as model
 use Rattle.cs_model.specs.Step.{birth_limit, bytecode}
 use Rattle.cs_acts.specs.declared.act.Full.{Full as Why}
 use Rattle.cs_acts.specs.declared.act.Full.TheVariants.{Heap, Stack}
+use Rattle.cs_acts.specs.Layout.{Layout}
 use Rattle.cs_acts.specs.Names.{Store}
+use Rattle.cs_heap.specs.Object.{used}
 use Rattle.cs_model.specs.Demand.{words_in}
 use Rattle.cs_core.specs.declared.run.Ending.{Ending}
 use Rattle.cs_core.specs.declared.run.Ending.TheVariants.{Steps, Idle, Stopped}
@@ -38,24 +40,29 @@ pub record RunGives (k : Kept) (old new : Option (List ℕ)) (n : ℕ) (r : Ran)
   pub place : place_of (run_of k n).state.kept ≡ place_by r.place
   pub written : Appends old new (run_of k n).state.run.output
 
--- Why a run finds no room behind so many steps: the words of the state that the next bytecode leads to exceed the limit of the heap,
--- or the active context has too many senders that have begun.
-abbrev pub HasNoRoom : Kept → Store → ℕ → Why → Type 0
-HasNoRoom k s done Heap = s.memory.limit < words_in (bytecode (run_of k done).state).out.state
-HasNoRoom k s done Stack = IsDeep k done
+-- The words of the state that the next bytecode leads to exceed the limit of the heap. In a world with pages the heap has besides no
+-- room for a context of each frame that they may hold: 409 to a page and two more, of 64 words each.
+pub record IsHeavy (k : Kept) (s : Store) (l : Option Layout) (done : ℕ) : Type 0 where
+  pub words : s.memory.limit < words_in (bytecode (run_of k done).state).out.state
+  pub room : IfSome l (λ laid. s.memory.limit < used s.memory.objects + 26304 * laid.most)
+
+-- why a run finds no room behind so many steps, in a world that began with this layout
+abbrev pub HasNoRoom : Kept → Store → Option Layout → ℕ → Why → Type 0
+HasNoRoom k s l done Heap = IsHeavy k s l done
+HasNoRoom k s l done Stack = IsDeep k done
 
 -- so many steps of n are done, all that they write is written, and then there is no room
-pub record RunFills (k : Kept) (s : Store) (old new : Option (List ℕ)) (n : ℕ) (why : Why) : Type 0 where
+pub record RunFills (k : Kept) (s : Store) (l : Option Layout) (old new : Option (List ℕ)) (n : ℕ) (why : Why) : Type 0 where
   pub done : ℕ
   pub fewer : done < n
   pub ending : (run_of k done).ending ≡ model.Steps
   pub written : Appends old new (run_of k done).state.run.output
-  pub room : HasNoRoom k s done why
+  pub room : HasNoRoom k s l done why
 
 -- A run that breaks off. Where the sink fails, a first part was written of what the model writes in so many steps.
-abbrev pub RunFails : Kept → Store → Option (List ℕ) → Option (List ℕ) → ℕ → RunError → Type 0
-RunFails k s old new n (Full why) = RunFills k s old new n why
-RunFails k s old new n WriteFault = AppendsPart old new (run_of k n).state.run.output
+abbrev pub RunFails : Kept → Store → Option Layout → Option (List ℕ) → Option (List ℕ) → ℕ → RunError → Type 0
+RunFails k s l old new n (Full why) = RunFills k s l old new n why
+RunFails k s l old new n WriteFault = AppendsPart old new (run_of k n).state.run.output
 
 -- a fault of the sink has been counted where that is why
 abbrev pub CausedByFault : ℕ → ℕ → RunError → Type 0

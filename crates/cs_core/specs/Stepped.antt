@@ -50,11 +50,11 @@ LeadsToNone k v = (output : List ℕ) (steps : ℕ) → (is_idle (step_at k outp
 
 -- ---- where activations stand
 
--- each frame was one before, or is the active context
+-- there may be as many pages as before, and each frame was one before, or is the active context
 abbrev pub FramesFrom : Option Layout → Option Layout → Kept → Type 0
 FramesFrom None new v = new ≡ None
 FramesFrom (Some l) None v = ⊥
-FramesFrom (Some l) (Some n) v = (i : ℕ) → is_frame i n.pages ≡ true → (is_frame i l.pages ≡ true) ⊎ (v.rest.active ≡ Some i)
+FramesFrom (Some l) (Some n) v = (n.most ≡ l.most) × ((i : ℕ) → is_frame i n.pages ≡ true → (is_frame i l.pages ≡ true) ⊎ (v.rest.active ≡ Some i))
 
 -- ---- a step
 

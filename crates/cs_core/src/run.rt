@@ -126,7 +126,7 @@ pub fn run<W: World, K: Sink>(
     requires running { is_idle (W.view w.old) ≡ false → IsRunning (W.view w.old) }
     requires fresh { IsFresh (W.view w.old) (W.layout w.old) }
     ensures ran { IfOk result (λ r. RunGives (W.view w.old) (K.taken out.old) (K.taken out.new) n r) }
-    ensures failed { IfErr result (λ e. RunFails (W.view w.old) (W.stored w.new) (K.taken out.old) (K.taken out.new) n e) }
+    ensures failed { IfErr result (λ e. RunFails (W.view w.old) (W.stored w.new) (W.layout w.old) (K.taken out.old) (K.taken out.new) n e) }
     ensures limit { (W.stored w.new).memory.limit ≡ (W.stored w.old).memory.limit }
     ensures never_falls { K.fault_count out.old ≤ K.fault_count out.new }
     ensures cause { IfErr result (λ e. CausedByFault (K.fault_count out.old) (K.fault_count out.new) e) }

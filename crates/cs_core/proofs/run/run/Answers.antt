@@ -1,4 +1,5 @@
 use Rattle.std.proofs.Common.{◌∙◌, ◌≡◌, sym, refl, arith}
+use Rattle.cs_core.proofs.Deepening.{most_stays}
 use Rattle.cs_core.proofs.Rolling.{begins, begins_idle, goes_on, goes_idle, goes_no_further, fails, fills, finishes, rose_before}
 use Rattle.cs_core.proofs.run.run.Goals as goal
 
@@ -12,6 +13,7 @@ loop-steps-init g c =
       stands = begins (g.W.World.view c.args.w.now) _ (g.W.World.stored c.args.w.now) (g.W.World.layout c.args.w.now) c.requires.sound c.requires.running (sym c.is_idle.ensures ∙ c.if-is_idle.false) c.requires.fresh;
       never_falls = omega arith;
       limit = refl;
+      most = refl;
     }
 
 pub place_of-before-requires-clause-sound : goal.place_of-before-requires-clause-sound
@@ -44,14 +46,14 @@ returns-in-Stopped-clause-never_falls g c = omega (arith, c.loop-steps.invariant
 
 pub returns-in-Full-clause-failed : goal.returns-in-Full-clause-failed
 returns-in-Full-clause-failed g c =
-    fills (g.W.World.stored c.step.new.w) (g.W.World.view c.step.new.w) (g.W.World.layout c.step.new.w) c.args.n c.in-Full.why c.loop-steps-test.true c.loop-steps.invariant.stands c.place_of-before.ensures.laid c.in-Full.ensures.gives
+    fills (g.W.World.stored c.step.new.w) (g.W.World.view c.step.new.w) (g.W.World.layout c.step.new.w) (g.W.World.layout c.args.w.now) c.args.n c.in-Full.why c.loop-steps.invariant.most c.loop-steps-test.true c.loop-steps.invariant.stands c.place_of-before.ensures.laid c.in-Full.ensures.gives
 
 pub returns-in-Full-clause-never_falls : goal.returns-in-Full-clause-never_falls
 returns-in-Full-clause-never_falls g c = omega (arith, c.loop-steps.invariant.never_falls, c.step.ensures.never_falls)
 
 pub returns-in-WriteFault-clause-failed : goal.returns-in-WriteFault-clause-failed
 returns-in-WriteFault-clause-failed g c =
-    fails (g.W.World.stored c.step.new.w) (g.W.World.view c.step.new.w) (g.W.World.layout c.step.new.w) c.args.n c.loop-steps-test.true c.loop-steps.invariant.stands c.in-WriteFault.ensures.gives
+    fails (g.W.World.stored c.step.new.w) (g.W.World.view c.step.new.w) (g.W.World.layout c.step.new.w) (g.W.World.layout c.args.w.now) c.args.n c.loop-steps-test.true c.loop-steps.invariant.stands c.in-WriteFault.ensures.gives
 
 pub returns-in-WriteFault-clause-never_falls : goal.returns-in-WriteFault-clause-never_falls
 returns-in-WriteFault-clause-never_falls g c = omega (arith, c.loop-steps.invariant.never_falls, c.step.ensures.never_falls)
@@ -65,6 +67,7 @@ loop-steps-preserved g c =
       stands = goes_on c.loop-steps.invariant.stands c.in-Active.ensures.gives;
       never_falls = omega (arith, c.loop-steps.invariant.never_falls, c.step.ensures.never_falls);
       limit = c.step.ensures.limit ∙ c.loop-steps.invariant.limit;
+      most = most_stays (g.W.World.layout c.loop-steps.w) (g.W.World.layout c.step.new.w) (g.W.World.view c.step.new.w) c.in-Active.ensures.gives.6 ∙ c.loop-steps.invariant.most;
     }
 
 pub place_of-requires-clause-sound : goal.place_of-requires-clause-sound
