@@ -7,6 +7,7 @@ ghost use Rattle.cs_model.specs.Read.{active_birth, active_context, depth_of, me
 ghost use Rattle.cs_model.specs.Operation.{enter_of, leave_of, nil_of, pop_of, push_of, set_pc_of, set_stack_of, store_of};
 ghost use Rattle.cs_model.specs.Return.{closure_at, has_room, is_live, sender_birth};
 ghost use Rattle.cs_acts.specs.declared.act.Act.{Act};
+ghost use Rattle.cs_acts.specs.declared.act.Full.TheVariants as full;
 ghost use Rattle.cs_acts.specs.Full.{CausesFull};
 ghost use Rattle.cs_acts.specs.Layout.{IsLaidOut, LaidBy, Layout, entered, left};
 ghost use Rattle.cs_acts.specs.Names.{IsNamed, KeepsNames, Names, Store, name_of};
@@ -48,6 +49,7 @@ pub trait World {
     fn active(&self) -> Act
         requires { IsSound (stored self.now) (view self.now) }
         ensures active { act self.now result ≡ (view self.now).rest.active }
+        ensures gone { is_gone result ≡ not (is_some (act self.now result)) }
         ensures laid { IsLaidOut (stored self.now) (view self.now) (layout self.now) };
 
     /// The birth of the context that an act stands for.
@@ -208,5 +210,6 @@ pub trait World {
         ensures limit { (stored self.new).memory.limit ≡ (stored self.old).memory.limit }
         ensures ready { OnOk result (IsReady (stored self.new) (view self.new)) }
         ensures names { OnOk result (KeepsNames (stored self.old) (stored self.new)) }
+        ensures heap_alone { IfErr result (λ why. why ≡ full.Heap) }
         ensures full { IfErr result (CausesFull (stored self.new) (layout self.old) (view self.old) 0 (leave_of (view self.old) (name_of (stored self.old) v))) };
 }

@@ -5,7 +5,7 @@ use Rattle.cs_model.specs.declared.stop.Stop.{Stop as Reason}
 use Rattle.cs_model.specs.declared.stop.Stop.TheVariants as why
 use Rattle.cs_model.specs.Ref.{Ref}
 use Rattle.cs_model.specs.State.{Kept}
-use Rattle.cs_model.specs.Keeps.{Keeps}
+use Rattle.cs_model.specs.Keeps.{Keeps, SameKept}
 use Rattle.cs_model.specs.Read.{depth_of}
 use Rattle.cs_model.specs.Send.{begins_at, send}
 use Rattle.cs_model.specs.Step.{Message}
@@ -58,11 +58,12 @@ IsPlain (Plain method) = Unit {0}
 IsPlain Missing = ⊥
 IsPlain (Stops reason) = ⊥
 
--- A method is entered in the model, the view keeps the state that is left, the world is ready again, what had a name has it still,
--- and the new context stands above the active one or alone on a page.
+-- A method is entered in the model, the view keeps the state that is left, and is it where the world tells no layout; the world is
+-- ready again, what had a name has it still, and the new context stands above the active one or alone on a page.
 pub record Enters (old new : Store) (before after : Option Layout) (k v : Kept) (o : Out) : Type 0 where
   pub end : o.end ≡ ends.Entered
   pub state : Keeps v o.state
+  pub exact : before ≡ None → SameKept v o.state
   pub ready : IsReady new v
   pub names : KeepsNames old new
   pub laid : LaidBy (entered k k.rest.next) before after
