@@ -236,6 +236,11 @@ size_of_top w good ready r is =
 pub not_less : (a b : ℕ) → not (nat_le b a) ≡ nat_lt a b
 not_less a b = grind (arith, nat_tests)
 
+-- a page with a frame has an active one
+pub active_some : (fs : List Frame) → (fs ≡ [] → ⊥) → is_some (active_in fs) ≡ true
+active_some [] some = absurd (some refl)
+active_some (last ∷ fs) some = refl
+
 -- what stands for something isn't gone
 pub here_frame : (w : Parts) (p at : ℕ) (o : Option ℕ) → act_of w (act.Frame p at) ≡ o → is_some o ≡ true → is_gone (act.Frame p at) ≡ not (is_some (act_of w (act.Frame p at)))
 here_frame w p at o e some = ap not (sym (ap is_some e ∙ some))

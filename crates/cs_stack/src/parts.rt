@@ -76,7 +76,8 @@ impl Parts {
     /// The active context, if there is one.
     pub(crate) fn active(&self) -> Act
         requires good { IsGood self.now }
-        ensures { act_of self.now result ≡ (view_of self.now).rest.active }
+        ensures value { act_of self.now result ≡ (view_of self.now).rest.active }
+        ensures gone { is_gone result ≡ not (is_some (act_of self.now result)) }
     {
         match self.frames.top(PAGE) {
             Some(f) => act(f),
