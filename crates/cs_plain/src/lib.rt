@@ -294,7 +294,13 @@ impl World for PlainWorld {
 
     fn active(&self) -> Act {
         match self.active {
-            Some(context) => Act::Context(context),
+            Some(context) => {
+                if is_context(&self.heap, context) {
+                    Act::Context(context)
+                } else {
+                    Act::Gone
+                }
+            }
             None => Act::Gone,
         }
     }

@@ -1,8 +1,28 @@
+use Rattle.std.proofs.Common.{ap, refl, sym, ◌∙◌}
+use Rattle.std.specs.Prelude.{not}
+use Rattle.cs_plain.specs.View.{active_in, birth_at}
+use Rattle.cs_plain.proofs.Acts.{context_asked, none_asked}
 use Rattle.cs_plain.proofs.Words.{is_plain}
 use Rattle.cs_plain.proofs.PlainWorldWorld.active.Goals as goal
 
-pub returns-in-Some-clause-laid : goal.returns-in-Some-clause-laid
-returns-in-Some-clause-laid c = is_plain c.args.self.now c.requires.holds.whole
+pub returns-then-is_context : goal.returns-then-is_context
+returns-then-is_context c =
+    let objects = c.args.self.now.heap.objects in
+    record {
+      active = ap (active_in objects) (sym c.in-Some.is);
+      gone = sym (ap not (sym (context_asked objects c.in-Some.context) ∙ sym c.is_context.ensures ∙ c.if-is_context.true));
+      laid = is_plain c.args.self.now c.requires.holds.whole;
+    }
+
+pub returns-else-is_context : goal.returns-else-is_context
+returns-else-is_context c =
+    let objects = c.args.self.now.heap.objects in
+    let none = none_asked (birth_at objects c.in-Some.context) (sym (context_asked objects c.in-Some.context) ∙ sym c.is_context.ensures ∙ c.if-is_context.false) in
+    record {
+      active = none ∙ ap (active_in objects) (sym c.in-Some.is);
+      gone = refl;
+      laid = is_plain c.args.self.now c.requires.holds.whole;
+    }
 
 pub returns-in-None-clause-laid : goal.returns-in-None-clause-laid
 returns-in-None-clause-laid c = is_plain c.args.self.now c.requires.holds.whole
