@@ -1,8 +1,9 @@
 -- What the program answers to the words behind its name, and what it prints.
-use Rattle.std.specs.Prelude.{◌≡◌, ◌⊎◌, ℕ, ◌<◌, List, ◌++◌, length, codes, Option, Some, None, Ok, IfSome, IsErr}
+use Rattle.std.specs.Prelude.{◌≡◌, ◌⊎◌, ℕ, ◌<◌, false, List, ◌++◌, length, codes, Option, Some, None, Ok, IfSome, IsErr}
 use Rattle.cs_shelf.specs.Outside.{Appends, AppendsPart, Fault, Rose, read_fault}
 use Rattle.cs_model.specs.State.{Kept}
 use Rattle.cs_model.specs.Image.{image_of}
+use Rattle.cs_model.specs.ImageFile.{has_births}
 use Rattle.cs_model.specs.Settle.{open_kept}
 use Rattle.cs_model.specs.Line.{Said}
 use Rattle.cs_model.specs.Demand.{words_in}
@@ -121,10 +122,12 @@ pub data IsRefused (bytes : List ℕ) : Type 0 where
   births : HasBirthSection bytes → IsRefused bytes
   fault : IsErr (image_of bytes heap_limit) → IsRefused bytes
 
--- An image is open: these bytes describe the state k, before it was opened. Where the shelf tells a content, it is these bytes.
+-- An image is open: these bytes describe the state k, before it was opened, and no birth section follows their heap. Where the shelf
+-- tells a content, it is these bytes.
 pub record IsImage (content : Option (List ℕ)) (k : Kept) : Type 0 where
   pub bytes : List ℕ
   pub told : IfSome content (λ held. bytes ≡ held)
+  pub no_section : has_births bytes ≡ false
   pub state : image_of bytes heap_limit ≡ Ok k
 
 -- ---- the call

@@ -1,5 +1,5 @@
 -- What a send comes to, by what it finds.
-use Rattle.std.proofs.Common.{◌≡◌, ℕ, ◌≤◌, Bool, true, false, refl, sym, subst, ◌∙◌, arith, Option, Result, Ok, Err, OnOk, IfErr}
+use Rattle.std.proofs.Common.{◌≡◌, ℕ, ◌≤◌, Bool, true, false, refl, sym, subst, ◌∙◌, arith, Option, None, Result, Ok, Err, OnOk, IfErr}
 use Rattle.std.proofs.lemmas.Bool.{false≢true}
 use Rattle.std.proofs.lemmas.Option.{none-some}
 use Rattle.cs_word.specs.declared.Oop.{Oop}
@@ -7,7 +7,7 @@ use Rattle.cs_model.specs.declared.stop.Stop.{Stop as Reason}
 use Rattle.cs_model.specs.Ref.{Ref}
 use Rattle.cs_model.specs.Obj.{is_method}
 use Rattle.cs_model.specs.State.{Kept, object_of}
-use Rattle.cs_model.specs.Keeps.{Keeps}
+use Rattle.cs_model.specs.Keeps.{Keeps, SameKept}
 use Rattle.cs_model.specs.End as ends
 use Rattle.cs_model.specs.End.{made_context}
 use Rattle.cs_model.specs.Operation.{enter_of}
@@ -35,11 +35,12 @@ enter-state k x args skip = refl
 
 module _ (k v : Kept) (x : Ref) (args : ℕ) (skip : Bool) where
   pub enters : {A : Type 0} (old new : Store) (before after : Option Layout) (r : Result A Full) → Keeps k k
-      → OnOk r ((m : Kept) → Keeps k m → Keeps v (enter_of m x args skip)) → OnOk r (LaidBy (entered k k.rest.next) before after) → OnOk r (IsReady new v) → OnOk r (KeepsNames old new)
+      → OnOk r ((m : Kept) → Keeps k m → Keeps v (enter_of m x args skip)) → OnOk r (before ≡ None → SameKept v (enter_of k x args skip)) → OnOk r (LaidBy (entered k k.rest.next) before after) → OnOk r (IsReady new v) → OnOk r (KeepsNames old new)
       → OnOk r (Enters old new before after k v (enter_out k x args skip))
-  enters old new before after (Ok a) closed state laid ready names =
-      record { end = enter-end k x args skip; state = subst (Keeps v) (sym (enter-state k x args skip)) (state k closed); ready = ready; names = names; laid = laid }
-  enters old new before after (Err e) closed state laid ready names = tt
+  enters old new before after (Ok a) closed state exact laid ready names =
+      let is = sym (enter-state k x args skip) in
+      record { end = enter-end k x args skip; state = subst (Keeps v) is (state k closed); exact = λ none. subst (SameKept v) is (exact none); ready = ready; names = names; laid = laid }
+  enters old new before after (Err e) closed state exact laid ready names = tt
 
 pub refuses : {A : Type 0} (k : Kept) (x : Ref) (args : ℕ) (skip : Bool) (new : Store) (before : Option Layout) (r : Result A Full)
     → IfErr r (CausesFull new before k 0 (enter_of k x args skip)) → IfErr r (Refuses new before k (enter_out k x args skip))
