@@ -1,0 +1,19 @@
+-- Words that name places.
+use Rattle.std.proofs.Common.{◌≡◌, ℕ, ◌+◌, ◌*◌, ◌/◌, ◌%◌, ◌<◌, true, false, arith, sym, ap, ◌∙◌, refl}
+use Rattle.std.specs.Prelude.{◌==◌}
+use Rattle.std.proofs.lemmas.Bool.{eq-eqb}
+use Rattle.cs_frame.specs.declared.FrameRef.{FrameRef}
+use Rattle.cs_marriage.specs.Place.{link_word, names_place, page_named}
+
+pub link_names : (r : FrameRef) → names_place (link_word r) ≡ true
+link_names r = eq-eqb (link_word r % 2) 1 (omega arith)
+
+pub link_page : (r : FrameRef) → r.at < 4096 → page_named (link_word r) ≡ r.page
+link_page r lt = omega (arith, lt)
+
+-- a word names one place
+pub link_once : (r q : FrameRef) → r.at < 4096 → q.at < 4096 → link_word r ≡ link_word q → r ≡ q
+link_once r q lt lu e =
+    let p : r.page ≡ q.page = omega (arith, lt, lu, e) in
+    let a : r.at ≡ q.at = omega (arith, lt, lu, e) in
+    ap (λ (n : ℕ). record { page = n; at = r.at }) p ∙ ap (λ (n : ℕ). record { page = q.page; at = n }) a
