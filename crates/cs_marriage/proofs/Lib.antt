@@ -1,1 +1,4 @@
-mod Places
+pub mod Places
+pub mod Objects
+pub mod Agreeing
+mod Making

@@ -1,7 +1,7 @@
 -- Words that name places.
-use Rattle.std.proofs.Common.{◌≡◌, ℕ, ◌+◌, ◌*◌, ◌/◌, ◌%◌, ◌<◌, true, false, arith, sym, ap, ◌∙◌, refl}
+use Rattle.std.proofs.Common.{◌≡◌, ℕ, ◌+◌, ◌*◌, ◌/◌, ◌%◌, ◌<◌, true, false, not, eqb, inl, inr, arith, sym, ap, ◌∙◌, refl}
 use Rattle.std.specs.Prelude.{◌==◌}
-use Rattle.std.proofs.lemmas.Bool.{eq-eqb}
+use Rattle.std.proofs.lemmas.Bool.{cases_Bool, eq-eqb, eqb-true}
 use Rattle.cs_frame.specs.declared.FrameRef.{FrameRef}
 use Rattle.cs_marriage.specs.Place.{link_word, names_place, page_named}
 
@@ -17,3 +17,10 @@ link_once r q lt lu e =
     let p : r.page ≡ q.page = omega (arith, lt, lu, e) in
     let a : r.at ≡ q.at = omega (arith, lt, lu, e) in
     ap (λ (n : ℕ). record { page = n; at = r.at }) p ∙ ap (λ (n : ℕ). record { page = q.page; at = n }) a
+
+-- what a test for a difference tells
+pub not_apart : (n m : ℕ) → false ≡ not (eqb n m) → n ≡ m
+not_apart n m h = elim (cases_Bool (eqb n m)) [
+  | inl t ↦ eqb-true n m t
+  | inr f ↦ absurd (let e : false ≡ not false = h ∙ ap not f in cc)
+]

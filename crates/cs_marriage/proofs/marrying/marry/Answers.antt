@@ -1,0 +1,28 @@
+use Rattle.std.proofs.Common.{◌≡◌, ◌+◌, ◌*◌, ℕ, List, ap, sym, subst, ◌∙◌, arith}
+use Rattle.cs_heap.specs.Object.{Memory, Object, base, is_object}
+use Rattle.cs_heap.proofs.Laws.{is_object-new, object_placed}
+use Rattle.cs_frame.specs.Frame.{Frame, with_context}
+use Rattle.cs_frame.specs.Page.{frame, on_frame}
+use Rattle.cs_marriage.proofs.Places.{not_apart}
+use Rattle.cs_marriage.specs.Agree.{Agree}
+use Rattle.cs_marriage.specs.Marriage.{new_size}
+use Rattle.cs_marriage.proofs.Agreeing.{agree_married, context_again, new_aligned}
+use Rattle.cs_marriage.proofs.marrying.marry.Goals as goal
+
+pub returns-then-ne-clause-frames : goal.returns-then-ne-clause-frames
+returns-then-ne-clause-frames c = sym (context_again c.args.frames.now c.args.f c.context-known.result.0 c.context-known.ensures.context)
+
+pub set_context-requires-clause-value : goal.set_context-requires-clause-value
+set_context-requires-clause-value c =
+    let ps = c.args.frames.now in
+    let none : (frame ps c.args.f).context ≡ 65536 = sym c.context-known.ensures.context ∙ not_apart c.context-known.result.0 65536 c.if-ne.ensures in
+    let aligned = new_aligned c.args.heap.now.objects ps c.args.f c.in_ok-made.made.0 c.requires.agree c.requires.frame none c.in_ok-made.ensures.address in
+    λ e. omega (arith, e, aligned)
+
+pub returns-clause-agree : goal.returns-clause-agree
+returns-clause-agree c =
+    let ps = c.args.frames.now in
+    let none : (frame ps c.args.f).context ≡ 65536 = sym c.context-known.ensures.context ∙ not_apart c.context-known.result.0 65536 c.if-ne.ensures in
+    subst (Agree c.new_context.new.heap.objects) (sym c.set_context.ensures.context)
+    (subst (λ (h : Memory). Agree h.objects (on_frame ps c.args.f (with_context c.in_ok-made.made.0))) (sym c.in_ok-made.ensures.added)
+    (agree_married c.args.heap.now.objects ps c.args.f c.in_ok-made.made.0 c.requires.agree c.requires.frame none c.in_ok-made.ensures.address))
