@@ -2,3 +2,4 @@ pub mod Places
 pub mod Objects
 pub mod Agreeing
 mod Making
+pub mod Searching

@@ -1,5 +1,5 @@
 -- Words that name places.
-use Rattle.std.proofs.Common.{◌≡◌, ℕ, ◌+◌, ◌*◌, ◌/◌, ◌%◌, ◌<◌, true, false, not, eqb, inl, inr, arith, sym, ap, ◌∙◌, refl}
+use Rattle.std.proofs.Common.{◌≡◌, ◌≢◌, ℕ, ◌+◌, ◌*◌, ◌/◌, ◌%◌, ◌<◌, true, false, not, eqb, inl, inr, arith, sym, ap, ◌∙◌, refl}
 use Rattle.std.specs.Prelude.{◌==◌}
 use Rattle.std.proofs.lemmas.Bool.{cases_Bool, eq-eqb, eqb-true}
 use Rattle.cs_frame.specs.declared.FrameRef.{FrameRef}
@@ -24,3 +24,6 @@ not_apart n m h = elim (cases_Bool (eqb n m)) [
   | inl t ↦ eqb-true n m t
   | inr f ↦ absurd (let e : false ≡ not false = h ∙ ap not f in cc)
 ]
+
+pub apart : (n m : ℕ) → false ≡ eqb n m → n ≢ m
+apart n m h e = absurd (let same : eqb n m ≡ true = eq-eqb n m e in cc)
