@@ -22,10 +22,10 @@ use Rattle.cs_marriage.proofs.Places.{link_once}
 abbrev pub Stays : List Object → List Object → ℕ → Type 0
 Stays os ws a = (b : ℕ) → is_object os b ≡ true → b ≢ a → object_at ws b ≡ object_at os b
 
-size_none : (os : List Object) (f : Frame) → f.context ≡ nil → frame_size os f ≡ context_size (header_at os f.method)
+pub size_none : (os : List Object) (f : Frame) → f.context ≡ nil → frame_size os f ≡ context_size (header_at os f.method)
 size_none os f e = ap (λ b. if b then context_size (header_at os f.method) else slot_count_of os f.context - 6) (eq-eqb f.context nil e)
 
-size_some : (os : List Object) (f : Frame) → f.context ≢ nil → frame_size os f ≡ slot_count_of os f.context - 6
+pub size_some : (os : List Object) (f : Frame) → f.context ≢ nil → frame_size os f ≡ slot_count_of os f.context - 6
 size_some os f ne = ap (λ b. if b then context_size (header_at os f.method) else slot_count_of os f.context - 6) (ne_eqb f.context nil ne)
 
 module _ (os ws : List Object) (a : ℕ) (stays : Stays os ws a) where

@@ -3,3 +3,5 @@ pub mod Objects
 pub mod Agreeing
 mod Making
 pub mod Searching
+pub mod Clearing
+pub mod Based

@@ -1,7 +1,7 @@
 -- What the calls make of heap and frames.
 use Rattle.std.specs.Prelude.{◌≡◌, ◌≢◌, ℕ, pos, ◌+◌, ◌-◌, ◌<◌, ◌≤◌, ◌^◌, ◌==◌, false, if◌then◌else◌, List, [], ◌∷◌, ◌++◌, Option, Some, None, IsSome, length, take, drop, replicate, slice_index, unwrap_or}
 use Rattle.cs_word.specs.Word.{small_word}
-use Rattle.cs_heap.specs.Object.{Object, birth_of, next_address, no_flags, object_at, slot_count_of, slot_of, with_object, with_slot}
+use Rattle.cs_heap.specs.Object.{Object, birth_of, next_address, no_flags, object_at, set_word, slot_count_of, slot_of, with_slot}
 use Rattle.cs_classes.specs.Meaning.{count_of, depth_in}
 use Rattle.cs_model.specs.Obj.{context_class, context_fields, context_size}
 use Rattle.cs_frame.specs.declared.FrameRef.{FrameRef}
@@ -73,12 +73,9 @@ cleared i ws = take i ws ++ replicate (length ws - i) nil
 abbrev pub cleared_from : ℕ → Object → Object
 cleared_from i x = record x { words = cleared i x.words }
 
--- the words of a context whose frame is at r, where those of the dead context were these
-abbrev pub linked_words : FrameRef → List ℕ → List ℕ
-linked_words r ws = link_word r ∷ nil ∷ nil ∷ take 3 (drop 3 ws) ++ replicate (length ws - context_fields) nil
-
+-- The context of a frame at r, where it was single before. It names the place, and pc, stackp and stack are the frame's alone.
 abbrev pub linked : FrameRef → Object → Object
-linked r x = record x { words = linked_words r x.words }
+linked r x = cleared_from context_fields (set_word 2 nil (set_word 1 nil (set_word 0 (link_word r) x)))
 
 -- Of a live single context, on which no frame stands. Its words are no links, its stack is no longer than its size.
 pub record CanBase (os : List Object) (a : ℕ) : Type 0 where
