@@ -1,15 +1,18 @@
 -- A single context becomes the base frame of an empty page.
 use Rattle.std.proofs.Common.{◌≡◌, ◌≢◌, ◌⊎◌, inl, inr, ℕ, zero, suc, ◌+◌, ◌-◌, ◌*◌, ◌<◌, ◌≤◌, Bool, true, false, List, [], ◌∷◌, ◌++◌, length, get_or, set, take, drop, cond, eqb, Option, Some, None, option_map, unwrap_or, refl, ap, sym, subst, ◌∙◌, arith, length-take, length-drop, get_or-set_other, get_or-set_same}
 use Rattle.std.specs.Option.{option_map_or}
-use Rattle.std.specs.Prelude.{slice_index}
+use Rattle.std.specs.Prelude.{slice_index, ◌==◌, ◌/◌, ◌%◌, if◌then◌else◌, is_some, IsSome}
 use Rattle.std.proofs.lemmas.Bool.{cases_eq, eq-eqb, ne_eqb}
+use Rattle.std.proofs.lemmas.Bool.Decides.{nat_tests}
 use Rattle.std.proofs.lemmas.List.{get_or-drop, get_or-take, take_more}
 use Rattle.cs_heap.specs.Object.{Object, birth_of, class_of, field_of, format_of, is_object, object_at, set_word, slot_count_of, slot_of, with_object}
-use Rattle.cs_heap.proofs.Laws.{KeepsCount, field_of-with_object_kept, field_of-with_object_same, is_object-with_object, object_at-with_object_other, set_word_keeps}
-use Rattle.cs_classes.specs.Meaning.{count_of, depth_in}
+use Rattle.cs_heap.proofs.Laws.{KeepsCount, field_of-with_object_kept, field_of-with_object_same, is_object-with_object, object_at-with_object_other, object_placed, set_word_keeps}
+use Rattle.cs_word.specs.declared.Kind.TheVariants as kind
+use Rattle.cs_word.specs.Word.{small_value}
+use Rattle.cs_classes.specs.Meaning.{count_of, count_of_kind, depth_in}
 use Rattle.cs_model.specs.Obj.{context_class}
 use Rattle.cs_frame.specs.declared.FrameRef.{FrameRef}
-use Rattle.cs_frame.specs.Frame.{Frame, nil, pushed, with_stack}
+use Rattle.cs_frame.specs.Frame.{Frame, IsPc, IsValue, nil, pushed, with_stack}
 use Rattle.cs_frame.specs.Page.{IsBase, IsFrame, IsTop, frame, frames_of, index_in, index_of, nth, on_frame, on_nth, on_page, on_top, ref_of, top, used}
 use Rattle.cs_frame.proofs.PageLaws.{frames_of-on_page, frames_of-on_page_other, length-on_page, on_page-on_page, on_page-same}
 use Rattle.cs_marriage.specs.Place.{link_word, names_place}
@@ -58,6 +61,27 @@ module _ (os : List Object) (a : ℕ) where
 
     pub stack_more : (i : ℕ) → i < depth_in (words_at os a) → take (i + 1) (stack_words os a) ≡ take i (stack_words os a) ++ slot_of os a (6 + i) ∷ []
     stack_more i h = take_more (stack_words os a) i 0 (omega (arith, h, stack_long)) ∙ ap (λ w. take i (stack_words os a) ++ w ∷ []) (stack_at i h)
+
+-- a word that is a count is odd
+pub number_pc : (w : ℕ) → IsSome (count_of w) → IsPc w
+unfolding count_of
+number_pc w some = go (w % 2 == 1) refl some
+  where
+    odd : (n : ℕ) → (n == 1) ≡ true → n ≡ 1
+    odd n h = grind (arith, nat_tests, h)
+
+    other : (b c : Bool) → is_some (count_of_kind (if b then kind.Character (w / 4) else (if c then kind.Object w else kind.Link w))) ≡ true → ⊥
+    other true c h = absurd (cc)
+    other false true h = absurd (cc)
+    other false false h = absurd (cc)
+
+    go : (b : Bool) → (w % 2 == 1) ≡ b → is_some (count_of_kind (if b then kind.Small (small_value w) else (if w % 4 == 2 then kind.Character (w / 4) else (if w % 8 == 0 then kind.Object w else kind.Link w)))) ≡ true → IsPc w
+    go true e h = inr (odd (w % 2) e)
+    go false e h = absurd (other (w % 4 == 2) (w % 8 == 0) h)
+
+-- the address of a context is no link
+pub context_value : (os : List Object) (a : ℕ) → IsContextAt os a → IsValue a
+context_value os a at e = omega (arith, e, (object_placed os a (context_there os a at)).aligned)
 
 -- ---- the only frame of a page
 

@@ -34,10 +34,10 @@ filled-more zero zero (w ∷ ws) = ap (λ (vs : List ℕ). nil ∷ vs) (sym (fil
 filled-more zero (suc n) (w ∷ ws) =
     let i : 0 + suc n ≡ suc (0 + n) = omega arith in
     let j : suc (n + 1) ≡ suc n + 1 = omega arith in
-    ap (set (nil ∷ filled 0 n ws)) i ∙ (ap (λ (vs : List ℕ). nil ∷ vs) (filled-more zero n ws) ∙ ap (λ m. filled 0 m (w ∷ ws)) j)
+    ap (λ m. set (nil ∷ filled 0 n ws) m nil) i ∙ (ap (λ (vs : List ℕ). nil ∷ vs) (filled-more zero n ws) ∙ ap (λ m. filled 0 m (w ∷ ws)) j)
 filled-more (suc k) n (w ∷ ws) =
     let i : suc k + n ≡ suc (k + n) = omega arith in
-    ap (set (w ∷ filled k n ws)) i ∙ ap (λ (vs : List ℕ). w ∷ vs) (filled-more k n ws)
+    ap (λ m. set (w ∷ filled k n ws) m nil) i ∙ ap (λ (vs : List ℕ). w ∷ vs) (filled-more k n ws)
 
 filled-front : (ws : List ℕ) → filled 0 (length ws) ws ≡ replicate (length ws) nil
 filled-front [] = refl

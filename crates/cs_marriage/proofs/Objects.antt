@@ -44,6 +44,20 @@ with_object_alike xs a f g h = go (index_of xs a) h
     go None h = refl
     go (Some k) h = at k xs h
 
+-- a change of nothing
+pub with_object_none : (xs : List Object) (a : ℕ) (f : Object → Object) → ((x : Object) → f x ≡ x) → with_object xs a f ≡ xs
+unfolding at_index
+with_object_none xs a f h = go (index_of xs a)
+  where
+    at : (k : ℕ) (ys : List Object) → at_index k f ys ≡ ys
+    at k [] = refl
+    at zero (y ∷ ys) = ap (λ (z : Object). z ∷ ys) (h y)
+    at (suc k) (y ∷ ys) = ap (λ (zs : List Object). y ∷ zs) (at k ys)
+
+    go : (o : Option ℕ) → option_map_or (λ k. at_index k f xs) o xs ≡ xs
+    go None = refl
+    go (Some k) = at k xs
+
 -- ---- what has slots is there
 
 pub counted_there : (os : List Object) (a : ℕ) → 0 < slot_count_of os a → is_object os a ≡ true
