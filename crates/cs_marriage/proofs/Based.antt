@@ -119,6 +119,18 @@ module _ (ps : List (List Frame)) (p : ℕ) (lt : p < length ps) where
   pub alone_on_top : (g : Frame) (h : Frame → Frame) → on_page (alone ps p g) p (on_top h) ≡ alone ps p (h g)
   alone_on_top g h = on_page-on_page ps p (λ _. g ∷ []) (on_top h) lt
 
+-- the base frame, part by part
+pub base_is : (os : List Object) (a : ℕ) (s pc m c b r : ℕ) → s ≡ slot_of os a 0 → pc ≡ slot_of os a 1 → m ≡ slot_of os a 3 → c ≡ slot_of os a 4 → b ≡ birth_of os a → r ≡ slot_of os a 5
+    → (record { at = 0; caller = s; saved_pc = pc; method = m; closure = c; context = a; birth = b; receiver = r; stack = stack_words os a }) ≡ base_frame os a
+base_is os a s pc m c b r es ep em ec eb er =
+    let f = base_frame os a in
+    ap (λ (n : ℕ). record f { caller = n; saved_pc = pc; method = m; closure = c; birth = b; receiver = r }) es
+    ∙ (ap (λ (n : ℕ). record f { saved_pc = n; method = m; closure = c; birth = b; receiver = r }) ep
+    ∙ (ap (λ (n : ℕ). record f { method = n; closure = c; birth = b; receiver = r }) em
+    ∙ (ap (λ (n : ℕ). record f { closure = n; birth = b; receiver = r }) ec
+    ∙ (ap (λ (n : ℕ). record f { birth = n; receiver = r }) eb
+    ∙ ap (λ (n : ℕ). record f { receiver = n }) er))))
+
 -- ---- the stack of the last frame
 
 pub used_stacked : (xs : List ℕ) (fs : List Frame) → (top fs).stack ≡ [] → used (on_top (with_stack xs) fs) ≤ used fs + length xs
