@@ -9,7 +9,7 @@ use Rattle.cs_model.specs.Obj.{context_size}
 use Rattle.cs_frame.specs.declared.FrameRef.{FrameRef}
 use Rattle.cs_frame.specs.Frame.{Frame, nil, with_context}
 use Rattle.cs_frame.specs.Page.{IsFrame, frame, frames_of, index_in, index_of, nth, on_frame, on_nth, on_page}
-use Rattle.cs_frame.proofs.PageLaws.{KeepsPlace, at-nth_index, frame-on_frame, frame-on_frame_other, frames_of-on_page, frames_of-on_page_other, index_in-on_frame, length-on_nth, length-on_page, on_page-same, page-IsFrame}
+use Rattle.cs_frame.proofs.PageLaws.{IsFrame-on_frame, KeepsPlace, at-nth_index, frame-on_frame, frame-on_frame_other, frames_of-on_page, frames_of-on_page_other, index_in-on_frame, length-on_nth, length-on_page, on_page-same, page-IsFrame}
 use Rattle.cs_marriage.specs.Place.{link_word}
 use Rattle.cs_marriage.specs.Agree.{Agree, AreMarried, FrameFits, HasContext, HasNoFrame, IsContextAt, IsMethodAt, frame_size, header_at}
 use Rattle.cs_marriage.specs.Marriage.{new_size, new_spouse}
@@ -132,7 +132,7 @@ module _ (os : List Object) (ps : List (List Frame)) (r : FrameRef) (a : ℕ) (a
   two_sizes true n e = inr e
   two_sizes false n e = inl e
 
-  context_new : IsContextAt (pushed os the_spouse) a
+  pub context_new : IsContextAt (pushed os the_spouse) a
   context_new = record {
     class = field_of-new (λ x. x.class) os the_spouse a at_spouse;
     format = field_of-new (λ x. x.format) os the_spouse a at_spouse;
@@ -162,6 +162,9 @@ module _ (os : List Object) (ps : List (List Frame)) (r : FrameRef) (a : ℕ) (a
           receiver = slot_new 5;
         };
       }
+
+  pub has_spouse : HasContext (on_frame ps r (with_context a)) a r
+  has_spouse = (IsFrame-on_frame ps r r (with_context a) (λ f. refl) is is, ap (λ (f : Frame). f.context) (frame-on_frame ps r (with_context a) (λ f. refl) is))
 
   context_apart : (q : FrameRef) → IsFrame ps q → (frame ps q).context ≢ a
   context_apart q iq = elim (cases_eq (frame ps q).context nil) [

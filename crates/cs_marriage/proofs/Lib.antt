@@ -5,3 +5,4 @@ mod Making
 pub mod Searching
 pub mod Clearing
 pub mod Based
+pub mod Laws

@@ -3,7 +3,7 @@ ghost use Rattle.std.specs.Prelude.{◌≡◌, ◌+◌, ◌<◌, ◌≤◌, ◌�
 ghost use Rattle.cs_heap.specs.Object.{next_address, size, slot_count_of, used};
 ghost use Rattle.cs_frame.specs.Frame.{nil, with_context};
 ghost use Rattle.cs_frame.specs.Page.{IsFrame, frame, on_frame};
-ghost use Rattle.cs_marriage.specs.Agree.{Agree};
+ghost use Rattle.cs_marriage.specs.Agree.{Agree, HasContext, IsContextAt};
 ghost use Rattle.cs_marriage.specs.Marriage.{married_objects, new_size, new_spouse, spouse_address};
 
 use crate::words::{link_word, size_for};
@@ -26,6 +26,8 @@ pub fn marry(heap: &mut Heap, frames: &mut Frames, f: FrameRef) -> Result<Oop, H
     ensures context { IfOk result (λ o. o.0 ≡ spouse_address heap.old.objects (frame frames.old f)) }
     ensures heap { IfOk result (λ _. heap.new ≡ record heap.old { objects = married_objects heap.old.objects f (frame frames.old f) }) }
     ensures frames { IfOk result (λ o. frames.new ≡ on_frame frames.old f (with_context o.0)) }
+    ensures stands { IfOk result (λ o. IsContextAt heap.new.objects o.0) }
+    ensures married { IfOk result (λ o. HasContext frames.new o.0 f) }
     ensures agree { Agree heap.new.objects frames.new }
 {
     let known = frames.context(f);
