@@ -1,16 +1,18 @@
 -- The laws of the agreement, for the crates above: what the calls on frames leave of it.
-use Rattle.std.proofs.Common.{◌≡◌, ◌≢◌, inl, inr, ℕ, zero, suc, ◌+◌, ◌-◌, ◌<◌, ◌≤◌, ◌^◌, Bool, true, false, List, [], ◌∷◌, ◌++◌, length, replicate, take, drop, cond, eqb, refl, ap, sym, subst, ◌∙◌, arith, length-take}
+use Rattle.std.proofs.Common.{◌≡◌, ◌≢◌, inl, inr, ℕ, zero, suc, ◌+◌, ◌-◌, ◌<◌, ◌≤◌, ◌^◌, Bool, true, false, List, [], ◌∷◌, ◌++◌, length, replicate, take, drop, cond, eqb, refl, ap, sym, subst, ◌∙◌, arith, length-append, length-take}
 use Rattle.std.specs.Prelude.{◌==◌, ◌/◌, ◌%◌, if◌then◌else◌}
 use Rattle.std.proofs.lemmas.Bool.{cases_eq, eq-eqb, ne_eqb}
 use Rattle.cs_heap.specs.Object.{Object, class_of, is_object, slot_count_of}
+use Rattle.cs_heap.proofs.Laws.{object_placed}
 use Rattle.cs_model.specs.Obj.{context_class, context_size}
 use Rattle.cs_frame.specs.declared.FrameRef.{FrameRef}
 use Rattle.cs_frame.specs.declared.NewFrame.{NewFrame}
-use Rattle.cs_frame.specs.Frame.{Frame, cut, nil}
-use Rattle.cs_frame.specs.Page.{CanCall, IsFrame, IsStacked, called, frame, frames_of, fresh, index_of, nth, on_page, rest_of, top, used}
+use Rattle.cs_frame.specs.Frame.{Frame, IsValue, cut, nil, popped, pushed}
+use Rattle.cs_frame.specs.Page.{CanCall, IsFrame, IsStacked, called, frame, frames_of, fresh, index_of, nth, on_page, on_top, rest_of, top, used}
 use Rattle.cs_frame.proofs.PageLaws.{at-nth_index, end-nth, frames_of-on_page, frames_of-on_page_other, length-on_page, length-stack_called, used-called}
 use Rattle.cs_marriage.specs.Agree.{Agree, AreMarried, FrameFits, IsMethodAt, frame_size, header_at}
 use Rattle.cs_marriage.proofs.Agreeing.{size_none, size_some}
+use Rattle.cs_marriage.proofs.Objects.{context_long, method_there}
 
 -- The frames of one page fit, each by its place.
 abbrev pub PageFits : List Object → ℕ → List Frame → Type 0
@@ -111,7 +113,7 @@ agree_dropped os ps p agree lt stacked = agree_on_page os ps p rest_of agree lt 
     go [] st fits = fits
     go (f ∷ fs) st fits = fits_below os p f fs st fits
 
-size_least : (header : ℕ) → 16 ≤ context_size header
+pub size_least : (header : ℕ) → 16 ≤ context_size header
 size_least header = go (header / 2 ^ 17 % 2 == 1)
   where
     go : (b : Bool) → 16 ≤ (if b then 56 else 16)
@@ -132,6 +134,10 @@ fits_fresh os p new at caller xs can lt long = record {
   married = λ ne. absurd (ne refl);
 }
 
+-- the address of a method may stand in a frame
+pub method_value : (os : List Object) (m : ℕ) → IsMethodAt os m → IsValue m
+method_value os m is e = omega (arith, e, (object_placed os m (method_there os m is)).aligned)
+
 -- a call
 pub agree_called : (os : List Object) (ps : List (List Frame)) (p : ℕ) (new : NewFrame) → Agree os ps → p < length ps → IsStacked (frames_of ps p)
     → used (frames_of ps p) + 66 ≤ 4096 → CanCall new.args (frames_of ps p) → NewFits os new → Agree os (on_page ps p (called new))
@@ -146,3 +152,42 @@ agree_called os ps p new agree lt stacked room can fits = agree_on_page os ps p 
         fits_above os p (fresh new (used (cut new.args f ∷ fs)) nil (drop (length f.stack - new.args) f.stack)) (cut new.args f ∷ fs)
         (fits_fresh os p new (used (cut new.args f ∷ fs)) nil (drop (length f.stack - new.args) f.stack) fits (omega (arith, short, room)) (length-stack_called new (f ∷ fs) can))
         (fits_above os p (cut new.args f) fs cut_fits (fits_below os p f fs st old))
+
+-- every frame has room for 16 values
+pub size_fits : (os : List Object) (r : FrameRef) (f : Frame) → FrameFits os r f → 16 ≤ frame_size os f
+size_fits os r f fits = elim (cases_eq f.context nil) [
+  | inl e ↦ omega (arith, size_none os f e, size_least (header_at os f.method))
+  | inr ne ↦ omega (arith, size_some os f ne, context_long os f.context (fits.married ne).context)
+]
+
+-- a value is pushed on a stack that isn't full
+pub agree_pushed : (os : List Object) (ps : List (List Frame)) (p v : ℕ) → Agree os ps → p < length ps → IsStacked (frames_of ps p)
+    → length (top (frames_of ps p)).stack < frame_size os (top (frames_of ps p)) → Agree os (on_page ps p (on_top (pushed v)))
+agree_pushed os ps p v agree lt stacked small = agree_on_page os ps p (on_top (pushed v)) agree lt (go (frames_of ps p) stacked small (page_fits os ps p agree))
+  where
+    go : (fs : List Frame) → IsStacked fs → length (top fs).stack < frame_size os (top fs) → PageFits os p fs → PageFits os p (on_top (pushed v) fs)
+    go [] st small fits = fits
+    go (f ∷ fs) st small fits =
+        fits_above os p (pushed v f) fs
+        (fits_stack os (record { page = p; at = f.at }) f (f.stack ++ v ∷ []) (omega (arith, small, length-append f.stack (v ∷ []))) (fits_top os p f fs fits))
+        (fits_below os p f fs st fits)
+
+-- the last value is popped
+pub agree_popped : (os : List Object) (ps : List (List Frame)) (p : ℕ) → Agree os ps → p < length ps → IsStacked (frames_of ps p) → Agree os (on_page ps p (on_top popped))
+agree_popped os ps p agree lt stacked = agree_on_page os ps p (on_top popped) agree lt (go (frames_of ps p) stacked (page_fits os ps p agree))
+  where
+    go : (fs : List Frame) → IsStacked fs → PageFits os p fs → PageFits os p (on_top popped fs)
+    go [] st fits = fits
+    go (f ∷ fs) st fits =
+        let under = fits_top os p f fs fits in
+        fits_above os p (popped f) fs
+        (fits_stack os (record { page = p; at = f.at }) f (take (length f.stack - 1) f.stack) (omega (arith, under.stack, length-take (length f.stack - 1) f.stack)) under)
+        (fits_below os p f fs st fits)
+
+-- the last frame of a page with frames
+pub top_fits : (os : List Object) (ps : List (List Frame)) (p : ℕ) → Agree os ps → 0 < length (frames_of ps p) → FrameFits os (record { page = p; at = (top (frames_of ps p)).at }) (top (frames_of ps p))
+top_fits os ps p agree some = go (frames_of ps p) some (page_fits os ps p agree)
+  where
+    go : (fs : List Frame) → 0 < length fs → PageFits os p fs → FrameFits os (record { page = p; at = (top fs).at }) (top fs)
+    go [] some fits = absurd (omega (arith, some))
+    go (f ∷ fs) some fits = fits_top os p f fs fits
