@@ -1,17 +1,16 @@
 -- Heap and frames go on agreeing.
-use Rattle.std.proofs.Common.{◌≡◌, ◌≢◌, ◌⊎◌, inl, inr, ℕ, zero, suc, ◌+◌, ◌-◌, ◌<◌, ◌≤◌, Bool, true, false, List, [], ◌∷◌, ◌++◌, length, replicate, cond, eqb, refl, ap, sym, subst, ◌∙◌, arith}
+use Rattle.std.proofs.Common.{◌≡◌, ◌≢◌, ◌⊎◌, inl, inr, ℕ, zero, suc, ◌+◌, ◌-◌, Bool, true, false, List, [], ◌∷◌, length, refl, ap, sym, subst, ◌∙◌, arith}
 use Rattle.std.specs.Prelude.{◌==◌, ◌/◌, ◌%◌, ◌^◌, if◌then◌else◌, slice_index}
-use Rattle.std.proofs.lemmas.Bool.{cases_Bool, cases_eq, eqb-true, eq-eqb, ne_eqb}
+use Rattle.std.proofs.lemmas.Bool.{cases_eq, eq-eqb, ne_eqb}
 use Rattle.std.proofs.lemmas.List.{length-replicate}
-use Rattle.cs_heap.specs.Object.{Object, birth_of, class_of, is_object, next_address, object_at, slot_count_of, slot_of}
+use Rattle.cs_heap.specs.Object.{Object, is_object, next_address, object_at, slot_count_of, slot_of}
 use Rattle.cs_heap.proofs.Laws.{field_of-new, field_of-old, is_object-old, no_object-next, object_at-old, object_placed, pushed}
 use Rattle.cs_model.specs.Obj.{context_size}
 use Rattle.cs_frame.specs.declared.FrameRef.{FrameRef}
 use Rattle.cs_frame.specs.Frame.{Frame, nil, with_context}
-use Rattle.cs_frame.specs.Page.{IsFrame, frame, frames_of, index_in, index_of, nth, on_frame, on_nth, on_page}
-use Rattle.cs_frame.proofs.PageLaws.{IsFrame-on_frame, KeepsPlace, at-nth_index, frame-on_frame, frame-on_frame_other, frames_of-on_page, frames_of-on_page_other, index_in-on_frame, length-on_nth, length-on_page, on_page-same, page-IsFrame}
-use Rattle.cs_marriage.specs.Place.{link_word}
-use Rattle.cs_marriage.specs.Agree.{Agree, AreMarried, FrameFits, HasContext, HasNoFrame, IsContextAt, IsMethodAt, frame_size, header_at}
+use Rattle.cs_frame.specs.Page.{IsFrame, frame, frames_of, index_in, nth, on_frame, on_nth}
+use Rattle.cs_frame.proofs.PageLaws.{IsFrame-on_frame, KeepsPlace, frame-on_frame, frame-on_frame_other, frames_of-on_page, frames_of-on_page_other, index_in-on_frame, length-on_nth, length-on_page, on_page-same, page-IsFrame}
+use Rattle.cs_marriage.specs.Agree.{Agree, AreMarried, FrameFits, HasContext, IsContextAt, frame_size, header_at}
 use Rattle.cs_marriage.specs.Marriage.{new_size, new_spouse}
 use Rattle.cs_marriage.proofs.Objects.{context_same, context_there, count_same, field_same, header_same, method_same, method_there, slot_same}
 use Rattle.cs_marriage.proofs.Places.{link_once}

@@ -1,23 +1,22 @@
 -- A single context becomes the base frame of an empty page.
-use Rattle.std.proofs.Common.{◌≡◌, ◌≢◌, ◌⊎◌, inl, inr, ℕ, zero, suc, ◌+◌, ◌-◌, ◌*◌, ◌<◌, ◌≤◌, Bool, true, false, List, [], ◌∷◌, ◌++◌, length, get_or, set, take, drop, cond, eqb, Option, Some, None, option_map, unwrap_or, refl, ap, sym, subst, ◌∙◌, arith, length-take, length-drop, get_or-set_other, get_or-set_same}
+use Rattle.std.proofs.Common.{◌≡◌, ◌≢◌, inl, inr, ℕ, suc, ◌+◌, ◌<◌, ◌≤◌, Bool, true, false, List, [], ◌∷◌, ◌++◌, length, get_or, set, take, drop, cond, Option, Some, None, unwrap_or, refl, ap, sym, subst, ◌∙◌, arith, length-take, length-drop, get_or-set_other, get_or-set_same}
 use Rattle.std.specs.Option.{option_map_or}
 use Rattle.std.specs.Prelude.{slice_index, ◌==◌, ◌/◌, ◌%◌, if◌then◌else◌, is_some, IsSome}
 use Rattle.std.proofs.lemmas.Bool.{cases_eq, eq-eqb, ne_eqb}
 use Rattle.std.proofs.lemmas.Bool.Decides.{nat_tests}
 use Rattle.std.proofs.lemmas.List.{get_or-drop, get_or-take, take_more}
-use Rattle.cs_heap.specs.Object.{Object, birth_of, class_of, field_of, format_of, is_object, object_at, set_word, slot_count_of, slot_of, with_object}
+use Rattle.cs_heap.specs.Object.{Object, birth_of, class_of, field_of, object_at, set_word, slot_count_of, slot_of, with_object}
 use Rattle.cs_heap.proofs.Laws.{KeepsCount, field_of-with_object_kept, field_of-with_object_same, is_object-with_object, object_at-with_object_other, object_placed, set_word_keeps}
 use Rattle.cs_word.specs.declared.Kind.TheVariants as kind
 use Rattle.cs_word.specs.Word.{small_value}
 use Rattle.cs_classes.specs.Meaning.{count_of, count_of_kind, depth_in}
-use Rattle.cs_model.specs.Obj.{context_class}
 use Rattle.cs_frame.specs.declared.FrameRef.{FrameRef}
 use Rattle.cs_frame.specs.Frame.{Frame, IsPc, IsValue, nil, pushed, with_stack}
 use Rattle.cs_frame.specs.Page.{IsBase, IsFrame, IsTop, frame, frames_of, index_in, index_of, nth, on_frame, on_nth, on_page, on_top, ref_of, top, used}
-use Rattle.cs_frame.proofs.PageLaws.{frames_of-on_page, frames_of-on_page_other, length-on_page, on_page-on_page, on_page-same}
+use Rattle.cs_frame.proofs.PageLaws.{frames_of-on_page, frames_of-on_page_other, length-on_page, on_page-on_page}
 use Rattle.cs_marriage.specs.Place.{link_word, names_place}
-use Rattle.cs_marriage.specs.Agree.{Agree, AreMarried, FrameFits, HasNoFrame, IsContextAt, IsMethodAt, frame_size}
-use Rattle.cs_marriage.specs.Marriage.{CanBase, base_frame, cleared, cleared_from, linked, stack_words, words_at, words_if}
+use Rattle.cs_marriage.specs.Agree.{Agree, FrameFits, HasNoFrame, IsContextAt}
+use Rattle.cs_marriage.specs.Marriage.{CanBase, base_frame, cleared, linked, stack_words, words_at, words_if}
 use Rattle.cs_marriage.proofs.Agreeing.{Stays, fits_stays, size_some}
 use Rattle.cs_marriage.proofs.Clearing.{cleared_keeps, get_or-cleared}
 use Rattle.cs_marriage.proofs.Objects.{context_long, context_there, method_apart, method_same, method_there}
@@ -271,7 +270,7 @@ module _ (os : List Object) (ps : List (List Frame)) (a p : ℕ) (agree : Agree 
           let old : IsFrame ps r = subst (λ (fs : List Frame). index_of fs r.at < length fs) same is in
           subst (λ (fs : List Frame). FrameFits the_objects r (nth fs (index_of fs r.at))) (sym same)
           (fits_stays os the_objects a (others_stay os a (linked the_place) (linked_keeps the_place)) r (frame ps r)
-            (method_apart os (frame ps r).method a (agree.frames r old).method can.context.format) (none r old) (agree.frames r old))
+          (method_apart os (frame ps r).method a (agree.frames r old).method can.context.format) (none r old) (agree.frames r old))
 
   pub agree_based : Agree (with_object os a (linked (record { page = p; at = 0 }))) (alone ps p (base_frame os a))
   agree_based =

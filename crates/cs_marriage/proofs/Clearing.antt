@@ -1,10 +1,9 @@
 -- Words that are set to nil one after another.
-use Rattle.std.proofs.Common.{◌≡◌, ℕ, zero, suc, ◌+◌, ◌-◌, ◌<◌, ◌≤◌, List, [], ◌∷◌, ◌++◌, length, get_or, set, take, replicate, refl, ap, sym, ◌∙◌, arith, length-append, length-take}
-use Rattle.std.proofs.lemmas.List.{length-replicate}
+use Rattle.std.proofs.Common.{◌≡◌, ℕ, zero, suc, ◌+◌, ◌-◌, ◌<◌, List, [], ◌∷◌, ◌++◌, length, get_or, set, take, replicate, refl, ap, sym, ◌∙◌, arith}
 use Rattle.cs_heap.specs.Object.{Object}
-use Rattle.cs_heap.proofs.Laws.{KeepsCount, set_word_keeps}
+use Rattle.cs_heap.proofs.Laws.{KeepsCount}
 use Rattle.cs_frame.specs.Frame.{nil}
-use Rattle.cs_marriage.specs.Marriage.{cleared, cleared_from, linked}
+use Rattle.cs_marriage.specs.Marriage.{cleared, cleared_from}
 
 -- the first k words are kept, and the next n are nil
 abbrev pub filled : ℕ → ℕ → List ℕ → List ℕ

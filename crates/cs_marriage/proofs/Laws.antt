@@ -1,16 +1,16 @@
 -- The laws of the agreement, for the crates above: what the calls on frames leave of it.
-use Rattle.std.proofs.Common.{◌≡◌, ◌≢◌, inl, inr, ℕ, zero, suc, ◌+◌, ◌-◌, ◌<◌, ◌≤◌, ◌^◌, Bool, true, false, List, [], ◌∷◌, ◌++◌, length, replicate, take, drop, cond, eqb, refl, ap, sym, subst, ◌∙◌, arith, length-append, length-take}
+use Rattle.std.proofs.Common.{◌≡◌, ◌≢◌, inl, inr, ℕ, zero, suc, ◌+◌, ◌-◌, ◌<◌, ◌≤◌, ◌^◌, Bool, true, false, List, [], ◌∷◌, ◌++◌, length, replicate, take, drop, cond, refl, ap, sym, subst, ◌∙◌, arith, length-append, length-take}
 use Rattle.std.specs.Prelude.{◌==◌, ◌/◌, ◌%◌, if◌then◌else◌}
 use Rattle.std.proofs.lemmas.Bool.{cases_eq, eq-eqb, ne_eqb}
-use Rattle.cs_heap.specs.Object.{Object, class_of, is_object, slot_count_of}
+use Rattle.cs_heap.specs.Object.{Object, class_of, is_object}
 use Rattle.cs_heap.proofs.Laws.{object_placed}
 use Rattle.cs_model.specs.Obj.{context_class, context_size}
 use Rattle.cs_frame.specs.declared.FrameRef.{FrameRef}
 use Rattle.cs_frame.specs.declared.NewFrame.{NewFrame}
 use Rattle.cs_frame.specs.Frame.{Frame, IsValue, cut, nil, popped, pushed}
 use Rattle.cs_frame.specs.Page.{CanCall, IsFrame, IsStacked, called, frame, frames_of, fresh, index_of, nth, on_page, on_top, rest_of, top, used}
-use Rattle.cs_frame.proofs.PageLaws.{at-nth_index, end-nth, frames_of-on_page, frames_of-on_page_other, length-on_page, length-stack_called, used-called}
-use Rattle.cs_marriage.specs.Agree.{Agree, AreMarried, FrameFits, IsMethodAt, frame_size, header_at}
+use Rattle.cs_frame.proofs.PageLaws.{at-nth_index, end-nth, frames_of-on_page, frames_of-on_page_other, length-on_page, length-stack_called}
+use Rattle.cs_marriage.specs.Agree.{Agree, FrameFits, IsMethodAt, frame_size, header_at}
 use Rattle.cs_marriage.proofs.Agreeing.{size_none, size_some}
 use Rattle.cs_marriage.proofs.Objects.{context_long, method_there}
 

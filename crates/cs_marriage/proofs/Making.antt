@@ -1,5 +1,5 @@
 -- A new context is written.
-use Rattle.std.proofs.Common.{◌≡◌, ℕ, ◌+◌, Bool, true, false, List, [], ◌∷◌, ◌++◌, length, replicate, refl, ap, sym, ◌∙◌}
+use Rattle.std.proofs.Common.{◌≡◌, ℕ, ◌+◌, Bool, true, false, List, ◌∷◌, length, replicate, refl, ap, ◌∙◌}
 use Rattle.std.specs.Prelude.{slice_set, if◌then◌else◌, ◌==◌, ◌/◌, ◌%◌, ◌^◌}
 use Rattle.cs_heap.specs.Object.{Object, new_object, next_address, no_flags, set_word, slot_count_of, with_slot}
 use Rattle.cs_heap.proofs.Laws.{field_of-new, length-new_words, next_address-new, next_address-set_word, pushed, with_slot-new}

@@ -1,8 +1,8 @@
 -- What a context or a method is read as, while objects are added or others change.
-use Rattle.std.proofs.Common.{◌≡◌, ◌≢◌, inl, inr, ℕ, zero, suc, ◌+◌, ◌-◌, ◌<◌, ◌≤◌, Bool, true, false, List, [], ◌∷◌, ◌++◌, length, Option, Some, None, option_map, option_and_then, is_some, refl, ap, sym, subst, ◌∙◌, arith}
+use Rattle.std.proofs.Common.{◌≡◌, ◌≢◌, inl, inr, ℕ, zero, suc, ◌<◌, ◌≤◌, true, List, [], ◌∷◌, length, Option, Some, None, option_and_then, is_some, refl, ap, sym, ◌∙◌, arith}
 use Rattle.std.specs.Prelude.{slice_get, slice_index, unwrap_or}
 use Rattle.std.specs.Option.{option_map_or}
-use Rattle.cs_heap.specs.Object.{Object, at_index, class_of, field_of, format_of, index_of, is_object, object_at, slot_count_of, slot_of, with_object}
+use Rattle.cs_heap.specs.Object.{Object, at_index, field_of, format_of, index_of, is_object, object_at, slot_count_of, slot_of, with_object}
 use Rattle.cs_heap.specs.Format.{is_method}
 use Rattle.cs_heap.proofs.Places.{has_number}
 use Rattle.cs_heap.proofs.Laws.{KeepsCount, index_of-with_object}

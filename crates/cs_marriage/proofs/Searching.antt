@@ -1,15 +1,14 @@
 -- The walk down a page in search of a context.
-use Rattle.std.proofs.Common.{◌≡◌, ◌≢◌, ◌⊎◌, ◌↔◌, inl, inr, ℕ, zero, suc, ◌+◌, ◌-◌, ◌<◌, ◌≤◌, Bool, true, false, not, eqb, List, [], ◌∷◌, length, get_or, Option, Some, None, IfSome, IsNone, refl, ap, sym, subst, ◌∙◌, arith}
-use Rattle.std.proofs.lemmas.Bool.{cases_Bool, cases_eq}
+use Rattle.std.proofs.Common.{◌≡◌, ◌≢◌, ◌↔◌, inl, inr, ℕ, zero, suc, ◌-◌, ◌<◌, ◌≤◌, true, false, List, [], ◌∷◌, length, Option, Some, None, IfSome, IsNone, refl, ap, sym, subst, ◌∙◌, arith}
+use Rattle.std.proofs.lemmas.Bool.{cases_eq}
 use Rattle.cs_heap.specs.Object.{Object, class_of, slot_of}
 use Rattle.cs_frame.specs.declared.FrameRef.{FrameRef}
 use Rattle.cs_frame.specs.Frame.{Frame, nil}
-use Rattle.cs_frame.specs.Page.{IsBase, IsFrame, IsStacked, IsTop, caller_of, frame, frames_of, index_in, index_of, nth, ref_of, top}
+use Rattle.cs_frame.specs.Page.{IsBase, IsFrame, IsStacked, IsTop, caller_of, frame, frames_of, index_in, nth, ref_of, top}
 use Rattle.cs_frame.proofs.PageLaws.{IsTop-is_frame, index_of-nth}
-use Rattle.cs_marriage.specs.Agree.{Agree, HasContext, HasNoFrame, IsContextAt, IsSpouse, IsWidowed}
+use Rattle.cs_marriage.specs.Agree.{Agree, HasContext, HasNoFrame, IsContextAt, IsSpouse}
 use Rattle.cs_marriage.specs.Marriage.{PageLacks}
 use Rattle.cs_marriage.specs.Place.{link_word, names_place, page_named}
-use Rattle.cs_marriage.specs.declared.state.Spouse.{Spouse}
 use Rattle.cs_marriage.specs.declared.state.Spouse.TheVariants as spouse
 use Rattle.cs_marriage.proofs.Agreeing.{one_frame}
 use Rattle.cs_marriage.proofs.Places.{link_names, link_page}
@@ -68,12 +67,14 @@ module _ (ps : List (List Frame)) (p a : ℕ) (r : FrameRef) (stacked : IsStacke
       let lt = more (λ b. let never : IsNone (Some g) = base.1 b in cc) in
       let i = next_index g is lt in
       let page : g.page ≡ r.page = ap (λ (q : FrameRef). q.page) is in
-      let long = ap (λ (q : ℕ). length (frames_of ps q)) page in
-      (record {
-        page = page ∙ at.page;
-        is = omega (arith, i, lt, long);
-        above = λ k less. with_this k (omega (arith, less, i));
-      }, omega (arith, i, lt, long))
+      let long = ap (λ (q : ℕ). length (frames_of ps q)) page in (
+        record {
+          page = page ∙ at.page;
+          is = omega (arith, i, lt, long);
+          above = λ k less. with_this k (omega (arith, less, i));
+        },
+        omega (arith, i, lt, long),
+      )
 
 -- ---- what was found is exact
 

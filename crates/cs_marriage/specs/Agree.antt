@@ -1,5 +1,5 @@
 -- When heap and frames agree: what a frame has for a context, and what a context has for a frame.
-use Rattle.std.specs.Prelude.{◌≡◌, ◌≢◌, ◌⊎◌, ◌↔◌, ℕ, ◌+◌, ◌-◌, ◌<◌, ◌≤◌, ◌==◌, true, false, if◌then◌else◌, List, length, unwrap_or}
+use Rattle.std.specs.Prelude.{◌≡◌, ◌≢◌, ◌⊎◌, ◌↔◌, ℕ, ◌-◌, ◌<◌, ◌≤◌, ◌==◌, true, false, if◌then◌else◌, List, length, unwrap_or}
 use Rattle.cs_heap.specs.Object.{Object, birth_of, class_of, format_of, is_object, slot_count_of, slot_of}
 use Rattle.cs_heap.specs.Format.{is_method}
 use Rattle.cs_classes.specs.Meaning.{count_of}

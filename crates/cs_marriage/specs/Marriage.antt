@@ -1,5 +1,5 @@
 -- What the calls make of heap and frames.
-use Rattle.std.specs.Prelude.{◌≡◌, ◌≢◌, ℕ, pos, ◌+◌, ◌-◌, ◌<◌, ◌≤◌, ◌^◌, ◌==◌, false, if◌then◌else◌, List, [], ◌∷◌, ◌++◌, Option, Some, None, IsSome, length, take, drop, replicate, slice_index, unwrap_or}
+use Rattle.std.specs.Prelude.{◌≡◌, ◌≢◌, ℕ, pos, ◌+◌, ◌-◌, ◌<◌, ◌≤◌, ◌^◌, ◌==◌, false, if◌then◌else◌, List, [], ◌∷◌, ◌++◌, Option, Some, None, IsSome, length, take, drop, replicate, unwrap_or}
 use Rattle.cs_word.specs.Word.{small_word}
 use Rattle.cs_heap.specs.Object.{Object, birth_of, next_address, no_flags, object_at, set_word, slot_count_of, slot_of, with_slot}
 use Rattle.cs_classes.specs.Meaning.{count_of, depth_in}

@@ -20,12 +20,11 @@ mod state;
 mod words;
 
 pub use basing::{base, bury};
+use cs_heap::BASE;
+use cs_word::Oop;
 pub use marrying::marry;
 pub use search::spouse;
 pub use state::Spouse;
-
-use cs_heap::BASE;
-use cs_word::Oop;
 
 /// The class index of contexts.
 const CONTEXT: u32 = 36;

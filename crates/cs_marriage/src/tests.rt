@@ -19,9 +19,7 @@ fn begin(rt: &impl Abort, heap: &mut Heap) -> Oop
     ensures class { class_of heap.new.objects 65536 ≢ 36 }
 {
     heap.allocate(11, 0, 0, 1).expect(rt, "room for nil");
-    let method = heap
-        .allocate(43, 24, 2, 2)
-        .expect(rt, "room for a method");
+    let method = heap.allocate(43, 24, 2, 2).expect(rt, "room for a method");
     assert!(rt; heap.is_object(NIL));
     assert!(rt; heap.class_index(NIL) != 36);
     method

@@ -1,4 +1,4 @@
-use Rattle.std.proofs.Common.{◌≡◌, List, ap, sym, subst, ◌∙◌}
+use Rattle.std.proofs.Common.{◌≡◌, ap, sym, subst, ◌∙◌}
 use Rattle.cs_heap.specs.Object.{Memory, with_object}
 use Rattle.cs_frame.specs.declared.FrameRef.{FrameRef}
 use Rattle.cs_marriage.specs.Agree.{Agree}
@@ -14,7 +14,7 @@ returns-clause-agree c =
     let p = c.args.page in
     let r : FrameRef = c.build_base-f.result in
     let place : (record { page = p; at = 0 }) ≡ r =
-        sym (ap (λ n. record { page = n; at = r.at }) c.build_base-f.ensures.page ∙ ap (λ n. record { page = p; at = n }) c.build_base-f.ensures.at) in
+    sym (ap (λ n. record { page = n; at = r.at }) c.build_base-f.ensures.page ∙ ap (λ n. record { page = p; at = n }) c.build_base-f.ensures.at) in
     subst (Agree c.vacate.new.heap.objects) (sym c.build_base-f.ensures.frames)
     (subst (λ (h : Memory). Agree h.objects (alone ps p (base_frame os a))) (sym c.vacate.ensures.heap)
     (subst (λ (q : FrameRef). Agree (with_object os a (linked q)) (alone ps p (base_frame os a))) place

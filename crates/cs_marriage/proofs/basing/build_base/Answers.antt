@@ -1,5 +1,4 @@
-use Rattle.std.proofs.Common.{◌≡◌, ℕ, ◌+◌, ◌<◌, List, [], ◌∷◌, ap, set, sym, subst, IsSome, ◌∙◌, arith}
-use Rattle.cs_heap.specs.Object.{slot_of}
+use Rattle.std.proofs.Common.{◌≡◌, ℕ, List, [], ap, set, sym, subst, IsSome, ◌∙◌}
 use Rattle.cs_classes.specs.Meaning.{count_of}
 use Rattle.cs_frame.specs.declared.FrameRef.{FrameRef}
 use Rattle.cs_frame.specs.declared.NewFrame.{NewFrame}
@@ -33,15 +32,15 @@ returns-clause-frames c =
     let married : Frame = with_context a live in
     let built : c.build-f.new.self ≡ alone ps p bare = c.build-f.ensures.made ∙ ap (λ (fs : List Frame). set ps p (called new fs)) c.requires.empty in
     let at : r ≡ ref_of p bare =
-        c.build-f.ensures.frame ∙ (ap (λ (qs : List (List Frame)). ref_of p (top (frames_of qs p))) built ∙ ap (λ (fs : List Frame). ref_of p (top fs)) (alone_frames ps p lt bare)) in
+    c.build-f.ensures.frame ∙ (ap (λ (qs : List (List Frame)). ref_of p (top (frames_of qs p))) built ∙ ap (λ (fs : List Frame). ref_of p (top fs)) (alone_frames ps p lt bare)) in
     let changed : (g : Frame) (h : Frame → Frame) → g.at ≡ 0 → on_frame (alone ps p g) r h ≡ alone ps p (h g) =
-        λ g h z. ap (λ (q : FrameRef). on_frame (alone ps p g) q h) (at ∙ ap (λ (n : ℕ). record { page = p; at = n }) (sym z)) ∙ alone_on_frame ps p lt g h in
+    λ g h z. ap (λ (q : FrameRef). on_frame (alone ps p g) q h) (at ∙ ap (λ (n : ℕ). record { page = p; at = n }) (sym z)) ∙ alone_on_frame ps p lt g h in
     let one : c.set_sender.new.self ≡ alone ps p sent =
-        c.set_sender.ensures.sender ∙ (ap (λ (qs : List (List Frame)). on_frame qs r (with_caller sender)) built ∙ changed bare (with_caller sender) (λ _. 0)) in
+    c.set_sender.ensures.sender ∙ (ap (λ (qs : List (List Frame)). on_frame qs r (with_caller sender)) built ∙ changed bare (with_caller sender) (λ _. 0)) in
     let two : c.set_saved_pc.new.self ≡ alone ps p live =
-        c.set_saved_pc.ensures.saved_pc ∙ (ap (λ (qs : List (List Frame)). on_frame qs r (with_saved_pc pc)) one ∙ changed sent (with_saved_pc pc) (λ _. 0)) in
+    c.set_saved_pc.ensures.saved_pc ∙ (ap (λ (qs : List (List Frame)). on_frame qs r (with_saved_pc pc)) one ∙ changed sent (with_saved_pc pc) (λ _. 0)) in
     let three : c.set_context.new.self ≡ alone ps p married =
-        c.set_context.ensures.context ∙ (ap (λ (qs : List (List Frame)). on_frame qs r (with_context a)) two ∙ changed live (with_context a) (λ _. 0)) in
+    c.set_context.ensures.context ∙ (ap (λ (qs : List (List Frame)). on_frame qs r (with_context a)) two ∙ changed live (with_context a) (λ _. 0)) in
     c.copy_stack.ensures.copied
     ∙ ap (λ (q : FrameRef). on_page c.set_context.new.self q.page (on_top (with_stack xs))) at
     ∙ ap (λ (qs : List (List Frame)). on_page qs p (on_top (with_stack xs))) three

@@ -1,4 +1,4 @@
-use Rattle.std.proofs.Common.{◌≡◌, ◌∙◌, ap, sym, subst, refl, List}
+use Rattle.std.proofs.Common.{◌≡◌, ◌∙◌, ap, sym, subst, List}
 use Rattle.cs_heap.specs.Object.{Memory, Object, set_word, with_object, with_slot}
 use Rattle.cs_heap.proofs.Laws.{set_word_keeps}
 use Rattle.cs_marriage.specs.Agree.{Agree}
@@ -15,12 +15,12 @@ returns-clause-agree c =
     let two : Object → Object = λ x. set_word 1 65536 (one x) in
     let three : Object → Object = λ x. set_word 2 1 (two x) in
     let written : c.set_slot-3.new.self.objects ≡ with_slot (with_slot (with_slot os a 0 65536) a 1 65536) a 2 1 =
-        ap (λ (h : Memory). h.objects) (c.set_slot-3.ensures
-        ∙ ap (λ (h : Memory). record h { objects = with_slot h.objects a 2 1 }) (c.set_slot-2.ensures
-        ∙ ap (λ (h : Memory). record h { objects = with_slot h.objects a 1 65536 }) c.set_slot.ensures)) in
+    ap (λ (h : Memory). h.objects) (c.set_slot-3.ensures
+    ∙ ap (λ (h : Memory). record h { objects = with_slot h.objects a 2 1 }) (c.set_slot-2.ensures
+    ∙ ap (λ (h : Memory). record h { objects = with_slot h.objects a 1 65536 }) c.set_slot.ensures)) in
     let whole : c.set_slot-3.new.self.objects ≡ with_object os a three =
-        written
-        ∙ (ap (λ (xs : List Object). with_slot xs a 2 1) (with_object_twice os a one (set_word 1 65536) (set_word_keeps 0 65536))
-        ∙ with_object_twice os a two (set_word 2 1) (λ x. set_word_keeps 1 65536 (one x) ∙ set_word_keeps 0 65536 x)) in
+    written
+    ∙ (ap (λ (xs : List Object). with_slot xs a 2 1) (with_object_twice os a one (set_word 1 65536) (set_word_keeps 0 65536))
+    ∙ with_object_twice os a two (set_word 2 1) (λ x. set_word_keeps 1 65536 (one x) ∙ set_word_keeps 0 65536 x)) in
     subst (λ (xs : List Object). Agree xs c.args.frames.now) (sym whole)
     (agree_changed os a three (λ x. set_word_keeps 2 1 (two x) ∙ (set_word_keeps 1 65536 (one x) ∙ set_word_keeps 0 65536 x)) c.args.frames.now c.requires.agree c.requires.context c.requires.widowed.alone)

@@ -1,5 +1,4 @@
-use Rattle.std.proofs.Common.{◌≡◌, ℕ, ◌+◌, ◌<◌, List, [], ◌∷◌, ◌++◌, take, unwrap_or, ap, sym, ◌∙◌, arith}
-use Rattle.cs_heap.specs.Object.{slot_of}
+use Rattle.std.proofs.Common.{◌≡◌, ℕ, ◌<◌, List, [], ◌∷◌, ◌++◌, take, unwrap_or, ap, sym, ◌∙◌, arith}
 use Rattle.cs_classes.specs.Meaning.{count_of, depth_in}
 use Rattle.cs_frame.specs.Frame.{Frame, pushed, with_stack}
 use Rattle.cs_frame.specs.Page.{frames_of, on_page, on_top}

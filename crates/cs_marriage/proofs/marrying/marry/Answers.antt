@@ -1,11 +1,9 @@
-use Rattle.std.proofs.Common.{◌≡◌, ◌+◌, ◌*◌, ℕ, List, ap, sym, subst, ◌∙◌, arith}
-use Rattle.cs_heap.specs.Object.{Memory, Object, base, is_object}
-use Rattle.cs_heap.proofs.Laws.{is_object-new, object_placed}
+use Rattle.std.proofs.Common.{◌≡◌, List, sym, subst, ◌∙◌, arith}
+use Rattle.cs_heap.specs.Object.{Memory}
 use Rattle.cs_frame.specs.Frame.{Frame, with_context}
 use Rattle.cs_frame.specs.Page.{frame, on_frame}
 use Rattle.cs_marriage.proofs.Places.{not_apart}
 use Rattle.cs_marriage.specs.Agree.{Agree, HasContext, IsContextAt}
-use Rattle.cs_marriage.specs.Marriage.{new_size}
 use Rattle.cs_marriage.proofs.Agreeing.{agree_married, context_again, context_new, has_spouse, new_aligned}
 use Rattle.cs_marriage.proofs.marrying.marry.Goals as goal
 

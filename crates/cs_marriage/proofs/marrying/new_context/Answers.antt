@@ -1,4 +1,4 @@
-use Rattle.std.proofs.Common.{◌≡◌, ◌+◌, ◌<◌, ◌∷◌, ℕ, List, ap, sym, subst, ◌∙◌, arith}
+use Rattle.std.proofs.Common.{◌≡◌, ℕ, List, ap, ◌∙◌, arith}
 use Rattle.cs_heap.specs.Object.{Memory, Object, slot_count_of, with_slot}
 use Rattle.cs_heap.proofs.Laws.{pushed, slot_count_of-with_slot}
 use Rattle.cs_model.specs.Obj.{context_size}
@@ -56,4 +56,4 @@ returns-clause-added c =
     ∙ ap (λ (h : Memory). record h { objects = with_slot h.objects a 0 c.link_word.result.0 }) c.in_ok-made.ensures.added)))
     ∙ ap (λ (xs : List Object). record m { objects = xs }) (written os size c.birth.result a c.in_ok-made.ensures.address c.link_word.result.0 c.method-method.result.0 c.closure.result.0 c.receiver.result.0)
     ∙ ap (λ (y : Object). record m { objects = pushed os y }) (spouse_written os c.args.f f size c.birth.result c.link_word.result.0 c.method-method.result.0 c.closure.result.0 c.receiver.result.0
-        sized c.birth.ensures.birth c.link_word.ensures c.method-method.ensures.method c.closure.ensures.closure c.receiver.ensures.receiver)
+    sized c.birth.ensures.birth c.link_word.ensures c.method-method.ensures.method c.closure.ensures.closure c.receiver.ensures.receiver)

@@ -1,4 +1,4 @@
-use Rattle.std.proofs.Common.{◌≡◌, ◌≢◌, ◌<◌, ap, sym, subst, ◌∙◌, Option}
+use Rattle.std.proofs.Common.{◌≢◌, ◌<◌, sym, subst, ◌∙◌, Option}
 use Rattle.cs_frame.specs.declared.FrameRef.{FrameRef}
 use Rattle.cs_frame.specs.Page.{frame}
 use Rattle.cs_marriage.proofs.Places.{apart}

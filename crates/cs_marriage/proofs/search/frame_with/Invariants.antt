@@ -1,4 +1,3 @@
-use Rattle.std.proofs.Common.{ℕ, ◌<◌, length}
 use Rattle.cs_frame.specs.Page.{IsStacked, frames_of}
 use Rattle.cs_marriage.proofs.Searching.{Walked, left}
 use Rattle.cs_marriage.proofs.search.frame_with.Given as goal

@@ -1,4 +1,4 @@
-use Rattle.std.proofs.Common.{◌≡◌, sym, subst}
+use Rattle.std.proofs.Common.{sym, subst}
 use Rattle.cs_marriage.specs.Agree.{Agree}
 use Rattle.cs_marriage.proofs.Laws.{agree_dropped}
 use Rattle.cs_marriage.proofs.tests.leave.Goals as goal

@@ -1,4 +1,4 @@
-use Rattle.std.proofs.Common.{◌≡◌, ◌<◌, length, ap, sym, subst, arith, ◌∙◌}
+use Rattle.std.proofs.Common.{◌<◌, length, ap, sym, subst, arith, ◌∙◌}
 use Rattle.cs_frame.specs.Frame.{pushed}
 use Rattle.cs_frame.specs.Page.{frames_of, on_page, on_top, top}
 use Rattle.cs_marriage.specs.Agree.{Agree}
