@@ -12,7 +12,7 @@ use Rattle.cs_frame.specs.Page.{IsFrame, frame, frames_of, index_in, nth, on_fra
 use Rattle.cs_frame.proofs.PageLaws.{IsFrame-on_frame, KeepsPlace, frame-on_frame, frame-on_frame_other, frames_of-on_page, frames_of-on_page_other, index_in-on_frame, length-on_nth, length-on_page, on_page-same, page-IsFrame}
 use Rattle.cs_marriage.specs.Agree.{Agree, AreMarried, FrameFits, HasContext, IsContextAt, frame_size, header_at}
 use Rattle.cs_marriage.specs.Marriage.{new_size, new_spouse}
-use Rattle.cs_marriage.proofs.Objects.{context_same, context_there, count_same, field_same, header_same, method_same, method_there, slot_same}
+use Rattle.cs_marriage.proofs.Objects.{LikeContext, LikeMethod, context_like, context_same, context_there, header_same, method_like, method_same, method_there}
 use Rattle.cs_marriage.proofs.Places.{link_once}
 
 -- ---- what a frame says of the heap stands while other objects change
@@ -27,35 +27,38 @@ size_none os f e = ap (λ b. if b then context_size (header_at os f.method) else
 pub size_some : (os : List Object) (f : Frame) → f.context ≢ nil → frame_size os f ≡ slot_count_of os f.context - 6
 size_some os f ne = ap (λ b. if b then context_size (header_at os f.method) else slot_count_of os f.context - 6) (ne_eqb f.context nil ne)
 
-module _ (os ws : List Object) (a : ℕ) (stays : Stays os ws a) where
-  married_stays : (r : FrameRef) (f : Frame) → f.context ≢ a → AreMarried os r f → AreMarried ws r f
-  married_stays r f apart m =
-      let same = stays f.context (context_there os f.context m.context) apart in
+-- what a frame says of the heap stands where its method and its context are read the same
+module _ (os ws : List Object) (r : FrameRef) (f : Frame) (method : LikeMethod os ws f.method) (context : f.context ≢ nil → LikeContext os ws f.context) where
+  married_like : (ne : f.context ≢ nil) → AreMarried os r f → AreMarried ws r f
+  married_like ne m =
+      let like = context ne in
       record {
-        context = context_same os ws f.context same m.context;
-        birth = field_same os ws f.context same (λ x. x.birth) ∙ m.birth;
-        place = slot_same os ws f.context same 0 ∙ m.place;
-        method = slot_same os ws f.context same 3 ∙ m.method;
-        closure = slot_same os ws f.context same 4 ∙ m.closure;
-        receiver = slot_same os ws f.context same 5 ∙ m.receiver;
+        context = context_same os ws f.context like m.context;
+        birth = like.birth ∙ m.birth;
+        place = like.place ∙ m.place;
+        method = like.method ∙ m.method;
+        closure = like.closure ∙ m.closure;
+        receiver = like.receiver ∙ m.receiver;
       }
 
-  size_stays : (r : FrameRef) (f : Frame) → f.method ≢ a → f.context ≢ a → FrameFits os r f → frame_size ws f ≡ frame_size os f
-  size_stays r f other apart fits = elim (cases_eq f.context nil) [
-    | inl e ↦ size_none ws f e ∙ ap context_size (header_same os ws f.method (stays f.method (method_there os f.method fits.method) other)) ∙ sym (size_none os f e)
-    | inr ne ↦
-        size_some ws f ne
-        ∙ ap (λ n. n - 6) (count_same os ws f.context (stays f.context (context_there os f.context (fits.married ne).context) apart))
-        ∙ sym (size_some os f ne)
+  size_like : frame_size ws f ≡ frame_size os f
+  size_like = elim (cases_eq f.context nil) [
+    | inl e ↦ size_none ws f e ∙ ap context_size (header_same os ws f.method method) ∙ sym (size_none os f e)
+    | inr ne ↦ size_some ws f ne ∙ ap (λ n. n - 6) (context ne).count ∙ sym (size_some os f ne)
   ]
 
-  pub fits_stays : (r : FrameRef) (f : Frame) → f.method ≢ a → f.context ≢ a → FrameFits os r f → FrameFits ws r f
-  fits_stays r f other apart fits = record {
+  pub fits_like : FrameFits os r f → FrameFits ws r f
+  fits_like fits = record {
     within = fits.within;
-    method = method_same os ws f.method (stays f.method (method_there os f.method fits.method) other) fits.method;
-    stack = omega (arith, fits.stack, size_stays r f other apart fits);
-    married = λ ne. married_stays r f apart (fits.married ne);
+    method = method_same os ws f.method method fits.method;
+    stack = omega (arith, fits.stack, size_like);
+    married = λ ne. married_like ne (fits.married ne);
   }
+
+pub fits_stays : (os ws : List Object) (a : ℕ) → Stays os ws a → (r : FrameRef) (f : Frame) → f.method ≢ a → f.context ≢ a → FrameFits os r f → FrameFits ws r f
+fits_stays os ws a stays r f other apart fits =
+    fits_like os ws r f (method_like os ws f.method (stays f.method (method_there os f.method fits.method) other))
+    (λ ne. context_like os ws f.context (stays f.context (context_there os f.context (fits.married ne).context) apart)) fits
 
 -- ---- frames
 
@@ -84,7 +87,7 @@ length-on_frame ps r q g is = elim (cases_eq q.page r.page) [
   | inr ne ↦ ap length (frames_of-on_page_other ps r.page q.page (on_nth (index_in ps r) g) ne)
 ]
 
-frame_back : (ps : List (List Frame)) (r q : FrameRef) (g : Frame → Frame) → KeepsPlace g → IsFrame ps r → IsFrame (on_frame ps r g) q → IsFrame ps q
+pub frame_back : (ps : List (List Frame)) (r q : FrameRef) (g : Frame → Frame) → KeepsPlace g → IsFrame ps r → IsFrame (on_frame ps r g) q → IsFrame ps q
 frame_back ps r q g keeps is iq = omega (arith, iq, index_in-on_frame ps r q g keeps is, length-on_frame ps r q g is)
 
 on_nth-same : (k : ℕ) (g : Frame → Frame) (fs : List Frame) → g (nth fs k) ≡ nth fs k → on_nth k g fs ≡ fs
@@ -150,7 +153,7 @@ module _ (os : List Object) (ps : List (List Frame)) (r : FrameRef) (a : ℕ) (a
       let old = agree.frames r is in
       record {
         within = old.within;
-        method = method_same os (pushed os the_spouse) the_frame.method (stays the_frame.method (method_there os the_frame.method old.method) (apart the_frame.method (method_there os the_frame.method old.method))) old.method;
+        method = method_same os (pushed os the_spouse) the_frame.method (method_like os (pushed os the_spouse) the_frame.method (stays the_frame.method (method_there os the_frame.method old.method) (apart the_frame.method (method_there os the_frame.method old.method)))) old.method;
         stack = omega (arith, old.stack, size_none os the_frame none, size_some (pushed os the_spouse) (with_context a the_frame) some, count_new);
         married = λ ne. record {
           context = context_new;

@@ -19,7 +19,7 @@ use Rattle.cs_marriage.specs.Agree.{Agree, FrameFits, HasNoFrame, IsContextAt}
 use Rattle.cs_marriage.specs.Marriage.{CanBase, base_frame, cleared, linked, stack_words, words_at, words_if}
 use Rattle.cs_marriage.proofs.Agreeing.{Stays, fits_stays, size_some}
 use Rattle.cs_marriage.proofs.Clearing.{cleared_keeps, get_or-cleared}
-use Rattle.cs_marriage.proofs.Objects.{context_long, context_there, method_apart, method_same, method_there}
+use Rattle.cs_marriage.proofs.Objects.{context_long, context_there, method_apart, method_like, method_same, method_there}
 use Rattle.cs_marriage.proofs.Places.{link_names}
 
 -- ---- what is read of a context, by its words
@@ -230,8 +230,8 @@ module _ (os : List Object) (ps : List (List Frame)) (a p : ℕ) (agree : Agree 
   fits_base : FrameFits the_objects the_place (base_frame os a)
   fits_base = record {
     within = omega arith;
-    method = method_same os the_objects (slot_of os a 3) (others_stay os a (linked the_place) (linked_keeps the_place) (slot_of os a 3)
-        (method_there os (slot_of os a 3) can.method) (method_apart os (slot_of os a 3) a can.method can.context.format)) can.method;
+    method = method_same os the_objects (slot_of os a 3) (method_like os the_objects (slot_of os a 3) (others_stay os a (linked the_place) (linked_keeps the_place) (slot_of os a 3)
+        (method_there os (slot_of os a 3) can.method) (method_apart os (slot_of os a 3) a can.method can.context.format))) can.method;
     stack = omega (arith, stack_long os a can, deep os a can, size_some the_objects (base_frame os a) not_nil, count_linked);
     married = λ ne. record {
       context = context_kept os a (linked the_place) (linked_keeps the_place) (λ x. refl) (λ x. refl) can.context;

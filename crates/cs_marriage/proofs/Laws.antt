@@ -2,17 +2,20 @@
 use Rattle.std.proofs.Common.{◌≡◌, ◌≢◌, inl, inr, ℕ, zero, suc, ◌+◌, ◌-◌, ◌<◌, ◌≤◌, ◌^◌, Bool, true, false, List, [], ◌∷◌, ◌++◌, length, replicate, take, drop, cond, refl, ap, sym, subst, ◌∙◌, arith, length-append, length-take}
 use Rattle.std.specs.Prelude.{◌==◌, ◌/◌, ◌%◌, if◌then◌else◌}
 use Rattle.std.proofs.lemmas.Bool.{cases_eq, eq-eqb, ne_eqb}
-use Rattle.cs_heap.specs.Object.{Object, class_of, is_object}
-use Rattle.cs_heap.proofs.Laws.{object_placed}
+use Rattle.cs_heap.specs.Object.{Object, birth_of, class_of, format_of, is_object, slot_count_of, slot_of, with_hash, with_slot}
+use Rattle.cs_heap.proofs.Laws.{birth_of-with_hash, birth_of-with_slot, class_of-with_hash, class_of-with_slot, field_of-old, format_of-with_hash, format_of-with_slot, is_object-old, is_object-with_hash, is_object-with_slot, object_at-old, object_placed, slot_count_of-with_hash, slot_count_of-with_slot, slot_of-with_hash, slot_of-with_slot_other_object, slot_of-with_slot_other_slot}
+use Rattle.cs_heap.proofs.Laws.{pushed as pushed_object}
+use Rattle.std.proofs.lemmas.List.{length-set}
 use Rattle.cs_model.specs.Obj.{context_class, context_size}
 use Rattle.cs_frame.specs.declared.FrameRef.{FrameRef}
 use Rattle.cs_frame.specs.declared.NewFrame.{NewFrame}
-use Rattle.cs_frame.specs.Frame.{Frame, IsValue, cut, nil, popped, pushed}
-use Rattle.cs_frame.specs.Page.{CanCall, IsFrame, IsStacked, called, frame, frames_of, fresh, index_of, nth, on_page, on_top, rest_of, top, used}
-use Rattle.cs_frame.proofs.PageLaws.{at-nth_index, end-nth, frames_of-on_page, frames_of-on_page_other, length-on_page, length-stack_called}
-use Rattle.cs_marriage.specs.Agree.{Agree, FrameFits, IsMethodAt, frame_size, header_at}
-use Rattle.cs_marriage.proofs.Agreeing.{size_none, size_some}
-use Rattle.cs_marriage.proofs.Objects.{context_long, method_there}
+use Rattle.cs_frame.specs.Frame.{Frame, IsValue, cut, nil, popped, pushed, with_caller, with_saved_pc}
+use Rattle.cs_frame.specs.Frame.{with_slot as with_frame_slot}
+use Rattle.cs_frame.specs.Page.{CanCall, IsFrame, IsStacked, called, frame, frames_of, fresh, index_in, index_of, nth, on_frame, on_nth, on_page, on_top, rest_of, top, used}
+use Rattle.cs_frame.proofs.PageLaws.{at-nth_index, end-nth, frame-on_frame, frame-on_frame_other, frames_of-on_page, frames_of-on_page_other, length-on_page, length-stack_called}
+use Rattle.cs_marriage.specs.Agree.{Agree, AreMarried, FrameFits, IsContextAt, IsMethodAt, frame_size, header_at}
+use Rattle.cs_marriage.proofs.Agreeing.{fits_like, frame_back, same_ref, size_none, size_some}
+use Rattle.cs_marriage.proofs.Objects.{LikeContext, LikeMethod, context_like, context_long, context_there, method_like, method_there}
 
 -- The frames of one page fit, each by its place.
 abbrev pub PageFits : List Object → ℕ → List Frame → Type 0
@@ -191,3 +194,125 @@ top_fits os ps p agree some = go (frames_of ps p) some (page_fits os ps p agree)
     go : (fs : List Frame) → 0 < length fs → PageFits os p fs → FrameFits os (record { page = p; at = (top fs).at }) (top fs)
     go [] some fits = absurd (omega (arith, some))
     go (f ∷ fs) some fits = fits_top os p f fs fits
+
+-- ---- the heap changes
+
+-- methods and contexts are read the same
+pub agree_like : (os ws : List Object) (ps : List (List Frame)) → Agree os ps → is_object ws nil ≡ true → class_of ws nil ≡ class_of os nil
+    → ((m : ℕ) → IsMethodAt os m → LikeMethod os ws m) → ((a : ℕ) → IsContextAt os a → LikeContext os ws a) → Agree ws ps
+agree_like os ws ps agree there class methods contexts = record {
+  few = agree.few;
+  nil_there = there;
+  nil_class = λ e. agree.nil_class (sym class ∙ e);
+  frames = λ r is. let fits = agree.frames r is in
+      fits_like os ws r (frame ps r) (methods (frame ps r).method fits.method) (λ ne. contexts (frame ps r).context (fits.married ne).context) fits;
+}
+
+-- an object is added
+pub agree_grown : (os : List Object) (ps : List (List Frame)) (y : Object) → Agree os ps → Agree (pushed_object os y) ps
+agree_grown os ps y agree =
+    agree_like os (pushed_object os y) ps agree (is_object-old os y nil agree.nil_there) (field_of-old (λ x. x.class) os y nil agree.nil_there)
+    (λ m is. method_like os (pushed_object os y) m (object_at-old os y m (method_there os m is)))
+    (λ a at. context_like os (pushed_object os y) a (object_at-old os y a (context_there os a at)))
+
+-- a slot is written of what is no context, and it is no header of a method
+pub agree_stored : (os : List Object) (ps : List (List Frame)) (a i v : ℕ) → Agree os ps → class_of os a ≢ context_class → (IsMethodAt os a → i ≢ 0)
+    → Agree (with_slot os a i v) ps
+agree_stored os ps a i v agree other header =
+    agree_like os (with_slot os a i v) ps agree (is_object-with_slot os a i v nil ∙ agree.nil_there) (class_of-with_slot os a i v nil)
+    (λ m is. record {
+      format = format_of-with_slot os a i v m;
+      count = slot_count_of-with_slot os a i v m;
+      header = elim (cases_eq a m) [
+        | inl e ↦ slot_of-with_slot_other_slot os a i v m 0 (λ z. header (subst (IsMethodAt os) (sym e) is) (sym z))
+        | inr ne ↦ slot_of-with_slot_other_object os a i v m 0 ne
+      ];
+    })
+    (λ c at. let ne : a ≢ c = λ e. other (ap (class_of os) e ∙ at.class) in record {
+      class = class_of-with_slot os a i v c;
+      format = format_of-with_slot os a i v c;
+      birth = birth_of-with_slot os a i v c;
+      count = slot_count_of-with_slot os a i v c;
+      place = slot_of-with_slot_other_object os a i v c 0 ne;
+      method = slot_of-with_slot_other_object os a i v c 3 ne;
+      closure = slot_of-with_slot_other_object os a i v c 4 ne;
+      receiver = slot_of-with_slot_other_object os a i v c 5 ne;
+    })
+
+-- an object is given a hash
+pub agree_hashed : (os : List Object) (ps : List (List Frame)) (a h : ℕ) → Agree os ps → Agree (with_hash os a h) ps
+agree_hashed os ps a h agree =
+    agree_like os (with_hash os a h) ps agree (is_object-with_hash os a h nil ∙ agree.nil_there) (class_of-with_hash os a h nil)
+    (λ m is. record {
+      format = format_of-with_hash os a h m;
+      count = slot_count_of-with_hash os a h m;
+      header = slot_of-with_hash os a h m 0;
+    })
+    (λ c at. record {
+      class = class_of-with_hash os a h c;
+      format = format_of-with_hash os a h c;
+      birth = birth_of-with_hash os a h c;
+      count = slot_count_of-with_hash os a h c;
+      place = slot_of-with_hash os a h c 0;
+      method = slot_of-with_hash os a h c 3;
+      closure = slot_of-with_hash os a h c 4;
+      receiver = slot_of-with_hash os a h c 5;
+    })
+
+-- ---- a frame changes in its place
+
+-- what ties a frame to the heap is kept
+pub record KeepsTies (g : Frame → Frame) : Type 0 where
+  pub place : (f : Frame) → (g f).at ≡ f.at
+  pub method : (f : Frame) → (g f).method ≡ f.method
+  pub closure : (f : Frame) → (g f).closure ≡ f.closure
+  pub context : (f : Frame) → (g f).context ≡ f.context
+  pub birth : (f : Frame) → (g f).birth ≡ f.birth
+  pub receiver : (f : Frame) → (g f).receiver ≡ f.receiver
+  pub stack : (f : Frame) → length (g f).stack ≡ length f.stack
+
+fits_tied : (os : List Object) (r : FrameRef) (f h : Frame) → h.method ≡ f.method → h.closure ≡ f.closure → h.context ≡ f.context → h.birth ≡ f.birth → h.receiver ≡ f.receiver
+    → length h.stack ≡ length f.stack → FrameFits os r f → FrameFits os r h
+fits_tied os r f h em ec ex eb er es fits = record {
+  within = fits.within;
+  method = subst (IsMethodAt os) (sym em) fits.method;
+  stack =
+      let size : frame_size os h ≡ frame_size os f =
+          ap (λ a. if a == nil then context_size (header_at os h.method) else slot_count_of os a - 6) ex
+          ∙ ap (λ m. if f.context == nil then context_size (header_at os m) else slot_count_of os f.context - 6) em in
+      omega (arith, es, size, fits.stack);
+  married = λ ne. let m = fits.married (λ e. ne (ex ∙ e)) in record {
+    context = subst (IsContextAt os) (sym ex) m.context;
+    birth = ap (birth_of os) ex ∙ m.birth ∙ sym eb;
+    place = ap (λ a. slot_of os a 0) ex ∙ m.place;
+    method = ap (λ a. slot_of os a 3) ex ∙ m.method ∙ sym em;
+    closure = ap (λ a. slot_of os a 4) ex ∙ m.closure ∙ sym ec;
+    receiver = ap (λ a. slot_of os a 5) ex ∙ m.receiver ∙ sym er;
+  };
+}
+
+pub agree_on_frame : (os : List Object) (ps : List (List Frame)) (r : FrameRef) (g : Frame → Frame) → KeepsTies g → Agree os ps → IsFrame ps r → Agree os (on_frame ps r g)
+agree_on_frame os ps r g ties agree is = record {
+  few = omega (arith, agree.few, length-on_page ps r.page (on_nth (index_in ps r) g));
+  nil_there = agree.nil_there;
+  nil_class = agree.nil_class;
+  frames = λ q iq. elim (same_ref q r) [
+    | inl e ↦ subst (λ s. FrameFits os s (frame (on_frame ps r g) s)) (sym e) (subst (FrameFits os r) (sym (frame-on_frame ps r g ties.place is)) here)
+    | inr ne ↦
+        let old = frame_back ps r q g ties.place is iq in
+        subst (FrameFits os q) (sym (frame-on_frame_other ps r q g ties.place is old ne)) (agree.frames q old)
+  ];
+}
+  where
+    here : FrameFits os r (g (frame ps r))
+    here = let f = frame ps r in
+        fits_tied os r f (g f) (ties.method f) (ties.closure f) (ties.context f) (ties.birth f) (ties.receiver f) (ties.stack f) (agree.frames r is)
+
+pub ties_saved_pc : (v : ℕ) → KeepsTies (with_saved_pc v)
+ties_saved_pc v = record { place = λ f. refl; method = λ f. refl; closure = λ f. refl; context = λ f. refl; birth = λ f. refl; receiver = λ f. refl; stack = λ f. refl }
+
+pub ties_caller : (v : ℕ) → KeepsTies (with_caller v)
+ties_caller v = record { place = λ f. refl; method = λ f. refl; closure = λ f. refl; context = λ f. refl; birth = λ f. refl; receiver = λ f. refl; stack = λ f. refl }
+
+pub ties_slot : (i v : ℕ) → KeepsTies (with_frame_slot i v)
+ties_slot i v = record { place = λ f. refl; method = λ f. refl; closure = λ f. refl; context = λ f. refl; birth = λ f. refl; receiver = λ f. refl; stack = λ f. length-set f.stack i v }

@@ -2,7 +2,7 @@
 use Rattle.std.proofs.Common.{◌≡◌, ◌≢◌, inl, inr, ℕ, zero, suc, ◌<◌, ◌≤◌, true, List, [], ◌∷◌, length, Option, Some, None, option_and_then, is_some, refl, ap, sym, ◌∙◌, arith}
 use Rattle.std.specs.Prelude.{slice_get, slice_index, unwrap_or}
 use Rattle.std.specs.Option.{option_map_or}
-use Rattle.cs_heap.specs.Object.{Object, at_index, field_of, format_of, index_of, is_object, object_at, slot_count_of, slot_of, with_object}
+use Rattle.cs_heap.specs.Object.{Object, at_index, birth_of, class_of, field_of, format_of, index_of, is_object, object_at, slot_count_of, slot_of, with_object}
 use Rattle.cs_heap.specs.Format.{is_method}
 use Rattle.cs_heap.proofs.Places.{has_number}
 use Rattle.cs_heap.proofs.Laws.{KeepsCount, index_of-with_object}
@@ -80,33 +80,63 @@ pub method_apart : (os : List Object) (m a : ℕ) → IsMethodAt os m → format
 method_apart os m a is three e =
     let no : is_method 3 ≡ true = ap is_method (sym three ∙ ap (format_of os) (sym e)) ∙ is.format in absurd (cc)
 
--- ---- one object is read the same
+-- ---- what is read of a method or a context is the same
+
+-- what counts of a method
+pub record LikeMethod (os ws : List Object) (m : ℕ) : Type 0 where
+  pub format : format_of ws m ≡ format_of os m
+  pub count : slot_count_of ws m ≡ slot_count_of os m
+  pub header : slot_of ws m 0 ≡ slot_of os m 0
+
+-- what counts of a context that has a frame
+pub record LikeContext (os ws : List Object) (a : ℕ) : Type 0 where
+  pub class : class_of ws a ≡ class_of os a
+  pub format : format_of ws a ≡ format_of os a
+  pub birth : birth_of ws a ≡ birth_of os a
+  pub count : slot_count_of ws a ≡ slot_count_of os a
+  pub place : slot_of ws a 0 ≡ slot_of os a 0
+  pub method : slot_of ws a 3 ≡ slot_of os a 3
+  pub closure : slot_of ws a 4 ≡ slot_of os a 4
+  pub receiver : slot_of ws a 5 ≡ slot_of os a 5
 
 module _ (os ws : List Object) (a : ℕ) (same : object_at ws a ≡ object_at os a) where
   pub field_same : (g : Object → ℕ) → field_of g ws a ≡ field_of g os a
   field_same g = ap (λ (o : Option Object). option_map_or g o 0) same
 
-  pub count_same : slot_count_of ws a ≡ slot_count_of os a
-  count_same = field_same (λ x. length x.words)
-
-  pub slot_same : (i : ℕ) → slot_of ws a i ≡ slot_of os a i
-  slot_same i = ap (λ (o : Option Object). option_map_or (λ x. slice_index x.words i) o 0) same
-
-  pub context_same : IsContextAt os a → IsContextAt ws a
-  context_same at = record {
-    class = field_same (λ x. x.class) ∙ at.class;
-    format = field_same (λ x. x.format) ∙ at.format;
-    slots = elim at.slots [
-      | inl e ↦ inl (count_same ∙ e)
-      | inr e ↦ inr (count_same ∙ e)
-    ];
+  pub method_like : LikeMethod os ws a
+  method_like = record {
+    format = field_same (λ x. x.format);
+    count = field_same (λ x. length x.words);
+    header = field_same (λ x. slice_index x.words 0);
   }
 
-  pub method_same : IsMethodAt os a → IsMethodAt ws a
-  method_same is = record {
-    format = ap is_method (field_same (λ x. x.format)) ∙ is.format;
-    header = omega (arith, count_same, is.header);
+  pub context_like : LikeContext os ws a
+  context_like = record {
+    class = field_same (λ x. x.class);
+    format = field_same (λ x. x.format);
+    birth = field_same (λ x. x.birth);
+    count = field_same (λ x. length x.words);
+    place = field_same (λ x. slice_index x.words 0);
+    method = field_same (λ x. slice_index x.words 3);
+    closure = field_same (λ x. slice_index x.words 4);
+    receiver = field_same (λ x. slice_index x.words 5);
   }
 
-  pub header_same : header_at ws a ≡ header_at os a
-  header_same = ap (λ n. unwrap_or (count_of n) 0) (slot_same 0)
+pub context_same : (os ws : List Object) (a : ℕ) → LikeContext os ws a → IsContextAt os a → IsContextAt ws a
+context_same os ws a like at = record {
+  class = like.class ∙ at.class;
+  format = like.format ∙ at.format;
+  slots = elim at.slots [
+    | inl e ↦ inl (like.count ∙ e)
+    | inr e ↦ inr (like.count ∙ e)
+  ];
+}
+
+pub method_same : (os ws : List Object) (m : ℕ) → LikeMethod os ws m → IsMethodAt os m → IsMethodAt ws m
+method_same os ws m like is = record {
+  format = ap is_method like.format ∙ is.format;
+  header = omega (arith, like.count, is.header);
+}
+
+pub header_same : (os ws : List Object) (m : ℕ) → LikeMethod os ws m → header_at ws m ≡ header_at os m
+header_same os ws m like = ap (λ n. unwrap_or (count_of n) 0) like.header
