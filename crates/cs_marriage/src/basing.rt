@@ -1,11 +1,11 @@
-//! How a context becomes a frame, and how a widowed one becomes single.
+//! How a single context becomes the base frame of a page.
 ghost use Rattle.std.specs.Prelude.{◌≡◌, ◌+◌, ◌<◌, ◌≤◌, ◌^◌, [], ◌∷◌, IsSome, length, unwrap_or};
 ghost use Rattle.cs_heap.specs.Object.{birth_of, slot_count_of, slot_of, with_object};
 ghost use Rattle.cs_classes.specs.Meaning.{count_of};
 ghost use Rattle.cs_frame.specs.Frame.{with_stack};
 ghost use Rattle.cs_frame.specs.Page.{IsTop, frames_of, on_page, on_top, top, used};
-ghost use Rattle.cs_marriage.specs.Agree.{Agree, IsContextAt, IsWidowed};
-ghost use Rattle.cs_marriage.specs.Marriage.{CanBase, base_frame, buried, cleared_from, linked, stack_words};
+ghost use Rattle.cs_marriage.specs.Agree.{Agree, IsContextAt};
+ghost use Rattle.cs_marriage.specs.Marriage.{CanBase, base_frame, cleared_from, linked, stack_words};
 
 use crate::words::{count, link_word};
 use crate::{CLOSURE, METHOD, NIL, PC, RECEIVER, SENDER, STACK, STACKP};
@@ -92,19 +92,4 @@ fn clear_stack(heap: &mut Heap, ctx: Oop)
     for i in STACK..heap.slot_count(ctx) {
         heap.set_slot(ctx, i, NIL);
     }
-}
-
-/// Makes a widowed context single. It is dead: sender and pc are nil and its stack is empty, and it keeps method,
-/// closure and receiver.
-#[tactic(auto, using(cs_heap::proofs::Laws::heap_laws))]
-pub fn bury(heap: &mut Heap, frames: &Frames, ctx: Oop)
-    requires agree { Agree heap.old.objects frames.now }
-    requires context { IsContextAt heap.old.objects ctx.0 }
-    requires widowed { IsWidowed heap.old.objects frames.now ctx.0 }
-    ensures heap { heap.new ≡ record heap.old { objects = buried heap.old.objects ctx.0 } }
-    ensures agree { Agree heap.new.objects frames.now }
-{
-    heap.set_slot(ctx, SENDER, NIL);
-    heap.set_slot(ctx, PC, NIL);
-    heap.set_slot(ctx, STACKP, Oop(1));
 }

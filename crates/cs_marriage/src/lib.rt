@@ -14,12 +14,14 @@
 #![tactic(auto)]
 
 mod basing;
+mod burying;
 mod marrying;
 mod search;
 mod state;
 mod words;
 
-pub use basing::{base, bury};
+pub use basing::base;
+pub use burying::bury;
 use cs_heap::BASE;
 use cs_word::Oop;
 pub use marrying::marry;

@@ -4,7 +4,7 @@ use Rattle.cs_heap.proofs.Laws.{set_word_keeps}
 use Rattle.cs_marriage.specs.Agree.{Agree}
 use Rattle.cs_marriage.proofs.Based.{agree_changed}
 use Rattle.cs_marriage.proofs.Objects.{with_object_twice}
-use Rattle.cs_marriage.proofs.basing.bury.Goals as goal
+use Rattle.cs_marriage.proofs.burying.bury.Goals as goal
 
 pub returns-clause-agree : goal.returns-clause-agree
 returns-clause-agree c =
