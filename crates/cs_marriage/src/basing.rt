@@ -4,7 +4,7 @@ ghost use Rattle.cs_heap.specs.Object.{birth_of, slot_count_of, slot_of, with_ob
 ghost use Rattle.cs_classes.specs.Meaning.{count_of};
 ghost use Rattle.cs_frame.specs.Frame.{with_stack};
 ghost use Rattle.cs_frame.specs.Page.{IsTop, frames_of, on_page, on_top, top, used};
-ghost use Rattle.cs_marriage.specs.Agree.{Agree, IsContextAt};
+ghost use Rattle.cs_marriage.specs.Agree.{Agree, HasContext, IsContextAt};
 ghost use Rattle.cs_marriage.specs.Marriage.{CanBase, base_frame, cleared_from, linked, stack_words};
 
 use crate::words::{count, link_word};
@@ -25,6 +25,7 @@ pub fn base(heap: &mut Heap, frames: &mut Frames, ctx: Oop, page: u32) -> FrameR
     ensures at { result.at ≡ 0 }
     ensures heap { heap.new ≡ record heap.old { objects = with_object heap.old.objects ctx.0 (linked result) } }
     ensures frames { frames.new ≡ on_page frames.old page (λ _. base_frame heap.old.objects ctx.0 ∷ []) }
+    ensures married { HasContext frames.new ctx.0 result }
     ensures agree { Agree heap.new.objects frames.new }
 {
     let f = build_base(heap, frames, ctx, page);
