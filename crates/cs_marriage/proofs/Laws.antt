@@ -2,7 +2,7 @@
 use Rattle.std.proofs.Common.{◌≡◌, ◌≢◌, inl, inr, ℕ, zero, suc, ◌+◌, ◌-◌, ◌<◌, ◌≤◌, ◌^◌, Bool, true, false, List, [], ◌∷◌, ◌++◌, length, replicate, take, drop, cond, refl, ap, sym, subst, ◌∙◌, arith, length-append, length-take}
 use Rattle.std.specs.Prelude.{◌==◌, ◌/◌, ◌%◌, if◌then◌else◌}
 use Rattle.std.proofs.lemmas.Bool.{cases_eq, eq-eqb, ne_eqb}
-use Rattle.cs_heap.specs.Object.{Object, birth_of, class_of, format_of, is_object, slot_count_of, slot_of, with_hash, with_slot}
+use Rattle.cs_heap.specs.Object.{Object, birth_of, class_of, is_object, slot_count_of, slot_of, with_hash, with_slot}
 use Rattle.cs_heap.proofs.Laws.{birth_of-with_hash, birth_of-with_slot, class_of-with_hash, class_of-with_slot, field_of-old, format_of-with_hash, format_of-with_slot, is_object-old, is_object-with_hash, is_object-with_slot, object_at-old, object_placed, slot_count_of-with_hash, slot_count_of-with_slot, slot_of-with_hash, slot_of-with_slot_other_object, slot_of-with_slot_other_slot}
 use Rattle.cs_heap.proofs.Laws.{pushed as pushed_object}
 use Rattle.std.proofs.lemmas.List.{length-set}
@@ -13,7 +13,7 @@ use Rattle.cs_frame.specs.Frame.{Frame, IsValue, cut, nil, popped, pushed, with_
 use Rattle.cs_frame.specs.Frame.{with_slot as with_frame_slot}
 use Rattle.cs_frame.specs.Page.{CanCall, IsFrame, IsStacked, called, frame, frames_of, fresh, index_in, index_of, nth, on_frame, on_nth, on_page, on_top, rest_of, top, used}
 use Rattle.cs_frame.proofs.PageLaws.{at-nth_index, end-nth, frame-on_frame, frame-on_frame_other, frames_of-on_page, frames_of-on_page_other, length-on_page, length-stack_called}
-use Rattle.cs_marriage.specs.Agree.{Agree, AreMarried, FrameFits, IsContextAt, IsMethodAt, frame_size, header_at}
+use Rattle.cs_marriage.specs.Agree.{Agree, FrameFits, IsContextAt, IsMethodAt, frame_size, header_at}
 use Rattle.cs_marriage.proofs.Agreeing.{fits_like, frame_back, same_ref, size_none, size_some}
 use Rattle.cs_marriage.proofs.Objects.{LikeContext, LikeMethod, context_like, context_long, context_there, method_like, method_there}
 
@@ -278,8 +278,8 @@ fits_tied os r f h em ec ex eb er es fits = record {
   method = subst (IsMethodAt os) (sym em) fits.method;
   stack =
       let size : frame_size os h ≡ frame_size os f =
-          ap (λ a. if a == nil then context_size (header_at os h.method) else slot_count_of os a - 6) ex
-          ∙ ap (λ m. if f.context == nil then context_size (header_at os m) else slot_count_of os f.context - 6) em in
+      ap (λ a. if a == nil then context_size (header_at os h.method) else slot_count_of os a - 6) ex
+      ∙ ap (λ m. if f.context == nil then context_size (header_at os m) else slot_count_of os f.context - 6) em in
       omega (arith, es, size, fits.stack);
   married = λ ne. let m = fits.married (λ e. ne (ex ∙ e)) in record {
     context = subst (IsContextAt os) (sym ex) m.context;

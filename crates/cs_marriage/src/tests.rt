@@ -215,10 +215,7 @@ fn a_single_context_becomes_a_base_frame(rt: HostRuntime) {
     assert_eq!(rt; f, FrameRef { page: 1, at: 0 });
     assert_eq!(rt; frames.saved_pc(f), Oop(19));
     assert!(rt; frames.depth(f) == 2);
-    assert_eq!(rt;
-        (frames.slot(f, 0), frames.slot(f, 1)),
-        (Oop(11), Oop(13))
-    );
+    assert_eq!(rt; (frames.slot(f, 0), frames.slot(f, 1)), (Oop(11), Oop(13)));
     context_stands(&rt, &heap, context);
     assert_eq!(rt; spouse(&heap, &frames, context), Spouse::Married(f));
     assert_eq!(rt;

@@ -29,7 +29,7 @@ returns-clause-married c =
     let p = c.args.page in
     let r : FrameRef = c.build_base-f.result in
     let place : (record { page = p; at = 0 }) ≡ r =
-        sym (ap (λ n. record { page = n; at = r.at }) c.build_base-f.ensures.page ∙ ap (λ n. record { page = p; at = n }) c.build_base-f.ensures.at) in
+    sym (ap (λ n. record { page = n; at = r.at }) c.build_base-f.ensures.page ∙ ap (λ n. record { page = p; at = n }) c.build_base-f.ensures.at) in
     subst (λ (qs : List (List Frame)). HasContext qs a r) (sym c.build_base-f.ensures.frames)
     (subst (HasContext (alone ps p (base_frame os a)) a) place
     (alone_frame ps p c.requires.page (base_frame os a), ap (λ (f : Frame). f.context) (alone_is ps p c.requires.page (base_frame os a))))
