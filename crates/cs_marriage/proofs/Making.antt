@@ -10,15 +10,17 @@ use Rattle.cs_marriage.specs.Place.{link_word}
 use Rattle.cs_marriage.specs.Agree.{header_at}
 use Rattle.cs_marriage.specs.Marriage.{new_size, new_spouse}
 
+-- how many slots a new context has
+pub new_count : (os : List Object) (size birth a : ℕ) → a ≡ next_address os (6 + size) → slot_count_of (pushed os (new_object 36 3 (6 + size) birth)) a ≡ 6 + size
+new_count os size birth a at =
+    field_of-new (λ x. length x.words) os (new_object 36 3 (6 + size) birth) a (next_address-new os a 36 3 (6 + size) birth at) ∙ length-new_words 36 3 (6 + size) birth
+
 module _ (os : List Object) (size birth a : ℕ) (at : a ≡ next_address os (6 + size)) where
   abbrev pub blank : Object
   blank = new_object 36 3 (6 + size) birth
 
   at_blank : a ≡ next_address os (length blank.words)
   at_blank = next_address-new os a 36 3 (6 + size) birth at
-
-  pub blank_count : slot_count_of (pushed os blank) a ≡ 6 + size
-  blank_count = field_of-new (λ x. length x.words) os blank a at_blank ∙ length-new_words 36 3 (6 + size) birth
 
   pub written : (l m c r : ℕ) → with_slot (with_slot (with_slot (with_slot (pushed os blank) a 0 l) a 3 m) a 4 c) a 5 r
       ≡ pushed os (set_word 5 r (set_word 4 c (set_word 3 m (set_word 0 l blank))))

@@ -5,41 +5,38 @@ use Rattle.cs_model.specs.Obj.{context_size}
 use Rattle.cs_frame.specs.Page.{frame}
 use Rattle.cs_marriage.specs.Agree.{header_at}
 use Rattle.cs_marriage.specs.Marriage.{new_size}
-use Rattle.cs_marriage.proofs.Making.{blank_count, spouse_written, written}
+use Rattle.cs_marriage.proofs.Making.{new_count, spouse_written, written}
 use Rattle.cs_marriage.proofs.marrying.new_context.Goals as goal
 
 pub set_slot-requires-2 : goal.set_slot-requires-2
 set_slot-requires-2 c =
     let a = c.in_ok-made.made.0 in
-    let none = ap (λ (h : Memory). slot_count_of h.objects a) c.in_ok-made.ensures.added in
-    let n = blank_count c.args.heap.now.objects c.size_for-size.result c.birth.result a c.in_ok-made.ensures.address in
+    let n = ap (λ (h : Memory). slot_count_of h.objects a) c.in_ok-made.ensures.added ∙ new_count c.args.heap.now.objects c.size_for-size.result _ a c.in_ok-made.ensures.address in
     let one = ap (λ (h : Memory). slot_count_of h.objects a) c.set_slot.ensures in
     let first = slot_count_of-with_slot c.allocate.new.self.objects a 0 c.link_word.result.0 a in
-    omega (arith, none, n, one, first)
+    omega (arith, n, one, first)
 
 pub set_slot-requires-3 : goal.set_slot-requires-3
 set_slot-requires-3 c =
     let a = c.in_ok-made.made.0 in
-    let none = ap (λ (h : Memory). slot_count_of h.objects a) c.in_ok-made.ensures.added in
-    let n = blank_count c.args.heap.now.objects c.size_for-size.result c.birth.result a c.in_ok-made.ensures.address in
+    let n = ap (λ (h : Memory). slot_count_of h.objects a) c.in_ok-made.ensures.added ∙ new_count c.args.heap.now.objects c.size_for-size.result _ a c.in_ok-made.ensures.address in
     let one = ap (λ (h : Memory). slot_count_of h.objects a) c.set_slot.ensures in
     let first = slot_count_of-with_slot c.allocate.new.self.objects a 0 c.link_word.result.0 a in
     let two = ap (λ (h : Memory). slot_count_of h.objects a) c.set_slot-2.ensures in
     let second = slot_count_of-with_slot c.set_slot.new.self.objects a 3 c.method-method.result.0 a in
-    omega (arith, none, n, one, first, two, second)
+    omega (arith, n, one, first, two, second)
 
 pub set_slot-requires-4 : goal.set_slot-requires-4
 set_slot-requires-4 c =
     let a = c.in_ok-made.made.0 in
-    let none = ap (λ (h : Memory). slot_count_of h.objects a) c.in_ok-made.ensures.added in
-    let n = blank_count c.args.heap.now.objects c.size_for-size.result c.birth.result a c.in_ok-made.ensures.address in
+    let n = ap (λ (h : Memory). slot_count_of h.objects a) c.in_ok-made.ensures.added ∙ new_count c.args.heap.now.objects c.size_for-size.result _ a c.in_ok-made.ensures.address in
     let one = ap (λ (h : Memory). slot_count_of h.objects a) c.set_slot.ensures in
     let first = slot_count_of-with_slot c.allocate.new.self.objects a 0 c.link_word.result.0 a in
     let two = ap (λ (h : Memory). slot_count_of h.objects a) c.set_slot-2.ensures in
     let second = slot_count_of-with_slot c.set_slot.new.self.objects a 3 c.method-method.result.0 a in
     let three = ap (λ (h : Memory). slot_count_of h.objects a) c.set_slot-3.ensures in
     let third = slot_count_of-with_slot c.set_slot-2.new.self.objects a 4 c.closure.result.0 a in
-    omega (arith, none, n, one, first, two, second, three, third)
+    omega (arith, n, one, first, two, second, three, third)
 
 pub returns-clause-added : goal.returns-clause-added
 returns-clause-added c =
