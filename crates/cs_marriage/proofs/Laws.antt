@@ -13,7 +13,9 @@ use Rattle.cs_frame.specs.Frame.{Frame, IsValue, cut, nil, popped, pushed, with_
 use Rattle.cs_frame.specs.Frame.{with_slot as with_frame_slot}
 use Rattle.cs_frame.specs.Page.{CanCall, IsFrame, IsStacked, called, frame, frames_of, fresh, index_in, index_of, nth, on_frame, on_nth, on_page, on_top, rest_of, top, used}
 use Rattle.cs_frame.proofs.PageLaws.{at-nth_index, end-nth, frame-on_frame, frame-on_frame_other, frames_of-on_page, frames_of-on_page_other, length-on_page, length-stack_called}
-use Rattle.cs_marriage.specs.Agree.{Agree, FrameFits, IsContextAt, IsMethodAt, frame_size, header_at}
+use Rattle.cs_marriage.specs.Agree.{Agree, FrameFits, HasContext, HasNoFrame, IsContextAt, IsMethodAt, IsWidowed, frame_size, header_at}
+use Rattle.cs_marriage.specs.Place.{names_place}
+use Rattle.cs_marriage.proofs.Places.{link_names}
 use Rattle.cs_marriage.proofs.Agreeing.{fits_like, frame_back, same_ref, size_none, size_some}
 use Rattle.cs_marriage.proofs.Objects.{LikeContext, LikeMethod, context_like, context_long, context_there, method_like, method_there}
 
@@ -316,3 +318,16 @@ ties_caller v = record { place = λ f. refl; method = λ f. refl; closure = λ f
 
 pub ties_slot : (i v : ℕ) → KeepsTies (with_frame_slot i v)
 ties_slot i v = record { place = λ f. refl; method = λ f. refl; closure = λ f. refl; context = λ f. refl; birth = λ f. refl; receiver = λ f. refl; stack = λ f. length-set f.stack i v }
+
+-- ---- married contexts
+
+-- what a frame names is a context
+pub spouse_stands : (os : List Object) (ps : List (List Frame)) (a : ℕ) (r : FrameRef) → Agree os ps → a ≢ nil → HasContext ps a r → IsContextAt os a
+spouse_stands os ps a r agree ne h = subst (IsContextAt os) h.1 ((agree.frames r h.0).married (λ e. ne (sym h.1 ∙ e))).context
+
+-- the context of a frame that has returned is widowed
+pub widow_left : (os : List Object) (ps qs : List (List Frame)) (a : ℕ) (r : FrameRef) → Agree os ps → a ≢ nil → HasContext ps a r → HasNoFrame qs a → IsWidowed os qs a
+widow_left os ps qs a r agree ne h none = record {
+  named = ap (λ b. names_place (slot_of os b 0)) (sym h.1) ∙ ap names_place ((agree.frames r h.0).married (λ e. ne (sym h.1 ∙ e))).place ∙ link_names r;
+  alone = none;
+}
