@@ -1,0 +1,29 @@
+use Rattle.std.proofs.Common.{◌≡◌, ℕ, ◌<◌, List, [], ◌∷◌, ◌++◌, take, unwrap_or, ap, sym, ◌∙◌, arith}
+use Rattle.cs_classes.specs.Meaning.{count_of, depth_in}
+use Rattle.cs_frame.specs.Frame.{Frame, pushed, with_stack}
+use Rattle.cs_frame.specs.Page.{frames_of, on_page, on_top}
+use Rattle.cs_frame.proofs.PageLaws.{on_page-on_page, page_in}
+use Rattle.cs_marriage.specs.Marriage.{stack_words, words_at}
+use Rattle.cs_marriage.proofs.Based.{depth_is, stack_more, stacked_more}
+use Rattle.cs_marriage.proofs.basing.copy_stack.Goals as goal
+
+pub loop-i-preserved : goal.loop-i-preserved
+loop-i-preserved c =
+    let os = c.args.heap.now.objects in
+    let a = c.args.ctx.0 in
+    let ps = c.args.frames.now in
+    let p = c.args.f.page in
+    let i = c.loop-i.i in
+    let xs = stack_words os a in
+    let v = c.slot-in-loop-i.result.0 in
+    let ends : c.count-i-end.result ≡ depth_in (words_at os a) = c.count-i-end.ensures ∙ (ap (λ n. unwrap_or (count_of n) 0) c.slot.ensures ∙ depth_is os a) in
+    let inside : i < depth_in (words_at os a) = omega (arith, c.loop-i-test.true, ends) in
+    record {
+      frames =
+          c.push.ensures.pushed
+          ∙ ap (λ (qs : List (List Frame)). on_page qs p (on_top (pushed v))) c.loop-i.invariant.frames
+          ∙ on_page-on_page ps p (on_top (with_stack (take i xs))) (on_top (pushed v)) (page_in ps p c.requires.top.0)
+          ∙ ap (λ (fs : List Frame). on_page ps p (λ _. fs)) (stacked_more (take i xs) v (frames_of ps p))
+          ∙ ap (λ n. on_page ps p (on_top (with_stack (take i xs ++ n ∷ [])))) c.slot-in-loop-i.ensures
+          ∙ ap (λ (ys : List ℕ). on_page ps p (on_top (with_stack ys))) (sym (stack_more os a c.requires.context i inside));
+    }

@@ -1,0 +1,56 @@
+use Rattle.std.proofs.Common.{◌≡◌, ℕ, List, ap, ◌∙◌, arith}
+use Rattle.cs_heap.specs.Object.{Memory, Object, slot_count_of, with_slot}
+use Rattle.cs_heap.proofs.Laws.{pushed, slot_count_of-with_slot}
+use Rattle.cs_model.specs.Obj.{context_size}
+use Rattle.cs_frame.specs.Page.{frame}
+use Rattle.cs_marriage.specs.Agree.{header_at}
+use Rattle.cs_marriage.specs.Marriage.{new_size}
+use Rattle.cs_marriage.proofs.Making.{new_count, spouse_written, written}
+use Rattle.cs_marriage.proofs.marrying.new_context.Goals as goal
+
+pub set_slot-requires-2 : goal.set_slot-requires-2
+set_slot-requires-2 c =
+    let a = c.in_ok-made.made.0 in
+    let n = ap (λ (h : Memory). slot_count_of h.objects a) c.in_ok-made.ensures.added ∙ new_count c.args.heap.now.objects c.size_for-size.result _ a c.in_ok-made.ensures.address in
+    let one = ap (λ (h : Memory). slot_count_of h.objects a) c.set_slot.ensures in
+    let first = slot_count_of-with_slot c.allocate.new.self.objects a 0 c.link_word.result.0 a in
+    omega (arith, n, one, first)
+
+pub set_slot-requires-3 : goal.set_slot-requires-3
+set_slot-requires-3 c =
+    let a = c.in_ok-made.made.0 in
+    let n = ap (λ (h : Memory). slot_count_of h.objects a) c.in_ok-made.ensures.added ∙ new_count c.args.heap.now.objects c.size_for-size.result _ a c.in_ok-made.ensures.address in
+    let one = ap (λ (h : Memory). slot_count_of h.objects a) c.set_slot.ensures in
+    let first = slot_count_of-with_slot c.allocate.new.self.objects a 0 c.link_word.result.0 a in
+    let two = ap (λ (h : Memory). slot_count_of h.objects a) c.set_slot-2.ensures in
+    let second = slot_count_of-with_slot c.set_slot.new.self.objects a 3 c.method-method.result.0 a in
+    omega (arith, n, one, first, two, second)
+
+pub set_slot-requires-4 : goal.set_slot-requires-4
+set_slot-requires-4 c =
+    let a = c.in_ok-made.made.0 in
+    let n = ap (λ (h : Memory). slot_count_of h.objects a) c.in_ok-made.ensures.added ∙ new_count c.args.heap.now.objects c.size_for-size.result _ a c.in_ok-made.ensures.address in
+    let one = ap (λ (h : Memory). slot_count_of h.objects a) c.set_slot.ensures in
+    let first = slot_count_of-with_slot c.allocate.new.self.objects a 0 c.link_word.result.0 a in
+    let two = ap (λ (h : Memory). slot_count_of h.objects a) c.set_slot-2.ensures in
+    let second = slot_count_of-with_slot c.set_slot.new.self.objects a 3 c.method-method.result.0 a in
+    let three = ap (λ (h : Memory). slot_count_of h.objects a) c.set_slot-3.ensures in
+    let third = slot_count_of-with_slot c.set_slot-2.new.self.objects a 4 c.closure.result.0 a in
+    omega (arith, n, one, first, two, second, three, third)
+
+pub returns-clause-added : goal.returns-clause-added
+returns-clause-added c =
+    let a = c.in_ok-made.made.0 in
+    let m : Memory = c.args.heap.now in
+    let os = m.objects in
+    let size = c.size_for-size.result in
+    let f = frame c.args.frames.now c.args.f in
+    let sized : size ≡ new_size os f = c.size_for-size.ensures ∙ ap (λ (n : ℕ). context_size (header_at os n)) c.method-method.ensures.method in
+    c.set_slot-4.ensures
+    ∙ ap (λ (h : Memory). record h { objects = with_slot h.objects a 5 c.receiver.result.0 }) (c.set_slot-3.ensures
+    ∙ ap (λ (h : Memory). record h { objects = with_slot h.objects a 4 c.closure.result.0 }) (c.set_slot-2.ensures
+    ∙ ap (λ (h : Memory). record h { objects = with_slot h.objects a 3 c.method-method.result.0 }) (c.set_slot.ensures
+    ∙ ap (λ (h : Memory). record h { objects = with_slot h.objects a 0 c.link_word.result.0 }) c.in_ok-made.ensures.added)))
+    ∙ ap (λ (xs : List Object). record m { objects = xs }) (written os size c.birth.result a c.in_ok-made.ensures.address c.link_word.result.0 c.method-method.result.0 c.closure.result.0 c.receiver.result.0)
+    ∙ ap (λ (y : Object). record m { objects = pushed os y }) (spouse_written os c.args.f f size c.birth.result c.link_word.result.0 c.method-method.result.0 c.closure.result.0 c.receiver.result.0
+    sized c.birth.ensures.birth c.link_word.ensures c.method-method.ensures.method c.closure.ensures.closure c.receiver.ensures.receiver)
