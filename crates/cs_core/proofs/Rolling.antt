@@ -32,7 +32,7 @@ use Rattle.cs_heap.specs.Object.{used}
 use Rattle.cs_acts.specs.Ready.{IsReady, IsSound}
 use Rattle.cs_core.specs.declared.step.StepEnd.TheVariants as how
 use Rattle.cs_core.specs.declared.run.Ran.{Ran as Report}
-use Rattle.cs_core.specs.Stepped.{EndsWithout, IsNext, IsOver, Overfills, StepGives, run_at, state_at, step_at}
+use Rattle.cs_core.specs.Stepped.{IsNext, IsOver, Overfills, StepGives, run_at, state_at, step_at}
 use Rattle.cs_core.proofs.Growing.{part_of_more, run_writes}
 use Rattle.cs_core.specs.declared.run.RunError.TheVariants.{Full, WriteFault}
 use Rattle.cs_core.specs.Deep.{AllBegun, most_of, run_of}

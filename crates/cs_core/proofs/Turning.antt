@@ -17,7 +17,7 @@ use Rattle.cs_model.specs.End.{End, Out, no_count}
 use Rattle.cs_model.specs.PrimRun.{Result}
 use Rattle.cs_model.specs.Due.{due, due_of, is_idle, is_left, without_context}
 use Rattle.cs_model.proofs.Same.{equal, option_equal}
-use Rattle.cs_model.proofs.Happening.{is_idle_same}
+use Rattle.cs_model.proofs.Happening.{is_idle_same, without_context_moved}
 use Rattle.cs_model.proofs.Stepping.{shape_fault_same}
 use Rattle.cs_model.specs.Step.{completed, ends_with, finish, Step, Steps, Stopped, add_count, birth_limit, bytecode, finish_of, followed, instruction_at, next_step, shape_fault, step, stops, with_kept}
 use Rattle.cs_model.specs.Built.{built_step, is_built, is_built_bytecode, is_built_from}
@@ -166,6 +166,7 @@ leads_to_none k i v bytes h d shape idle output steps =
     let is : (step_at k output steps).state.kept ≡ without_context t.result.out.state = ap (λ (p : Step). p.state.kept) (begun k i output steps h) ∙ c.state in (
       ap is_idle is ∙ idle_stays t.result.out.state (idle_kept v t.result.out.state (d output steps).state ∙ idle),
       ap (λ (k : Kept). k.rest.next) is ∙ next_stays t.result.out.state ∙ sym (ap (λ (r : Rest). r.next) (d output steps).state.rest),
+      subst (Keeps (without_context v)) (sym is) (without_context_moved (d output steps).state).keeps,
     )
 
 -- what the turn of the model gives, its step gives

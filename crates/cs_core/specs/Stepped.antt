@@ -9,7 +9,7 @@ use Rattle.cs_model.specs.Keeps.{Keeps}
 use Rattle.cs_model.specs.Read.{active_birth}
 use Rattle.cs_model.specs.Return.{is_live, sender_birth}
 use Rattle.cs_model.specs.Settle.{new_run}
-use Rattle.cs_model.specs.Due.{is_idle}
+use Rattle.cs_model.specs.Due.{is_idle, without_context}
 use Rattle.cs_model.specs.End.{End, Out}
 use Rattle.cs_model.specs.End as ends
 use Rattle.cs_model.specs.PrimRun.{Result}
@@ -43,12 +43,16 @@ step_at k output steps = built_step (state_at k output steps)
 abbrev pub Completes : Kept → List ℕ → Type 0
 Completes k bytes = (output : List ℕ) (steps : ℕ) → ((step_at k output steps).ending ≡ Steps) × ((step_at k output steps).state.run ≡ run_at (output ++ bytes) (steps + 1))
 
--- the state behind it is one that v keeps; or no process is active in it, and its next birth is that of v
+-- the state behind it is one that v keeps; or no process is active in it, its next birth is that of v, and v without its active
+-- context keeps it
 abbrev pub LeadsTo : Kept → Kept → Type 0
 LeadsTo k v = (output : List ℕ) (steps : ℕ) → Keeps v (step_at k output steps).state.kept
 
 abbrev pub LeadsToNone : Kept → Kept → Type 0
-LeadsToNone k v = (output : List ℕ) (steps : ℕ) → (is_idle (step_at k output steps).state.kept ≡ true) × ((step_at k output steps).state.kept.rest.next ≡ v.rest.next)
+LeadsToNone k v = (output : List ℕ) (steps : ℕ) →
+    (is_idle (step_at k output steps).state.kept ≡ true)
+    × ((step_at k output steps).state.kept.rest.next ≡ v.rest.next)
+    × Keeps (without_context v) (step_at k output steps).state.kept
 
 -- ---- where activations stand
 
