@@ -1,10 +1,9 @@
 -- That a bytecode is next, and is built, holds of a state that is kept.
-use Rattle.std.proofs.Common.{◌≡◌, ◌+◌, Bool, true, false, sym, ap, ◌∙◌, nat_lt}
+use Rattle.std.proofs.Common.{◌+◌, true, sym, ap, ◌∙◌, nat_lt}
 use Rattle.cs_model.specs.declared.instruction.Op.{Op}
 use Rattle.cs_model.specs.State.{Kept, Rest}
 use Rattle.cs_model.specs.Keeps.{Keeps}
 use Rattle.cs_model.specs.Alike.{Alike}
-use Rattle.cs_model.specs.Due.{is_idle}
 use Rattle.cs_model.specs.End.{Out}
 use Rattle.cs_model.specs.Step.{birth_limit}
 use Rattle.cs_model.specs.Built.{is_built_bytecode, is_built_from, is_built_out}
