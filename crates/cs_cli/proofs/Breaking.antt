@@ -9,7 +9,8 @@ use Rattle.cs_acts.specs.Layout.{Layout}
 use Rattle.cs_acts.specs.Names.{Store}
 use Rattle.cs_core.specs.declared.run.RunError.{RunError}
 use Rattle.cs_core.specs.declared.run.RunError.TheVariants.{Full}
-use Rattle.cs_core.specs.Deep.{run_of}
+use Rattle.cs_core.specs.Deep.{run_of, state_of}
+use Rattle.cs_core.specs.Stepped.{IsNext}
 use Rattle.cs_core.specs.Running.{RunFails, RunFills}
 use Rattle.cs_cli.specs.Answer.{heap_limit, IsUnderWay, Printed, Reported, answering}
 use Rattle.cs_cli.specs.Answer as answer
@@ -18,16 +19,16 @@ use Rattle.cs_cli.proofs.Writings.{printed_behind, writing}
 fills : (k : Kept) (s : Store) (m : Option Layout) (a b : Option (List ℕ)) (n : ℕ) (e : RunError) (why kind : Why) → e ≡ Full why → why ≡ kind → RunFails k s m a b n e → RunFills k s m a b n kind
 fills k s m a b n e why kind is same h = subst (RunFails k s m a b n) (is ∙ ap Full same) h
 
-under_way : (k : Kept) (s : Store) (m : Option Layout) (a b : Option (List ℕ)) (n : ℕ) (kind : Why) → (f : RunFills k s m a b n kind) → IsUnderWay k n f.done
-under_way k s m a b n kind f = record { fewer = f.fewer; ending = f.ending }
+under_way : (k : Kept) (s : Store) (m : Option Layout) (a b : Option (List ℕ)) (n : ℕ) (kind : Why) → (f : RunFills k s m a b n kind) → IsNext (state_of k f.done) → IsUnderWay k n f.done
+under_way k s m a b n kind f next = record { fewer = f.fewer; ending = f.ending; next = next }
 
 pub heap_reported : (k : Kept) (s : Store) (m : Option Layout) (a b : Option (List ℕ)) (i j n : ℕ) (e : RunError) (why : Why) → e ≡ Full why → why ≡ Heap → s.memory.limit ≡ heap_limit → RunFails k s m a b n e → Reported k n (writing a b i j) 5
 heap_reported k s m a b i j n e why is same limit h =
     let f = fills k s m a b n e why Heap is same h in
-    answer.heap f.done (under_way k s m a b n Heap f) (subst (λ l. l < words_in (bytecode (run_of k f.done).state).out.state) limit f.room.words) (inl (refl, f.written))
+    answer.heap f.done (under_way k s m a b n Heap f f.room.next) f.room.over (subst (λ l. l < words_in (bytecode (run_of k f.done).state).out.state) limit f.room.words) (inl (refl, f.written))
 
 pub stack_reported : (k : Kept) (s : Store) (m : Option Layout) (a b c : Option (List ℕ)) (i j l n : ℕ) (e : RunError) (why : Why) (status : ℕ) → e ≡ Full why → why ≡ Stack → RunFails k s m a b n e → i ≤ j
     → Printed (answering 10 (codes "cogstack: stack\n")) (writing b c j l) status → Reported k n (writing a c i l) status
 stack_reported k s m a b c i j l n e why status is same h le printed =
     let f = fills k s m a b n e why Stack is same h in
-    answer.stack f.done (under_way k s m a b n Stack f) f.room (printed_behind a b c i j l (run_of k f.done).state.run.output (codes "cogstack: stack\n") 10 status f.written le printed)
+    answer.stack f.done (under_way k s m a b n Stack f f.room.next) f.room.entered f.room.deep (printed_behind a b c i j l (run_of k f.done).state.run.output (codes "cogstack: stack\n") 10 status f.written le printed)

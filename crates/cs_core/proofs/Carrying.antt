@@ -19,11 +19,12 @@ use Rattle.cs_model.proofs.Keeping.{Keeps-trans}
 use Rattle.cs_model.proofs.Reading.{held_if}
 use Rattle.cs_model.proofs.Building.{is_built_return_same, is_built_send_same}
 use Rattle.cs_model.proofs.Stepping.{MessageHeld, do_return_alike, do_send_alike}
+use Rattle.cs_acts.specs.declared.act.Full.{Full as Why}
 use Rattle.cs_acts.specs.Layout.{Layout, page_words}
 use Rattle.cs_acts.specs.Names.{Store}
 use Rattle.cs_acts.specs.Ready.{IsReady}
 use Rattle.cs_model.specs.Demand.{words_in}
-use Rattle.cs_core.specs.Stepped.{DoneIn, EndsBy, FramesFrom, IsDone, IsOver, Turn, TurnStops, unbuilt, stopped, lost, Turns, TurnGives, returning, run_at, sending}
+use Rattle.cs_core.specs.Stepped.{DoneIn, EndsBy, FramesFrom, EndsWithout, IsDone, IsOver, Overfills, Turn, TurnStops, unbuilt, stopped, lost, Turns, TurnGives, returning, run_at, sending}
 use Rattle.cs_core.specs.declared.step.StepEnd.{StepEnd}
 use Rattle.cs_core.specs.declared.step.StepEnd.TheVariants.{Active, Idle, Stopped as Stop, Full, WriteFault}
 use Rattle.cs_core.proofs.Laying.{causes_more, state_words_kept}
@@ -53,6 +54,9 @@ SameIn f g = (output : List ℕ) (steps : ℕ) → IsSame (f output steps) (g ou
 done_in : (f g : Turns) (v : Kept) (bytes : List ℕ) → SameIn f g → DoneIn f v bytes → DoneIn g v bytes
 done_in f g v bytes s d output steps = same_done (f output steps) (g output steps) v (run_at (output ++ bytes) steps) (s output steps) (d output steps)
 
+overfills_too : (s : Store) (l : Option Layout) (u k : Kept) (a b : Turn) (why : Why) → ((page : List ℕ) → page_words u page ≤ page_words k page) → IsSame a b → Overfills s l u a.result.out why → Overfills s l k b.result.out why
+overfills_too s l u k a b why pages is h = record { end = subst (EndsWithout why) (sym is.end) h.end; cause = causes_more s l u k a.result.out.state b.result.out.state why pages is.words h.cause }
+
 -- and from states of which the first has no page with more words
 pub carried : (f g : Turns) (u k : Kept) (l n : Option Layout) (old new : Option (List ℕ)) (s : Store) (v : Kept) (e : StepEnd) → SameIn f g → ((page : List ℕ) → page_words u page ≤ page_words k page)
     → TurnGives f u l old new s v n e → TurnGives g k l old new s v n e
@@ -60,7 +64,7 @@ carried f g u k l n old new s v Active is pages (bytes, told, d, ready, shape, a
 carried f g u k l n old new s v Idle is pages (bytes, told, d, sound, shape, idle) = (bytes, told, done_in f g v bytes is d, sound, shape, idle)
 carried f g u k l n old new s v (Stop reason) is pages (none, h) = (none, λ output steps. same_stops (f output steps) (g output steps) reason (is output steps) (h output steps))
 carried f g u k l n old new s v (Full why) is pages (none, h) =
-    (none, λ output steps. causes_more s l u k (f output steps).result.out.state (g output steps).result.out.state why pages (is output steps).words (h output steps))
+    (none, λ output steps. ((is output steps).built ∙ (h output steps).0, overfills_too s l u k (f output steps) (g output steps) why pages (is output steps) (h output steps).1))
 carried f g u k l n old new s v WriteFault is pages (bytes, told, d, shape) = (bytes, told, done_in f g v bytes is d, shape)
 
 -- results that are alike

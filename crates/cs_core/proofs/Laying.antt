@@ -8,7 +8,8 @@ use Rattle.cs_model.specs.Ref.{Ref}
 use Rattle.cs_model.specs.Obj.{Obj, context_in}
 use Rattle.cs_model.specs.State.{Kept, Rest, object_at}
 use Rattle.cs_model.specs.Keeps.{Keeps}
-use Rattle.cs_model.specs.End.{made_context}
+use Rattle.cs_model.specs.End as ends
+use Rattle.cs_model.specs.End.{End, Out, made_context}
 use Rattle.cs_model.specs.Operation.{enter_of, enter_with}
 use Rattle.cs_model.specs.Send.{enter_out}
 use Rattle.cs_acts.specs.Full.{CausesFull}
@@ -17,7 +18,8 @@ use Rattle.cs_acts.specs.declared.act.Full.TheVariants.{Heap, Stack}
 use Rattle.cs_acts.specs.Layout.{LaidBy, Layout, depth_in, entered, first_page, frame_words, is_frame, is_on, left, page_words, touched}
 use Rattle.cs_acts.specs.Names.{Store}
 use Rattle.cs_model.specs.Demand.{words_at, words_below, words_in}
-use Rattle.cs_core.specs.Stepped.{FramesFrom}
+use Rattle.cs_send.specs.Sent.{Refuses}
+use Rattle.cs_core.specs.Stepped.{EndsWithout, FramesFrom, IsOver, Overfills}
 
 -- ---- frames
 
@@ -152,6 +154,14 @@ page_words_kept v m k (i ∷ is) = go (page_words_kept v m k is) (object_at v i)
         omega (arith, before, is)
 
 -- ---- no room
+
+entered_without : (why : Why) (e : End) → e ≡ ends.Entered → EndsWithout why e
+entered_without Heap e is = subst IsOver (sym is) tt
+entered_without Stack e is = is
+
+-- a refusal to enter a method
+pub refused : (s : Store) (l : Option Layout) (k : Kept) (o : Out) (why : Why) → Refuses s l k o why → Overfills s l k o why
+refused s l k o why h = record { end = entered_without why o.end h.end; cause = h.cause }
 
 -- the cause of a refusal is one from a state with no fewer words, for a call that leads to no fewer
 pub causes_more : (s : Store) (l : Option Layout) (u k t x : Kept) (why : Why) → ((page : List ℕ) → page_words u page ≤ page_words k page) → words_in t ≤ words_in x → CausesFull s l u 0 t why → CausesFull s l k 0 x why

@@ -15,4 +15,5 @@ pub mod Deepening
 pub mod Rolling
 mod Growing
 pub mod Beginning
+pub mod Nexting
 pub mod Stepping

@@ -19,7 +19,6 @@ use Rattle.cs_model.specs.PrimRun.{Result, result}
 use Rattle.cs_model.specs.Step.{Message, counting, do_send, primitive_in, sent, shape_fault, try_primitive, with_kept}
 use Rattle.cs_model.specs.Built.{is_built_found, is_built_number, is_built_send}
 use Rattle.cs_acts.specs.declared.act.Full.{Full as Why}
-use Rattle.cs_acts.specs.Full.{CausesFull}
 use Rattle.cs_acts.specs.Layout.{Layout}
 use Rattle.cs_acts.specs.Names.{Store, name_of}
 use Rattle.cs_model.specs.Demand.{words_in}
@@ -28,11 +27,11 @@ use Rattle.cs_send.specs.Resolved as resolved
 use Rattle.cs_send.specs.Sent.{Enters, Halts, IsPlain, Offers, Refuses, found}
 use Rattle.cs_send.specs.Sent as send
 use Rattle.cs_send.proofs.Sends.{send-plain}
-use Rattle.cs_core.specs.Stepped.{DoneIn, EndsBy, IsOver, TurnGives, unbuilt, stopped, run_at, sending, state_at, trying}
+use Rattle.cs_core.specs.Stepped.{DoneIn, EndsBy, IsOver, Overfills, TurnGives, unbuilt, stopped, run_at, sending, state_at, trying}
 use Rattle.cs_core.specs.declared.step.StepEnd.{StepEnd}
 use Rattle.cs_core.specs.declared.step.StepEnd.TheVariants.{Stopped as Stop, Full}
 use Rattle.cs_core.proofs.Carrying.{SameIn}
-use Rattle.cs_core.proofs.Laying.{entered_active, entered_frames}
+use Rattle.cs_core.proofs.Laying.{entered_active, entered_frames, refused}
 use Rattle.cs_core.proofs.Turning.{ends_quietly}
 
 -- ---- whether it is built, by what it finds
@@ -104,9 +103,13 @@ entered_gives k v m l n told old s e plain h by =
           run = ap (λ (p : Result). p.run) is ∙ ap (λ o. run_at o steps) (sym (append-nil output));
         }
 
-pub refused_gives : (k v : Kept) (m : Message) (l n : Option Layout) (told : Option (List ℕ)) (s : Store) (why : Why) → Refuses s l k (send.sent k m) why → TurnGives (sending k m) k l told told s v n (Full why)
-refused_gives k v m l n told s why h =
-    (refl, λ output steps. subst (λ (p : Result). CausesFull s l k 0 p.out.state why) (sym (does_send (run_at output steps) k m (ap primitive_in h.end))) h.cause)
+pub refused_gives : (k v : Kept) (m : Message) (l n : Option Layout) (told : Option (List ℕ)) (s : Store) (why : Why) → IsPlain (found k m) → Refuses s l k (send.sent k m) why → TurnGives (sending k m) k l told told s v n (Full why)
+refused_gives k v m l n told s why plain h = (
+  refl,
+  λ output steps.
+      let is = does_send (run_at output steps) k m (ap primitive_in h.end) in
+      (built_found k m ∙ built_plain (found k m) plain, subst (λ (p : Result). Overfills s l k p.out why) (sym is) (refused s l k (send.sent k m) why h)),
+)
 
 -- ---- it stops
 

@@ -17,12 +17,13 @@ use Rattle.cs_model.specs.Return.{back, context_at, context_birth, has_room, loc
 use Rattle.cs_model.specs.Step.{do_return}
 use Rattle.cs_model.specs.Built.{is_built_return, is_built_target}
 use Rattle.cs_acts.specs.declared.act.Full.{Full as Why}
+use Rattle.cs_acts.specs.declared.act.Full.TheVariants.{Heap}
 use Rattle.cs_acts.specs.Full.{CausesFull}
 use Rattle.cs_acts.specs.Layout.{LaidBy, Layout, left}
 use Rattle.cs_acts.specs.Names.{Store}
 use Rattle.cs_acts.specs.Ready.{IsReady}
 use Rattle.cs_acts.specs.Targets.{CanArrive}
-use Rattle.cs_core.specs.Stepped.{DoneIn, EndsBy, FramesFrom, IsOver, IsTarget, TurnGives, TurnStops, unbuilt, stopped, returning, run_at}
+use Rattle.cs_core.specs.Stepped.{DoneIn, EndsBy, FramesFrom, IsOver, IsTarget, Overfills, TurnGives, TurnStops, unbuilt, stopped, returning, run_at}
 use Rattle.cs_core.specs.declared.step.StepEnd.{StepEnd}
 use Rattle.cs_core.specs.declared.step.StepEnd.TheVariants.{Stopped as Stop, Full}
 use Rattle.cs_core.proofs.Laying.{left_frames}
@@ -110,11 +111,16 @@ module _ (k : Kept) (o : Option ℕ) (h : IsTarget k o) where
           }
 
   pub no_room_gives : (v : Kept) (x : Ref) (local : Bool) (l n : Option Layout) (told : Option (List ℕ)) (s : Store) (why : Why) → IsRunning k → local ≡ true → IsSomeAnd (sender_birth k (active_birth k)) (CanArrive k)
-      → CausesFull s l k 0 (leave_of k x) why → TurnGives (returning k x local) k l told told s v n (Full why)
-  no_room_gives v x local l n told s why running is target cause = (
-    refl,
-    λ output steps.
-        let there : CanArrive k h.birth = subst (λ o. IsSomeAnd o (CanArrive k)) h.sender target in
-        subst (λ b. CausesFull s l k 0 (returning k x b output steps).result.out.state why) (sym is)
-        (subst (λ (p : Result). CausesFull s l k 0 p.out.state why) (sym (returns x (run_at output steps) true there.room)) (subst (λ t. CausesFull s l k 0 t why) (leaves running x) cause)),
-  )
+      → why ≡ Heap → CausesFull s l k 0 (leave_of k x) why → TurnGives (returning k x local) k l told told s v n (Full why)
+  no_room_gives v x local l n told s why running is target heap cause =
+      subst (λ b. TurnGives (returning k x b) k l told told s v n (Full why)) (sym is)
+      (subst (λ w. TurnGives (returning k x true) k l told told s v n (Full w)) (sym heap) (refl, λ output steps. (built, overfills output steps)))
+    where
+      there : CanArrive k h.birth
+      there = subst (λ o. IsSomeAnd o (CanArrive k)) h.sender target
+
+      grown : CausesFull s l k 0 (cut_to_of k (active_birth k ∷ []) h.birth x) Heap
+      grown = subst (λ t. CausesFull s l k 0 t Heap) (leaves running x) (subst (CausesFull s l k 0 (leave_of k x)) heap cause)
+
+      overfills : (output : List ℕ) (steps : ℕ) → Overfills s l k (returning k x true output steps).result.out Heap
+      overfills output steps = subst (λ (p : Result). Overfills s l k p.out Heap) (sym (returns x (run_at output steps) true there.room)) (record { end = tt; cause = grown })

@@ -25,7 +25,6 @@ use Rattle.cs_model.proofs.Stepping.{bytecode_alike}
 use Rattle.cs_model.proofs.Agreeing.{place_of-kept, is_idle-kept}
 use Rattle.cs_acts.specs.declared.act.Full.{Full as Why}
 use Rattle.cs_acts.specs.declared.act.Full.TheVariants.{Heap, Stack}
-use Rattle.cs_acts.specs.Full.{CausesFull}
 use Rattle.cs_acts.specs.Layout.{IsFresh, IsLaidOut, Layout}
 use Rattle.cs_model.specs.Demand.{words_in}
 use Rattle.cs_acts.specs.Names.{Store}
@@ -33,13 +32,14 @@ use Rattle.cs_heap.specs.Object.{used}
 use Rattle.cs_acts.specs.Ready.{IsReady, IsSound}
 use Rattle.cs_core.specs.declared.step.StepEnd.TheVariants as how
 use Rattle.cs_core.specs.declared.run.Ran.{Ran as Report}
-use Rattle.cs_core.specs.Stepped.{StepGives, run_at, state_at, step_at}
+use Rattle.cs_core.specs.Stepped.{IsNext, IsOver, Overfills, StepGives, run_at, state_at, step_at}
 use Rattle.cs_core.proofs.Growing.{part_of_more, run_writes}
 use Rattle.cs_core.specs.declared.run.RunError.TheVariants.{Full, WriteFault}
 use Rattle.cs_core.specs.Deep.{AllBegun, most_of, run_of}
 use Rattle.cs_core.specs.Running.{HasNoRoom, RunGives, RunFails, ending_of, ending_at_rest, place_by}
 use Rattle.cs_core.proofs.Deepening.{begun_at_start, begun_on, is_deep}
 use Rattle.cs_core.proofs.Laying.{state_words_kept}
+use Rattle.cs_core.proofs.Nexting.{next_kept}
 use Rattle.cs_core.proofs.Places.{idle_place}
 
 -- ---- a run that has ended stays
@@ -340,21 +340,31 @@ fills {k = k} {old = old} {now = now} {i = i} {s = s} {v = v} {l = l} t w b firs
   fewer = below;
   ending = h.ending;
   written = subst (λ (o : Option (List ℕ)). Appends old o (run_of k i).state.run.output) (sym g.0) (subst (λ (bytes : List ℕ). Appends old now bytes) (sym (ap (λ (q : Run). q.output) h.run)) h.written);
-  room = room why (g.1 h.output i);
+  room = room why (g.2 h.output i);
 }
   where
     m : State
     m = (run_of k i).state
 
-    room : (why : Why) → CausesFull t l v 0 (bytecode (state_at v h.output i)).out.state why → HasNoRoom k t first i why
+    next : IsNext m.kept
+    next = next_kept v m.kept h.keeps g.1
+
+    a : AlikeResult v (bytecode (state_at v h.output i)) (bytecode (with_kept m.kept (run_at h.output i)))
+    a = bytecode_alike h.keeps (run_at h.output i)
+
+    end : (bytecode m).out.end ≡ (bytecode (state_at v h.output i)).out.end
+    end = ap (λ (r : Run). (bytecode (with_kept m.kept r)).out.end) h.run ∙ sym a.out.end
+
+    room : (why : Why) → Overfills t l v (bytecode (state_at v h.output i)).out why → HasNoRoom k t first i why
     room Heap c =
-        let a : AlikeResult v (bytecode (state_at v h.output i)) (bytecode (with_kept m.kept (run_at h.output i))) = bytecode_alike h.keeps (run_at h.output i) in
         let more : words_in (bytecode (state_at v h.output i)).out.state ≤ words_in (bytecode (with_kept m.kept (run_at h.output i))).out.state = state_words_kept _ _ a.out.keeps in
         record {
-          words = subst (λ (r : Run). t.memory.limit < words_in (bytecode (with_kept m.kept r)).out.state) (sym h.run) (omega (arith, c.words, more));
-          room = by_most t first (subst (λ o. IfSome o (λ n. t.memory.limit < used t.memory.objects + 26304 * n)) most (most_room t l c.room));
+          next = next;
+          over = subst IsOver (sym end) c.end;
+          words = subst (λ (r : Run). t.memory.limit < words_in (bytecode (with_kept m.kept r)).out.state) (sym h.run) (omega (arith, c.cause.words, more));
+          room = by_most t first (subst (λ o. IfSome o (λ n. t.memory.limit < used t.memory.objects + 26304 * n)) most (most_room t l c.cause.room));
         }
-    room Stack c = is_deep k s v i l h.keeps h.ready laid h.begun c
+    room Stack c = record { next = next; entered = end ∙ c.end; deep = is_deep k s v i l h.keeps h.ready laid h.begun c.cause }
 
 -- ---- faults
 

@@ -23,15 +23,14 @@ use Rattle.cs_model.specs.Send.{enter_out}
 use Rattle.cs_model.specs.Step.{arguments_of, tried, try_primitive, with_kept}
 use Rattle.cs_model.specs.Built.{is_built_number}
 use Rattle.cs_acts.specs.declared.act.Full.{Full as Why}
-use Rattle.cs_acts.specs.Full.{CausesFull}
 use Rattle.cs_acts.specs.Layout.{Layout}
 use Rattle.cs_acts.specs.Names.{Store}
 use Rattle.cs_acts.specs.Ready.{IsReady}
 use Rattle.cs_send.specs.Sent.{Enters, Refuses}
-use Rattle.cs_core.specs.Stepped.{CausedByFault, DoneIn, EndsBy, Fails, FramesFrom, IsOver, unbuilt, lost, TurnGives, run_at, state_at, trying}
+use Rattle.cs_core.specs.Stepped.{CausedByFault, DoneIn, EndsBy, Fails, FramesFrom, IsOver, Overfills, unbuilt, lost, TurnGives, run_at, state_at, trying}
 use Rattle.cs_core.specs.declared.step.StepEnd.{StepEnd}
 use Rattle.cs_core.specs.declared.step.StepEnd.TheVariants.{Active, Idle, Stopped as Stop, Full, WriteFault}
-use Rattle.cs_core.proofs.Laying.{entered_active, entered_frames}
+use Rattle.cs_core.proofs.Laying.{entered_active, entered_frames, refused}
 use Rattle.cs_core.proofs.Turning.{ends_by, ends_quietly, shape_kept}
 
 -- ---- what trying comes to
@@ -76,7 +75,7 @@ enters_behind k v x args number l n told old s e count f h by =
 pub full_behind : (k v : Kept) (x : Ref) (args number : ℕ) (l n : Option Layout) (told : Option (List ℕ)) (s : Store) (why : Why) → arguments_of k x ≡ args → Fails k x number → Refuses s l k (enter_out k x args true) why
     → TurnGives (trying k x number) k l told told s v n (Full why)
 full_behind k v x args number l n told s why count f h =
-    (refl, λ output steps. subst (λ (p : Result). CausesFull s l k 0 p.out.state why) (sym (failed k x number args output steps count (f.end (run_at output steps)))) h.cause)
+    (refl, λ output steps. (f.built, subst (λ (p : Result). Overfills s l k p.out why) (sym (failed k x number args output steps count (f.end (run_at output steps)))) (refused s l k (enter_out k x args true) why h)))
 
 -- ---- the sum
 

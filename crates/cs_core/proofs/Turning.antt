@@ -17,15 +17,14 @@ use Rattle.cs_model.specs.End.{End, Out, no_count}
 use Rattle.cs_model.specs.PrimRun.{Result}
 use Rattle.cs_model.specs.Due.{due, due_of, is_idle, is_left, without_context}
 use Rattle.cs_model.proofs.Same.{equal, option_equal}
-use Rattle.cs_model.proofs.Happening.{is_idle_same}
+use Rattle.cs_model.proofs.Happening.{is_idle_same, without_context_moved}
 use Rattle.cs_model.proofs.Stepping.{shape_fault_same}
 use Rattle.cs_model.specs.Step.{completed, ends_with, finish, Step, Steps, Stopped, add_count, birth_limit, bytecode, finish_of, followed, instruction_at, next_step, shape_fault, step, stops, with_kept}
 use Rattle.cs_model.specs.Built.{built_step, is_built, is_built_bytecode, is_built_from}
-use Rattle.cs_acts.specs.Full.{CausesFull}
 use Rattle.cs_acts.specs.Layout.{Layout}
 use Rattle.cs_acts.specs.Names.{Store}
 use Rattle.cs_acts.specs.Ready.{IsReady}
-use Rattle.cs_core.specs.Stepped.{Completes, DoneIn, EndsBy, FramesFrom, IsDone, IsOver, LeadsTo, LeadsToNone, StepGives, Turn, TurnStops, unbuilt, stopped, lost, Turns, TurnGives, run_at, state_at, step_at}
+use Rattle.cs_core.specs.Stepped.{Completes, DoneIn, EndsBy, FramesFrom, IsDone, IsOver, Overfills, LeadsTo, LeadsToNone, StepGives, Turn, TurnStops, unbuilt, stopped, lost, Turns, TurnGives, run_at, state_at, step_at}
 use Rattle.cs_core.specs.declared.step.StepEnd.{StepEnd}
 use Rattle.cs_core.specs.declared.step.StepEnd.TheVariants.{Active, Idle, Stopped as Stop, Full, WriteFault}
 
@@ -64,6 +63,10 @@ begun : (k : Kept) (i : Instr) (output : List ℕ) (steps : ℕ) → Begins k i 
 unfolding built_step
 begun k i output steps h =
     ap₂ (λ b t. if b then t else stops (state_at k output steps) no_count why.NotBuilt) (built_at k i (run_at output steps) h) (step_done k i output steps h)
+
+built_next : (k : Kept) (i : Instr) → Begins k i → is_built_bytecode k ≡ is_built_from (past k i) i.op
+unfolding is_built_bytecode
+built_next k i h = rw h.instruction
 
 does : (k : Kept) (i : Instr) (output : List ℕ) (steps : ℕ) → Begins k i → bytecode (state_at k output steps) ≡ followed (run_at output steps) (effect k i)
 unfolding bytecode
@@ -163,6 +166,7 @@ leads_to_none k i v bytes h d shape idle output steps =
     let is : (step_at k output steps).state.kept ≡ without_context t.result.out.state = ap (λ (p : Step). p.state.kept) (begun k i output steps h) ∙ c.state in (
       ap is_idle is ∙ idle_stays t.result.out.state (idle_kept v t.result.out.state (d output steps).state ∙ idle),
       ap (λ (k : Kept). k.rest.next) is ∙ next_stays t.result.out.state ∙ sym (ap (λ (r : Rest). r.next) (d output steps).state.rest),
+      subst (Keeps (without_context v)) (sym is) (without_context_moved (d output steps).state).keeps,
     )
 
 -- what the turn of the model gives, its step gives
@@ -171,7 +175,11 @@ turn_gives k i l n old new s v Active h (bytes, told, d, ready, shape, active, f
 turn_gives k i l n old new s v Idle h (bytes, told, d, sound, shape, idle) = (bytes, told, completes k i v bytes h d shape, leads_to_none k i v bytes h d shape idle, sound)
 turn_gives k i l n old new s v (Stop reason) h (none, f) =
     (none, λ output steps. ap (λ (p : Step). p.ending) (begun k i output steps h) ∙ ended_stops (state_at k output steps) (model_turn k i output steps) reason (f output steps))
-turn_gives k i l n old new s v (Full why) h (none, f) = (none, λ output steps. subst (λ (r : Result). CausesFull s l k 0 r.out.state why) (sym (does k i output steps h)) (f output steps))
+turn_gives k i l n old new s v (Full why) h (none, f) = (
+  none,
+  record { births = h.births; active = h.active; built = built_next k i h ∙ (f [] 0).0 },
+  λ output steps. subst (λ (r : Result). Overfills s l k r.out why) (sym (does k i output steps h)) (f output steps).1,
+)
 turn_gives k i l n old new s v WriteFault h (bytes, told, d, shape) = (bytes, told, completes k i v bytes h d shape)
 
 -- ---- no instruction is done

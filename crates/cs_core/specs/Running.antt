@@ -3,6 +3,7 @@ use Rattle.std.specs.Prelude.{◌≡◌, ℕ, ◌+◌, ◌*◌, ◌<◌, ◌==�
 use Rattle.cs_shelf.specs.Outside.{Appends, AppendsPart, Rose}
 use Rattle.cs_model.specs.declared.stop.Stop.TheVariants as why
 use Rattle.cs_model.specs.State.{Kept}
+use Rattle.cs_model.specs.End as ends
 use Rattle.cs_model.specs.Report.{Place as ModelPlace, place_of}
 use Rattle.cs_model.specs.Step as model
 use Rattle.cs_model.specs.Step.{birth_limit, bytecode}
@@ -18,7 +19,8 @@ use Rattle.cs_core.specs.declared.run.Place.{Place}
 use Rattle.cs_core.specs.declared.run.Ran.{Ran}
 use Rattle.cs_core.specs.declared.run.RunError.{RunError}
 use Rattle.cs_core.specs.declared.run.RunError.TheVariants.{Full, WriteFault}
-use Rattle.cs_core.specs.Deep.{IsDeep, run_of}
+use Rattle.cs_core.specs.Deep.{IsDeep, run_of, state_of}
+use Rattle.cs_core.specs.Stepped.{IsNext, IsOver}
 
 -- what an ending and a place of the code mean in the model
 abbrev pub ending_of : Ending → model.Ending
@@ -40,16 +42,24 @@ pub record RunGives (k : Kept) (old new : Option (List ℕ)) (n : ℕ) (r : Ran)
   pub place : place_of (run_of k n).state.kept ≡ place_by r.place
   pub written : Appends old new (run_of k n).state.run.output
 
--- The words of the state that the next bytecode leads to exceed the limit of the heap. In a world with pages the heap has besides no
--- room for a context of each frame that they may hold: 409 to a page and two more, of 64 words each.
+-- The next bytecode is built and doesn't stop, and the words of the state that it leads to exceed the limit of the heap. In a world
+-- with pages the heap has besides no room for a context of each frame that they may hold: 409 to a page and two more, of 64 words each.
 pub record IsHeavy (k : Kept) (s : Store) (l : Option Layout) (done : ℕ) : Type 0 where
+  pub next : IsNext (state_of k done)
+  pub over : IsOver (bytecode (run_of k done).state).out.end
   pub words : s.memory.limit < words_in (bytecode (run_of k done).state).out.state
   pub room : IfSome l (λ laid. s.memory.limit < used s.memory.objects + 26304 * laid.most)
+
+-- the next bytecode is built and enters a method, and the contexts that await a return are many
+pub record IsTooDeep (k : Kept) (done : ℕ) : Type 0 where
+  pub next : IsNext (state_of k done)
+  pub entered : (bytecode (run_of k done).state).out.end ≡ ends.Entered
+  pub deep : IsDeep k done
 
 -- why a run finds no room behind so many steps, in a world that began with this layout
 abbrev pub HasNoRoom : Kept → Store → Option Layout → ℕ → Why → Type 0
 HasNoRoom k s l done Heap = IsHeavy k s l done
-HasNoRoom k s l done Stack = IsDeep k done
+HasNoRoom k s l done Stack = IsTooDeep k done
 
 -- so many steps of n are done, all that they write is written, and then there is no room
 pub record RunFills (k : Kept) (s : Store) (l : Option Layout) (old new : Option (List ℕ)) (n : ℕ) (why : Why) : Type 0 where

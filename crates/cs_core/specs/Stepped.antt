@@ -1,5 +1,5 @@
 -- What a step gives, beside the step of the model.
-use Rattle.std.specs.Prelude.{◌≡◌, ◌⊎◌, ℕ, ◌+◌, ◌==◌, Bool, true, false, List, ◌++◌, [], Option, Some, None}
+use Rattle.std.specs.Prelude.{◌≡◌, ◌⊎◌, ℕ, ◌+◌, ◌==◌, nat_lt, Bool, true, false, List, ◌++◌, [], Option, Some, None}
 use Rattle.cs_shelf.specs.Outside.{Appends, AppendsPart, Rose}
 use Rattle.cs_model.specs.declared.stop.Stop.{Stop as Reason}
 use Rattle.cs_model.specs.declared.stop.Stop.TheVariants as why
@@ -9,13 +9,15 @@ use Rattle.cs_model.specs.Keeps.{Keeps}
 use Rattle.cs_model.specs.Read.{active_birth}
 use Rattle.cs_model.specs.Return.{is_live, sender_birth}
 use Rattle.cs_model.specs.Settle.{new_run}
-use Rattle.cs_model.specs.Due.{is_idle}
-use Rattle.cs_model.specs.End.{End}
+use Rattle.cs_model.specs.Due.{is_idle, without_context}
+use Rattle.cs_model.specs.End.{End, Out}
 use Rattle.cs_model.specs.End as ends
 use Rattle.cs_model.specs.PrimRun.{Result}
 use Rattle.cs_model.specs.PrimTable.{prim}
-use Rattle.cs_model.specs.Step.{arguments_of, Message, Step, Steps, Stopped, bytecode, do_return, do_send, shape_fault, try_primitive, with_kept}
-use Rattle.cs_model.specs.Built.{built_step, is_built_number, is_built_return, is_built_send}
+use Rattle.cs_model.specs.Step.{arguments_of, Message, Step, Steps, Stopped, birth_limit, bytecode, do_return, do_send, shape_fault, try_primitive, with_kept}
+use Rattle.cs_model.specs.Built.{built_step, is_built_bytecode, is_built_number, is_built_return, is_built_send}
+use Rattle.cs_acts.specs.declared.act.Full.{Full as Why}
+use Rattle.cs_acts.specs.declared.act.Full.TheVariants.{Heap, Stack}
 use Rattle.cs_acts.specs.Full.{CausesFull}
 use Rattle.cs_acts.specs.Layout.{Layout, is_frame}
 use Rattle.cs_acts.specs.Names.{Store}
@@ -41,12 +43,16 @@ step_at k output steps = built_step (state_at k output steps)
 abbrev pub Completes : Kept → List ℕ → Type 0
 Completes k bytes = (output : List ℕ) (steps : ℕ) → ((step_at k output steps).ending ≡ Steps) × ((step_at k output steps).state.run ≡ run_at (output ++ bytes) (steps + 1))
 
--- the state behind it is one that v keeps; or no process is active in it, and its next birth is that of v
+-- the state behind it is one that v keeps; or no process is active in it, its next birth is that of v, and v without its active
+-- context keeps it
 abbrev pub LeadsTo : Kept → Kept → Type 0
 LeadsTo k v = (output : List ℕ) (steps : ℕ) → Keeps v (step_at k output steps).state.kept
 
 abbrev pub LeadsToNone : Kept → Kept → Type 0
-LeadsToNone k v = (output : List ℕ) (steps : ℕ) → (is_idle (step_at k output steps).state.kept ≡ true) × ((step_at k output steps).state.kept.rest.next ≡ v.rest.next)
+LeadsToNone k v = (output : List ℕ) (steps : ℕ) →
+    (is_idle (step_at k output steps).state.kept ≡ true)
+    × ((step_at k output steps).state.kept.rest.next ≡ v.rest.next)
+    × Keeps (without_context v) (step_at k output steps).state.kept
 
 -- ---- where activations stand
 
@@ -56,16 +62,48 @@ FramesFrom None new v = new ≡ None
 FramesFrom (Some l) None v = ⊥
 FramesFrom (Some l) (Some n) v = (n.most ≡ l.most) × ((i : ℕ) → is_frame i n.pages ≡ true → (is_frame i l.pages ≡ true) ⊎ (v.rest.active ≡ Some i))
 
+-- ---- no room
+
+-- an instruction or a return is done, a primitive answered, or a method is entered
+abbrev pub IsOver : End → Type 0
+IsOver ends.Done = Unit {0}
+IsOver (ends.Send selector args above) = ⊥
+IsOver (ends.Return value local) = ⊥
+IsOver ends.Entered = Unit {0}
+IsOver (ends.Primitive method number) = ⊥
+IsOver (ends.Call special args) = ⊥
+IsOver ends.Answer = Unit {0}
+IsOver ends.Fail = ⊥
+IsOver ends.Quit = ⊥
+IsOver ends.Snapshot = ⊥
+IsOver (ends.Stopped reason) = ⊥
+
+-- how a bytecode ends in the model for which there is no room: the stack is full for a method that is entered alone
+abbrev pub EndsWithout : Why → End → Type 0
+EndsWithout Heap end = IsOver end
+EndsWithout Stack end = end ≡ ends.Entered
+
+-- there is no room for what a bytecode, or a part of one, comes to in the model from the state k
+pub record Overfills (s : Store) (l : Option Layout) (k : Kept) (o : Out) (why : Why) : Type 0 where
+  pub end : EndsWithout why o.end
+  pub cause : CausesFull s l k 0 o.state why
+
+-- births are left and a process is active, so that a bytecode is next, and it is built
+pub record IsNext (k : Kept) : Type 0 where
+  pub births : nat_lt birth_limit k.rest.next ≡ false
+  pub active : is_idle k ≡ false
+  pub built : is_built_bytecode k ≡ true
+
 -- ---- a step
 
 -- A step from the state k in a world of this layout, with what the sink tells before and behind it and with the world behind it. What
 -- is written is what the model writes; where the sink fails, it is a first part of that. A step that stops or finds no room writes
--- nothing. There is no room for what the bytecode leads to.
+-- nothing. There is no room for what the bytecode leads to, which is built and doesn't stop.
 abbrev pub StepGives : Kept → Option Layout → Option (List ℕ) → Option (List ℕ) → Store → Kept → Option Layout → StepEnd → Type 0
 StepGives k l old new s v n Active = (bytes : List ℕ) × Appends old new bytes × Completes k bytes × LeadsTo k v × IsReady s v × (is_idle v ≡ false) × FramesFrom l n v
 StepGives k l old new s v n Idle = (bytes : List ℕ) × Appends old new bytes × Completes k bytes × LeadsToNone k v × IsSound s v
 StepGives k l old new s v n (Stop reason) = (new ≡ old) × ((output : List ℕ) (steps : ℕ) → (step_at k output steps).ending ≡ Stopped reason)
-StepGives k l old new s v n (Full why) = (new ≡ old) × ((output : List ℕ) (steps : ℕ) → CausesFull s l k 0 (bytecode (state_at k output steps)).out.state why)
+StepGives k l old new s v n (Full why) = (new ≡ old) × IsNext k × ((output : List ℕ) (steps : ℕ) → Overfills s l k (bytecode (state_at k output steps)).out why)
 StepGives k l old new s v n WriteFault = (bytes : List ℕ) × AppendsPart old new bytes × Completes k bytes
 
 -- a fault of the sink has been counted
@@ -111,20 +149,6 @@ pub record IsTarget (k : Kept) (found : Option ℕ) : Type 0 where
   pub live : is_live k birth ≡ true
   pub other : (birth == active_birth k) ≡ false
 
--- an instruction or a return is done, a primitive answered, or a method is entered
-abbrev pub IsOver : End → Type 0
-IsOver ends.Done = Unit {0}
-IsOver (ends.Send selector args above) = ⊥
-IsOver (ends.Return value local) = ⊥
-IsOver ends.Entered = Unit {0}
-IsOver (ends.Primitive method number) = ⊥
-IsOver (ends.Call special args) = ⊥
-IsOver ends.Answer = Unit {0}
-IsOver ends.Fail = ⊥
-IsOver ends.Quit = ⊥
-IsOver ends.Snapshot = ⊥
-IsOver (ends.Stopped reason) = ⊥
-
 -- it is over, in this run and in a state that v keeps
 pub record IsDone (t : Turn) (v : Kept) (r : Run) : Type 0 where
   pub built : t.built ≡ true
@@ -146,7 +170,7 @@ abbrev pub TurnGives : Turns → Kept → Option Layout → Option (List ℕ) �
 TurnGives f k l old new s v n Active = (bytes : List ℕ) × Appends old new bytes × DoneIn f v bytes × IsReady s v × (shape_fault v ≡ None) × (is_idle v ≡ false) × FramesFrom l n v
 TurnGives f k l old new s v n Idle = (bytes : List ℕ) × Appends old new bytes × DoneIn f v bytes × IsSound s v × (shape_fault v ≡ None) × (is_idle v ≡ true)
 TurnGives f k l old new s v n (Stop reason) = (new ≡ old) × ((output : List ℕ) (steps : ℕ) → TurnStops (f output steps) reason)
-TurnGives f k l old new s v n (Full why) = (new ≡ old) × ((output : List ℕ) (steps : ℕ) → CausesFull s l k 0 (f output steps).result.out.state why)
+TurnGives f k l old new s v n (Full why) = (new ≡ old) × ((output : List ℕ) (steps : ℕ) → ((f output steps).built ≡ true) × Overfills s l k (f output steps).result.out why)
 TurnGives f k l old new s v n WriteFault = (bytes : List ℕ) × AppendsPart old new bytes × DoneIn f v bytes × (shape_fault v ≡ None)
 
 -- how a step that did its bytecode ends, by the scheduler behind it

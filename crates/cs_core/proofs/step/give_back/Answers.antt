@@ -17,4 +17,4 @@ returns-in-Ok-clause-gives g c = λ told.
 pub returns-in-Err-clause-gives : goal.returns-in-Err-clause-gives
 returns-in-Err-clause-gives g c = λ told.
     no_room_gives (g.W.World.view c.args.w.now) _ c.in-Some.ensures.some (g.W.World.view c.leave.new.self) (name_of (g.W.World.stored c.args.w.now) c.args.value) c.args.local (g.W.World.layout c.args.w.now) (g.W.World.layout c.leave.new.self) told (g.W.World.stored c.leave.new.self) c.in-Err.why c.requires.ready.running c.if-not-local.false
-    (can_arrive (g.W.World.view c.args.w.now) _ c.in-Some.ensures.some c.act_full.result c.act_full.ensures c.if-act_full.false) c.in-Err.ensures.full
+    (can_arrive (g.W.World.view c.args.w.now) _ c.in-Some.ensures.some c.act_full.result c.act_full.ensures c.if-act_full.false) c.in-Err.ensures.heap_alone c.in-Err.ensures.full

@@ -21,4 +21,4 @@ pub returns-in-Stop-clause-gives : goal.returns-in-Stop-clause-gives
 returns-in-Stop-clause-gives g c = halted_gives (g.W.World.view c.args.w.now) (g.W.World.view c.send.new.w) (message_of (g.W.World.stored c.args.w.now) c.args.selector c.args.args c.args.above) (g.W.World.layout c.args.w.now) (g.W.World.layout c.send.new.w) (g.K.Sink.taken c.args.out.now) (g.W.World.stored c.send.new.w) c.in-Stop.reason c.in-Stop.ensures.sent
 
 pub returns-in-Full-clause-gives : goal.returns-in-Full-clause-gives
-returns-in-Full-clause-gives g c = refused_gives (g.W.World.view c.args.w.now) (g.W.World.view c.send.new.w) (message_of (g.W.World.stored c.args.w.now) c.args.selector c.args.args c.args.above) (g.W.World.layout c.args.w.now) (g.W.World.layout c.send.new.w) (g.K.Sink.taken c.args.out.now) (g.W.World.stored c.send.new.w) c.in-Full.why c.in-Full.ensures.sent.1
+returns-in-Full-clause-gives g c = refused_gives (g.W.World.view c.args.w.now) (g.W.World.view c.send.new.w) (message_of (g.W.World.stored c.args.w.now) c.args.selector c.args.args c.args.above) (g.W.World.layout c.args.w.now) (g.W.World.layout c.send.new.w) (g.K.Sink.taken c.args.out.now) (g.W.World.stored c.send.new.w) c.in-Full.why c.in-Full.ensures.sent.0 c.in-Full.ensures.sent.1
