@@ -16,7 +16,7 @@ use Rattle.cs_acts.specs.Full.{IsFullStack}
 use Rattle.cs_acts.specs.Layout.{IsCalled, IsFresh, IsLaidOut, IsPage, Layout, first_page, is_frame, is_on, last_frame, page_words}
 use Rattle.cs_acts.specs.Names.{Store}
 use Rattle.cs_acts.specs.Ready.{IsReady}
-use Rattle.cs_core.specs.Deep.{AllBegun, HasBegun, IsDeep, most_of, state_of}
+use Rattle.cs_core.specs.Deep.{AllBegun, WasActive, IsDeep, most_of, state_of}
 use Rattle.cs_core.specs.Stepped.{FramesFrom}
 use Rattle.cs_core.proofs.Laying.{left_true, page_words_kept, right_true}
 
@@ -30,10 +30,10 @@ pub begun_at_start : (k : Kept) (l : Option Layout) → IsFresh k l → AllBegun
 begun_at_start k None fresh = tt
 begun_at_start k (Some l) fresh = λ birth h. record { step = 0; within = omega arith; active = ap (λ (m : Kept). m.rest.active) (started k) ∙ fresh birth h }
 
-later : (k : Kept) (n birth : ℕ) → HasBegun k n birth → HasBegun k (n + 1) birth
+later : (k : Kept) (n birth : ℕ) → WasActive k n birth → WasActive k (n + 1) birth
 later k n birth h = record { step = h.step; within = omega (arith, h.within); active = h.active }
 
-now_begun : (k w : Kept) (n birth : ℕ) → (state_of k (n + 1)).rest.active ≡ w.rest.active → w.rest.active ≡ Some birth → HasBegun k (n + 1) birth
+now_begun : (k w : Kept) (n birth : ℕ) → (state_of k (n + 1)).rest.active ≡ w.rest.active → w.rest.active ≡ Some birth → WasActive k (n + 1) birth
 now_begun k w n birth is active = record { step = n + 1; within = omega arith; active = is ∙ active }
 
 -- each frame behind a step was one before, or is active
@@ -77,7 +77,7 @@ of_page P (i ∷ is) h = (h i (left_true (i == i) (is_on i is) (itself i)), of_p
 -- ---- a page that is full
 
 module _ (k : Kept) (s : Store) (v : Kept) (n : ℕ) (keeps : Keeps v (state_of k n)) (ready : IsReady s v) where
-  deep : (page : List ℕ) → IsPage v page → last_frame page ≡ Some (active_birth v) → AllByRecursion (HasBegun k n) page → 4096 < page_words v page + 66 → IsDeep k n
+  deep : (page : List ℕ) → IsPage v page → last_frame page ≡ Some (active_birth v) → AllByRecursion (WasActive k n) page → 4096 < page_words v page + 66 → IsDeep k n
   deep page h last begun full = record {
     contexts = page;
     active = last ∙ sym ready.running.known ∙ ap (λ (r : Rest). r.active) keeps.rest;
@@ -87,9 +87,9 @@ module _ (k : Kept) (s : Store) (v : Kept) (n : ℕ) (keeps : Keeps v (state_of 
     words = omega (arith, full, page_words_kept v (state_of k n) keeps page);
   }
 
-  of_pages : (pages : List (List ℕ)) → AllByRecursion (IsPage v) pages → last_frame (first_page pages) ≡ Some (active_birth v) → ((i : ℕ) → is_frame i pages ≡ true → HasBegun k n i) → 4096 < page_words v (first_page pages) + 66 → IsDeep k n
+  of_pages : (pages : List (List ℕ)) → AllByRecursion (IsPage v) pages → last_frame (first_page pages) ≡ Some (active_birth v) → ((i : ℕ) → is_frame i pages ≡ true → WasActive k n i) → 4096 < page_words v (first_page pages) + 66 → IsDeep k n
   of_pages [] all last begun full = absurd (cc)
-  of_pages (page ∷ pages) all last begun full = deep page all.0 last (of_page (HasBegun k n) page (λ i on. begun i (left_true (is_on i page) (is_frame i pages) on))) full
+  of_pages (page ∷ pages) all last begun full = deep page all.0 last (of_page (WasActive k n) page (λ i on. begun i (left_true (is_on i page) (is_frame i pages) on))) full
 
 pub is_deep : (k : Kept) (s : Store) (v : Kept) (n : ℕ) (l : Option Layout) → Keeps v (state_of k n) → IsReady s v → IsLaidOut s v l → AllBegun k n l → IsFullStack v l → IsDeep k n
 is_deep k s v n None keeps ready laid begun full = absurd full

@@ -16,7 +16,7 @@ abbrev pub state_of : Kept → ℕ → Kept
 state_of k n = (run_of k n).state.kept
 
 -- a context has begun where it was active behind one of the first n steps, or before them
-pub record HasBegun (k : Kept) (n : ℕ) (birth : ℕ) : Type 0 where
+pub record WasActive (k : Kept) (n : ℕ) (birth : ℕ) : Type 0 where
   pub step : ℕ
   pub within : step ≤ n
   pub active : (state_of k step).rest.active ≡ Some birth
@@ -28,7 +28,7 @@ pub record IsDeep (k : Kept) (n : ℕ) : Type 0 where
   pub active : last_frame contexts ≡ (state_of k n).rest.active
   pub called : IsCalled (state_of k n) contexts
   pub apart : IsApart contexts
-  pub begun : AllByRecursion (HasBegun k n) contexts
+  pub begun : AllByRecursion (WasActive k n) contexts
   pub words : 3900 < page_words (state_of k n) contexts
 
 -- ---- where a world has its frames
@@ -40,4 +40,4 @@ most_of l = option_map (λ x. x.most) l
 -- each of them has begun
 abbrev pub AllBegun : Kept → ℕ → Option Layout → Type 0
 AllBegun k n None = Unit {0}
-AllBegun k n (Some l) = (birth : ℕ) → is_frame birth l.pages ≡ true → HasBegun k n birth
+AllBegun k n (Some l) = (birth : ℕ) → is_frame birth l.pages ≡ true → WasActive k n birth

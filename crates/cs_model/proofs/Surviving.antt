@@ -15,6 +15,7 @@ use Rattle.cs_model.specs.Send.{enter_out, invoke, not_understood, send, perform
 use Rattle.cs_model.specs.Return.{call_with, cannot_return_out, unwind_out, local_out, nonlocal_out, back}
 use Rattle.cs_model.specs.Process.{add_last, take_out, start, stop_running, start_next, resume, signal, wait, suspend_active, suspend_other, suspend, give_way}
 use Rattle.cs_model.specs.PrimAnswer.{answer}
+use Rattle.cs_model.specs.PrimUnwind.{end_between_of}
 use Rattle.cs_model.specs.Settle.{settle_kept, open_kept}
 use Rattle.cs_model.specs.PrimRun.{forgotten}
 use Rattle.cs_model.specs.PrimTable.{kept_prim}
@@ -26,6 +27,7 @@ use Rattle.cs_model.proofs.Keeping.{put_moved}
 use Rattle.cs_model.proofs.Reading.{held_if, Has, listed}
 use Rattle.cs_model.proofs.Operating.{put_active_moved, set_pc_moved, push_moved, drop_moved, set_stack_moved, store_moved, store_byte_moved, add_moved, enter_moved, kill_moved, kill_all_moved, resume_moved, suspend_moved, leave_moved, cut_to_moved}
 use Rattle.cs_model.proofs.Fields.{context_put_moved}
+use Rattle.cs_model.proofs.Unwinding.{end_between_moved}
 use Rattle.cs_model.proofs.Making.{SameMade, makes, refused, full, SameHashed, hashes, no_class, none_left, instantiate_same, behavior_hash_same, take_index_moved, hash_given_moved}
 use Rattle.cs_model.proofs.Entering.{enter_block_moved, enter_block_alike}
 use Rattle.cs_model.proofs.Executing.{push_alike, fill_moved, jump_alike, send_selector_alike, special_send_alike, exec_alike}
@@ -146,6 +148,12 @@ Keeps-context_put v m birth i x k h = (context_put_moved k (is birth) i (same x 
 
 pub grows-context_put : (v : Kept) (birth i : ℕ) (x : Ref) → Keeps v v → IsHeld v x → Grows v (context_put v birth i x)
 grows-context_put v birth i x k h = (context_put_moved k (is birth) i (same x h)).grows
+
+pub Keeps-end_between : (v m : Kept) (dying : List ℕ) (i : ℕ) (x : Ref) → Keeps v m → IsHeld v x → Keeps (end_between_of v dying i x) (end_between_of m dying i x)
+Keeps-end_between v m dying i x k h = (end_between_moved k dying i (same x h)).keeps
+
+pub grows-end_between : (v : Kept) (dying : List ℕ) (i : ℕ) (x : Ref) → Keeps v v → IsHeld v x → Grows v (end_between_of v dying i x)
+grows-end_between v dying i x k h = (end_between_moved k dying i (same x h)).grows
 
 pub Keeps-take_index : (v m : Kept) (x : Ref) (index : ℕ) → Keeps v m → IsHeld v x → Keeps (take_index v x index) (take_index m x index)
 Keeps-take_index v m x index k h = (take_index_moved k (same x h) index).keeps

@@ -78,7 +78,7 @@ handler_mark_alike k args =
 
 -- ---- the contexts between die
 
-end_between_moved : {v m : Kept} {x y : Ref} → Keeps v m → (dying : List ℕ) (i : ℕ) → Same (IsHeld v) x y → Moved v (end_between_of v dying i x) (end_between_of m dying i y)
+pub end_between_moved : {v m : Kept} {x y : Ref} → Keeps v m → (dying : List ℕ) (i : ℕ) → Same (IsHeld v) x y → Moved v (end_between_of v dying i x) (end_between_of m dying i y)
 unfolding end_between_of
 end_between_moved {v} k dying i (same x g) =
     let a = kill_all_moved dying k in

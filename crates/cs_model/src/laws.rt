@@ -27,6 +27,7 @@ ghost use Rattle.cs_model.specs.Send.{enter_out, invoke, not_understood, send, p
 ghost use Rattle.cs_model.specs.Return.{senders_to, home, back, local_out, nonlocal_out, cannot_return_out, unwind_out};
 ghost use Rattle.cs_model.specs.Process.{add_last, start, start_next, resume, signal, wait, suspend, give_way};
 ghost use Rattle.cs_model.specs.PrimAnswer.{answer};
+ghost use Rattle.cs_model.specs.PrimUnwind.{end_between_of};
 ghost use Rattle.cs_model.specs.PrimRun.{forgotten};
 ghost use Rattle.cs_model.specs.PrimTable.{kept_prim, prim};
 ghost use Rattle.cs_model.specs.Settle.{settle_kept, open_kept, opened, settled, new_run};
@@ -118,6 +119,7 @@ pub fn keeping_survives_an_operation()
     ensures leave { (v m : Kept) (x : Ref) → Keeps v m → IsHeld v x → Keeps (leave_of v x) (leave_of m x) }
     ensures cut_to { (v m : Kept) (dying : List ℕ) (i : ℕ) (x : Ref) → Keeps v m → IsSome (object_at v i) → IsHeld v x → Keeps (cut_to_of v dying i x) (cut_to_of m dying i x) }
     ensures context_put { (v m : Kept) (birth i : ℕ) (x : Ref) → Keeps v m → IsHeld v x → Keeps (context_put v birth i x) (context_put m birth i x) }
+    ensures end_between { (v m : Kept) (dying : List ℕ) (i : ℕ) (x : Ref) → Keeps v m → IsHeld v x → Keeps (end_between_of v dying i x) (end_between_of m dying i x) }
     ensures take_index { (v m : Kept) (x : Ref) (index : ℕ) → Keeps v m → IsHeld v x → Keeps (take_index v x index) (take_index m x index) }
     ensures hash_given { (v m : Kept) (x : Ref) → Keeps v m → IsHeld v x → Keeps (hash_given v x) (hash_given m x) }
     ensures settle { (v m : Kept) → Keeps v m → Keeps (settle_kept v) (settle_kept m) }
@@ -143,6 +145,7 @@ pub fn what_was_held_still_is()
     ensures leave { (v : Kept) (x : Ref) → Keeps v v → IsHeld v x → Grows v (leave_of v x) }
     ensures cut_to { (v : Kept) (dying : List ℕ) (i : ℕ) (x : Ref) → Keeps v v → IsSome (object_at v i) → IsHeld v x → Grows v (cut_to_of v dying i x) }
     ensures context_put { (v : Kept) (birth i : ℕ) (x : Ref) → Keeps v v → IsHeld v x → Grows v (context_put v birth i x) }
+    ensures end_between { (v : Kept) (dying : List ℕ) (i : ℕ) (x : Ref) → Keeps v v → IsHeld v x → Grows v (end_between_of v dying i x) }
     ensures take_index { (v : Kept) (x : Ref) (index : ℕ) → Keeps v v → IsHeld v x → Grows v (take_index v x index) }
     ensures hash_given { (v : Kept) (x : Ref) → Keeps v v → IsHeld v x → Grows v (hash_given v x) }
     ensures settle { (v : Kept) → Keeps v v → Grows v (settle_kept v) }

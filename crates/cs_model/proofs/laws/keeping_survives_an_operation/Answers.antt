@@ -1,5 +1,5 @@
 -- The law keeping survives an operation.
-use Rattle.cs_model.proofs.Surviving.{Keeps-put, Keeps-set_pc, Keeps-push, Keeps-drop, Keeps-set_stack, Keeps-store, Keeps-store_byte, Keeps-add, Keeps-fill, Keeps-enter, Keeps-enter_block, Keeps-kill, Keeps-resume_at, Keeps-suspend_all, Keeps-leave, Keeps-cut_to, Keeps-context_put, Keeps-take_index, Keeps-hash_given, Keeps-settle, Keeps-open}
+use Rattle.cs_model.proofs.Surviving.{Keeps-put, Keeps-set_pc, Keeps-push, Keeps-drop, Keeps-set_stack, Keeps-store, Keeps-store_byte, Keeps-add, Keeps-fill, Keeps-enter, Keeps-enter_block, Keeps-kill, Keeps-resume_at, Keeps-suspend_all, Keeps-leave, Keeps-cut_to, Keeps-context_put, Keeps-end_between, Keeps-take_index, Keeps-hash_given, Keeps-settle, Keeps-open}
 use Rattle.cs_model.proofs.laws.keeping_survives_an_operation.Goals as goal
 
 pub returns-clause-put : goal.returns-clause-put
@@ -52,6 +52,9 @@ returns-clause-cut_to c = Keeps-cut_to
 
 pub returns-clause-context_put : goal.returns-clause-context_put
 returns-clause-context_put c = Keeps-context_put
+
+pub returns-clause-end_between : goal.returns-clause-end_between
+returns-clause-end_between c = Keeps-end_between
 
 pub returns-clause-take_index : goal.returns-clause-take_index
 returns-clause-take_index c = Keeps-take_index

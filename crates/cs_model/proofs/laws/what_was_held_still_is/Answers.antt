@@ -1,5 +1,5 @@
 -- The law what was held still is.
-use Rattle.cs_model.proofs.Surviving.{grows-put, grows-set_pc, grows-push, grows-drop, grows-set_stack, grows-store, grows-store_byte, grows-add, grows-fill, grows-enter, grows-enter_block, grows-kill, grows-resume_at, grows-suspend_all, grows-leave, grows-cut_to, grows-context_put, grows-take_index, grows-hash_given, grows-settle, grows-open}
+use Rattle.cs_model.proofs.Surviving.{grows-put, grows-set_pc, grows-push, grows-drop, grows-set_stack, grows-store, grows-store_byte, grows-add, grows-fill, grows-enter, grows-enter_block, grows-kill, grows-resume_at, grows-suspend_all, grows-leave, grows-cut_to, grows-context_put, grows-end_between, grows-take_index, grows-hash_given, grows-settle, grows-open}
 use Rattle.cs_model.proofs.laws.what_was_held_still_is.Goals as goal
 
 pub returns-clause-put : goal.returns-clause-put
@@ -52,6 +52,9 @@ returns-clause-cut_to c = grows-cut_to
 
 pub returns-clause-context_put : goal.returns-clause-context_put
 returns-clause-context_put c = grows-context_put
+
+pub returns-clause-end_between : goal.returns-clause-end_between
+returns-clause-end_between c = grows-end_between
 
 pub returns-clause-take_index : goal.returns-clause-take_index
 returns-clause-take_index c = grows-take_index
