@@ -45,6 +45,11 @@ pub trait World {
     fn roots(&self) -> &Roots
         ensures { result.now ≡ (stored self.now).roots };
 
+    /// The birth that the next object or context gets.
+    fn next_birth(&self) -> u64
+        requires { IsSound (stored self.now) (view self.now) }
+        ensures { result ≡ (view self.now).rest.next };
+
     /// The active context; Gone exactly where none is active.
     fn active(&self) -> Act
         requires { IsSound (stored self.now) (view self.now) }

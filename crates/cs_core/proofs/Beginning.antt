@@ -3,7 +3,6 @@ use Rattle.std.proofs.Common.{◌≡◌, ℕ, ◌+◌, ◌-◌, ◌<◌, ◌≤�
 use Rattle.std.specs.Prelude.{◌&&◌, if◌then◌else◌, slice_index}
 use Rattle.std.proofs.lemmas.Bool.Decides.{nat_tests}
 use Rattle.cs_word.specs.declared.Oop.{Oop}
-use Rattle.cs_classes.specs.declared.Roots.{Roots}
 use Rattle.cs_model.specs.declared.stop.Stop.TheVariants as why
 use Rattle.cs_model.specs.declared.instruction.Instr.{Instr}
 use Rattle.cs_model.specs.declared.instruction.Op.{Op}
@@ -24,15 +23,12 @@ use Rattle.cs_model.proofs.Keeping.{Keeps-trans}
 use Rattle.cs_model.proofs.Same.{equal}
 use Rattle.cs_model.proofs.Executing.{exec_alike}
 use Rattle.cs_acts.specs.Names.{IsNamed, Store, name_of}
-use Rattle.cs_acts.specs.Ready.{Holds, IsSound}
+use Rattle.cs_acts.specs.Ready.{Holds}
 use Rattle.cs_acts.proofs.Held.{named_held}
 use Rattle.cs_code.specs.Built.{built_exec}
 use Rattle.cs_core.proofs.Turning.{effect, past}
 
 -- ---- births
-
-pub next_is : (s : Store) (k : Kept) → IsSound s k → k.rest.next ≡ s.roots.next_birth
-next_is s k h = ap (λ r. r.next) (sym h.holds.rest)
 
 beyond : (n m : ℕ) → 4611686018427387840 < n → m ≡ n → nat_lt birth_limit m ≡ true
 beyond n m h e = grind (arith, nat_tests)
@@ -40,11 +36,11 @@ beyond n m h e = grind (arith, nat_tests)
 within : (n m : ℕ) → n ≤ 4611686018427387840 → m ≡ n → nat_lt birth_limit m ≡ false
 within n m h e = grind (arith, nat_tests)
 
-pub births_beyond : (s : Store) (k : Kept) (r : Roots) → IsSound s k → r ≡ s.roots → 4611686018427387840 < r.next_birth → nat_lt birth_limit k.rest.next ≡ true
-births_beyond s k r h is more = beyond r.next_birth k.rest.next more (next_is s k h ∙ ap (λ x. x.next_birth) (sym is))
+pub births_beyond : (k : Kept) (n : ℕ) → n ≡ k.rest.next → 4611686018427387840 < n → nat_lt birth_limit k.rest.next ≡ true
+births_beyond k n is more = beyond n k.rest.next more (sym is)
 
-pub births_left : (s : Store) (k : Kept) (r : Roots) → IsSound s k → r ≡ s.roots → r.next_birth ≤ 4611686018427387840 → nat_lt birth_limit k.rest.next ≡ false
-births_left s k r h is few = within r.next_birth k.rest.next few (next_is s k h ∙ ap (λ x. x.next_birth) (sym is))
+pub births_left : (k : Kept) (n : ℕ) → n ≡ k.rest.next → n ≤ 4611686018427387840 → nat_lt birth_limit k.rest.next ≡ false
+births_left k n is few = within n k.rest.next few (sym is)
 
 -- ---- the pc behind an instruction
 

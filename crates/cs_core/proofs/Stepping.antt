@@ -1,6 +1,5 @@
 -- From what the instruction did to the whole step.
 use Rattle.std.proofs.Common.{◌≡◌, ℕ, ◌≤◌, Bool, sym, ap, subst, ◌∙◌, arith, Option, List}
-use Rattle.cs_classes.specs.declared.Roots.{Roots}
 use Rattle.cs_model.specs.declared.stop.Stop.{Stop as Reason}
 use Rattle.cs_model.specs.declared.stop.Stop.TheVariants as why
 use Rattle.cs_model.specs.declared.instruction.Instr.{Instr}
@@ -18,7 +17,7 @@ use Rattle.cs_core.specs.Stepped.{EndsBy, FramesFrom, StepGives, TurnGives, retu
 use Rattle.cs_core.specs.declared.step.StepEnd.{StepEnd}
 use Rattle.cs_core.specs.declared.step.StepEnd.TheVariants.{Stopped as Stop}
 use Rattle.cs_core.proofs.Asking.{behind_return, behind_send}
-use Rattle.cs_core.proofs.Beginning.{Executed, did, did_not, next_is}
+use Rattle.cs_core.proofs.Beginning.{Executed, did, did_not}
 use Rattle.cs_core.proofs.Carrying.{carried, done_turn, returns_same, sends_same, stop_turn, unbuilt_turn}
 use Rattle.cs_core.proofs.Turning.{Begins, model_turn, turn_gives}
 
@@ -66,8 +65,8 @@ module _ (k : Kept) (i : Instr) (l n : Option Layout) (s : Store) (v : Kept) (h 
   return_gives u x local b told e running (did_not op is) held same gives = absurd (cc)
 
 -- a send doesn't change the next birth
-pub births_few : (s : Store) (k u : Kept) (i : Instr) (r : Roots) (selector : Ref) (args : ℕ) (above : Option Ref) → IsReady s k → r ≡ s.roots → r.next_birth ≤ 4611686018427387840 → Executed k i u (ends.Send selector args above) → u.rest.next ≤ 4611686018427387840
-births_few s k u i r selector args above ready is few (did op end keeps) =
-    let same : u.rest.next ≡ r.next_birth = (behind_send k u i selector args above ready.running op end keeps).next ∙ next_is s k ready.sound ∙ ap (λ (x : Roots). x.next_birth) (sym is) in
+pub births_few : (s : Store) (k u : Kept) (i : Instr) (n : ℕ) (selector : Ref) (args : ℕ) (above : Option Ref) → IsReady s k → n ≡ k.rest.next → n ≤ 4611686018427387840 → Executed k i u (ends.Send selector args above) → u.rest.next ≤ 4611686018427387840
+births_few s k u i n selector args above ready is few (did op end keeps) =
+    let same : u.rest.next ≡ n = (behind_send k u i selector args above ready.running op end keeps).next ∙ sym is in
     omega (arith, same, few)
-births_few s k u i r selector args above ready is few (did_not op end) = absurd (cc)
+births_few s k u i n selector args above ready is few (did_not op end) = absurd (cc)

@@ -165,7 +165,7 @@ fn at_rest<W: World>(w: &W, steps: u64, n: u64) -> Ran
 {
     let ending = if steps == n {
         Ending::Steps
-    } else if w.roots().next_birth > BIRTH_LIMIT {
+    } else if w.next_birth() > BIRTH_LIMIT {
         Ending::Stopped(Stop::BirthLimit)
     } else {
         Ending::Idle

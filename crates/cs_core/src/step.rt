@@ -46,7 +46,7 @@ pub fn step<W: World, K: Sink>(w: &mut W, sender: &mut Sender, out: &mut K) -> S
     ensures never_falls { K.fault_count out.old ≤ K.fault_count out.new }
     ensures cause { CausedByFault (K.fault_count out.old) (K.fault_count out.new) result }
 {
-    if w.roots().next_birth > BIRTH_LIMIT {
+    if w.next_birth() > BIRTH_LIMIT {
         return StepEnd::Stopped(Stop::BirthLimit);
     }
     let Some(instruction) = instruction(w) else {

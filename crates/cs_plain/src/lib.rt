@@ -292,6 +292,10 @@ impl World for PlainWorld {
         &self.roots
     }
 
+    fn next_birth(&self) -> u64 {
+        self.roots.next_birth
+    }
+
     fn active(&self) -> Act {
         match self.active {
             Some(context) => {

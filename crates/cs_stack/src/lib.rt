@@ -166,6 +166,10 @@ impl World for StackWorld {
         &self.parts.roots
     }
 
+    fn next_birth(&self) -> u64 {
+        self.parts.roots.next_birth
+    }
+
     fn active(&self) -> Act {
         self.parts.active()
     }

@@ -11,13 +11,13 @@ use Rattle.cs_core.proofs.Stepping.{births_few, done_gives, return_gives, send_g
 use Rattle.cs_core.proofs.Turning.{Begins, births_used, no_instruction}
 use Rattle.cs_core.proofs.step.step.Goals as goal
 
-pub returns-then-roots-gt-BIRTH_LIMIT-clause-gives : goal.returns-then-roots-gt-BIRTH_LIMIT-clause-gives
-returns-then-roots-gt-BIRTH_LIMIT-clause-gives g c =
-    births_used (g.W.World.view c.args.w.now) (g.W.World.layout c.args.w.now) (g.W.World.layout c.args.w.now) (g.W.World.stored c.args.w.now) (g.W.World.view c.args.w.now) _ (births_beyond (g.W.World.stored c.args.w.now) (g.W.World.view c.args.w.now) c.roots.result.now c.requires.ready.sound c.roots.ensures c.if-roots-gt-BIRTH_LIMIT.true)
+pub returns-then-next_birth-gt-BIRTH_LIMIT-clause-gives : goal.returns-then-next_birth-gt-BIRTH_LIMIT-clause-gives
+returns-then-next_birth-gt-BIRTH_LIMIT-clause-gives g c =
+    births_used (g.W.World.view c.args.w.now) (g.W.World.layout c.args.w.now) (g.W.World.layout c.args.w.now) (g.W.World.stored c.args.w.now) (g.W.World.view c.args.w.now) _ (births_beyond (g.W.World.view c.args.w.now) c.next_birth.result c.next_birth.ensures c.if-next_birth-gt-BIRTH_LIMIT.true)
 
 pub returns-in_default-clause-gives : goal.returns-in_default-clause-gives
 returns-in_default-clause-gives g c =
-    no_instruction (g.W.World.view c.args.w.now) (g.W.World.layout c.args.w.now) (g.W.World.layout c.args.w.now) (g.W.World.stored c.args.w.now) (g.W.World.view c.args.w.now) _ (births_left (g.W.World.stored c.args.w.now) (g.W.World.view c.args.w.now) c.roots.result.now c.requires.ready.sound c.roots.ensures c.if-roots-gt-BIRTH_LIMIT.false)
+    no_instruction (g.W.World.view c.args.w.now) (g.W.World.layout c.args.w.now) (g.W.World.layout c.args.w.now) (g.W.World.stored c.args.w.now) (g.W.World.view c.args.w.now) _ (births_left (g.W.World.view c.args.w.now) c.next_birth.result c.next_birth.ensures c.if-next_birth-gt-BIRTH_LIMIT.false)
     c.requires.active (sym c.instruction.ensures.value ∙ c.in_default.is)
 
 pub set_pc-requires-clause-lies : goal.set_pc-requires-clause-lies
@@ -28,7 +28,7 @@ set_pc-requires-clause-lies g c =
 pub returns-in-Done-clause-gives : goal.returns-in-Done-clause-gives
 returns-in-Done-clause-gives g c =
     let begins : Begins (g.W.World.view c.args.w.now) c.in-Some.instruction = record {
-      births = births_left (g.W.World.stored c.args.w.now) (g.W.World.view c.args.w.now) c.roots.result.now c.requires.ready.sound c.roots.ensures c.if-roots-gt-BIRTH_LIMIT.false;
+      births = births_left (g.W.World.view c.args.w.now) c.next_birth.result c.next_birth.ensures c.if-next_birth-gt-BIRTH_LIMIT.false;
       active = c.requires.active;
       instruction = sym c.instruction.ensures.value ∙ c.in-Some.is;
     } in
@@ -41,12 +41,12 @@ pub send-requires-clause-births : goal.send-requires-clause-births
 send-requires-clause-births g c =
     let x = executed (g.W.World.view c.args.w.now) (g.W.World.view c.set_pc.new.self) (g.W.World.view c.exec.new.w) c.in-Some.instruction (c.pc.result + c.from.result) _ (ap₂ (λ a b. a + b) c.pc.ensures c.from.ensures) c.set_pc.ensures.state c.requires.ready.sound.closed
     c.exec.ensures.gives.end c.exec.ensures.gives.state in
-    births_few (g.W.World.stored c.args.w.now) (g.W.World.view c.args.w.now) (g.W.World.view c.exec.new.w) c.in-Some.instruction c.roots.result.now _ _ _ c.requires.ready c.roots.ensures c.if-roots-gt-BIRTH_LIMIT.false (subst (Executed (g.W.World.view c.args.w.now) c.in-Some.instruction (g.W.World.view c.exec.new.w)) (ap (end_of (g.W.World.stored c.exec.new.w)) c.in-Send.is) x)
+    births_few (g.W.World.stored c.args.w.now) (g.W.World.view c.args.w.now) (g.W.World.view c.exec.new.w) c.in-Some.instruction c.next_birth.result _ _ _ c.requires.ready c.next_birth.ensures c.if-next_birth-gt-BIRTH_LIMIT.false (subst (Executed (g.W.World.view c.args.w.now) c.in-Some.instruction (g.W.World.view c.exec.new.w)) (ap (end_of (g.W.World.stored c.exec.new.w)) c.in-Send.is) x)
 
 pub returns-in-Send-clause-gives : goal.returns-in-Send-clause-gives
 returns-in-Send-clause-gives g c =
     let begins : Begins (g.W.World.view c.args.w.now) c.in-Some.instruction = record {
-      births = births_left (g.W.World.stored c.args.w.now) (g.W.World.view c.args.w.now) c.roots.result.now c.requires.ready.sound c.roots.ensures c.if-roots-gt-BIRTH_LIMIT.false;
+      births = births_left (g.W.World.view c.args.w.now) c.next_birth.result c.next_birth.ensures c.if-next_birth-gt-BIRTH_LIMIT.false;
       active = c.requires.active;
       instruction = sym c.instruction.ensures.value ∙ c.in-Some.is;
     } in
@@ -61,7 +61,7 @@ returns-in-Send-clause-gives g c =
 pub returns-in-Return-clause-gives : goal.returns-in-Return-clause-gives
 returns-in-Return-clause-gives g c =
     let begins : Begins (g.W.World.view c.args.w.now) c.in-Some.instruction = record {
-      births = births_left (g.W.World.stored c.args.w.now) (g.W.World.view c.args.w.now) c.roots.result.now c.requires.ready.sound c.roots.ensures c.if-roots-gt-BIRTH_LIMIT.false;
+      births = births_left (g.W.World.view c.args.w.now) c.next_birth.result c.next_birth.ensures c.if-next_birth-gt-BIRTH_LIMIT.false;
       active = c.requires.active;
       instruction = sym c.instruction.ensures.value ∙ c.in-Some.is;
     } in
@@ -78,7 +78,7 @@ returns-in-Return-clause-cause g c = c.give_back.ensures.cause (g.K.Sink.fault_c
 pub returns-in-Stop-clause-gives : goal.returns-in-Stop-clause-gives
 returns-in-Stop-clause-gives g c =
     let begins : Begins (g.W.World.view c.args.w.now) c.in-Some.instruction = record {
-      births = births_left (g.W.World.stored c.args.w.now) (g.W.World.view c.args.w.now) c.roots.result.now c.requires.ready.sound c.roots.ensures c.if-roots-gt-BIRTH_LIMIT.false;
+      births = births_left (g.W.World.view c.args.w.now) c.next_birth.result c.next_birth.ensures c.if-next_birth-gt-BIRTH_LIMIT.false;
       active = c.requires.active;
       instruction = sym c.instruction.ensures.value ∙ c.in-Some.is;
     } in
