@@ -1,5 +1,5 @@
 -- Whether a step is built is alike, and so is the step of a machine that stops where it isn't.
-use Rattle.std.proofs.Common.{ℕ, ◌+◌, ◌==◌, not, Bool, true, false, Option, nat_lt}
+use Rattle.std.proofs.Common.{ℕ, ◌+◌, ◌==◌, not, Bool, true, false, Option, Some, None, nat_lt}
 use Rattle.cs_model.specs.declared.stop.Stop.TheVariants as why
 use Rattle.cs_model.specs.declared.instruction.Op.{Op}
 use Rattle.cs_model.specs.declared.instruction.Op.TheVariants as op
@@ -12,7 +12,7 @@ use Rattle.cs_model.specs.Lookup.{Sought, Missing, Loop}
 use Rattle.cs_model.specs.Lookup as sought
 use Rattle.cs_model.specs.Step.{Message, birth_limit}
 use Rattle.cs_model.specs.End.{Out, no_count}
-use Rattle.cs_model.specs.Built.{is_built_op, is_built_number, is_built_method, is_built_found, is_built_send, is_built_target, is_built_return, is_built_out, is_built_from, is_built_bytecode, is_built, built_step, built_run}
+use Rattle.cs_model.specs.Built.{is_built_op, is_built_for_all, is_built_number, is_built_method, is_built_found, is_built_send, is_built_target, is_built_return, is_built_out, is_built_from, is_built_bytecode, is_built, built_step, built_run}
 use Rattle.cs_model.specs.Keeps.{Keeps, KeepsState}
 use Rattle.cs_model.specs.Alike.{SoughtHeld, Alike, AlikeStep, AlikeRan}
 use Rattle.cs_model.proofs.Same.{Same, SameOption, none, some, same, Any, is, of_option, value, if_same}
@@ -20,6 +20,7 @@ use Rattle.cs_model.proofs.Reading.{Has, held_if, object_of_same, depth_same, pc
 use Rattle.cs_model.proofs.Operating.{set_pc_moved}
 use Rattle.cs_model.proofs.Fields.{and_same, or_else_same, is_context_ref_same}
 use Rattle.cs_model.proofs.Combining.{end_same}
+use Rattle.cs_model.proofs.Answering.{prim_receiver_same}
 use Rattle.cs_model.proofs.Executing.{exec_alike}
 use Rattle.cs_model.proofs.Searching.{given_same, sender_birth_same, is_live_same}
 use Rattle.cs_model.proofs.Sending.{begins_at_same, look_from_same}
@@ -32,7 +33,7 @@ field_same : {v m : Kept} → Keeps v m → Same Any (not (is_context_ref v (rec
 field_same k = value not (is_context_ref_same k (receiver_same k))
 
 pub is_built_op_same : {v m : Kept} → Keeps v m → (o : Op) → Same Any (is_built_op o v) (is_built_op o m)
-is_built_op_same k (op.PushRcvr i) = field_same k
+is_built_op_same k (op.PushRcvr i) = is true
 is_built_op_same k (op.PushTemp i) = is true
 is_built_op_same k (op.PushLit i) = is true
 is_built_op_same k (op.PushLitVar i) = is true
@@ -57,7 +58,7 @@ is_built_op_same k (op.Send lit args) = is true
 is_built_op_same k (op.SendSuper lit args) = is true
 is_built_op_same k op.Pop = is true
 is_built_op_same k op.Dup = is true
-is_built_op_same k op.ThisContext = is false
+is_built_op_same k op.ThisContext = is true
 is_built_op_same k (op.NewArray n) = is false
 is_built_op_same k (op.PopArray n) = is false
 is_built_op_same k (op.Prim i j) = is true
@@ -73,10 +74,14 @@ is_built_op_same k (op.Common i) = is true
 
 -- ---- sends
 
+is_built_number_same : {v m : Kept} {a b : Option ℕ} → Keeps v m → (args : ℕ) → Same Any a b → Same Any (is_built_number v args a) (is_built_number m args b)
+is_built_number_same k args (same None h) = is true
+is_built_number_same k args (same (Some n) h) = or_else_same (is (is_built_for_all n)) (and_same (is (n == 73)) (is_context_ref_same k (prim_receiver_same k args)))
+
 is_built_method_same : {v m : Kept} {x y : Ref} → Keeps v m → Same (IsHeld v) x y → (args : ℕ) → Same Any (is_built_method v x args) (is_built_method m y args)
 is_built_method_same k s args =
     let o = object_of_same k s in
-    if_same (of_option (λ o. argument_count (header_in o) == args) o) (of_option (λ o. is_built_number (primitive_number (header_in o) (bytecodes_in o))) o) (is true)
+    if_same (of_option (λ o. argument_count (header_in o) == args) o) (is_built_number_same k args (of_option (λ o. primitive_number (header_in o) (bytecodes_in o)) o)) (is true)
 
 is_built_found_same : {v m : Kept} {a b : Sought} → Keeps v m → (args : ℕ) → Same (SoughtHeld v) a b → Same Any (is_built_found v args a) (is_built_found m args b)
 is_built_found_same k args (same (sought.Method x) h) = is_built_method_same k (same x h) args

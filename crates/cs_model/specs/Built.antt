@@ -15,13 +15,14 @@ use Rattle.cs_model.specs.Lookup as sought
 use Rattle.cs_model.specs.Send.{begins_at, look_from}
 use Rattle.cs_model.specs.Return.{is_live, sender_birth}
 use Rattle.cs_model.specs.Due.{is_idle}
+use Rattle.cs_model.specs.PrimAnswer.{receiver}
 use Rattle.cs_model.specs.End.{Out, no_count, given}
 use Rattle.cs_model.specs.Step.{Message, message_in, return_in, instruction_at, birth_limit, Step, step, stops, Ran, run_by}
 
--- ---- instructions: all but those that make an object or name a context, and the fields of a receiver that is a context
+-- ---- instructions: all but those that make an object, and writes to the fields of a receiver that is a context
 
 abbrev pub is_built_op : Op → Kept → Bool
-is_built_op (PushRcvr i) k = not (is_context_ref k (receiver_of k))
+is_built_op (PushRcvr i) k = true
 is_built_op (PushTemp i) k = true
 is_built_op (PushLit i) k = true
 is_built_op (PushLitVar i) k = true
@@ -46,7 +47,7 @@ is_built_op (Send lit args) k = true
 is_built_op (SendSuper lit args) k = true
 is_built_op Pop k = true
 is_built_op Dup k = true
-is_built_op ThisContext k = false
+is_built_op ThisContext k = true
 is_built_op (NewArray n) k = false
 is_built_op (PopArray n) k = false
 is_built_op (Prim i j) k = true
@@ -60,17 +61,20 @@ is_built_op (JumpFalse offset) k = true
 is_built_op (Special i) k = true
 is_built_op (Common i) k = true
 
--- ---- sends: a method that is found, of the right number of arguments, has no primitive, or 1 or 900; where the send stops, that
--- is built too
+-- ---- sends: a method that is found, of the right number of arguments, has no primitive, or one of 1, 210, 212 and 900, or 73 where
+-- the receiver is a context; where the send stops, that is built too
 
-abbrev pub is_built_number : Option ℕ → Bool
-is_built_number None = true
-is_built_number (Some number) = number == 1 || number == 900
+abbrev pub is_built_for_all : ℕ → Bool
+is_built_for_all number = number == 1 || number == 210 || number == 212 || number == 900
+
+abbrev pub is_built_number : Kept → ℕ → Option ℕ → Bool
+is_built_number k args None = true
+is_built_number k args (Some number) = is_built_for_all number || (number == 73 && is_context_ref k (receiver k args))
 
 abbrev pub is_built_method : Kept → Ref → ℕ → Bool
 is_built_method k method args =
     if argument_count (header_in (object_of k method)) == args
-    then is_built_number (primitive_number (header_in (object_of k method)) (bytecodes_in (object_of k method))) else true
+    then is_built_number k args (primitive_number (header_in (object_of k method)) (bytecodes_in (object_of k method))) else true
 
 abbrev pub is_built_found : Kept → ℕ → Sought → Bool
 is_built_found k args (sought.Method method) = is_built_method k method args
