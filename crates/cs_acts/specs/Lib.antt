@@ -1,6 +1,8 @@
 pub mod Full
 pub mod Layout
+pub mod Made
 pub mod Names
+pub mod Primed
 pub mod Ready
 pub mod Reading
 pub mod Shaped

@@ -1,5 +1,5 @@
 -- What entering and leaving an activation ask for.
-use Rattle.std.specs.Prelude.{◌≡◌, ◌≢◌, ℕ, ◌<◌, Bool, true, false, Option, Some, None}
+use Rattle.std.specs.Prelude.{◌≡◌, ◌≢◌, ℕ, ◌<◌, Bool, true, false, Option, Some, None, option_and_then}
 use Rattle.cs_model.specs.Ref.{Ref}
 use Rattle.cs_model.specs.Obj as obj
 use Rattle.cs_model.specs.Obj.{argument_count, bytecodes_in, context_in, header_in, is_method, primitive_number}
@@ -7,7 +7,8 @@ use Rattle.cs_model.specs.State.{Kept, object_at, object_of}
 use Rattle.cs_model.specs.Read.{active_birth, depth_of}
 use Rattle.cs_acts.specs.declared.act.Act.{Act}
 use Rattle.cs_acts.specs.declared.act.Act.TheVariants.{Frame, Context, Gone}
-use Rattle.cs_model.specs.Return.{has_room, is_live}
+use Rattle.cs_model.specs.Return.{context_at, has_room, is_live}
+use Rattle.cs_model.specs.Context.{context_get}
 
 -- A reference is a method that takes so many arguments, they are there with the receiver, and with `skip` it has a primitive.
 pub record CanEnter (k : Kept) (x : Ref) (args : ℕ) (skip : Bool) : Type 0 where
@@ -33,3 +34,7 @@ is_gone Gone = true
 abbrev pub method_in : Ref → Option obj.Context → Ref
 method_in nil None = nil
 method_in nil (Some c) = c.method
+
+-- field i of the context that a reference names, or a value of its stack
+abbrev pub field_of : Kept → Ref → ℕ → Option Ref
+field_of k x i = option_and_then (λ c. context_get k c i) (context_at k x)

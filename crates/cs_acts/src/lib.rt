@@ -5,6 +5,7 @@
 #![tactic(auto)]
 
 mod act;
+mod prim;
 pub mod read;
 mod shape;
 mod words;
@@ -12,5 +13,6 @@ mod world;
 
 pub use act::{Act, Full};
 pub use cs_classes::{Loaded, Roots};
+pub use prim::PrimEnd;
 pub use shape::{Shape, shape_of};
 pub use world::World;

@@ -1,18 +1,22 @@
 //! The trait of all worlds.
-ghost use Rattle.std.specs.Prelude.{◌≡◌, ◌<◌, ◌≤◌, ◌-◌, ℕ, true, not, IfErr, IsSome, IsSomeAnd, is_some, IfSome, OnOk, Option, None, Some, slice_get, unwrap_or};
+ghost use Rattle.std.specs.Prelude.{◌≡◌, ◌<◌, ◌≤◌, ◌-◌, ℕ, true, not, IfErr, IsSome, IsSomeAnd, is_some, IfOk, IfSome, OnOk, Option, None, Some, slice_get, unwrap_or};
 ghost use Rattle.cs_model.specs.Obj.{context_in, lies_in};
 ghost use Rattle.cs_model.specs.State.{Kept, object_at, object_of};
 ghost use Rattle.cs_model.specs.Keeps.{Keeps, SameKept};
 ghost use Rattle.cs_model.specs.Read.{active_birth, active_context, depth_of, method_of, pc_of, receiver_of, size_of, stack_of};
-ghost use Rattle.cs_model.specs.Operation.{enter_of, leave_of, nil_of, pop_of, push_of, set_pc_of, set_stack_of, store_of};
-ghost use Rattle.cs_model.specs.Return.{closure_at, has_room, is_live, sender_birth};
+ghost use Rattle.cs_model.specs.Operation.{add_of, enter_of, leave_of, next_ref, nil_of, pop_of, push_of, set_pc_of, set_stack_of, store_of};
+ghost use Rattle.cs_model.specs.Return.{closure_at, context_birth, has_room, is_live, sender_birth};
+ghost use Rattle.cs_model.specs.Context.{is_context_ref};
+ghost use Rattle.cs_model.specs.Ref as ref;
+ghost use Rattle.cs_heap.specs.Object.{size};
 ghost use Rattle.cs_acts.specs.declared.act.Act.{Act};
 ghost use Rattle.cs_acts.specs.declared.act.Full.TheVariants as full;
 ghost use Rattle.cs_acts.specs.Full.{CausesFull};
 ghost use Rattle.cs_acts.specs.Layout.{IsLaidOut, LaidBy, Layout, entered, left};
-ghost use Rattle.cs_acts.specs.Names.{IsNamed, KeepsNames, Names, Store, name_of};
+ghost use Rattle.cs_acts.specs.Made.{CanAllocate, MakesAtMost, blank_of, made_by_entering, made_by_reading};
+ghost use Rattle.cs_acts.specs.Names.{IsNamed, KeepsNames, Names, NamesOption, Store, name_of};
 ghost use Rattle.cs_acts.specs.Ready.{IsReady, IsSound, is_storable};
-ghost use Rattle.cs_acts.specs.Targets.{CanArrive, CanEnter, is_gone, method_in};
+ghost use Rattle.cs_acts.specs.Targets.{CanArrive, CanEnter, field_of, is_gone, method_in};
 
 use crate::{Act, Full};
 use cs_classes::{Classes, Roots};
@@ -94,6 +98,13 @@ pub trait World {
         ensures value { IfSome (act self.now a) (λ birth. act self.now result ≡ sender_birth (view self.now) birth) }
         ensures gone { is_gone result ≡ not (is_some (act self.now result)) };
 
+    /// What stands for a context.
+    fn act_of(&self, ctx: Oop) -> Act
+        requires sound { IsSound (stored self.now) (view self.now) }
+        requires named { IsNamed (stored self.now) ctx }
+        requires context { is_context_ref (view self.now) (name_of (stored self.now) ctx) ≡ true }
+        ensures { act self.now result ≡ context_birth (view self.now) (name_of (stored self.now) ctx) };
+
     /// The receiver of the active context.
     fn receiver(&self) -> Oop
         requires { IsReady (stored self.now) (view self.now) }
@@ -117,6 +128,7 @@ pub trait World {
         ensures exact { layout self.old ≡ None → SameKept (view self.new) (set_pc_of (view self.old) pc) }
         ensures layout { layout self.new ≡ layout self.old }
         ensures limit { (stored self.new).memory.limit ≡ (stored self.old).memory.limit }
+        ensures contexts { MakesAtMost 0 (layout self.old) (stored self.old) (stored self.new) }
         ensures ready { IsReady (stored self.new) (view self.new) }
         ensures names { KeepsNames (stored self.old) (stored self.new) };
 
@@ -146,6 +158,7 @@ pub trait World {
         ensures exact { layout self.old ≡ None → SameKept (view self.new) (set_stack_of (view self.old) i (name_of (stored self.old) v)) }
         ensures layout { layout self.new ≡ layout self.old }
         ensures limit { (stored self.new).memory.limit ≡ (stored self.old).memory.limit }
+        ensures contexts { MakesAtMost 0 (layout self.old) (stored self.old) (stored self.new) }
         ensures ready { IsReady (stored self.new) (view self.new) }
         ensures names { KeepsNames (stored self.old) (stored self.new) };
 
@@ -159,6 +172,7 @@ pub trait World {
         ensures exact { layout self.old ≡ None → SameKept (view self.new) (store_of (view self.old) (name_of (stored self.old) o) i (name_of (stored self.old) v)) }
         ensures layout { layout self.new ≡ layout self.old }
         ensures limit { (stored self.new).memory.limit ≡ (stored self.old).memory.limit }
+        ensures contexts { MakesAtMost 0 (layout self.old) (stored self.old) (stored self.new) }
         ensures ready { IsReady (stored self.new) (view self.new) }
         ensures names { KeepsNames (stored self.old) (stored self.new) };
 
@@ -171,6 +185,7 @@ pub trait World {
         ensures exact { layout self.old ≡ None → SameKept (view self.new) (push_of (view self.old) (name_of (stored self.old) v)) }
         ensures layout { layout self.new ≡ layout self.old }
         ensures limit { (stored self.new).memory.limit ≡ (stored self.old).memory.limit }
+        ensures contexts { MakesAtMost 0 (layout self.old) (stored self.old) (stored self.new) }
         ensures ready { IsReady (stored self.new) (view self.new) }
         ensures names { KeepsNames (stored self.old) (stored self.new) };
 
@@ -183,8 +198,79 @@ pub trait World {
         ensures exact { layout self.old ≡ None → SameKept (view self.new) (pop_of (view self.old)) }
         ensures layout { layout self.new ≡ layout self.old }
         ensures limit { (stored self.new).memory.limit ≡ (stored self.old).memory.limit }
+        ensures contexts { MakesAtMost 0 (layout self.old) (stored self.old) (stored self.new) }
         ensures ready { IsReady (stored self.new) (view self.new) }
         ensures names { KeepsNames (stored self.old) (stored self.new) };
+
+    /// The active context as an object.
+    ///
+    /// Where it was a frame alone, its context is made: it was there in the state all the time, so nothing changes there. A
+    /// refusal ends the run, so nothing is said of the world behind it.
+    fn this_context(&mut self) -> Result<Oop, Full>
+        requires sound { IsSound (stored self.old) (view self.old) }
+        requires active { IsSome (view self.old).rest.active }
+        ensures view { OnOk result (view self.new ≡ view self.old) }
+        ensures value { IfOk result (λ o. Names (stored self.new) o (ref.Obj (active_birth (view self.old)))) }
+        ensures layout { OnOk result (layout self.new ≡ layout self.old) }
+        ensures limit { (stored self.new).memory.limit ≡ (stored self.old).memory.limit }
+        ensures contexts { OnOk result (MakesAtMost 1 (layout self.old) (stored self.old) (stored self.new)) }
+        ensures sound { OnOk result (IsSound (stored self.new) (view self.new)) }
+        ensures names { OnOk result (KeepsNames (stored self.old) (stored self.new)) }
+        ensures paged { IfErr result (λ _. IsSome (layout self.old)) }
+        ensures heap_alone { IfErr result (λ why. why ≡ full.Heap) }
+        ensures full { IfErr result (CausesFull (stored self.new) (layout self.old) (view self.old) 0 (view self.old)) };
+
+    /// The context that an act stands for, as an object. It is made as by `this_context`.
+    fn act_context(&mut self, a: Act) -> Result<Oop, Full>
+        requires sound { IsSound (stored self.old) (view self.old) }
+        requires stands { IsSome (act self.old a) }
+        ensures view { OnOk result (view self.new ≡ view self.old) }
+        ensures value { IfOk result (λ o. IfSome (act self.old a) (λ birth. Names (stored self.new) o (ref.Obj birth))) }
+        ensures layout { OnOk result (layout self.new ≡ layout self.old) }
+        ensures limit { (stored self.new).memory.limit ≡ (stored self.old).memory.limit }
+        ensures contexts { OnOk result (MakesAtMost 1 (layout self.old) (stored self.old) (stored self.new)) }
+        ensures sound { OnOk result (IsSound (stored self.new) (view self.new)) }
+        ensures names { OnOk result (KeepsNames (stored self.old) (stored self.new)) }
+        ensures paged { IfErr result (λ _. IsSome (layout self.old)) }
+        ensures heap_alone { IfErr result (λ why. why ≡ full.Heap) }
+        ensures full { IfErr result (CausesFull (stored self.new) (layout self.old) (view self.old) 0 (view self.old)) };
+
+    /// Field i of a context, or its stack value i - 6, counted from 0 at the bottom. There must be such a field or value.
+    ///
+    /// Field 0, the sender, is made as by `this_context`; the others make nothing.
+    fn context_get(&mut self, ctx: Oop, i: u32) -> Result<Oop, Full>
+        requires sound { IsSound (stored self.old) (view self.old) }
+        requires named { IsNamed (stored self.old) ctx }
+        requires there { IsSome (field_of (view self.old) (name_of (stored self.old) ctx) i) }
+        ensures view { OnOk result (view self.new ≡ view self.old) }
+        ensures value { IfOk result (λ o. NamesOption (stored self.new) (Some o) (field_of (view self.old) (name_of (stored self.old) ctx) i)) }
+        ensures layout { OnOk result (layout self.new ≡ layout self.old) }
+        ensures limit { (stored self.new).memory.limit ≡ (stored self.old).memory.limit }
+        ensures contexts { OnOk result (MakesAtMost (made_by_reading i) (layout self.old) (stored self.old) (stored self.new)) }
+        ensures sound { OnOk result (IsSound (stored self.new) (view self.new)) }
+        ensures names { OnOk result (KeepsNames (stored self.old) (stored self.new)) }
+        ensures paged { IfErr result (λ _. IsSome (layout self.old)) }
+        ensures heap_alone { IfErr result (λ why. why ≡ full.Heap) }
+        ensures full { IfErr result (CausesFull (stored self.new) (layout self.old) (view self.old) 0 (view self.old)) }
+        ensures sender_alone { IfErr result (λ _. i ≡ 0) };
+
+    /// Makes an object: its slots are nil, its bytes 0.
+    ///
+    /// A refusal ends the run, so nothing is said of the world behind it.
+    fn allocate(&mut self, class: u32, format: u8, slots: u32) -> Result<Oop, Full>
+        requires sound { IsSound (stored self.old) (view self.old) }
+        requires fits { CanAllocate (view self.old) class format slots }
+        ensures state { OnOk result ((m : Kept) → Keeps (view self.old) m → Keeps (view self.new) (add_of m (blank_of m class format slots))) }
+        ensures exact { OnOk result (layout self.old ≡ None → SameKept (view self.new) (add_of (view self.old) (blank_of (view self.old) class format slots))) }
+        ensures value { IfOk result (λ o. Names (stored self.new) o (next_ref (view self.old))) }
+        ensures layout { OnOk result (layout self.new ≡ layout self.old) }
+        ensures limit { (stored self.new).memory.limit ≡ (stored self.old).memory.limit }
+        ensures contexts { OnOk result (MakesAtMost 0 (layout self.old) (stored self.old) (stored self.new)) }
+        ensures sound { OnOk result (IsSound (stored self.new) (view self.new)) }
+        ensures ready { OnOk result (IsReady (stored self.old) (view self.old) → IsReady (stored self.new) (view self.new)) }
+        ensures names { OnOk result (KeepsNames (stored self.old) (stored self.new)) }
+        ensures heap_alone { IfErr result (λ why. why ≡ full.Heap) }
+        ensures full { IfErr result (CausesFull (stored self.new) (layout self.old) (view self.old) (size slots) (add_of (view self.old) (blank_of (view self.old) class format slots))) };
 
     /// Enters a method: receiver and arguments leave the active stack, and a new context is active, with the old one as its
     /// sender. It begins at the first pc of the method, or with `skip` behind its three bytes that name a primitive.
@@ -198,6 +284,7 @@ pub trait World {
         ensures exact { OnOk result (layout self.old ≡ None → SameKept (view self.new) (enter_of (view self.old) (name_of (stored self.old) method) args skip)) }
         ensures layout { OnOk result (LaidBy (entered (view self.old) (view self.old).rest.next) (layout self.old) (layout self.new)) }
         ensures limit { (stored self.new).memory.limit ≡ (stored self.old).memory.limit }
+        ensures contexts { OnOk result (MakesAtMost (made_by_entering (view self.old) (layout self.old)) (layout self.old) (stored self.old) (stored self.new)) }
         ensures ready { OnOk result (IsReady (stored self.new) (view self.new)) }
         ensures names { OnOk result (KeepsNames (stored self.old) (stored self.new)) }
         ensures full { IfErr result (CausesFull (stored self.new) (layout self.old) (view self.old) 0 (enter_of (view self.old) (name_of (stored self.old) method) args skip)) };
@@ -213,6 +300,7 @@ pub trait World {
         ensures exact { OnOk result (layout self.old ≡ None → SameKept (view self.new) (leave_of (view self.old) (name_of (stored self.old) v))) }
         ensures layout { OnOk result (IfSome (sender_birth (view self.old) (active_birth (view self.old))) (λ target. LaidBy (left target) (layout self.old) (layout self.new))) }
         ensures limit { (stored self.new).memory.limit ≡ (stored self.old).memory.limit }
+        ensures contexts { OnOk result (MakesAtMost 0 (layout self.old) (stored self.old) (stored self.new)) }
         ensures ready { OnOk result (IsReady (stored self.new) (view self.new)) }
         ensures names { OnOk result (KeepsNames (stored self.old) (stored self.new)) }
         ensures heap_alone { IfErr result (λ why. why ≡ full.Heap) }
