@@ -3,27 +3,28 @@
 //! Where one fails, nothing is changed. On success receiver and arguments are popped, and the answer is pushed.
 #![tactic(auto)]
 
-ghost use Rattle.std.specs.Prelude.{◌≡◌, ◌<◌, ◌+◌, ◌^◌, ℕ, Some, IfErr, IfOk, None, OnOk, is_some, length, option_map, true};
+ghost use Rattle.std.specs.Prelude.{◌≡◌, ◌<◌, ◌+◌, ◌^◌, ℕ, Some, IfErr, IfOk, None, OnOk, is_some, length, option_map, true, unwrap_or};
 ghost use Rattle.cs_model.specs.Context.{is_context_ref};
-ghost use Rattle.cs_model.specs.Keeps.{Keeps, SameKept};
+ghost use Rattle.cs_model.specs.Keeps.{SameKept};
 ghost use Rattle.cs_model.specs.Operation.{drop_of, push_of};
-ghost use Rattle.cs_model.specs.PrimAnswer.{receiver};
+ghost use Rattle.cs_model.specs.PrimAnswer.{argument, receiver};
 ghost use Rattle.cs_model.specs.PrimContext.{stack_at_prim, stackp_prim};
 ghost use Rattle.cs_model.specs.PrimObject.{answer_field, slot_at_prim, slot_index};
 ghost use Rattle.cs_model.specs.PrimTable.{kept_prim};
 ghost use Rattle.cs_model.specs.Read.{depth_of};
+ghost use Rattle.cs_model.specs.Ref.{index_of};
 ghost use Rattle.cs_model.specs.Return.{context_at};
 ghost use Rattle.cs_acts.specs.declared.act.Full.TheVariants as full;
 ghost use Rattle.cs_acts.specs.Full.{CausesFull};
 ghost use Rattle.cs_acts.specs.Made.{MakesAtMost, made_by_reading};
-ghost use Rattle.cs_acts.specs.Names.{IsNamed, KeepsNames, NamesOption, Store, name_of};
+ghost use Rattle.cs_acts.specs.Names.{IsNamed, Names, NamesOption, Store, name_of};
 ghost use Rattle.cs_acts.specs.Primed.{PrimGives};
 ghost use Rattle.cs_acts.specs.Ready.{IsReady};
 ghost use Rattle.cs_acts.specs.Targets.{field_of};
-ghost use Rattle.cs_prim_ctx.specs.Answered.{Leads, UnlessFull};
+ghost use Rattle.cs_prim_ctx.specs.Answered.{Leads, Performs, UnlessFull};
 ghost use Rattle.cs_prim_ctx.specs.Numbers.{reads_context};
 
-use cs_acts::read::{from_top, is_context};
+use cs_acts::read::is_context;
 use cs_acts::{Full, PrimEnd, World};
 use cs_word::{Kind, Oop};
 
@@ -53,56 +54,38 @@ pub fn primitive<W: World>(w: &mut W, number: u32, args: u32) -> PrimEnd
     }
 }
 
-/// Primitive 73 on a context: field i - 1, or a value of its stack.
+/// Primitive 73 on a context: its field, or a value of its stack, counted from 1 from the first field on.
 fn slot_at<W: World>(w: &mut W, args: u32) -> PrimEnd
     requires ready { IsReady (W.stored w.old) (W.view w.old) }
-    requires context { is_context_ref (W.view w.old) (receiver (W.view w.old) args) ≡ true }
     requires there { args < depth_of (W.view w.old) }
-    ensures gives { PrimGives (W.stored w.old) (W.stored w.new) (W.layout w.old) (W.view w.old) (W.view w.new) result (slot_at_prim (W.view w.old) args) }
-    ensures exact { UnlessFull result (W.layout w.old ≡ None → SameKept (W.view w.new) (slot_at_prim (W.view w.old) args).state) }
-    ensures layout { UnlessFull result (W.layout w.new ≡ W.layout w.old) }
-    ensures limit { (W.stored w.new).memory.limit ≡ (W.stored w.old).memory.limit }
-    ensures contexts { UnlessFull result (MakesAtMost (slot_at_prim (W.view w.old) args).count.looks (W.layout w.old) (W.stored w.old) (W.stored w.new)) }
+    requires context { is_context_ref (W.view w.old) (receiver (W.view w.old) args) ≡ true }
+    ensures { Performs (W.stored w.old) (W.stored w.new) (W.layout w.old) (W.layout w.new) (W.view w.old) (W.view w.new) result (slot_at_prim (W.view w.old) args) }
 {
     if args != 1 {
         return PrimEnd::Fail;
     }
-    let Some(receiver) = from_top(w, 1) else {
-        return PrimEnd::Fail;
-    };
-    let Some(argument) = from_top(w, 0) else {
-        return PrimEnd::Fail;
-    };
-    match slot_index(argument) {
-        Some(i) => answer_field(w, 1, receiver, i),
+    let ctx = receiver(w, 1);
+    match slot_index(argument(w)) {
+        Some(i) => answer_field(w, 1, ctx, i),
         None => PrimEnd::Fail,
     }
 }
 
-/// Primitive 210: stack value i of a context, counted from 1.
+/// Primitive 210: a value of the stack of a context, counted from 1.
 fn stack_at<W: World>(w: &mut W, args: u32) -> PrimEnd
     requires ready { IsReady (W.stored w.old) (W.view w.old) }
     requires there { args < depth_of (W.view w.old) }
-    ensures gives { PrimGives (W.stored w.old) (W.stored w.new) (W.layout w.old) (W.view w.old) (W.view w.new) result (stack_at_prim (W.view w.old) args) }
-    ensures exact { UnlessFull result (W.layout w.old ≡ None → SameKept (W.view w.new) (stack_at_prim (W.view w.old) args).state) }
-    ensures layout { UnlessFull result (W.layout w.new ≡ W.layout w.old) }
-    ensures limit { (W.stored w.new).memory.limit ≡ (W.stored w.old).memory.limit }
-    ensures contexts { UnlessFull result (MakesAtMost (stack_at_prim (W.view w.old) args).count.looks (W.layout w.old) (W.stored w.old) (W.stored w.new)) }
+    ensures { Performs (W.stored w.old) (W.stored w.new) (W.layout w.old) (W.layout w.new) (W.view w.old) (W.view w.new) result (stack_at_prim (W.view w.old) args) }
 {
     if args != 1 {
         return PrimEnd::Fail;
     }
-    let Some(receiver) = from_top(w, 1) else {
-        return PrimEnd::Fail;
-    };
-    let Some(argument) = from_top(w, 0) else {
-        return PrimEnd::Fail;
-    };
-    if !is_context(w, receiver) {
+    let ctx = receiver(w, 1);
+    if !is_context(w, ctx) {
         return PrimEnd::Fail;
     }
-    match slot_index(argument) {
-        Some(i) => answer_field(w, 1, receiver, FIELDS + i),
+    match slot_index(argument(w)) {
+        Some(i) => answer_field(w, 1, ctx, FIELDS + i),
         None => PrimEnd::Fail,
     }
 }
@@ -111,23 +94,35 @@ fn stack_at<W: World>(w: &mut W, args: u32) -> PrimEnd
 fn stack_pointer<W: World>(w: &mut W, args: u32) -> PrimEnd
     requires ready { IsReady (W.stored w.old) (W.view w.old) }
     requires there { args < depth_of (W.view w.old) }
-    ensures gives { PrimGives (W.stored w.old) (W.stored w.new) (W.layout w.old) (W.view w.old) (W.view w.new) result (stackp_prim (W.view w.old) args) }
-    ensures exact { UnlessFull result (W.layout w.old ≡ None → SameKept (W.view w.new) (stackp_prim (W.view w.old) args).state) }
-    ensures layout { UnlessFull result (W.layout w.new ≡ W.layout w.old) }
-    ensures limit { (W.stored w.new).memory.limit ≡ (W.stored w.old).memory.limit }
-    ensures contexts { UnlessFull result (MakesAtMost (stackp_prim (W.view w.old) args).count.looks (W.layout w.old) (W.stored w.old) (W.stored w.new)) }
+    ensures { Performs (W.stored w.old) (W.stored w.new) (W.layout w.old) (W.layout w.new) (W.view w.old) (W.view w.new) result (stackp_prim (W.view w.old) args) }
 {
     if args != 0 {
         return PrimEnd::Fail;
     }
-    let Some(receiver) = from_top(w, 0) else {
-        return PrimEnd::Fail;
-    };
-    if is_context(w, receiver) {
-        answer_field(w, 0, receiver, STACKP)
+    let ctx = receiver(w, 0);
+    if is_context(w, ctx) {
+        answer_field(w, 0, ctx, STACKP)
     } else {
         PrimEnd::Fail
     }
+}
+
+/// The receiver below so many arguments.
+fn receiver<W: World>(w: &W, args: u32) -> Oop
+    requires ready { IsReady (W.stored w.now) (W.view w.now) }
+    requires there { args < depth_of (W.view w.now) }
+    ensures { Names (W.stored w.now) result (receiver (W.view w.now) args) }
+{
+    w.stack_at(w.depth() - (args + 1))
+}
+
+/// The argument, where there is one alone.
+fn argument<W: World>(w: &W) -> Oop
+    requires ready { IsReady (W.stored w.now) (W.view w.now) }
+    requires there { 0 < depth_of (W.view w.now) }
+    ensures { Names (W.stored w.now) result (argument (W.view w.now) 1 0) }
+{
+    w.stack_at(w.depth() - 1)
 }
 
 /// The index, counted from 0, that a word says by counting from 1; None exactly where it is no SmallInteger above 0.
@@ -149,11 +144,7 @@ fn answer_field<W: World>(w: &mut W, args: u32, ctx: Oop, i: u32) -> PrimEnd
     requires there { args < depth_of (W.view w.old) }
     requires named { IsNamed (W.stored w.old) ctx }
     requires context { is_context_ref (W.view w.old) (name_of (W.stored w.old) ctx) ≡ true }
-    ensures gives { PrimGives (W.stored w.old) (W.stored w.new) (W.layout w.old) (W.view w.old) (W.view w.new) result (answer_field (W.view w.old) args i (field_of (W.view w.old) (name_of (W.stored w.old) ctx) i)) }
-    ensures exact { UnlessFull result (W.layout w.old ≡ None → SameKept (W.view w.new) (answer_field (W.view w.old) args i (field_of (W.view w.old) (name_of (W.stored w.old) ctx) i)).state) }
-    ensures layout { UnlessFull result (W.layout w.new ≡ W.layout w.old) }
-    ensures limit { (W.stored w.new).memory.limit ≡ (W.stored w.old).memory.limit }
-    ensures contexts { UnlessFull result (MakesAtMost (answer_field (W.view w.old) args i (field_of (W.view w.old) (name_of (W.stored w.old) ctx) i)).count.looks (W.layout w.old) (W.stored w.old) (W.stored w.new)) }
+    ensures { Performs (W.stored w.old) (W.stored w.new) (W.layout w.old) (W.layout w.new) (W.view w.old) (W.view w.new) result (answer_field (W.view w.old) args i (field_of (W.view w.old) (name_of (W.stored w.old) ctx) i)) }
 {
     match field(w, ctx, i) {
         Ok(Some(value)) => {
@@ -215,10 +206,18 @@ fn stack_depth<W: World>(w: &mut W, ctx: Oop) -> u32
     let Ok(stackp) = w.context_get(ctx, STACKP) else {
         unreachable!();
     };
-    let Kind::Small(depth) = stackp.kind() else {
-        unreachable!();
-    };
-    depth as u32
+    natural(stackp)
+}
+
+/// The number that a word is, where it is a SmallInteger that isn't negative, and else 0.
+#[tactic(auto, unfolding(cs_classes::specs::Meaning::ref_of, cs_classes::specs::Sound::is_reference))]
+fn natural(word: Oop) -> u32
+    ensures { (s : Store) → IsNamed s word → result ≡ unwrap_or (index_of (name_of s word)) 0 }
+{
+    match word.kind() {
+        Kind::Small(value) if value >= 0 => value as u32,
+        _ => 0,
+    }
 }
 
 /// Pops the receiver and so many arguments, and pushes the answer.
@@ -228,6 +227,8 @@ fn answer<W: World>(w: &mut W, args: u32, value: Oop)
     requires named { IsNamed (W.stored w.old) value }
     ensures { Leads (W.stored w.old) (W.stored w.new) (W.layout w.old) (W.layout w.new) (W.view w.new) (push_of (drop_of (W.view w.old) (args + 1)) (name_of (W.stored w.old) value)) 0 }
 {
+    // for what its clauses say: the stack fits
+    let _depth = w.depth();
     w.pop();
     for _ in 0..args {
         w.pop();
