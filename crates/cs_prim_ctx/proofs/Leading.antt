@@ -1,5 +1,5 @@
 -- One call behind another.
-use Rattle.std.proofs.Common.{◌≡◌, ◌∙◌, ℕ, ◌+◌, ◌≤◌, refl, sym, ap, subst, arith, Option, Some, None}
+use Rattle.std.proofs.Common.{◌≡◌, ◌∙◌, ℕ, ◌+◌, subst, arith, Option, Some, None}
 use Rattle.cs_model.specs.State.{Kept}
 use Rattle.cs_model.specs.Keeps.{Keeps, SameKept}
 use Rattle.cs_acts.specs.Layout.{Layout}

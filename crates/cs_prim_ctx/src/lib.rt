@@ -28,6 +28,11 @@ use cs_acts::read::is_context;
 use cs_acts::{Full, PrimEnd, World};
 use cs_word::{Kind, Oop};
 
+/// The numbers of two of the primitives; the third one is 212.
+const SLOT_AT: u32 = 73;
+
+const STACK_AT: u32 = 210;
+
 /// The fields of a context that come before its stack, and the one of them that says how many values the stack holds.
 const FIELDS: u32 = 6;
 
@@ -47,10 +52,12 @@ pub fn primitive<W: World>(w: &mut W, number: u32, args: u32) -> PrimEnd
     ensures limit { (W.stored w.new).memory.limit ≡ (W.stored w.old).memory.limit }
     ensures contexts { UnlessFull result (MakesAtMost (kept_prim number args (W.view w.old)).count.looks (W.layout w.old) (W.stored w.old) (W.stored w.new)) }
 {
-    match number {
-        73 => slot_at(w, args),
-        210 => stack_at(w, args),
-        _ => stack_pointer(w, args),
+    if number == SLOT_AT {
+        slot_at(w, args)
+    } else if number == STACK_AT {
+        stack_at(w, args)
+    } else {
+        stack_pointer(w, args)
     }
 }
 

@@ -1,4 +1,4 @@
-use Rattle.std.proofs.Common.{◌+◌, ◌<◌, ◌∙◌, ap, ap₂, arith, subst, sym}
+use Rattle.std.proofs.Common.{◌+◌, ◌<◌, ap₂, arith, subst}
 use Rattle.std.proofs.lemmas.Bool.Decides.{nat_tests}
 use Rattle.cs_model.specs.Operation.{drop_of, pop_of, push_of}
 use Rattle.cs_acts.specs.Names.{name_of}

@@ -1,5 +1,5 @@
-use Rattle.std.proofs.Common.{arith, sym, subst}
-use Rattle.cs_acts.specs.Names.{NamesOption, name_of}
+use Rattle.std.proofs.Common.{arith}
+use Rattle.cs_acts.specs.Names.{name_of}
 use Rattle.cs_prim_ctx.proofs.Fields.{depth_read, field_below, some_field}
 use Rattle.cs_prim_ctx.proofs.stack_depth.Goals as goal
 
