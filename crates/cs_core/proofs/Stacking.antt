@@ -180,3 +180,171 @@ module _ (k v : Kept) (x : Ref) (args : ℕ) (skip : Bool) (keeps : Keeps v (ent
   entered_stacked ready few None new s laid h there = subst (IsStacked v) (sym laid) tt
   entered_stacked ready few (Some l) new s laid h there =
       subst (λ n. IsLaidOut s v n → IsStacked v n) (sym laid) (λ there. entered_stack ready few l.pages h there.apart) there
+
+-- ---- leaving
+
+-- no page has a context that none of their frames is
+none_on : (i : ℕ) (pages : List (List ℕ)) → is_on i (concat pages) ≡ false → (filter (is_on i) pages ≡ []) × (filter (λ page. not (is_on i page)) pages ≡ pages)
+none_on i [] h = (refl, refl)
+none_on i (page ∷ pages) h =
+    let off = off_both i page (concat pages) h in
+    let rest = none_on i pages off.1 in (
+      ap (λ b. if b then page ∷ filter (is_on i) pages else filter (is_on i) pages) off.0 ∙ rest.0,
+      ap (λ b. if not b then page ∷ filter (λ page. not (is_on i page)) pages else filter (λ page. not (is_on i page)) pages) off.0 ∙ ap (λ ps. page ∷ ps) rest.1,
+    )
+
+-- the last frame of the first page is touched where it is
+touched_first : (i : ℕ) (is : List ℕ) (pages : List (List ℕ)) → is_on i (concat pages) ≡ false → touched i ((i ∷ is) ∷ pages) ≡ (i ∷ is) ∷ pages
+touched_first i is pages h =
+    let rest = none_on i pages h in
+    go (is_on i (i ∷ is)) (on_first i is) rest.0 rest.1
+  where
+    go : (b : Bool) → b ≡ true → filter (is_on i) pages ≡ [] → filter (λ page. not (is_on i page)) pages ≡ pages
+        → (if b || is_frame i pages then
+          (if b then (i ∷ is) ∷ filter (is_on i) pages else filter (is_on i) pages)
+            ++ (if not b then (i ∷ is) ∷ filter (λ page. not (is_on i page)) pages else filter (λ page. not (is_on i page)) pages)
+        else (i ∷ []) ∷ (i ∷ is) ∷ pages) ≡ (i ∷ is) ∷ pages
+    go true e none all = ap (λ ps. ((i ∷ is) ∷ ps) ++ filter (λ page. not (is_on i page)) pages) none ∙ ap (λ ps. (i ∷ is) ∷ ps) all
+    go false e none all = absurd (cc)
+
+module _ (k v : Kept) (target : ℕ) (x : Ref) (keeps : Keeps v (cut_to_of k (active_birth k ∷ []) target x)) (runs : IsRunning k) (sent : sender_birth k (active_birth k) ≡ Some target)
+    (other : target ≡ active_birth k → ⊥) where
+  -- the active context dies, and the target is active before the value is pushed
+  killed : Kept
+  killed = resume_of (kill_of k (active_birth k)) target
+
+  killed_there : object_at killed (active_birth k) ≡ Some (Ctx (dead k.rest.nil (active_context k)))
+  unfolding resume_of kill_of killed
+  killed_there =
+      ap (λ o. object_at (edit_found (dead_object k.rest.nil) (active_birth k) o k) (active_birth k)) runs.found
+      ∙ object_at-put_same k (active_birth k) (Ctx (dead k.rest.nil (active_context k)))
+
+  others_stay : (i : ℕ) → (i ≡ active_birth k → ⊥) → object_at killed i ≡ object_at k i
+  unfolding resume_of kill_of killed
+  others_stay i apart =
+      ap (λ o. object_at (edit_found (dead_object k.rest.nil) (active_birth k) o k) i) runs.found
+      ∙ object_at-put_other k (active_birth k) i (Ctx (dead k.rest.nil (active_context k))) apart
+
+  target_there : is_some (context_in (object_at k target)) ≡ true
+  target_there = go (active_context k).sender (sym (ap (λ o. option_and_then (λ c. context_birth k c.sender) (context_in o)) runs.found) ∙ sent)
+    where
+      go : (y : Ref) → context_birth k y ≡ Some target → is_some (context_in (object_at k target)) ≡ true
+      go (ref.Small a) e = absurd (cc)
+      go (ref.Char c) e = absurd (cc)
+      go (ref.Obj i) e = by (context_in (object_at k i)) refl e
+        where
+          by : (o : Option Context) → context_in (object_at k i) ≡ o → option_and_then (λ c. Some i) o ≡ Some target → is_some (context_in (object_at k target)) ≡ true
+          by None p q = absurd (cc)
+          by (Some c) p q =
+              let at : i ≡ target = ap (λ o. unwrap_or o i) q in
+              subst (λ n. is_some (context_in (object_at k n)) ≡ true) at (ap is_some p)
+
+  target_runs : Runs killed
+  unfolding resume_of active_context killed
+  target_runs = go (context_in (object_at killed target)) (ap (λ o. is_some (context_in o)) (others_stay target other) ∙ target_there)
+    where
+      go : (o : Option Context) → is_some o ≡ true → o ≡ Some (unwrap_or o blank)
+      go None h = absurd (false≢true h)
+      go (Some c) h = refl
+
+  cut_stays : Stays killed (cut_to_of k (active_birth k ∷ []) target x)
+  unfolding cut_to_of kill_all resume_of killed
+  cut_stays = push_stays killed x target_runs
+
+  cut_active : v.rest.active ≡ Some target
+  unfolding resume_of killed
+  cut_active = ap (λ (r : Rest). r.active) (keeps.rest ∙ cut_stays.rest)
+
+  cut_sender : (i : ℕ) → (i ≡ active_birth k → ⊥) → sender_in (object_at (cut_to_of k (active_birth k ∷ []) target x) i) ≡ sender_in (object_at k i)
+  cut_sender i apart = cut_stays.sender i ∙ ap sender_in (others_stay i apart)
+
+  cut_depth : (i : ℕ) → (i ≡ active_birth k → ⊥) → (i ≡ target → ⊥) → depth_in (context_in (object_at (cut_to_of k (active_birth k ∷ []) target x) i)) ≡ depth_in (context_in (object_at k i))
+  unfolding resume_of killed
+  cut_depth i apart from = cut_stays.depth i from ∙ ap (λ o. depth_in (context_in o)) (others_stay i apart)
+
+  cut_contexts : ContextsStay k (cut_to_of k (active_birth k ∷ []) target x)
+  cut_contexts i h = stay_by_senders killed (cut_to_of k (active_birth k ∷ []) target x) cut_stays.sender i
+      (elim (eqb_tells i (active_birth k)) [
+        | inl e ↦ ap (λ n. is_some (context_in (object_at killed n))) e.1 ∙ ap (λ o. is_some (context_in o)) killed_there
+        | inr e ↦ ap (λ o. is_some (context_in o)) (others_stay i e.1) ∙ h
+      ])
+
+  -- what is left of the chain, with the target in front
+  rest_stack : IsRunning v → (is : List ℕ) (pages : List (List ℕ)) → IsCalled k (target ∷ is ++ concat pages) → IsApart (active_birth k ∷ target ∷ is ++ concat pages)
+      → AllByRecursion (λ page. 3900 < page_words k page) pages → IsStack v ((target ∷ is) ∷ pages)
+  rest_stack ready is pages called apart filled =
+      stack_on k (cut_to_of k (active_birth k ∷ []) target x) v keeps cut_contexts target is pages cut_active (running_has v target ready cut_active) called apart.1
+      (λ i on. cut_sender i (apart_from (active_birth k) i (target ∷ is ++ concat pages) apart.0 on))
+      (λ i on. cut_depth i (apart_from (active_birth k) i (target ∷ is ++ concat pages) apart.0 (on_later i target (is ++ concat pages) (on_right i is (concat pages) on)))
+        (apart_from target i (is ++ concat pages) apart.1.0 (on_right i is (concat pages) on)))
+      filled
+
+  alone_stack : IsStack v ((target ∷ []) ∷ [])
+  alone_stack = record { active = sym cut_active; called = tt; apart = (refl, tt); filled = tt }
+
+  is_target : (j : ℕ) → sender_birth k (active_birth k) ≡ Some j → j ≡ target
+  is_target j h = ap (λ o. unwrap_or o j) (sym h ∙ sent)
+
+  empty_words : 3900 < page_words k [] → ⊥
+  unfolding page_words
+  empty_words h = omega (arith, h)
+
+  left_stack : IsRunning v → (pages : List (List ℕ)) → IsStack k pages → IsStack v (left target pages)
+  left_stack ready pages h = go pages (top (active_birth k) pages (h.active ∙ runs.known)) h
+    where
+      behind : (rest : List (List ℕ)) → IsStack k ((active_birth k ∷ []) ∷ rest) → IsStack v (touched target rest)
+      behind [] h = alone_stack
+      behind ([] ∷ rest) h = absurd (empty_words h.filled.0)
+      behind ((j ∷ js) ∷ rest) h =
+          let at : j ≡ target = is_target j h.called.0 in
+          let stack = rest_stack ready js rest (subst (λ n. IsCalled k (n ∷ js ++ concat rest)) at h.called.1) (subst (λ n. IsApart (active_birth k ∷ n ∷ js ++ concat rest)) at h.apart) h.filled.1 in
+          let off = (off_both target js (concat rest) (subst (λ n. is_on n (js ++ concat rest) ≡ false) at h.apart.1.0)).1 in
+          subst (λ n. IsStack v (touched target ((n ∷ js) ∷ rest))) (sym at) (subst (IsStack v) (sym (touched_first target js rest off)) stack)
+
+      go : (pages : List (List ℕ)) → Topped (active_birth k) pages → IsStack k pages → IsStack v (left target pages)
+      go _ (topped [] rest) h = behind rest h
+      go _ (topped (j ∷ js) rest) h =
+          let at : j ≡ target = is_target j h.called.0 in
+          subst (λ n. IsStack v ((n ∷ js) ∷ rest)) (sym at)
+          (rest_stack ready js rest (subst (λ n. IsCalled k (n ∷ js ++ concat rest)) at h.called.1) (subst (λ n. IsApart (active_birth k ∷ n ∷ js ++ concat rest)) at h.apart) h.filled)
+
+  pub left_stacked : IsRunning v → (old new : Option Layout) → LaidBy (left target) old new → IsStacked k old → IsStacked v new
+  left_stacked ready None new laid h = subst (IsStacked v) (sym laid) tt
+  left_stacked ready (Some l) new laid h = subst (IsStacked v) (sym laid) (left_stack ready l.pages h)
+
+-- ---- at the beginning
+
+first_frame : (i : ℕ) (is : List ℕ) (pages : List (List ℕ)) → is_frame i ((i ∷ is) ∷ pages) ≡ true
+first_frame i is pages = ap (λ b. b || is_frame i pages) (on_first i is)
+
+no_frame : 0 < 0 → ⊥
+no_frame h = omega (arith, h)
+
+-- the active context has a frame alone
+fresh_stack : (s : Store) (k : Kept) (l : Layout) (active : ℕ) → k.rest.active ≡ Some active → IsLaid s k l → ((birth : ℕ) → is_frame birth l.pages ≡ true → k.rest.active ≡ Some birth) → IsStack k l.pages
+fresh_stack s k l active known laid fresh = go l.pages (top active l.pages (laid.active active known)) laid.pages laid.apart fresh
+  where
+    go : (pages : List (List ℕ)) → Topped active pages → AllByRecursion (IsPage k) pages → IsApart (concat pages) → ((birth : ℕ) → is_frame birth pages ≡ true → k.rest.active ≡ Some birth) → IsStack k pages
+    go _ (topped is rest) all apart fresh = record { active = sym known; called = subst (IsCalled k) (same rest all.1 refl) all.0.called; apart = apart; filled = none rest all.1 refl }
+      where
+        -- a second frame would be the active one again
+        second : (j : ℕ) (js : List ℕ) (pages : List (List ℕ)) → rest ≡ (j ∷ js) ∷ pages → ⊥
+        second j js pages e =
+            let on : is_frame j rest ≡ true = ap (is_frame j) e ∙ first_frame j js pages in
+            let frame : is_frame j ((active ∷ is) ∷ rest) ≡ true = frame_of_all j ((active ∷ is) ∷ rest) ∙ on_later j active (is ++ concat rest) (on_right j is (concat rest) (sym (frame_of_all j rest) ∙ on)) in
+            let at : active ≡ j = ap (λ o. unwrap_or o active) (sym known ∙ fresh j frame) in
+            apart_from active j (is ++ concat rest) apart.0 (on_right j is (concat rest) (sym (frame_of_all j rest) ∙ on)) (sym at)
+
+        same : (pages : List (List ℕ)) → AllByRecursion (IsPage k) pages → rest ≡ pages → active ∷ is ≡ active ∷ is ++ concat rest
+        same [] h e = sym (ap (λ ps. active ∷ is ++ concat ps) e ∙ ap (λ js. active ∷ js) (append-nil is))
+        same ([] ∷ pages) h e = absurd (no_frame h.0.some)
+        same ((j ∷ js) ∷ pages) h e = absurd (second j js pages e)
+
+        none : (pages : List (List ℕ)) → AllByRecursion (IsPage k) pages → rest ≡ pages → AllByRecursion (λ page. 3900 < page_words k page) rest
+        none [] h e = subst (AllByRecursion (λ page. 3900 < page_words k page)) (sym e) tt
+        none ([] ∷ pages) h e = absurd (no_frame h.0.some)
+        none ((j ∷ js) ∷ pages) h e = absurd (second j js pages e)
+
+pub fresh_stacked : (s : Store) (k : Kept) (l : Option Layout) → IsRunning k → IsFresh k l → IsLaidOut s k l → IsStacked k l
+fresh_stacked s k None running fresh laid = tt
+fresh_stacked s k (Some l) running fresh laid = fresh_stack s k l (active_birth k) running.known laid fresh
