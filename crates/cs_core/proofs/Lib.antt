@@ -4,6 +4,9 @@ mod Piecing
 mod Portions
 mod Summing
 pub mod Laying
+mod Chaining
+mod Settling
+pub mod Stacking
 pub mod Turning
 pub mod Carrying
 pub mod Resolving
