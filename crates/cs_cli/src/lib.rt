@@ -4,6 +4,8 @@
 #[cfg(test)]
 mod entering_images;
 mod line;
+#[cfg(test)]
+mod long_shelf;
 mod report;
 #[cfg(test)]
 mod test_images;
