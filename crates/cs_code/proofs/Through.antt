@@ -29,6 +29,7 @@ names-trans a b c f g = λ o named. let h = f o named in let i = g o h.sound in 
 
 pub gives-along : (old mid new : Store) (v k : Kept) (e : CodeEnd) (a b : Out) → KeepsNames old mid → Alike k a b → Gives mid new v e a → Gives old new v e b
 gives-along old mid new v k e a b names alike g = record {
+  granted = g.granted;
   end = g.end ∙ alike.end;
   named = g.named;
   state = Keeps-trans g.state alike.keeps;
@@ -66,8 +67,8 @@ jumped s0 s1 s2 v0 v1 v2 x e wanted offset z is keeps names top same_as g =
 
 -- what is done by one call, and what stops at once
 pub gives_done : (s0 s1 : Store) (v k : Kept) (o : Out) → o ≡ done k → Keeps v k → IsReady s1 v → KeepsNames s0 s1 → Gives s0 s1 v code.Done o
-gives_done s0 s1 v k o e keeps ready names = subst (λ p. Gives s0 s1 v code.Done p) (sym e) (record { end = refl; named = tt; state = keeps; ready = ready; names = names })
+gives_done s0 s1 v k o e keeps ready names = subst (λ p. Gives s0 s1 v code.Done p) (sym e) (record { granted = refl; end = refl; named = tt; state = keeps; ready = ready; names = names })
 
 pub gives_stop : (s : Store) (k : Kept) (reason : Stop) (o : Out) → o ≡ stop reason k → IsReady s k → Gives s s k (code.Stop reason) o
 gives_stop s k reason o e ready =
-    subst (λ p. Gives s s k (code.Stop reason) p) (sym e) (record { end = refl; named = tt; state = ready.sound.closed; ready = ready; names = λ w named. record { sound = named; is = refl } })
+    subst (λ p. Gives s s k (code.Stop reason) p) (sym e) (record { granted = refl; end = refl; named = tt; state = ready.sound.closed; ready = ready; names = λ w named. record { sound = named; is = refl } })
