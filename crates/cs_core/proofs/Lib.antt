@@ -17,6 +17,7 @@ pub mod Places
 pub mod Deepening
 pub mod Rolling
 mod Growing
+pub mod Replying
 pub mod Beginning
 pub mod Nexting
 pub mod Stepping

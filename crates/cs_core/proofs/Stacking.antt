@@ -15,11 +15,19 @@ use Rattle.cs_model.specs.Read.{IsRunning, active_birth, active_context, blank, 
 use Rattle.cs_model.specs.Operation.{cut_to_of, dead_object, drop_of, edit_found, enter_of, enter_with, kill_all, kill_of, method_context, push_of, put_active, resume_of}
 use Rattle.cs_model.specs.Return.{context_birth, sender_birth}
 use Rattle.cs_model.proofs.Objects.{object_at-put_other, object_at-put_same}
+use Rattle.cs_model.proofs.Keeping.{Keeps-itself}
 use Rattle.cs_model.proofs.Reading.{Has}
+use Rattle.cs_model.proofs.Same.{option_equal, same}
+use Rattle.cs_model.proofs.Searching.{sender_birth_same}
+use Rattle.cs_model.specs.End.{made_context}
+use Rattle.cs_model.specs.Send.{enter_out}
+use Rattle.cs_model.specs.Step.{arguments_of}
 use Rattle.cs_acts.specs.Layout.{IsApart, IsCalled, IsFresh, IsLaid, IsLaidOut, IsPage, LaidBy, Layout, depth_in, entered, first_page, frame_words, is_frame, is_on, last_frame, left, page_words, touched}
 use Rattle.cs_acts.specs.Names.{Store}
-use Rattle.cs_core.specs.Stacked.{IsStack, IsStacked, behind_first}
-use Rattle.cs_core.proofs.Chaining.{ContextsStay, HasChain, HasFirst, all_on, apart_from, called_stays, called_tail, chain_kept, either_false, filled_same, frame_kept, frame_of_all, off_both, on_first, on_later, on_left, on_right, page_same, sender_in}
+use Rattle.cs_core.specs.Stacked.{IsStack, IsStacked}
+use Rattle.cs_core.specs.Stepped.{Lays}
+use Rattle.cs_core.proofs.Chaining.{ContextsStay, HasChain, HasFirst, all_on, apart_from, called_stays, called_tail, chain_kept, either_false, filled_same, frame_kept, frame_of_all, off_both, on_first, on_later, on_left, on_right, page_same, page_words_of, sender_in}
+use Rattle.cs_core.proofs.Laying.{entered_active, entered_frames, frames_stay, left_frames}
 use Rattle.cs_core.proofs.Settling.{Runs, Stays, drop_stays, push_stays}
 
 -- ---- the shape of a stack
@@ -348,3 +356,73 @@ fresh_stack s k l active known laid fresh = go l.pages (top active l.pages (laid
 pub fresh_stacked : (s : Store) (k : Kept) (l : Option Layout) → IsRunning k → IsFresh k l → IsLaidOut s k l → IsStacked k l
 fresh_stacked s k None running fresh laid = tt
 fresh_stacked s k (Some l) running fresh laid = fresh_stack s k l (active_birth k) running.known laid fresh
+
+-- ---- what a part of a step does to the pages
+
+-- a method takes at most 15 arguments
+pub few_arguments : (k : Kept) (x : Ref) (args : ℕ) → arguments_of k x ≡ args → args < 16
+few_arguments k x args count = omega (arith, count)
+
+pub stays_lays : (k t v : Kept) → Stays k t → Keeps v t → IsRunning v → (old new : Option Layout) → new ≡ old → (s : Store) → Lays k old s v new
+stays_lays k t v stays keeps running old new still s = record {
+  frames = frames_stay old new v still;
+  stacked = λ h there. subst (IsStacked v) (sym still) (settled_stacked k t v old stays keeps running h);
+}
+
+-- the state that entering a method leaves
+entering : (k : Kept) (x : Ref) (args : ℕ) (skip : Bool) → (enter_out k x args skip).state ≡ enter_of k x args skip
+unfolding enter_out made_context
+entering k x args skip = refl
+
+pub entered_lays : (k v : Kept) (x : Ref) (args : ℕ) (skip : Bool) → Keeps v (enter_out k x args skip).state → IsRunning k → IsRunning v → args < 16 → (old new : Option Layout) (s : Store)
+    → LaidBy (entered k k.rest.next) old new → Lays k old s v new
+entered_lays k v x args skip keeps runs running few old new s laid = record {
+  frames = entered_frames k v k.rest.next old new (entered_active k v x args skip keeps) laid;
+  stacked = entered_stacked k v x args skip (subst (Keeps v) (entering k x args skip) keeps) runs running few old new s laid;
+}
+
+pub left_lays : (k v : Kept) (target : ℕ) (x : Ref) → Keeps v (cut_to_of k (active_birth k ∷ []) target x) → IsRunning k → sender_birth k (active_birth k) ≡ Some target → (target ≡ active_birth k → ⊥) → IsRunning v
+    → (old new : Option Layout) (s : Store) → LaidBy (left target) old new → Lays k old s v new
+left_lays k v target x keeps runs sent other running old new s laid = record {
+  frames = left_frames v target old new (cut_active k v target x keeps runs sent other) laid;
+  stacked = λ h there. left_stacked k v target x keeps runs sent other running old new laid h;
+}
+
+-- from a state whose stack of pages is one of the state before
+pub lays_before : (u k v : Kept) (l n : Option Layout) (s : Store) → (IsStacked k l → IsStacked u l) → Lays u l s v n → Lays k l s v n
+lays_before u k v l n s before h = record { frames = h.frames; stacked = λ stacked there. h.stacked (before stacked) there }
+
+-- ---- a stack of full pages is deep
+
+-- all that has a frame is there
+frames_there : (v : Kept) → Keeps v v → IsRunning v → (pages : List (List ℕ)) → IsStack v pages → AllByRecursion (Has v) (concat pages)
+frames_there v closed running pages h = go pages (top (active_birth v) pages (h.active ∙ running.known)) h
+  where
+    go : (pages : List (List ℕ)) → Topped (active_birth v) pages → IsStack v pages → AllByRecursion (Has v) (concat pages)
+    go _ (topped is rest) h = (chain_kept v v closed (active_birth v ∷ is ++ concat rest) (running_has v (active_birth v) running running.known) h.called).all
+
+rest_words : (v : Kept) (pages : List (List ℕ)) → AllByRecursion (λ page. 3900 < page_words v page) pages → 3900 * length pages ≤ page_words v (concat pages)
+unfolding page_words
+rest_words v [] h = omega arith
+rest_words v (page ∷ pages) h = omega (arith, h.0, rest_words v pages h.1, page_words_of v page (concat pages))
+
+pub stack_words : (v : Kept) (pages : List (List ℕ)) (most : ℕ) → IsRunning v → IsStack v pages → length pages ≡ most → 4096 < page_words v (first_page pages) + 66 → 3900 * most < page_words v (concat pages)
+stack_words v pages most running h count full = go pages (top (active_birth v) pages (h.active ∙ running.known)) h count full
+  where
+    go : (pages : List (List ℕ)) → Topped (active_birth v) pages → IsStack v pages → length pages ≡ most → 4096 < page_words v (first_page pages) + 66 → 3900 * most < page_words v (concat pages)
+    go _ (topped is rest) h count full = omega (arith, count, full, rest_words v rest h.filled, page_words_of v (active_birth v ∷ is) (concat rest))
+
+-- the chain of all frames, in a state that is kept
+pub stack_called : (v m : Kept) → Keeps v m → IsRunning v → (pages : List (List ℕ)) → IsStack v pages → IsCalled m (concat pages)
+stack_called v m keeps running pages h = called_in (concat pages) (frames_there v (Keeps-itself keeps) running pages h) h.called
+  where
+    called_in : (xs : List ℕ) → AllByRecursion (Has v) xs → IsCalled v xs → IsCalled m xs
+    called_in [] a c = tt
+    called_in (i ∷ []) a c = tt
+    called_in (i ∷ j ∷ is) a c = (option_equal (sender_birth_same keeps (same i a.0)) ∙ c.0, called_in (j ∷ is) a.1 c.1)
+
+pub stack_active : (v : Kept) (pages : List (List ℕ)) → IsRunning v → IsStack v pages → last_frame (concat pages) ≡ v.rest.active
+stack_active v pages running h = go pages (top (active_birth v) pages (h.active ∙ running.known))
+  where
+    go : (pages : List (List ℕ)) → Topped (active_birth v) pages → last_frame (concat pages) ≡ v.rest.active
+    go _ (topped is rest) = sym running.known

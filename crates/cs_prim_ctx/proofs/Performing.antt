@@ -21,6 +21,7 @@ use Rattle.cs_acts.specs.Full.{CausesFull}
 use Rattle.cs_acts.specs.Layout.{Layout}
 use Rattle.cs_acts.specs.Made.{MakesAtMost, made_by_reading}
 use Rattle.cs_acts.specs.Names.{KeepsNames, NamesOption, Store, name_of}
+use Rattle.cs_acts.specs.Primed.{EndsWithout}
 use Rattle.cs_acts.specs.Ready.{IsReady}
 use Rattle.cs_acts.specs.Targets.{field_of}
 use Rattle.cs_prim_ctx.specs.Answered.{Leads, Performs}
@@ -114,14 +115,14 @@ some_at : (k : Kept) (args i : ℕ) (o : Option Ref) → true ≡ is_some o → 
 some_at k args i None e = absurd (cc)
 some_at k args i (Some x) e = (x, refl)
 
-pub refused : (a b : Store) (l m : Option Layout) (k v : Kept) (args i : ℕ) (y : Ref) (why : Why) → IsRunning k → is_context_ref k y ≡ true → i ≡ 0 → b.memory.limit ≡ a.memory.limit → CausesFull b l k 0 k why
+pub refused : (a b : Store) (l m : Option Layout) (k v : Kept) (args i : ℕ) (y : Ref) (why : Why) → IsRunning k → is_context_ref k y ≡ true → i ≡ 0 → b.memory.limit ≡ a.memory.limit → why ≡ Heap → CausesFull b l k 0 k why
     → Performs a b l m k v (prim.Full why) (answer_field k args i (field_of k y i))
-refused a b l m k v args i y why running context is limit cause =
+refused a b l m k v args i y why running context is limit heap cause =
     let found = some_at k args i (field_of k y i) (field_below k y i context (omega (arith, is))) in
     let by = answers k args i found.0 in
     let o : Out = answer_field k args i (Some found.0) in
     let done : Performs a b l m k v (prim.Full why) o = record {
-      gives = (inl by.end, more_words b l k k o.state 0 o.count.objects why (sym by.objects) (sym (ap words_in by.state ∙ words-answered k (args + 1) found.0 running)) cause);
+      gives = (subst (λ w. EndsWithout w o.end) (sym heap) (inl by.end), more_words b l k k o.state 0 o.count.objects why (sym by.objects) (sym (ap words_in by.state ∙ words-answered k (args + 1) found.0 running)) cause);
       exact = tt;
       layout = tt;
       limit = limit;

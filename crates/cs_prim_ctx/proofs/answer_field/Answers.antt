@@ -28,4 +28,4 @@ returns-in-Err g c =
     let y = name_of (g.W.World.stored c.args.w.now) c.args.ctx in
     let e = c.in-Err.ensures in
     refused (g.W.World.stored c.args.w.now) (g.W.World.stored c.field.new.w) (g.W.World.layout c.args.w.now) (g.W.World.layout c.field.new.w)
-    k (g.W.World.view c.field.new.w) c.args.args c.args.i y c.in-Err.why c.requires.ready.running c.requires.context e.sender_alone e.limit e.full
+    k (g.W.World.view c.field.new.w) c.args.args c.args.i y c.in-Err.why c.requires.ready.running c.requires.context e.sender_alone e.limit e.heap_alone e.full

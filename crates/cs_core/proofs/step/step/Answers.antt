@@ -6,7 +6,6 @@ use Rattle.cs_acts.proofs.Held.{named_held}
 use Rattle.cs_code.specs.Gives.{IsNamedEnd, end_of}
 use Rattle.cs_send.specs.Sent.{message_of}
 use Rattle.cs_core.proofs.Beginning.{Executed, births_beyond, births_left, executed, held_above, lies_behind}
-use Rattle.cs_core.proofs.Laying.{frames_stay}
 use Rattle.cs_core.proofs.Stepping.{births_few, done_gives, return_gives, send_gives, stop_gives}
 use Rattle.cs_core.proofs.Turning.{Begins, births_used, no_instruction}
 use Rattle.cs_core.proofs.step.step.Goals as goal
@@ -34,8 +33,8 @@ returns-in-Done-clause-gives g c =
     } in
     let x = executed (g.W.World.view c.args.w.now) (g.W.World.view c.set_pc.new.self) (g.W.World.view c.exec.new.w) c.in-Some.instruction (c.pc.result + c.from.result) _ (ap₂ (λ a b. a + b) c.pc.ensures c.from.ensures) c.set_pc.ensures.state c.requires.ready.sound.closed
     c.exec.ensures.gives.end c.exec.ensures.gives.state in
-    done_gives (g.W.World.view c.args.w.now) c.in-Some.instruction (g.W.World.layout c.args.w.now) (g.W.World.layout c.exec.new.w) (g.W.World.stored c.exec.new.w) (g.W.World.view c.exec.new.w) begins _ c.finish.result (subst (Executed (g.W.World.view c.args.w.now) c.in-Some.instruction (g.W.World.view c.exec.new.w)) (ap (end_of (g.W.World.stored c.exec.new.w)) c.in-Done.is) x) c.exec.ensures.gives.ready
-    (frames_stay (g.W.World.layout c.args.w.now) (g.W.World.layout c.exec.new.w) (g.W.World.view c.exec.new.w) (c.exec.ensures.layout ∙ c.set_pc.ensures.layout)) c.finish.ensures
+    done_gives (g.W.World.view c.args.w.now) c.in-Some.instruction (g.W.World.layout c.args.w.now) (g.W.World.layout c.exec.new.w) (g.W.World.stored c.exec.new.w) (g.W.World.view c.exec.new.w) begins _ c.finish.result c.requires.ready.running (subst (Executed (g.W.World.view c.args.w.now) c.in-Some.instruction (g.W.World.view c.exec.new.w)) (ap (end_of (g.W.World.stored c.exec.new.w)) c.in-Done.is) x) c.exec.ensures.gives.ready
+    (c.exec.ensures.layout ∙ c.set_pc.ensures.layout) c.finish.ensures
 
 pub send-requires-clause-births : goal.send-requires-clause-births
 send-requires-clause-births g c =
@@ -54,7 +53,7 @@ returns-in-Send-clause-gives g c =
     c.exec.ensures.gives.end c.exec.ensures.gives.state in
     let named = subst (IsNamedEnd (g.W.World.stored c.exec.new.w)) c.in-Send.is c.exec.ensures.gives.named in
     send_gives (g.W.World.view c.args.w.now) c.in-Some.instruction (g.W.World.layout c.args.w.now) (g.W.World.layout c.send.new.w) (g.W.World.stored c.send.new.w) (g.W.World.view c.send.new.w) begins (g.W.World.view c.exec.new.w) (message_of (g.W.World.stored c.exec.new.w) c.in-Send.selector c.in-Send.args c.in-Send.above) (g.W.World.layout c.exec.new.w) _ _ c.send.result
-    c.requires.ready.running (subst (Executed (g.W.World.view c.args.w.now) c.in-Some.instruction (g.W.World.view c.exec.new.w)) (ap (end_of (g.W.World.stored c.exec.new.w)) c.in-Send.is) x)
+    c.requires.ready.running c.exec.ensures.gives.ready.running (subst (Executed (g.W.World.view c.args.w.now) c.in-Some.instruction (g.W.World.view c.exec.new.w)) (ap (end_of (g.W.World.stored c.exec.new.w)) c.in-Send.is) x)
     (named_held (g.W.World.stored c.exec.new.w) (g.W.World.view c.exec.new.w) c.in-Send.selector c.exec.ensures.gives.ready.sound.holds named.0, held_above (g.W.World.stored c.exec.new.w) (g.W.World.view c.exec.new.w) c.in-Send.above c.exec.ensures.gives.ready.sound.holds named.1)
     (c.exec.ensures.layout ∙ c.set_pc.ensures.layout) c.send.ensures.gives
 
@@ -69,7 +68,7 @@ returns-in-Return-clause-gives g c =
     c.exec.ensures.gives.end c.exec.ensures.gives.state in
     let named = subst (IsNamedEnd (g.W.World.stored c.exec.new.w)) c.in-Return.is c.exec.ensures.gives.named in
     return_gives (g.W.World.view c.args.w.now) c.in-Some.instruction (g.W.World.layout c.args.w.now) (g.W.World.layout c.give_back.new.w) (g.W.World.stored c.give_back.new.w) (g.W.World.view c.give_back.new.w) begins (g.W.World.view c.exec.new.w) (name_of (g.W.World.stored c.exec.new.w) c.in-Return.value) c.in-Return.local (g.W.World.layout c.exec.new.w) (g.K.Sink.taken c.args.out.now) c.give_back.result
-    c.requires.ready.running (subst (Executed (g.W.World.view c.args.w.now) c.in-Some.instruction (g.W.World.view c.exec.new.w)) (ap (end_of (g.W.World.stored c.exec.new.w)) c.in-Return.is) x) (named_held (g.W.World.stored c.exec.new.w) (g.W.World.view c.exec.new.w) c.in-Return.value c.exec.ensures.gives.ready.sound.holds named)
+    c.requires.ready.running c.exec.ensures.gives.ready.running (subst (Executed (g.W.World.view c.args.w.now) c.in-Some.instruction (g.W.World.view c.exec.new.w)) (ap (end_of (g.W.World.stored c.exec.new.w)) c.in-Return.is) x) (named_held (g.W.World.stored c.exec.new.w) (g.W.World.view c.exec.new.w) c.in-Return.value c.exec.ensures.gives.ready.sound.holds named)
     (c.exec.ensures.layout ∙ c.set_pc.ensures.layout) (c.give_back.ensures.gives (g.K.Sink.taken c.args.out.now))
 
 pub returns-in-Return-clause-cause : goal.returns-in-Return-clause-cause
