@@ -22,7 +22,7 @@ use cs_word::Oop;
 pub fn push<W: World>(w: &mut W, x: Oop) -> CodeEnd
     requires ready { IsReady (W.stored w.old) (W.view w.old) }
     requires named { IsNamed (W.stored w.old) x }
-    ensures gives { Gives (W.stored w.old) (W.stored w.new) (W.view w.new) result (push_out (W.view w.old) (name_of (W.stored w.old) x)) }
+    ensures gives { Gives (W.stored w.old) (W.stored w.new) (W.layout w.old) (W.view w.new) result (push_out (W.view w.old) (name_of (W.stored w.old) x)) }
     ensures layout { W.layout w.new ≡ W.layout w.old }
     ensures limit { (W.stored w.new).memory.limit ≡ (W.stored w.old).memory.limit }
 {
@@ -38,7 +38,7 @@ pub fn push<W: World>(w: &mut W, x: Oop) -> CodeEnd
 #[tactic(auto, unfolding(cs_model::specs::Exec::push_temp_out))]
 pub fn push_temporary<W: World>(w: &mut W, i: u8) -> CodeEnd
     requires { IsReady (W.stored w.old) (W.view w.old) }
-    ensures gives { Gives (W.stored w.old) (W.stored w.new) (W.view w.new) result (push_temp_out (W.view w.old) i) }
+    ensures gives { Gives (W.stored w.old) (W.stored w.new) (W.layout w.old) (W.view w.new) result (push_temp_out (W.view w.old) i) }
     ensures layout { W.layout w.new ≡ W.layout w.old }
     ensures limit { (W.stored w.new).memory.limit ≡ (W.stored w.old).memory.limit }
 {
@@ -52,7 +52,7 @@ pub fn push_temporary<W: World>(w: &mut W, i: u8) -> CodeEnd
 #[tactic(auto, unfolding(cs_model::specs::Exec::push_literal_out))]
 pub fn push_literal<W: World>(w: &mut W, i: u8) -> CodeEnd
     requires { IsReady (W.stored w.old) (W.view w.old) }
-    ensures gives { Gives (W.stored w.old) (W.stored w.new) (W.view w.new) result (push_literal_out (W.view w.old) i) }
+    ensures gives { Gives (W.stored w.old) (W.stored w.new) (W.layout w.old) (W.view w.new) result (push_literal_out (W.view w.old) i) }
     ensures layout { W.layout w.new ≡ W.layout w.old }
     ensures limit { (W.stored w.new).memory.limit ≡ (W.stored w.old).memory.limit }
 {
@@ -65,7 +65,7 @@ pub fn push_literal<W: World>(w: &mut W, i: u8) -> CodeEnd
 /// Pushes the receiver.
 pub fn push_receiver<W: World>(w: &mut W) -> CodeEnd
     requires { IsReady (W.stored w.old) (W.view w.old) }
-    ensures gives { Gives (W.stored w.old) (W.stored w.new) (W.view w.new) result (push_out (W.view w.old) (receiver_of (W.view w.old))) }
+    ensures gives { Gives (W.stored w.old) (W.stored w.new) (W.layout w.old) (W.view w.new) result (push_out (W.view w.old) (receiver_of (W.view w.old))) }
     ensures layout { W.layout w.new ≡ W.layout w.old }
     ensures limit { (W.stored w.new).memory.limit ≡ (W.stored w.old).memory.limit }
 {
@@ -76,7 +76,7 @@ pub fn push_receiver<W: World>(w: &mut W) -> CodeEnd
 /// Pushes true or false.
 pub fn push_boolean<W: World>(w: &mut W, truth: bool) -> CodeEnd
     requires { IsReady (W.stored w.old) (W.view w.old) }
-    ensures gives { Gives (W.stored w.old) (W.stored w.new) (W.view w.new) result (push_out (W.view w.old) (boolean_of (W.view w.old) truth)) }
+    ensures gives { Gives (W.stored w.old) (W.stored w.new) (W.layout w.old) (W.view w.new) result (push_out (W.view w.old) (boolean_of (W.view w.old) truth)) }
     ensures layout { W.layout w.new ≡ W.layout w.old }
     ensures limit { (W.stored w.new).memory.limit ≡ (W.stored w.old).memory.limit }
 {
@@ -87,7 +87,7 @@ pub fn push_boolean<W: World>(w: &mut W, truth: bool) -> CodeEnd
 /// Pushes nil.
 pub fn push_nil<W: World>(w: &mut W) -> CodeEnd
     requires { IsReady (W.stored w.old) (W.view w.old) }
-    ensures gives { Gives (W.stored w.old) (W.stored w.new) (W.view w.new) result (push_out (W.view w.old) (nil_of (W.view w.old))) }
+    ensures gives { Gives (W.stored w.old) (W.stored w.new) (W.layout w.old) (W.view w.new) result (push_out (W.view w.old) (nil_of (W.view w.old))) }
     ensures layout { W.layout w.new ≡ W.layout w.old }
     ensures limit { (W.stored w.new).memory.limit ≡ (W.stored w.old).memory.limit }
 {
@@ -98,7 +98,7 @@ pub fn push_nil<W: World>(w: &mut W) -> CodeEnd
 /// Pushes a SmallInteger.
 pub fn push_small<W: World>(w: &mut W, z: i8) -> CodeEnd
     requires { IsReady (W.stored w.old) (W.view w.old) }
-    ensures gives { Gives (W.stored w.old) (W.stored w.new) (W.view w.new) result (push_out (W.view w.old) (ref.Small z)) }
+    ensures gives { Gives (W.stored w.old) (W.stored w.new) (W.layout w.old) (W.view w.new) result (push_out (W.view w.old) (ref.Small z)) }
     ensures layout { W.layout w.new ≡ W.layout w.old }
     ensures limit { (W.stored w.new).memory.limit ≡ (W.stored w.old).memory.limit }
 {
@@ -122,7 +122,7 @@ pub fn small_word(z: i32) -> Oop
 #[tactic(auto, unfolding(cs_model::specs::Exec::pop_out))]
 pub fn pop<W: World>(w: &mut W) -> CodeEnd
     requires { IsReady (W.stored w.old) (W.view w.old) }
-    ensures gives { Gives (W.stored w.old) (W.stored w.new) (W.view w.new) result (pop_out (W.view w.old)) }
+    ensures gives { Gives (W.stored w.old) (W.stored w.new) (W.layout w.old) (W.view w.new) result (pop_out (W.view w.old)) }
     ensures layout { W.layout w.new ≡ W.layout w.old }
     ensures limit { (W.stored w.new).memory.limit ≡ (W.stored w.old).memory.limit }
 {
@@ -139,7 +139,7 @@ pub fn pop<W: World>(w: &mut W) -> CodeEnd
 #[tactic(auto, unfolding(cs_model::specs::Exec::dup_out))]
 pub fn dup<W: World>(w: &mut W) -> CodeEnd
     requires { IsReady (W.stored w.old) (W.view w.old) }
-    ensures gives { Gives (W.stored w.old) (W.stored w.new) (W.view w.new) result (dup_out (W.view w.old)) }
+    ensures gives { Gives (W.stored w.old) (W.stored w.new) (W.layout w.old) (W.view w.new) result (dup_out (W.view w.old)) }
     ensures layout { W.layout w.new ≡ W.layout w.old }
     ensures limit { (W.stored w.new).memory.limit ≡ (W.stored w.old).memory.limit }
 {

@@ -9,8 +9,8 @@ pub returns-in-Ok-clause-gives : goal.returns-in-Ok-clause-gives
 returns-in-Ok-clause-gives g c = λ _.
     let k = g.W.World.view c.args.w.now in
     let room : nat_lt (depth_of k) (size_of k) ≡ true = grind (arith) in
-    pushed-given (g.W.World.stored c.args.w.now) (g.W.World.stored c.this_context.new.self) (g.W.World.stored c.push.new.self) k (g.W.World.view c.this_context.new.self) (g.W.World.view c.push.new.self) _
-    c.in-Ok.context (ref.Obj (active_birth k)) (this-as k room) c.in-Ok.ensures.view c.in-Ok.ensures.value.is c.in-Ok.ensures.sound.closed c.push.ensures.state c.in-Ok.ensures.names c.push.ensures.ready c.push.ensures.names
+    pushed-given (g.W.World.stored c.args.w.now) (g.W.World.stored c.this_context.new.self) (g.W.World.stored c.push.new.self) (g.W.World.layout c.args.w.now) (g.W.World.layout c.this_context.new.self) k (g.W.World.view c.this_context.new.self) (g.W.World.view c.push.new.self) _
+    c.in-Ok.context (ref.Obj (active_birth k)) (this-as k room) c.in-Ok.ensures.view c.in-Ok.ensures.layout c.in-Ok.ensures.value.is c.in-Ok.ensures.sound.closed c.push.ensures.state c.push.ensures.exact c.in-Ok.ensures.names c.push.ensures.ready c.push.ensures.names
 
 pub returns-in-Err-clause-full : goal.returns-in-Err-clause-full
 returns-in-Err-clause-full g c why is =
