@@ -142,24 +142,25 @@ pushed-given s0 s1 s2 l n k v w o word x ends_as same laid is closed state exact
       names = names-trans s0 s1 s2 before after;
     }
 
-pub refused : (s : Store) (l : Option Layout) (k v : Kept) (o : Out) (x : Ref) (a b : Full) → code.Full a ≡ code.Full b → IsRunning k → EndsAs o ends.Done (push_of k x) → v ≡ k → CausesFull s l v 0 v a → Refuses s l k o b
-refused s l k v o x a b same_reason running ends_as same cause =
+pub refused : (s : Store) (l : Option Layout) (k v : Kept) (o : Out) (x : Ref) (a b : Full) → code.Full a ≡ code.Full b → a ≡ Heap → IsRunning k → EndsAs o ends.Done (push_of k x) → v ≡ k → CausesFull s l v 0 v a → Refuses s l k o b
+refused s l k v o x a b same_reason heap running ends_as same cause =
     let here : CausesFull s l k 0 k b = subst (λ w. CausesFull s l k 0 k w) (reason a b same_reason) (subst (λ u. CausesFull s l u 0 u a) same cause) in
     record {
       end = ends_as.end;
+      heap_alone = sym (reason a b same_reason) ∙ heap;
       cause = subst (λ n. CausesFull s l k n o.state b) (sym ends_as.objects) (subst (λ t. CausesFull s l k 0 t b) (sym ends_as.state) (cause-pushed s l k x b running here));
     }
   where
     reason : (a b : Full) → code.Full a ≡ code.Full b → a ≡ b
     reason a b e = cc
 
-pub field-refused : (s : Store) (l : Option Layout) (k v : Kept) (i : ℕ) (r : Ref) (a b : Full) → code.Full a ≡ code.Full b → IsRunning k → is_context_ref k r ≡ true → is_some (field_of k r i) ≡ true
+pub field-refused : (s : Store) (l : Option Layout) (k v : Kept) (i : ℕ) (r : Ref) (a b : Full) → code.Full a ≡ code.Full b → a ≡ Heap → IsRunning k → is_context_ref k r ≡ true → is_some (field_of k r i) ≡ true
     → nat_lt (depth_of k) (size_of k) ≡ true → v ≡ k → CausesFull s l v 0 v a → Refuses s l k (push_field k i (object_of k r)) b
-field-refused s l k v i r a b same_reason running context there room same cause = go (field_of k r i) refl there
+field-refused s l k v i r a b same_reason heap running context there room same cause = go (field_of k r i) refl there
   where
     go : (f : Option Ref) → f ≡ field_of k r i → is_some f ≡ true → Refuses s l k (push_field k i (object_of k r)) b
     go None is h = absurd (cc)
-    go (Some x) is h = refused s l k v (push_field k i (object_of k r)) x a b same_reason running (field-pushed-as k i r x context is room) same cause
+    go (Some x) is h = refused s l k v (push_field k i (object_of k r)) x a b same_reason heap running (field-pushed-as k i r x context is room) same cause
 
 -- ---- which fields there are
 

@@ -5,6 +5,7 @@ use Rattle.cs_model.specs.Keeps.{Keeps, SameKept}
 use Rattle.cs_model.specs.End.{End, Out}
 use Rattle.cs_model.specs.End as ends
 use Rattle.cs_acts.specs.declared.act.Full.{Full as Why}
+use Rattle.cs_acts.specs.declared.act.Full.TheVariants.{Heap}
 use Rattle.cs_acts.specs.Full.{CausesFull}
 use Rattle.cs_acts.specs.Layout.{Layout}
 use Rattle.cs_acts.specs.Names.{Store, IsNamed, KeepsNames, name_of}
@@ -47,7 +48,8 @@ pub record Gives (old new : Store) (before : Option Layout) (k : Kept) (found : 
   pub ready : IsReady new k
   pub names : KeepsNames old new
 
--- the model does all of it, and the world has no room for what it looks at
+-- the model does all of it, and the heap of the world has no room for what it looks at
 pub record Refuses (new : Store) (before : Option Layout) (k : Kept) (o : Out) (why : Why) : Type 0 where
   pub end : o.end ≡ ends.Done
+  pub heap_alone : why ≡ Heap
   pub cause : CausesFull new before k o.count.objects o.state why

@@ -1,8 +1,7 @@
 //! What looks at contexts: the active one as an object, and the fields of one.
-ghost use Rattle.std.specs.Prelude.{◌≡◌, true, false, IfSome, is_some, length, nat_lt};
+ghost use Rattle.std.specs.Prelude.{◌≡◌, true, false, IfSome, is_some, length};
 ghost use Rattle.cs_model.specs.Context.{is_context_ref};
 ghost use Rattle.cs_model.specs.Exec.{push_field, this_context_out};
-ghost use Rattle.cs_model.specs.Read.{depth_of, size_of};
 ghost use Rattle.cs_model.specs.Ref.{index_of};
 ghost use Rattle.cs_model.specs.Return.{context_at};
 ghost use Rattle.cs_model.specs.State.{object_of};
@@ -14,6 +13,7 @@ ghost use Rattle.cs_code.specs.declared.end.CodeEnd.TheVariants as ends;
 ghost use Rattle.cs_code.specs.Gives.{Gives, Refuses, is_refused};
 
 use crate::CodeEnd;
+use crate::pushes::has_room;
 use cs_acts::World;
 use cs_model::Stop;
 use cs_word::{Kind, Oop};
@@ -68,14 +68,6 @@ pub fn push_context_field<W: World>(w: &mut W, context: Oop, i: u32) -> CodeEnd
         }
         Err(why) => CodeEnd::Full(why),
     }
-}
-
-/// Whether the active stack has room for a value.
-fn has_room<W: World>(w: &W) -> bool
-    requires { IsReady (W.stored w.now) (W.view w.now) }
-    ensures { result ≡ nat_lt (depth_of (W.view w.now)) (size_of (W.view w.now)) }
-{
-    w.depth() < w.size()
 }
 
 /// Whether a context has field `i`, or stack value `i` - 6.

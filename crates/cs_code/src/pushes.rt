@@ -1,9 +1,9 @@
 //! Pushes of single values, and what is done to the top of the stack alone.
-ghost use Rattle.std.specs.Prelude.{◌≡◌};
+ghost use Rattle.std.specs.Prelude.{◌≡◌, nat_lt};
 ghost use Rattle.cs_word.specs.Word.{IsSmall};
 ghost use Rattle.cs_model.specs.Number.{boolean as boolean_of};
 ghost use Rattle.cs_model.specs.Operation.{nil_of};
-ghost use Rattle.cs_model.specs.Read.{receiver_of};
+ghost use Rattle.cs_model.specs.Read.{depth_of, receiver_of, size_of};
 ghost use Rattle.cs_model.specs.Ref.{Ref};
 ghost use Rattle.cs_model.specs.Ref as ref;
 ghost use Rattle.cs_model.specs.Exec.{push_out, push_temp_out, push_literal_out, pop_out, dup_out};
@@ -17,6 +17,14 @@ use cs_acts::read::{boolean, from_top, literal, nil, temporary};
 use cs_model::Stop;
 use cs_word::Oop;
 
+/// Whether the active stack has room for a value.
+pub fn has_room<W: World>(w: &W) -> bool
+    requires { IsReady (W.stored w.now) (W.view w.now) }
+    ensures { result ≡ nat_lt (depth_of (W.view w.now)) (size_of (W.view w.now)) }
+{
+    w.depth() < w.size()
+}
+
 /// Pushes a value, where there is room.
 #[tactic(auto, unfolding(cs_model::specs::Exec::push_out))]
 pub fn push<W: World>(w: &mut W, x: Oop) -> CodeEnd
@@ -26,7 +34,7 @@ pub fn push<W: World>(w: &mut W, x: Oop) -> CodeEnd
     ensures layout { W.layout w.new ≡ W.layout w.old }
     ensures limit { (W.stored w.new).memory.limit ≡ (W.stored w.old).memory.limit }
 {
-    if w.depth() < w.size() {
+    if has_room(w) {
         w.push(x);
         CodeEnd::Done
     } else {

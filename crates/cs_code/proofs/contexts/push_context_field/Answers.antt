@@ -42,5 +42,5 @@ returns-in-Err-clause-full g c why is =
     let there : is_some (field_of k r c.args.i) ≡ true = grind (arith) in
     let here : nat_lt (depth_of v) (size_of v) ≡ true = grind (arith) in
     let room : nat_lt (depth_of k) (size_of k) ≡ true = subst (λ (v : Kept). nat_lt (depth_of v) (size_of v) ≡ true) c.has_field.ensures.view here in
-    field-refused t (g.W.World.layout c.args.w.now) k v c.args.i r c.in-Err.why why is c.requires.ready.running c.requires.context there room c.has_field.ensures.view
+    field-refused t (g.W.World.layout c.args.w.now) k v c.args.i r c.in-Err.why why is c.in-Err.ensures.heap_alone c.requires.ready.running c.requires.context there room c.has_field.ensures.view
     (subst (λ l. CausesFull t l v 0 v c.in-Err.why) c.has_field.ensures.layout c.in-Err.ensures.full)

@@ -16,4 +16,4 @@ pub returns-in-Err-clause-full : goal.returns-in-Err-clause-full
 returns-in-Err-clause-full g c why is =
     let k = g.W.World.view c.args.w.now in
     let room : nat_lt (depth_of k) (size_of k) ≡ true = grind (arith) in
-    refused (g.W.World.stored c.this_context.new.self) (g.W.World.layout c.args.w.now) k k _ (ref.Obj (active_birth k)) c.in-Err.why why is c.requires.running (this-as k room) refl c.in-Err.ensures.full
+    refused (g.W.World.stored c.this_context.new.self) (g.W.World.layout c.args.w.now) k k _ (ref.Obj (active_birth k)) c.in-Err.why why is c.in-Err.ensures.heap_alone c.requires.running (this-as k room) refl c.in-Err.ensures.full
