@@ -1,4 +1,4 @@
-use Rattle.std.proofs.Common.{◌≡◌, ◌∙◌, refl, sym, ap, subst, true, false, nat_lt, arith, is_some}
+use Rattle.std.proofs.Common.{◌≡◌, ◌∙◌, refl, ap, subst, true, false, nat_lt, arith, is_some}
 use Rattle.cs_model.specs.declared.stop.Stop.TheVariants as why
 use Rattle.cs_model.specs.State.{Kept}
 use Rattle.cs_model.specs.Read.{depth_of, size_of}

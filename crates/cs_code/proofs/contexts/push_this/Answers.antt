@@ -1,5 +1,4 @@
-use Rattle.std.proofs.Common.{◌≡◌, ◌∙◌, refl, sym, true, nat_lt, arith}
-use Rattle.std.specs.Prelude.{not}
+use Rattle.std.proofs.Common.{◌≡◌, refl, true, nat_lt, arith}
 use Rattle.cs_model.specs.Ref as ref
 use Rattle.cs_model.specs.Read.{active_birth, depth_of, size_of}
 use Rattle.cs_code.proofs.Looking.{pushed-given, refused, this-as}
