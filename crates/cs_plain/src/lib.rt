@@ -443,11 +443,13 @@ impl World for PlainWorld {
     fn allocate(&mut self, class: u32, format: u8, slots: u32) -> Result<Oop, Full> {
         // for what its clauses say: no class index from there on has an entry
         let _entries = self.classes.len();
-        let birth = self.roots.next_birth;
-        let Ok(object) = self.heap.allocate(class, format, slots, birth) else {
+        let Ok(object) = self
+            .heap
+            .allocate(class, format, slots, self.roots.next_birth)
+        else {
             return Err(Full::Heap);
         };
-        self.roots.next_birth = birth + 1;
+        self.roots.next_birth += 1;
         Ok(object)
     }
 
