@@ -1,5 +1,6 @@
 //! Rows of the line, of the report and of the top call, and the images that the tests run.
 
+use crate::context_images::{DEAD_CONTEXT, DEAD_CONTEXT_BELOW};
 use crate::entering_images::{NO_INSTRUCTION, RECURSES, SENDS, SUM_OVERFLOWS};
 use crate::line::parse;
 use crate::long_shelf::LongShelf;
@@ -198,6 +199,12 @@ fn runs_enter_and_return(rt: HostRuntime) -> Result<(), FromHexError> {
             0,
             "\nSteps steps=100 process=41 context=196 pc=9\n",
         ),
+        (
+            recurses,
+            "2000",
+            0,
+            "\nSteps steps=2000 process=41 context=1146 pc=9\n",
+        ),
         (recurses, "10000", 10, "cogstack: stack\n"),
         (
             none,
@@ -209,6 +216,31 @@ fn runs_enter_and_return(rt: HostRuntime) -> Result<(), FromHexError> {
     for (image, steps, status, text) in rows {
         let (answered, _, out) = answer(alloc, image, &["run", "a", steps], with_room(99))?;
         assert_eq!(rt; answered, status, "{text}");
+        assert_eq!(rt; out.taken(), text.as_bytes());
+    }
+    Ok(())
+}
+
+#[test]
+fn a_dead_context_is_read(rt: HostRuntime) -> Result<(), FromHexError> {
+    let alloc = rt.alloc();
+    let dead = image_of(alloc, &DEAD_CONTEXT)?;
+    let below = image_of(alloc, &DEAD_CONTEXT_BELOW)?;
+    let rows = [
+        (
+            dead.as_slice(),
+            "40",
+            "dr\nSteps steps=40 process=44 context=43 pc=52\n",
+        ),
+        (
+            below.as_slice(),
+            "60",
+            "dr\nSteps steps=60 process=45 context=44 pc=52\n",
+        ),
+    ];
+    for (image, steps, text) in rows {
+        let (answered, _, out) = answer(alloc, image, &["run", "a", steps], with_room(99))?;
+        assert_eq!(rt; answered, 0, "{text}");
         assert_eq!(rt; out.taken(), text.as_bytes());
     }
     Ok(())

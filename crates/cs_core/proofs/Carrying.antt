@@ -20,6 +20,8 @@ use Rattle.cs_model.proofs.Reading.{held_if}
 use Rattle.cs_model.proofs.Building.{is_built_return_same, is_built_send_same}
 use Rattle.cs_model.proofs.Stepping.{MessageHeld, do_return_alike, do_send_alike}
 use Rattle.cs_acts.specs.declared.act.Full.{Full as Why}
+use Rattle.cs_acts.specs.declared.act.Full.TheVariants.{Heap}
+use Rattle.cs_acts.specs.Full.{CausesFull}
 use Rattle.cs_acts.specs.Layout.{Layout, page_words}
 use Rattle.cs_acts.specs.Names.{Store}
 use Rattle.cs_acts.specs.Ready.{IsReady}
@@ -104,6 +106,16 @@ done_turn k i l n told s v e op end keeps ready frames by = ends_quietly (model_
           state = subst (λ (p : Result). Keeps v p.out.state) (sym is) keeps;
           run = ap (λ (p : Result). p.run) is ∙ ap (λ o. run_at o steps) (sym (append-nil output));
         }
+
+-- it would be done, and the heap has no room for what it looks at
+pub full_turn : (k : Kept) (i : Instr) (l n : Option Layout) (told : Option (List ℕ)) (s : Store) (v : Kept) (why : Why) → is_built_op i.op (past k i) ≡ true → (effect k i).end ≡ ends.Done → why ≡ Heap
+    → CausesFull s l k (effect k i).count.objects (effect k i).state Heap → TurnGives (model_turn k i) k l told told s v n (Full why)
+full_turn k i l n told s v why op end heap cause = (refl, λ output steps. (asks_nothing k i op ends.Done end refl, subst (λ w. Overfills s l k (model_turn k i output steps).result.out w) (sym heap) (overfills output steps)))
+  where
+    overfills : (output : List ℕ) (steps : ℕ) → Overfills s l k (model_turn k i output steps).result.out Heap
+    overfills output steps =
+        let is : followed (run_at output steps) (effect k i) ≡ result (effect k i) (run_at output steps) = rw end in
+        subst (λ (p : Result). Overfills s l k p.out Heap) (sym is) (record { end = subst IsOver (sym end) tt; cause = cause })
 
 pub stop_turn : (k : Kept) (i : Instr) (l n : Option Layout) (told : Option (List ℕ)) (s : Store) (v : Kept) (reason : Reason) → is_built_op i.op (past k i) ≡ true → (effect k i).end ≡ ends.Stopped reason
     → TurnGives (model_turn k i) k l told told s v n (Stop reason)

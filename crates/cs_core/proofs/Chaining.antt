@@ -1,5 +1,5 @@
 -- Chains of senders, and the words of pages, in a state that others change.
-use Rattle.std.proofs.Common.{◌≡◌, ℕ, ◌+◌, ◌<◌, ◌≤◌, Bool, true, false, refl, sym, ap, subst, ◌∙◌, arith, Option, Some, None, List, [], ◌∷◌, ◌++◌, is_some, option_map, option_and_then}
+use Rattle.std.proofs.Common.{◌≡◌, ℕ, ◌+◌, ◌<◌, Bool, true, false, refl, sym, ap, subst, ◌∙◌, arith, Option, Some, None, List, [], ◌∷◌, ◌++◌, is_some, option_map, option_and_then}
 use Rattle.std.specs.Prelude.{◌==◌, ◌||◌}
 use Rattle.std.specs.List.{AllByRecursion, concat}
 use Rattle.std.proofs.lemmas.Bool.{false≢true}
@@ -10,11 +10,11 @@ use Rattle.cs_model.specs.Ref as ref
 use Rattle.cs_model.specs.Obj.{Obj, Context, context_in}
 use Rattle.cs_model.specs.State.{Kept, object_at}
 use Rattle.cs_model.specs.Keeps.{Keeps}
-use Rattle.cs_model.specs.Return.{context_at, context_birth, sender_birth}
+use Rattle.cs_model.specs.Return.{context_birth, sender_birth}
 use Rattle.cs_model.proofs.Reading.{Has}
 use Rattle.cs_model.proofs.Same.{SameOption, option_equal, option_holds, same}
 use Rattle.cs_model.proofs.Searching.{sender_birth_same}
-use Rattle.cs_acts.specs.Layout.{IsApart, IsCalled, depth_in, frame_words, is_frame, is_on, last_frame, page_words}
+use Rattle.cs_acts.specs.Layout.{IsCalled, depth_in, frame_words, is_frame, is_on, page_words}
 
 -- ---- places in a list
 

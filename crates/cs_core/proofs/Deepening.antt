@@ -1,11 +1,11 @@
 -- The frames of a world have begun in the run, and where they need too many words the run is deep.
-use Rattle.std.proofs.Common.{◌≡◌, inl, inr, ℕ, ◌+◌, ◌<◌, true, refl, sym, ap, subst, ◌∙◌, arith, Option, Some, None, IsSomeAnd}
+use Rattle.std.proofs.Common.{◌≡◌, inl, inr, ℕ, ◌+◌, refl, sym, ap, subst, ◌∙◌, arith, Option, Some, None, IsSomeAnd}
 use Rattle.std.specs.List.{concat}
 use Rattle.cs_model.specs.State.{Kept, Rest}
 use Rattle.cs_model.specs.Keeps.{Keeps}
 use Rattle.cs_model.specs.Step.{run_by}
 use Rattle.cs_acts.specs.Full.{IsFullStack}
-use Rattle.cs_acts.specs.Layout.{IsFresh, Layout, is_frame}
+use Rattle.cs_acts.specs.Layout.{IsFresh, Layout}
 use Rattle.cs_acts.specs.Names.{Store}
 use Rattle.cs_acts.specs.Ready.{IsReady}
 use Rattle.cs_core.specs.Deep.{AllBegun, WasActive, IsDeep, most_of, state_of}

@@ -18,6 +18,7 @@ pub mod Deepening
 pub mod Rolling
 mod Growing
 pub mod Replying
+pub mod Viewing
 pub mod Beginning
 pub mod Nexting
 pub mod Stepping

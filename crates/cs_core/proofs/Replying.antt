@@ -2,16 +2,16 @@
 use Rattle.std.proofs.Common.{◌≡◌, ℕ, ◌+◌, Bool, true, false, refl, ap, Option, Some, None, slice_get}
 use Rattle.std.specs.Prelude.{◌==◌, if◌then◌else◌, length, option_and_then, option_map}
 use Rattle.cs_model.specs.Ref.{Ref}
-use Rattle.cs_model.specs.Obj.{Obj, Context, Ptr, Raw, Method, Ctx, context_in}
+use Rattle.cs_model.specs.Obj.{Obj, Ptr, Raw, Method, Ctx, context_in}
 use Rattle.cs_model.specs.State.{Kept, State, object_of}
 use Rattle.cs_model.specs.Operation.{drop_of, push_of}
 use Rattle.cs_model.specs.Context.{context_get}
 use Rattle.cs_model.specs.End as ends
 use Rattle.cs_model.specs.End.{Out, given, looked}
-use Rattle.cs_model.specs.PrimAnswer.{answer, answer_if, argument, fail, receiver}
+use Rattle.cs_model.specs.PrimAnswer.{answer, argument, fail, receiver}
 use Rattle.cs_model.specs.PrimContext.{stack_at_prim, stackp_prim}
 use Rattle.cs_model.specs.PrimObject.{answer_field, slot_at, slot_at_prim, slot_index, small_count}
-use Rattle.cs_model.specs.PrimRun.{Result, result}
+use Rattle.cs_model.specs.PrimRun.{result}
 use Rattle.cs_model.specs.PrimTable.{kept_prim, prim}
 use Rattle.cs_model.specs.Step.{primitive_in}
 

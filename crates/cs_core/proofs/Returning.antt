@@ -6,11 +6,10 @@ use Rattle.std.proofs.lemmas.Bool.{eqb-false}
 use Rattle.cs_model.specs.declared.stop.Stop.TheVariants as why
 use Rattle.cs_model.specs.Ref.{Ref, birth_of}
 use Rattle.cs_model.specs.Obj.{Context, context_in}
-use Rattle.cs_model.specs.State as state
-use Rattle.cs_model.specs.State.{Kept, Rest, Run, object_at}
+use Rattle.cs_model.specs.State.{Kept, Run, object_at}
 use Rattle.cs_model.specs.Keeps.{Keeps}
 use Rattle.cs_model.specs.Read.{IsRunning, active_birth, active_context}
-use Rattle.cs_model.specs.Operation.{cut_to_of, kill_all, leave_of, push_of, resume_of}
+use Rattle.cs_model.specs.Operation.{cut_to_of, kill_all, leave_of}
 use Rattle.cs_model.specs.End.{done, stop}
 use Rattle.cs_model.specs.PrimRun.{Result, result}
 use Rattle.cs_model.specs.Return.{back, context_at, context_birth, has_room, local_out, sender_birth}

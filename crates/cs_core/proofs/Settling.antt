@@ -1,9 +1,7 @@
 -- An instruction leaves the senders of all contexts as they are, and the stacks of all but the active one.
-use Rattle.std.proofs.Common.{◌≡◌, ℕ, ◌+◌, Bool, true, false, refl, sym, ap, subst, ◌∙◌, Option, Some, None, List, [], ◌∷◌, ◌++◌, length, nat_lt, is_some, option_map, option_and_then, unwrap_or, inl, inr}
+use Rattle.std.proofs.Common.{◌≡◌, ℕ, ◌+◌, Bool, true, false, refl, sym, ap, ◌∙◌, Option, Some, None, length, nat_lt, is_some, option_map, option_and_then, unwrap_or, inl, inr}
 use Rattle.std.specs.Prelude.{ℤ, pos, ◌==◌, ◌*◌, ◌-◌, not, if◌then◌else◌, slice_get}
 use Rattle.std.proofs.lemmas.Bool.Decides.{eqb_tells}
-use Rattle.std.proofs.lemmas.Bool.{false≢true}
-use Rattle.cs_model.specs.declared.stop.Stop.{Stop}
 use Rattle.cs_model.specs.declared.instruction.Op.{Op}
 use Rattle.cs_model.specs.declared.instruction.Op.TheVariants as op
 use Rattle.cs_model.specs.Ref.{Ref, Small, Char, birth_of, same_ref}
@@ -11,12 +9,12 @@ use Rattle.cs_model.specs.Ref as ref
 use Rattle.cs_model.specs.Obj.{Obj, Context, Ptr, Raw, Method, Ctx, context_in, popped, pushed, stored, with_pc}
 use Rattle.cs_model.specs.State.{Kept, Rest, object_at, object_of, special_at}
 use Rattle.cs_model.specs.Read.{active_birth, active_context, blank, depth_of, from_top, literals_of, receiver_of, size_of, stack_of}
-use Rattle.cs_model.specs.Operation.{drop_of, edit_active, edit_at, edit_found, nil_of, pop_of, push_of, set_pc_of, set_stack_of, store_of, with_slot}
+use Rattle.cs_model.specs.Operation.{drop_of, edit_active, edit_found, nil_of, pop_of, push_of, set_pc_of, set_stack_of, store_of, with_slot}
 use Rattle.cs_model.specs.Context.{context_get, is_context_ref}
 use Rattle.cs_model.specs.Number.{boolean}
 use Rattle.cs_model.specs.End as ends
 use Rattle.cs_model.specs.End.{End, Out, given, done, stop, looked}
-use Rattle.cs_model.specs.Exec.{argument_count_in, is_local, literal_at, selector_pair, top_of, variable_value, vector_at, vector_slot, at_once, pc_after, class_out, common_out, dup_out, exec, jump_if_out, jump_out, pop_into, pop_out, push_field, push_literal_out, push_out, push_receiver_out, push_temp_out, push_variable_out, push_vector_out, same_out, send_literal_out, send_selector_out, send_super_out, special_out, special_send_out, store_field, store_into, store_receiver_out, store_temp_out, store_variable_out, store_vector_out, this_context_out}
+use Rattle.cs_model.specs.Exec.{argument_count_in, literal_at, selector_pair, top_of, variable_value, vector_at, vector_slot, at_once, pc_after, class_out, common_out, dup_out, exec, jump_if_out, jump_out, pop_into, pop_out, push_field, push_literal_out, push_out, push_receiver_out, push_temp_out, push_variable_out, push_vector_out, same_out, send_literal_out, send_selector_out, send_super_out, special_out, special_send_out, store_field, store_into, store_receiver_out, store_temp_out, store_variable_out, store_vector_out, this_context_out}
 use Rattle.cs_model.specs.Built.{is_built_op}
 use Rattle.cs_model.proofs.Editing.{active_context-put}
 use Rattle.cs_model.proofs.Objects.{object_at-put_other, object_at-put_same, rest-put}

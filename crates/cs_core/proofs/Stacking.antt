@@ -1,18 +1,17 @@
 -- The pages of a world are one stack, whatever is done: entering and leaving, and all that leaves senders and other stacks.
 use Rattle.std.proofs.Common.{◌≡◌, ℕ, ◌+◌, ◌-◌, ◌*◌, ◌<◌, ◌≤◌, Bool, true, false, refl, sym, ap, subst, ◌∙◌, arith, Option, Some, None, List, [], ◌∷◌, ◌++◌, is_some, option_map, option_and_then, unwrap_or, length, length-take, nat_le, inl, inr}
-use Rattle.std.specs.Prelude.{◌==◌, ◌||◌, not, if◌then◌else◌, take}
+use Rattle.std.specs.Prelude.{◌||◌, not, if◌then◌else◌}
 use Rattle.std.specs.List.{AllByRecursion, concat, filter}
 use Rattle.std.proofs.lemmas.Bool.{false≢true}
 use Rattle.std.proofs.lemmas.Bool.Decides.{eqb_tells, nat_tests}
 use Rattle.std.proofs.lemmas.List.{append-nil}
 use Rattle.cs_model.specs.Ref.{Ref, birth_of}
 use Rattle.cs_model.specs.Ref as ref
-use Rattle.cs_model.specs.Obj.{Obj, Context, Ctx, context_in, dead, popped, pushed}
-use Rattle.cs_model.specs.State as state
+use Rattle.cs_model.specs.Obj.{Context, Ctx, context_in, dead, popped}
 use Rattle.cs_model.specs.State.{Kept, Rest, object_at}
 use Rattle.cs_model.specs.Keeps.{Keeps}
 use Rattle.cs_model.specs.Read.{IsRunning, active_birth, active_context, blank, depth_of, stack_of}
-use Rattle.cs_model.specs.Operation.{cut_to_of, dead_object, drop_of, edit_found, enter_of, enter_with, kill_all, kill_of, method_context, push_of, put_active, resume_of}
+use Rattle.cs_model.specs.Operation.{cut_to_of, dead_object, drop_of, edit_found, enter_of, enter_with, kill_all, kill_of, method_context, resume_of}
 use Rattle.cs_model.specs.Return.{context_birth, sender_birth}
 use Rattle.cs_model.proofs.Objects.{object_at-put_other, object_at-put_same}
 use Rattle.cs_model.proofs.Keeping.{Keeps-itself}
@@ -26,7 +25,7 @@ use Rattle.cs_acts.specs.Layout.{IsApart, IsCalled, IsFresh, IsLaid, IsLaidOut, 
 use Rattle.cs_acts.specs.Names.{Store}
 use Rattle.cs_core.specs.Stacked.{IsStack, IsStacked}
 use Rattle.cs_core.specs.Stepped.{Lays}
-use Rattle.cs_core.proofs.Chaining.{ContextsStay, HasChain, HasFirst, all_on, apart_from, called_stays, called_tail, chain_kept, either_false, filled_same, frame_kept, frame_of_all, off_both, on_first, on_later, on_left, on_right, page_same, page_words_of, sender_in}
+use Rattle.cs_core.proofs.Chaining.{ContextsStay, HasChain, all_on, apart_from, called_stays, chain_kept, filled_same, frame_kept, frame_of_all, off_both, on_first, on_later, on_left, on_right, page_same, page_words_of, sender_in}
 use Rattle.cs_core.proofs.Laying.{entered_active, entered_frames, frames_stay, left_frames}
 use Rattle.cs_core.proofs.Settling.{Runs, Stays, drop_stays, push_stays}
 

@@ -12,15 +12,16 @@ use Rattle.cs_model.specs.End as ends
 use Rattle.cs_model.specs.End.{End}
 use Rattle.cs_model.specs.Step.{Message}
 use Rattle.cs_model.proofs.Stepping.{MessageHeld}
+use Rattle.cs_acts.specs.declared.act.Full.{Full as Why}
 use Rattle.cs_acts.specs.Layout.{Layout}
 use Rattle.cs_acts.specs.Names.{Store}
 use Rattle.cs_acts.specs.Ready.{IsReady}
 use Rattle.cs_core.specs.Stepped.{EndsBy, StepGives, TurnGives, returning, sending}
 use Rattle.cs_core.specs.declared.step.StepEnd.{StepEnd}
-use Rattle.cs_core.specs.declared.step.StepEnd.TheVariants.{Stopped as Stop}
+use Rattle.cs_core.specs.declared.step.StepEnd.TheVariants.{Stopped as Stop, Full}
 use Rattle.cs_core.proofs.Asking.{behind_return, behind_send}
-use Rattle.cs_core.proofs.Beginning.{Executed, did, did_not}
-use Rattle.cs_core.proofs.Carrying.{carried, done_turn, returns_same, sends_same, stop_turn, unbuilt_turn}
+use Rattle.cs_core.proofs.Beginning.{Executed, Refused, did, did_not}
+use Rattle.cs_core.proofs.Carrying.{carried, done_turn, full_turn, returns_same, sends_same, stop_turn, unbuilt_turn}
 use Rattle.cs_core.proofs.Settling.{Runs, Stays, exec_settles, runs_on, set_pc_stays, stays_on}
 use Rattle.cs_core.proofs.Stacking.{settled_stacked, stays_lays}
 use Rattle.cs_core.proofs.Turning.{Begins, effect, model_turn, past, turn_gives}
@@ -54,6 +55,9 @@ module _ (k : Kept) (i : Instr) (l n : Option Layout) (s : Store) (v : Kept) (h 
   done_gives told e running (did op end keeps) ready same by =
       turn_gives k i l n told told s v e h (done_turn k i l n told s v e op end keeps ready (stays_lays k (effect k i).state v (effect_stays k i running op) keeps ready.running l n same s) by)
   done_gives told e running (did_not op is) ready same by = absurd (cc)
+
+  pub full_gives : (told : Option (List ℕ)) (why : Why) → Refused s l k i why → StepGives k l told told s v n (Full why)
+  full_gives told why r = turn_gives k i l n told told s v (Full why) h (full_turn k i l n told s v why r.op r.end r.heap r.cause)
 
   pub stop_gives : (told : Option (List ℕ)) (reason : Reason) → Executed k i v (ends.Stopped reason) → StepGives k l told told s v n (Stop reason)
   stop_gives told reason (did op end keeps) = turn_gives k i l n told told s v (Stop reason) h (stop_turn k i l n told s v reason op end)

@@ -5,7 +5,6 @@ use Rattle.std.proofs.lemmas.Bool.Decides.{nat_tests}
 use Rattle.std.proofs.lemmas.List.{append-nil}
 use Rattle.cs_shelf.specs.Outside.{Appends, AppendsPart}
 use Rattle.cs_model.specs.declared.stop.Stop.{Stop as Reason}
-use Rattle.cs_model.specs.declared.stop.Stop.TheVariants as why
 use Rattle.cs_model.specs.Ref.{Ref}
 use Rattle.cs_model.specs.State.{Kept, Run, State}
 use Rattle.cs_model.specs.Keeps.{Keeps}
@@ -27,7 +26,7 @@ use Rattle.cs_acts.specs.Layout.{Layout}
 use Rattle.cs_acts.specs.Names.{Store}
 use Rattle.cs_acts.specs.Ready.{IsReady}
 use Rattle.cs_send.specs.Sent.{Enters, Refuses}
-use Rattle.cs_core.specs.Stepped.{CausedByFault, DoneIn, EndsBy, Fails, IsOver, Lays, Overfills, unbuilt, lost, TurnGives, run_at, state_at, trying}
+use Rattle.cs_core.specs.Stepped.{CausedByFault, DoneIn, EndsBy, Fails, IsOver, Lays, Overfills, lost, TurnGives, run_at, state_at, trying}
 use Rattle.cs_core.specs.declared.step.StepEnd.{StepEnd}
 use Rattle.cs_core.specs.declared.step.StepEnd.TheVariants.{Active, Idle, Stopped as Stop, Full, WriteFault}
 use Rattle.cs_core.proofs.Laying.{refused}
@@ -44,7 +43,7 @@ tried_answer s x p h = rw h
 tried_fail : (s : State) (x : Ref) (p : Result) → p.out.end ≡ ends.Fail → tried s x p ≡ result (enter_out s.kept x (arguments_of s.kept x) true) s.run
 tried_fail s x p h = rw h
 
-answered : (k : Kept) (x : Ref) (number args : ℕ) (output : List ℕ) (steps : ℕ) → arguments_of k x ≡ args → (prim number args (state_at k output steps)).out.end ≡ ends.Answer
+pub answered : (k : Kept) (x : Ref) (number args : ℕ) (output : List ℕ) (steps : ℕ) → arguments_of k x ≡ args → (prim number args (state_at k output steps)).out.end ≡ ends.Answer
     → try_primitive (state_at k output steps) x number ≡ prim number args (state_at k output steps)
 unfolding try_primitive
 answered k x number args output steps count h =
@@ -188,10 +187,6 @@ module _ (k v : Kept) (method : Ref) (l n : Option Layout) (bytes : List ℕ) (o
         let t = a output steps in
         lost t.built t.over (shape_kept v (trying k method 900 output steps).result.out.state t.state ∙ by),
   )
-
--- no other primitive is built
-pub no_number : (k : Kept) (method : Ref) (number : ℕ) (l n : Option Layout) (s : Store) (v : Kept) (old : Option (List ℕ)) → is_built_number k (arguments_of k method) (Some number) ≡ false → TurnGives (trying k method number) k l old old s v n (Stop why.NotBuilt)
-no_number k method number l n s v old h = (refl, λ output steps. unbuilt h refl)
 
 -- a step that ends by the scheduler needs no fault
 pub no_cause : (v : Kept) (e : StepEnd) (old new : ℕ) → EndsBy v e → CausedByFault old new e
