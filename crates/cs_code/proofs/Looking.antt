@@ -9,7 +9,7 @@ use Rattle.cs_model.specs.Ref.{Ref, Small, index_of}
 use Rattle.cs_model.specs.Ref as ref
 use Rattle.cs_model.specs.Obj.{Obj, Context, Ptr, Raw, Method, Ctx, context_in, pushed, words_of}
 use Rattle.cs_model.specs.State.{Kept, object_at, object_of, put}
-use Rattle.cs_model.specs.Keeps.{Keeps}
+use Rattle.cs_model.specs.Keeps.{Keeps, SameKept}
 use Rattle.cs_model.specs.Context.{context_get, is_context_ref}
 use Rattle.cs_model.specs.Read.{IsRunning, active_birth, active_context, depth_of, receiver_of, size_of}
 use Rattle.cs_model.specs.Return.{context_at}
@@ -28,7 +28,7 @@ use Rattle.cs_acts.specs.Ready.{IsReady}
 use Rattle.cs_acts.specs.Targets.{field_of}
 use Rattle.cs_code.specs.declared.end.CodeEnd.TheVariants as code
 use Rattle.cs_code.specs.Gives.{Gives, Refuses}
-use Rattle.cs_code.proofs.Through.{names-trans}
+use Rattle.cs_code.proofs.Through.{names-trans, same_itself}
 
 -- ---- words
 
@@ -115,47 +115,52 @@ receiver-field k i j r is same_index = ap₂ (λ (x : Ref) (n : ℕ). push_field
 
 -- ---- what is given
 
-pub stopped-given : (s0 s1 : Store) (k v : Kept) (o : Out) (reason : Stop) → EndsAs o (ends.Stopped reason) k → v ≡ k → IsReady s1 v → KeepsNames s0 s1 → Gives s0 s1 v (code.Stop reason) o
-stopped-given s0 s1 k v o reason ends_as same ready names = record {
+pub stopped-given : (s0 s1 : Store) (l : Option Layout) (k v : Kept) (o : Out) (reason : Stop) → EndsAs o (ends.Stopped reason) k → v ≡ k → IsReady s1 v → KeepsNames s0 s1 → Gives s0 s1 l v (code.Stop reason) o
+stopped-given s0 s1 l k v o reason ends_as same ready names = record {
   granted = refl;
   end = sym ends_as.end;
   named = tt;
   state = subst (Keeps v) (same ∙ sym ends_as.state) ready.sound.closed;
+  exact = λ _. subst (SameKept v) (same ∙ sym ends_as.state) (same_itself v);
   ready = ready;
   names = names;
 }
 
 -- what was looked at is pushed
-pub pushed-given : (s0 s1 s2 : Store) (k v w : Kept) (o : Out) (word : Oop) (x : Ref) → EndsAs o ends.Done (push_of k x) → v ≡ k → name_of s1 word ≡ x → Keeps v v
-    → ((m : Kept) → Keeps v m → Keeps w (push_of m (name_of s1 word))) → KeepsNames s0 s1 → IsReady s2 w → KeepsNames s1 s2 → Gives s0 s2 w code.Done o
-pushed-given s0 s1 s2 k v w o word x ends_as same is closed state before ready after = record {
-  granted = refl;
-  end = sym ends_as.end;
-  named = tt;
-  state = subst (Keeps w) (ap₂ (λ (u : Kept) (y : Ref). push_of u y) same is ∙ sym ends_as.state) (state v closed);
-  ready = ready;
-  names = names-trans s0 s1 s2 before after;
-}
+pub pushed-given : (s0 s1 s2 : Store) (l n : Option Layout) (k v w : Kept) (o : Out) (word : Oop) (x : Ref) → EndsAs o ends.Done (push_of k x) → v ≡ k → n ≡ l → name_of s1 word ≡ x → Keeps v v
+    → ((m : Kept) → Keeps v m → Keeps w (push_of m (name_of s1 word))) → (n ≡ None → SameKept w (push_of v (name_of s1 word))) → KeepsNames s0 s1 → IsReady s2 w → KeepsNames s1 s2
+    → Gives s0 s2 l w code.Done o
+pushed-given s0 s1 s2 l n k v w o word x ends_as same laid is closed state exact before ready after =
+    let here = ap₂ (λ (u : Kept) (y : Ref). push_of u y) same is ∙ sym ends_as.state in
+    record {
+      granted = refl;
+      end = sym ends_as.end;
+      named = tt;
+      state = subst (Keeps w) here (state v closed);
+      exact = λ none. subst (SameKept w) here (exact (laid ∙ none));
+      ready = ready;
+      names = names-trans s0 s1 s2 before after;
+    }
 
-pub refused : (s : Store) (l : Option Layout) (k v : Kept) (o : Out) (x : Ref) (a b : Full) → code.Full a ≡ code.Full b → IsRunning k → EndsAs o ends.Done (push_of k x) → v ≡ k → a ≡ Heap → CausesFull s l v 0 v a → Refuses s l k o b
-refused s l k v o x a b same_reason running ends_as same heap cause =
+pub refused : (s : Store) (l : Option Layout) (k v : Kept) (o : Out) (x : Ref) (a b : Full) → code.Full a ≡ code.Full b → a ≡ Heap → IsRunning k → EndsAs o ends.Done (push_of k x) → v ≡ k → CausesFull s l v 0 v a → Refuses s l k o b
+refused s l k v o x a b same_reason heap running ends_as same cause =
     let here : CausesFull s l k 0 k b = subst (λ w. CausesFull s l k 0 k w) (reason a b same_reason) (subst (λ u. CausesFull s l u 0 u a) same cause) in
     record {
       end = ends_as.end;
-      heap = sym (reason a b same_reason) ∙ heap;
+      heap_alone = sym (reason a b same_reason) ∙ heap;
       cause = subst (λ n. CausesFull s l k n o.state b) (sym ends_as.objects) (subst (λ t. CausesFull s l k 0 t b) (sym ends_as.state) (cause-pushed s l k x b running here));
     }
   where
     reason : (a b : Full) → code.Full a ≡ code.Full b → a ≡ b
     reason a b e = cc
 
-pub field-refused : (s : Store) (l : Option Layout) (k v : Kept) (i : ℕ) (r : Ref) (a b : Full) → code.Full a ≡ code.Full b → IsRunning k → is_context_ref k r ≡ true → is_some (field_of k r i) ≡ true
-    → nat_lt (depth_of k) (size_of k) ≡ true → v ≡ k → a ≡ Heap → CausesFull s l v 0 v a → Refuses s l k (push_field k i (object_of k r)) b
-field-refused s l k v i r a b same_reason running context there room same heap cause = go (field_of k r i) refl there
+pub field-refused : (s : Store) (l : Option Layout) (k v : Kept) (i : ℕ) (r : Ref) (a b : Full) → code.Full a ≡ code.Full b → a ≡ Heap → IsRunning k → is_context_ref k r ≡ true → is_some (field_of k r i) ≡ true
+    → nat_lt (depth_of k) (size_of k) ≡ true → v ≡ k → CausesFull s l v 0 v a → Refuses s l k (push_field k i (object_of k r)) b
+field-refused s l k v i r a b same_reason heap running context there room same cause = go (field_of k r i) refl there
   where
     go : (f : Option Ref) → f ≡ field_of k r i → is_some f ≡ true → Refuses s l k (push_field k i (object_of k r)) b
     go None is h = absurd (cc)
-    go (Some x) is h = refused s l k v (push_field k i (object_of k r)) x a b same_reason running (field-pushed-as k i r x context is room) same heap cause
+    go (Some x) is h = refused s l k v (push_field k i (object_of k r)) x a b same_reason heap running (field-pushed-as k i r x context is room) same cause
 
 -- ---- which fields there are
 

@@ -1,7 +1,7 @@
 -- What a call of this crate gives, beside what the model gives.
-use Rattle.std.specs.Prelude.{◌≡◌, Bool, true, false, IfSome, Option, option_map}
+use Rattle.std.specs.Prelude.{◌≡◌, Bool, true, false, IfSome, Option, None, option_map}
 use Rattle.cs_model.specs.State.{Kept}
-use Rattle.cs_model.specs.Keeps.{Keeps}
+use Rattle.cs_model.specs.Keeps.{Keeps, SameKept}
 use Rattle.cs_model.specs.End.{End, Out}
 use Rattle.cs_model.specs.End as ends
 use Rattle.cs_acts.specs.declared.act.Full.{Full as Why}
@@ -37,18 +37,19 @@ IsNamedEnd s (Return value local) = IsNamed s value
 IsNamedEnd s (Stop reason) = Unit {0}
 IsNamedEnd s (Full why) = Unit {0}
 
--- Nothing is refused: the end is that of the model, the view keeps the state that the model leaves, the world is ready again, and
--- what had a name has it still.
-pub record Gives (old new : Store) (k : Kept) (found : CodeEnd) (o : Out) : Type 0 where
+-- Nothing is refused: the end is that of the model, the view keeps the state that the model leaves, and is it where the world told no
+-- layout before; the world is ready again, and what had a name has it still.
+pub record Gives (old new : Store) (before : Option Layout) (k : Kept) (found : CodeEnd) (o : Out) : Type 0 where
   pub granted : is_refused found ≡ false
   pub end : end_of new found ≡ o.end
   pub named : IsNamedEnd new found
   pub state : Keeps k o.state
+  pub exact : before ≡ None → SameKept k o.state
   pub ready : IsReady new k
   pub names : KeepsNames old new
 
--- the model does all of it, and the heap has no room for what it looks at
+-- the model does all of it, and the heap of the world has no room for what it looks at
 pub record Refuses (new : Store) (before : Option Layout) (k : Kept) (o : Out) (why : Why) : Type 0 where
   pub end : o.end ≡ ends.Done
-  pub heap : why ≡ Heap
+  pub heap_alone : why ≡ Heap
   pub cause : CausesFull new before k o.count.objects o.state why

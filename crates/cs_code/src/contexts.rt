@@ -1,8 +1,7 @@
 //! What looks at contexts: the active one as an object, and the fields of one.
-ghost use Rattle.std.specs.Prelude.{◌≡◌, true, false, IfSome, is_some, length, nat_lt};
+ghost use Rattle.std.specs.Prelude.{◌≡◌, true, false, IfSome, is_some, length};
 ghost use Rattle.cs_model.specs.Context.{is_context_ref};
 ghost use Rattle.cs_model.specs.Exec.{push_field, this_context_out};
-ghost use Rattle.cs_model.specs.Read.{depth_of, size_of};
 ghost use Rattle.cs_model.specs.Ref.{index_of};
 ghost use Rattle.cs_model.specs.Return.{context_at};
 ghost use Rattle.cs_model.specs.State.{object_of};
@@ -14,6 +13,7 @@ ghost use Rattle.cs_code.specs.declared.end.CodeEnd.TheVariants as ends;
 ghost use Rattle.cs_code.specs.Gives.{Gives, Refuses, is_refused};
 
 use crate::CodeEnd;
+use crate::pushes::has_room;
 use cs_acts::World;
 use cs_model::Stop;
 use cs_word::{Kind, Oop};
@@ -28,7 +28,7 @@ const STACKP: u32 = 2;
 #[tactic(auto, unfolding(cs_model::specs::Exec::this_context_out))]
 pub fn push_this<W: World>(w: &mut W) -> CodeEnd
     requires { IsReady (W.stored w.old) (W.view w.old) }
-    ensures gives { is_refused result ≡ false → Gives (W.stored w.old) (W.stored w.new) (W.view w.new) result (this_context_out (W.view w.old)) }
+    ensures gives { is_refused result ≡ false → Gives (W.stored w.old) (W.stored w.new) (W.layout w.old) (W.view w.new) result (this_context_out (W.view w.old)) }
     ensures full { (why : Full) → result ≡ ends.Full why → Refuses (W.stored w.new) (W.layout w.old) (W.view w.old) (this_context_out (W.view w.old)) why }
     ensures layout { is_refused result ≡ false → W.layout w.new ≡ W.layout w.old }
     ensures limit { (W.stored w.new).memory.limit ≡ (W.stored w.old).memory.limit }
@@ -50,7 +50,7 @@ pub fn push_context_field<W: World>(w: &mut W, context: Oop, i: u32) -> CodeEnd
     requires ready { IsReady (W.stored w.old) (W.view w.old) }
     requires named { IsNamed (W.stored w.old) context }
     requires context { is_context_ref (W.view w.old) (name_of (W.stored w.old) context) ≡ true }
-    ensures gives { is_refused result ≡ false → Gives (W.stored w.old) (W.stored w.new) (W.view w.new) result (push_field (W.view w.old) i (object_of (W.view w.old) (name_of (W.stored w.old) context))) }
+    ensures gives { is_refused result ≡ false → Gives (W.stored w.old) (W.stored w.new) (W.layout w.old) (W.view w.new) result (push_field (W.view w.old) i (object_of (W.view w.old) (name_of (W.stored w.old) context))) }
     ensures full { (why : Full) → result ≡ ends.Full why → Refuses (W.stored w.new) (W.layout w.old) (W.view w.old) (push_field (W.view w.old) i (object_of (W.view w.old) (name_of (W.stored w.old) context))) why }
     ensures layout { is_refused result ≡ false → W.layout w.new ≡ W.layout w.old }
     ensures limit { (W.stored w.new).memory.limit ≡ (W.stored w.old).memory.limit }
@@ -68,14 +68,6 @@ pub fn push_context_field<W: World>(w: &mut W, context: Oop, i: u32) -> CodeEnd
         }
         Err(why) => CodeEnd::Full(why),
     }
-}
-
-/// Whether the active stack has room for a value.
-fn has_room<W: World>(w: &W) -> bool
-    requires { IsReady (W.stored w.now) (W.view w.now) }
-    ensures { result ≡ nat_lt (depth_of (W.view w.now)) (size_of (W.view w.now)) }
-{
-    w.depth() < w.size()
 }
 
 /// Whether a context has field `i`, or stack value `i` - 6.

@@ -28,7 +28,7 @@ pub use end::CodeEnd;
 #[tactic(auto, unfolding(crate::specs::Built::built_exec, cs_model::specs::Exec::exec))]
 pub fn exec<W: World>(i: &Instr, w: &mut W) -> CodeEnd
     requires { IsReady (W.stored w.old) (W.view w.old) }
-    ensures gives { is_refused result ≡ false → Gives (W.stored w.old) (W.stored w.new) (W.view w.new) result (built_exec i.now.op (W.view w.old)) }
+    ensures gives { is_refused result ≡ false → Gives (W.stored w.old) (W.stored w.new) (W.layout w.old) (W.view w.new) result (built_exec i.now.op (W.view w.old)) }
     ensures full { (why : Full) → result ≡ ends.Full why → Refuses (W.stored w.new) (W.layout w.old) (W.view w.old) (built_exec i.now.op (W.view w.old)) why }
     ensures layout { is_refused result ≡ false → W.layout w.new ≡ W.layout w.old }
     ensures limit { (W.stored w.new).memory.limit ≡ (W.stored w.old).memory.limit }

@@ -9,13 +9,13 @@ pub returns-in-StoreVec-clause-gives : goal.returns-in-StoreVec-clause-gives
 unfolding built_exec exec
 returns-in-StoreVec-clause-gives g c =
     λ _. let old = g.W.World.view c.args.w.now in
-    subst (λ (op : Op). Gives (g.W.World.stored c.args.w.now) (g.W.World.stored c.keep_vector.new.w) (g.W.World.view c.keep_vector.new.w) c.keep_vector.result (built_exec op old)) (sym c.in-StoreVec.is) c.keep_vector.ensures.gives
+    subst (λ (op : Op). Gives (g.W.World.stored c.args.w.now) (g.W.World.stored c.keep_vector.new.w) (g.W.World.layout c.args.w.now) (g.W.World.view c.keep_vector.new.w) c.keep_vector.result (built_exec op old)) (sym c.in-StoreVec.is) c.keep_vector.ensures.gives
 
 pub returns-in-PopVec-clause-gives : goal.returns-in-PopVec-clause-gives
 unfolding built_exec exec
 returns-in-PopVec-clause-gives g c =
     λ _. let old = g.W.World.view c.args.w.now in
-    subst (λ (op : Op). Gives (g.W.World.stored c.args.w.now) (g.W.World.stored c.pop_vector.new.w) (g.W.World.view c.pop_vector.new.w) c.pop_vector.result (built_exec op old)) (sym c.in-PopVec.is) c.pop_vector.ensures.gives
+    subst (λ (op : Op). Gives (g.W.World.stored c.args.w.now) (g.W.World.stored c.pop_vector.new.w) (g.W.World.layout c.args.w.now) (g.W.World.view c.pop_vector.new.w) c.pop_vector.result (built_exec op old)) (sym c.in-PopVec.is) c.pop_vector.ensures.gives
 
 pub returns-in-PushRcvr-clause-full : goal.returns-in-PushRcvr-clause-full
 unfolding built_exec exec

@@ -10,7 +10,7 @@ pub returns-in-Some-clause-gives : goal.returns-in-Some-clause-gives
 returns-in-Some-clause-gives g c = λ _.
     let k = g.W.World.view c.args.w.now in
     let s = g.W.World.stored c.args.w.now in
-    subst (λ o. Gives s (g.W.World.stored c.push.new.w) (g.W.World.view c.push.new.w) c.push.result o)
+    subst (λ o. Gives s (g.W.World.stored c.push.new.w) (g.W.World.layout c.args.w.now) (g.W.World.view c.push.new.w) c.push.result o)
     (sym (receiver-pushed-there k c.args.i c.from-2.result (name_of s c.receiver-receiver.result) (name_of s c.in-Some.x)
     (ap (is_context_ref k) (sym c.receiver-receiver.ensures.is) ∙ sym c.is_context.ensures ∙ c.if-is_context.false) c.receiver-receiver.ensures.is c.from-2.ensures c.in-Some.ensures.is)) c.push.ensures.gives
 
