@@ -155,8 +155,8 @@ refused s l k u i pc reason at moved closed h = go (is_built_op i.op u) refl h
     go true op r = record {
       op = equal (is_built_op_same start i.op) ∙ op;
       end = sym a.end ∙ r.end;
-      heap = r.heap;
-      cause = cause (subst (CausesFull s l u (exec i.op u).count.objects (exec i.op u).state) r.heap r.cause);
+      heap = r.heap_alone;
+      cause = cause (subst (CausesFull s l u (exec i.op u).count.objects (exec i.op u).state) r.heap_alone r.cause);
     }
     go false op r = absurd (let no : ends.Stopped why.NotBuilt ≡ ends.Done = r.end in cc)
 

@@ -208,8 +208,8 @@ touched_first i is pages h =
   where
     go : (b : Bool) → b ≡ true → filter (is_on i) pages ≡ [] → filter (λ page. not (is_on i page)) pages ≡ pages
         → (if b || is_frame i pages then
-          (if b then (i ∷ is) ∷ filter (is_on i) pages else filter (is_on i) pages)
-            ++ (if not b then (i ∷ is) ∷ filter (λ page. not (is_on i page)) pages else filter (λ page. not (is_on i page)) pages)
+        (if b then (i ∷ is) ∷ filter (is_on i) pages else filter (is_on i) pages)
+        ++ (if not b then (i ∷ is) ∷ filter (λ page. not (is_on i page)) pages else filter (λ page. not (is_on i page)) pages)
         else (i ∷ []) ∷ (i ∷ is) ∷ pages) ≡ (i ∷ is) ∷ pages
     go true e none all = ap (λ ps. ((i ∷ is) ∷ ps) ++ filter (λ page. not (is_on i page)) pages) none ∙ ap (λ ps. (i ∷ is) ∷ ps) all
     go false e none all = absurd (cc)
@@ -283,7 +283,7 @@ module _ (k v : Kept) (target : ℕ) (x : Ref) (keeps : Keeps v (cut_to_of k (ac
       stack_on k (cut_to_of k (active_birth k ∷ []) target x) v keeps cut_contexts target is pages cut_active (running_has v target ready cut_active) called apart.1
       (λ i on. cut_sender i (apart_from (active_birth k) i (target ∷ is ++ concat pages) apart.0 on))
       (λ i on. cut_depth i (apart_from (active_birth k) i (target ∷ is ++ concat pages) apart.0 (on_later i target (is ++ concat pages) (on_right i is (concat pages) on)))
-        (apart_from target i (is ++ concat pages) apart.1.0 (on_right i is (concat pages) on)))
+      (apart_from target i (is ++ concat pages) apart.1.0 (on_right i is (concat pages) on)))
       filled
 
   alone_stack : IsStack v ((target ∷ []) ∷ [])
