@@ -40,8 +40,9 @@ const STACKP: u32 = 2;
 
 /// Does the primitive of this number, with so many arguments.
 ///
-/// These are 73, which reads field or stack value i - 1 of a context, 210, which reads stack value i, and 212, which tells how
-/// many values the stack of a context holds. `Full` comes only where the sender was to be answered.
+/// These are 73 on a context, which reads a field, counted from 1, or behind the fields a value of the stack; 210, which reads
+/// value i of a context's stack, counted from 1; and 212, which tells how many values that stack holds. With another number of
+/// arguments, and where there is no such field or value, they fail. `Full` comes only where the sender was to be answered.
 pub fn primitive<W: World>(w: &mut W, number: u32, args: u32) -> PrimEnd
     requires ready { IsReady (W.stored w.old) (W.view w.old) }
     requires number { reads_context (W.view w.old) number args ≡ true }
