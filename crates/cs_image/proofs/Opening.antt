@@ -128,7 +128,7 @@ map_some : {X Y : Type 0} (g : X → Y) (r : Option X) (y : Y) → option_map g 
 map_some g None y e = absurd (cc)
 map_some g (Some x) y e = (x, refl, cc)
 
-passes_some : {X : Type 0} (g : X → Bool) (r : Option X) → option_map_or g r false ≡ true → (x : X) × (r ≡ Some x) × (g x ≡ true)
+pub passes_some : {X : Type 0} (g : X → Bool) (r : Option X) → option_map_or g r false ≡ true → (x : X) × (r ≡ Some x) × (g x ≡ true)
 passes_some g None e = absurd (cc)
 passes_some g (Some x) e = (x, refl, e)
 
@@ -220,7 +220,7 @@ held f special k h word x e v =
       names = ref_aligned f word (named_aligned f word x h.ground_of.aligned e);
     }
 
-nil_held : (f : File) (special : ℕ) (k : Kept) → HasFile f special k → (word : ℕ) → file.is_nil f word ≡ true → is_nil k (ref_by (meant f) word) ≡ true
+pub nil_held : (f : File) (special : ℕ) (k : Kept) → HasFile f special k → (word : ℕ) → file.is_nil f word ≡ true → is_nil k (ref_by (meant f) word) ≡ true
 nil_held f special k h word e =
     let is : word ≡ nil_in f = equal word (nil_in f) e in
     let first = h.ground_of.first in
@@ -338,7 +338,7 @@ record LiveHeld (f : File) (k : Kept) (word : ℕ) : Type 0 where
   at : object_at k (birth f word) ≡ Some (Ctx (context_by (meant f) y.hash y.words))
   live : natural_in_word (slot y 1) ≡ Some pc
 
-context_seen : (y : FileObject) → (y.class == context_class) ≡ true → is_visible y ≡ true
+pub context_seen : (y : FileObject) → (y.class == context_class) ≡ true → is_visible y ≡ true
 context_seen y h = let is : y.class ≡ context_class = equal y.class context_class h in ap (λ (n : ℕ). not (n == 16)) is
 
 live_held : (f : File) (special : ℕ) (k : Kept) → HasFile f special k → (word : ℕ) → names f is_live_context word ≡ true → LiveHeld f k word

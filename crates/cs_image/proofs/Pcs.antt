@@ -23,11 +23,11 @@ use Rattle.cs_image.proofs.Describing.{IsBuilt, built_roots}
 use Rattle.cs_image.proofs.Wholeness.{ground_of, loaded_at}
 use Rattle.cs_image.proofs.Opening.{HasFile, equal, has_file, method_held, not_nil, or_second, slot}
 
-record IsContextOf (named : ℕ → Ref) (class hash : ℕ) (words : List ℕ) (c : Context) : Type 0 where
-  class_is : (class == context_class) ≡ true
-  is : context_by named hash words ≡ c
+pub record IsContextOf (named : ℕ → Ref) (class hash : ℕ) (words : List ℕ) (c : Context) : Type 0 where
+  pub class_is : (class == context_class) ≡ true
+  pub is : context_by named hash words ≡ c
 
-context_of_words : (named : ℕ → Ref) (class format hash : ℕ) (words : List ℕ) (c : Context) → obj_by named class format hash words ≡ Ctx c → IsContextOf named class hash words c
+pub context_of_words : (named : ℕ → Ref) (class format hash : ℕ) (words : List ℕ) (c : Context) → obj_by named class format hash words ≡ Ctx c → IsContextOf named class hash words c
 unfolding obj_by
 context_of_words named class format hash words c h = go (class == context_class) (is_pointer_format format) (is_method_format format) refl refl refl
   where

@@ -31,6 +31,7 @@ ghost use Rattle.cs_model.specs.State.{IsValid, PcLies, object_at};
 ghost use Rattle.cs_model.specs.declared.event.Event.{Event};
 ghost use Rattle.cs_heap.specs.Object.{Object};
 ghost use Rattle.cs_classes.specs.Meaning.{kept_of};
+ghost use Rattle.cs_classes.specs.Senders.{SendersStand};
 ghost use Rattle.cs_classes.specs.Sound.{IsWhole};
 ghost use Rattle.cs_image.specs.Answer.{HasBirthSection, Tells, Told, header_fault};
 ghost use Rattle.cs_image.specs.Loading.{address_named, addresses_of, classes_at, loaded_from};
@@ -91,7 +92,7 @@ fn build(
 /// are skipped, and those of class index 16, the class table and its pages, are hidden and aren't loaded. Weak objects are
 /// read as ones with named and indexed fields, and ephemerons as ones with named fields. No context is active yet: where a
 /// process is active it keeps one that is live, so that the state can be opened and runs. The pc of a context is nil or lies
-/// in its method. Opened for a run of any events, the state is a valid one, and so is each that a run of it leaves.
+/// in its method, and its sender is nil or a context. Opened for a run of any events, the state is a valid one, and so is each that a run of it leaves.
 ///
 /// An error says what the first fault is (see `ImageError`). A file with a birth section isn't read yet: it is
 /// `HasBirths`, once its header has no fault.
@@ -105,6 +106,7 @@ pub fn load(alloc: Global, bytes: &[u8], limit_words: u32) -> Result<Loaded, Ima
     ensures births { IfOk result (λ l. (k : ℕ) (x : Object) → slice_get l.heap.objects k ≡ Some x → x.birth ≡ k) }
     ensures next { IfOk result (λ l. l.roots.next_birth ≤ limit_words) }
     ensures pcs { IfOk result (λ l. (i : ℕ) (c : Context) → object_at (kept_of l.heap.objects l.classes l.roots None) i ≡ Some (Ctx c) → PcLies (kept_of l.heap.objects l.classes l.roots None) c) }
+    ensures senders { IfOk result (λ l. SendersStand (kept_of l.heap.objects l.classes l.roots None)) }
     ensures valid { IfOk result (λ l. (events : List Event) (snapping : Bool) → IsValid (opened (kept_of l.heap.objects l.classes l.roots None) events snapping)) }
     ensures limit { IfOk result (λ l. l.heap.limit ≡ limit_words) }
     ensures no_section { OnOk result (has_births bytes.now ≡ false) }

@@ -2,6 +2,7 @@
 
 use crate::{ImageError, load};
 use byteorder::{ByteOrder, LittleEndian};
+use std::alloc::{AllocError, Global};
 
 /// The size of the small image: its header and a heap of 4,560 bytes.
 const SIZE: usize = 4624;
@@ -110,4 +111,45 @@ fn tells_the_first_fault(rt: HostRuntime) {
         assert!(rt; told == Some(fault));
     }
     assert!(rt; load(rt.alloc(), &[0; 63], 4096).err() == Some(ImageError::Short));
+}
+
+/// The small image with one object more behind the others, of so many slots that are 0, in a number that is even. It has a
+/// raw format, so that none of them names an object.
+fn with_object(alloc: Global, slots: u32) -> Result<Vec<u8>, AllocError> {
+    let mut bytes = vec![in alloc; 0u8; SIZE]?;
+    for (place, word) in WORDS {
+        put(&mut bytes, place, word);
+    }
+    put(&mut bytes, 8, 4576_u32.wrapping_add(slots.wrapping_mul(4)));
+    for word in [slots, 0xff00_0000, 0x0a00_0020, 0xff00_0000] {
+        bytes.extend_from_slice(&word.to_le_bytes())?;
+    }
+    for _ in 0..slots {
+        bytes.extend_from_slice(&[0; 4])?;
+    }
+    Ok(bytes)
+}
+
+// The other objects take 104 words: four for each of nil, false, true, the association and the scheduler, 54 for the special
+// objects, and six for each of the five classes. The one that is added takes its slots, and four before them.
+#[test]
+fn tells_that_objects_pass_the_limit(rt: HostRuntime) -> Result<(), AllocError> {
+    let alloc = rt.alloc();
+    let most = with_object(alloc, 3988)?;
+    let loaded = load(alloc, &most, 4096).expect(&rt, "4,096 words");
+    assert_eq!(rt; loaded.heap.used_words(), 4096);
+    let over = with_object(alloc, 3990)?;
+    assert!(rt; load(alloc, &over, 4096).err() == Some(ImageError::OverLimit));
+    assert!(rt; load(alloc, &over, 4098).is_ok());
+    Ok(())
+}
+
+#[test]
+fn tells_that_a_file_is_too_long(rt: HostRuntime) -> Result<(), AllocError> {
+    let alloc = rt.alloc();
+    let mut bytes = vec![in alloc; 0u8; 536_870_913]?;
+    assert!(rt; load(alloc, &bytes, 4096).err() == Some(ImageError::TooLong));
+    bytes.truncate(536_870_912);
+    assert!(rt; load(alloc, &bytes, 4096).err() == Some(ImageError::BadFormat));
+    Ok(())
 }
