@@ -1,6 +1,6 @@
 -- Where a world keeps its activations: those that are frames on stack pages, and the rules that hold of them.
 use Rattle.std.specs.Prelude.{◌≡◌, ℕ, ◌+◌, ◌<◌, ◌≤◌, ◌==◌, ◌||◌, Bool, true, false, nat_le, not, if◌then◌else◌, List, [], ◌∷◌, ◌++◌, length, Option, Some, None, is_some}
-use Rattle.std.specs.List.{AllByRecursion, filter, list_any}
+use Rattle.std.specs.List.{AllByRecursion, concat, filter, list_any}
 use Rattle.std.specs.FinMap.{get}
 use Rattle.cs_heap.specs.Object.{used}
 use Rattle.cs_classes.specs.Meaning.{objects_of}
@@ -64,20 +64,19 @@ abbrev pub IsApart : List ℕ → Type 0
 IsApart [] = Unit {0}
 IsApart (i ∷ is) = (is_on i is ≡ false) × IsApart is
 
--- No page is without a frame, each frame is a context of the state, no context has two frames on a page, and the frames of a page
--- have at most its 4,096 words.
+-- No page is without a frame, each frame is a context of the state, and the frames of a page have at most its 4,096 words.
 pub record IsPage (k : Kept) (page : List ℕ) : Type 0 where
   pub some : 0 < length page
   pub contexts : AllByRecursion (λ i. is_context_at (object_at k i) ≡ true) page
-  pub apart : IsApart page
   pub words : page_words k page ≤ 4096
   pub called : IsCalled k page
 
--- The pages are no more than there may be; an active context is the last frame of the first one; and each context of the state is
--- an object of the heap or a frame.
+-- The pages are no more than there may be; no context has two frames; an active context is the last frame of the first page; and each
+-- context of the state is an object of the heap or a frame.
 pub record IsLaid (s : Store) (k : Kept) (l : Layout) : Type 0 where
   pub few : length l.pages ≤ l.most
   pub pages : AllByRecursion (IsPage k) l.pages
+  pub apart : IsApart (concat l.pages)
   pub active : (i : ℕ) → k.rest.active ≡ Some i → last_frame (first_page l.pages) ≡ Some i
   pub whole : (i : ℕ) (c : Context) → object_at k i ≡ Some (Ctx c) → (is_some (get (objects_of s.memory.objects) i) || is_frame i l.pages) ≡ true
 
