@@ -9,11 +9,12 @@ use Rattle.cs_marriage.specs.Agree.{header_at}
 use Rattle.cs_marriage.specs.Marriage.{base_frame, linked}
 use Rattle.cs_model.specs.Ref.{Ref}
 use Rattle.cs_model.specs.Ref as ref
-use Rattle.cs_model.specs.Obj.{Ctx, dead, literal_count, temporary_count}
+use Rattle.cs_model.specs.Obj.{Ctx, context_in, dead, literal_count, temporary_count}
 use Rattle.cs_model.specs.State as state
 use Rattle.cs_model.specs.State.{Kept}
 use Rattle.cs_model.specs.Read.{active_birth, active_context}
 use Rattle.cs_model.specs.Operation.{activate}
+use Rattle.cs_model.specs.Context.{context_get}
 use Rattle.cs_model.specs.Settle.{context_kept, open_at}
 use Rattle.cs_acts.specs.Layout.{LaidBy, left}
 use Rattle.cs_acts.specs.Names.{KeepsNames}
@@ -103,6 +104,10 @@ pub record Unwound (w v : Parts) (t : ℕ) : Type 0 where
   pub names : KeepsNames (stored_of w) (stored_of v)
 
 -- ---- looking
+
+-- field i of the context of a birth, or a value of its stack
+abbrev pub field_at : Kept → Option ℕ → ℕ → Option Ref
+field_at k birth i = option_and_then (λ c. context_get k c i) (option_and_then (λ b. context_in (state.object_at k b)) birth)
 
 -- the frame at r has this context
 abbrev pub IsContextOf : Parts → FrameRef → ℕ → Type 0

@@ -55,6 +55,7 @@ const PROCESS_SLOTS: u32 = 4;
 impl StackWorld {
     ghost use Rattle.std.specs.Prelude.{◌≤◌, ◌<◌, length, ℕ, IfOk, false, None, Some, []};
     ghost use Rattle.cs_classes.specs.Sound.{IsWhole};
+    ghost use Rattle.cs_classes.specs.Senders.{SendersStand};
     ghost use Rattle.cs_model.specs.Due.{is_idle};
     ghost use Rattle.cs_model.specs.Obj.{Context, Ctx};
     ghost use Rattle.cs_model.specs.Operation.{nil_of};
@@ -78,7 +79,7 @@ impl StackWorld {
         requires whole { IsWhole loaded.heap.objects loaded.classes loaded.roots }
         requires births { loaded.roots.next_birth ≤ 4611686018427387904 }
         requires pcs { (i : ℕ) (c : Context) → object_at (loaded_kept loaded) i ≡ Some (Ctx c) → PcLies (loaded_kept loaded) c }
-        requires senders { (i : ℕ) (c : Context) → object_at (loaded_kept loaded) i ≡ Some (Ctx c) → HasSender (loaded_kept loaded) c }
+        requires senders { SendersStand (loaded_kept loaded) }
         requires running { is_idle (loaded_kept loaded) ≡ false → IsRunning (open_kept (loaded_kept loaded)) }
         ensures view { IfOk result (λ w. view_of w ≡ open_kept (loaded_kept loaded)) }
         ensures sound { IfOk result (λ w. IsSound (stored_of w) (view_of w)) }

@@ -11,7 +11,7 @@ ghost use Rattle.cs_acts.specs.Names.{IsNamed, KeepsNames, Names, NamesOption, n
 ghost use Rattle.cs_acts.specs.Ready.{IsReady};
 ghost use Rattle.cs_acts.specs.Targets.{field_of};
 ghost use Rattle.cs_stack.specs.Good.{IsGood};
-ghost use Rattle.cs_stack.specs.Moved.{IsContextOf};
+ghost use Rattle.cs_stack.specs.Moved.{IsContextOf, field_at};
 ghost use Rattle.cs_stack.specs.View.{act_of, layout_of, stored_of, view_of};
 
 use crate::parts::{CLOSURE, METHOD, NIL, PC, Parts, RECEIVER, SENDER, STACK, STACKP};
@@ -102,7 +102,19 @@ impl Parts {
     }
 
     /// The same of the context that a frame is.
-    fn frame_get(&mut self, f: FrameRef, i: u32) -> Result<Oop, Full> {
+    fn frame_get(&mut self, f: FrameRef, i: u32) -> Result<Oop, Full>
+        requires good { IsGood self.old }
+        requires frame { IsFrame self.old.frames f }
+        requires there { IsSome (field_at (view_of self.old) (act_of self.old (Act.Frame f.page f.at)) i) }
+        ensures good { IsGood self.new }
+        ensures view { view_of self.new ≡ view_of self.old }
+        ensures value { IfOk result (λ o. NamesOption (stored_of self.new) (Some o) (field_at (view_of self.old) (act_of self.old (Act.Frame f.page f.at)) i)) }
+        ensures layout { layout_of self.new ≡ layout_of self.old }
+        ensures limit { self.new.heap.limit ≡ self.old.heap.limit }
+        ensures contexts { MakesAtMost (made_by_reading i) (layout_of self.old) (stored_of self.old) (stored_of self.new) }
+        ensures names { KeepsNames (stored_of self.old) (stored_of self.new) }
+        ensures full { IfErr result (λ why. (i ≡ 0) × (why ≡ full.Heap) × CausesFull (stored_of self.new) (layout_of self.old) (view_of self.old) 0 (view_of self.old) why) }
+    {
         match i {
             SENDER => self.sender_of(f),
             PC => Ok(self.frames.saved_pc(f)),
@@ -115,7 +127,18 @@ impl Parts {
     }
 
     /// The sender of a frame: the context of the frame below it, or what the base frame keeps.
-    fn sender_of(&mut self, f: FrameRef) -> Result<Oop, Full> {
+    fn sender_of(&mut self, f: FrameRef) -> Result<Oop, Full>
+        requires good { IsGood self.old }
+        requires frame { IsFrame self.old.frames f }
+        ensures good { IsGood self.new }
+        ensures view { view_of self.new ≡ view_of self.old }
+        ensures value { IfOk result (λ o. NamesOption (stored_of self.new) (Some o) (field_at (view_of self.old) (act_of self.old (Act.Frame f.page f.at)) 0)) }
+        ensures layout { layout_of self.new ≡ layout_of self.old }
+        ensures limit { self.new.heap.limit ≡ self.old.heap.limit }
+        ensures contexts { MakesAtMost 1 (layout_of self.old) (stored_of self.old) (stored_of self.new) }
+        ensures names { KeepsNames (stored_of self.old) (stored_of self.new) }
+        ensures full { IfErr result (λ why. (why ≡ full.Heap) × CausesFull (stored_of self.new) (layout_of self.old) (view_of self.old) 0 (view_of self.old) why) }
+    {
         match self.frames.caller(f) {
             Some(caller) => self.context_of(caller),
             None => Ok(self.frames.sender(f)),
@@ -123,7 +146,12 @@ impl Parts {
     }
 
     /// The same of a context that has no frame: what stands in its words. A widowed one still names a place, and reads as dead.
-    fn word_get(&self, ctx: Oop, i: u32) -> Oop {
+    fn word_get(&self, ctx: Oop, i: u32) -> Oop
+        requires good { IsGood self.now }
+        requires stands { IsSome (act_of self.now (Act.Context ctx)) }
+        requires there { IsSome (field_at (view_of self.now) (act_of self.now (Act.Context ctx)) i) }
+        ensures { NamesOption (stored_of self.now) (Some result) (field_at (view_of self.now) (act_of self.now (Act.Context ctx)) i) }
+    {
         let word = self.heap.slot(ctx, i);
         match i {
             SENDER if names_place(word) => NIL,

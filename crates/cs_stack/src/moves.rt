@@ -142,7 +142,9 @@ impl Parts {
         };
         let head = header(&self.heap, method);
         let birth = self.roots.next_birth;
-        let receiver = self.frames.slot(caller, self.frames.depth(caller) - args - 1);
+        let receiver = self
+            .frames
+            .slot(caller, self.frames.depth(caller) - args - 1);
         let new = NewFrame {
             method,
             closure: NIL,
