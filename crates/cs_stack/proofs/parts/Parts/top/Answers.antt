@@ -1,0 +1,2 @@
+use Rattle.cs_stack.proofs.Framed.{front}
+use Rattle.cs_stack.proofs.parts.Parts.top.Goals as goal
