@@ -3,4 +3,5 @@ pub mod Lives
 pub mod Bare
 pub mod Framed
 pub mod Closed
+pub mod Alike
 pub mod Tops
