@@ -29,7 +29,7 @@ pub below_on : {f g : Frame} {gs fs : List Frame} → IsOn f (g ∷ gs) fs → I
 below_on {f = f} {gs = gs} here = above f _ here
 below_on (above e es on) = above e es (below_on on)
 
-no_frame : {f : Frame} {gs fs : List Frame} → IsOn f gs fs → fs ≡ [] → ⊥
+pub no_frame : {f : Frame} {gs fs : List Frame} → IsOn f gs fs → fs ≡ [] → ⊥
 no_frame here e = absurd (cc)
 no_frame (above d ds on) e = absurd (cc)
 

@@ -6,3 +6,4 @@ pub mod Places
 pub mod Closed
 pub mod Alike
 pub mod Tops
+pub mod Laid

@@ -1,6 +1,6 @@
 -- Frames by the places where they begin, and the contexts to which they are married.
-use Rattle.std.proofs.Common.{◌≡◌, ◌≢◌, ℕ, zero, suc, ◌<◌, Bool, true, false, refl, sym, ap, cond, subst, ◌∙◌, Option, Some, None, List, [], ◌∷◌, length, inl, inr, arith}
-use Rattle.std.specs.Prelude.{slice_get}
+use Rattle.std.proofs.Common.{◌≡◌, ◌≢◌, ℕ, zero, suc, ◌<◌, ◌≤◌, ◌^◌, Bool, true, false, refl, sym, ap, cond, subst, ◌∙◌, Option, Some, None, List, [], ◌∷◌, length, inl, inr, arith}
+use Rattle.std.specs.Prelude.{◌==◌, ◌/◌, ◌%◌, if◌then◌else◌, slice_get}
 use Rattle.std.specs.Option.{option_map_or}
 use Rattle.std.specs.FinMap.{get}
 use Rattle.std.proofs.lemmas.Bool.{cases_eq, eq-eqb}
@@ -14,8 +14,9 @@ use Rattle.cs_frame.specs.Page.{IsFrame, IsStacked, frame, frames_of, index_in, 
 use Rattle.cs_frame.proofs.PageLaws.{index_of-nth}
 use Rattle.cs_marriage.specs.Agree as agree
 use Rattle.cs_marriage.specs.Agree.{AreMarried}
+use Rattle.cs_marriage.proofs.Agreeing.{size_none, size_some}
 use Rattle.cs_marriage.proofs.Objects.{context_there}
-use Rattle.cs_model.specs.Obj.{Obj}
+use Rattle.cs_model.specs.Obj.{Obj, context_size}
 use Rattle.cs_model.specs.Obj as obj
 use Rattle.cs_stack.specs.declared.parts.Parts.{Parts}
 use Rattle.cs_stack.specs.Good.{FrameFits, FramesFit, IsGood, Lacks}
@@ -106,3 +107,28 @@ plain_lacks w good i o e other p = go (frames_of w.frames p) (λ f gs on. on)
       λ s. absurd (let is = hidden w good p (within f fs here) o (ap (get (objects_of w.heap.objects)) (sym s) ∙ e) in cc),
       go fs (λ g gs on. within g gs (above f fs on)),
     )
+
+-- ---- sizes
+
+size_at_most : (header : ℕ) → context_size header ≤ 56
+size_at_most header = go (header / 2 ^ 17 % 2 == 1)
+  where
+    go : (b : Bool) → (if b then 56 else 16) ≤ 56
+    go true = omega arith
+    go false = omega arith
+
+-- a stack has room for 56 values at most
+pub size_few : {f : Frame} {gs : List Frame} (w : Parts) → IsGood w → (p : ℕ) → IsOn f gs (frames_of w.frames p) → agree.frame_size w.heap.objects f ≤ 56
+size_few {f = f} w good p on = elim (cases_eq f.context nil) [
+  | inl none ↦ omega (arith, size_none w.heap.objects f none, size_at_most (agree.header_at w.heap.objects f.method))
+  | inr some ↦ omega (arith, size_some w.heap.objects f some, (married_on w good p on some).context.slots)
+]
+
+-- a stack that isn't full leaves a word free, and the frames of a page have at most its words
+pub room_free : {f : Frame} {gs : List Frame} (w : Parts) → IsGood w → (p : ℕ) → IsOn f gs (frames_of w.frames p) → length f.stack < agree.frame_size w.heap.objects f → page.used (f ∷ gs) < 4096
+room_free w good p on short =
+    let fits = fits_on w.heap.objects w.roots.next_birth on (good.frames p) in omega (arith, short, size_few w good p on, fits.stands, fits.room)
+
+pub page_few : {f : Frame} {gs : List Frame} (w : Parts) → IsGood w → (p : ℕ) → IsOn f gs (frames_of w.frames p) → page.used (f ∷ gs) ≤ 4096
+page_few w good p on =
+    let fits = fits_on w.heap.objects w.roots.next_birth on (good.frames p) in omega (arith, fits.fits, size_few w good p on, fits.stands, fits.room)
