@@ -213,7 +213,7 @@ linked_context x h = go (is_context x) refl h
     go true e l = e
     go false e l = absurd (cc)
 
-unframed_sound : (os : List Object) (x : Object) → 3 ≤ length os → nil_of os ≡ base → IsSoundObject os x → IsSoundObject os (unframed x)
+pub unframed_sound : (os : List Object) (x : Object) → 3 ≤ length os → nil_of os ≡ base → IsSoundObject os x → IsSoundObject os (unframed x)
 unframed_sound os x first nil_is sound = go (is_linked x) refl
   where
     go : (b : Bool) → is_linked x ≡ b → IsSoundObject os (cond b (dead_object x) x)

@@ -7,3 +7,4 @@ pub mod Closed
 pub mod Alike
 pub mod Tops
 pub mod Laid
+pub mod Counting
