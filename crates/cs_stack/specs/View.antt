@@ -1,15 +1,20 @@
--- The state that a world of frames keeps: the heap's objects, and over them the frames of the page.
-use Rattle.std.specs.Prelude.{ℕ, ◌-◌, ◌==◌, Bool, false, List, [], ◌∷◌, map, if◌then◌else◌, Option, Some, None}
+-- The state that a world of frames keeps: the objects of the heap, among which a context that has or had a frame counts as dead, and
+-- over them the frames of all pages.
+use Rattle.std.specs.Prelude.{ℕ, pos, ◌==◌, ◌&&◌, Bool, false, List, [], ◌∷◌, map, slice_index, slice_set, if◌then◌else◌, Option, Some, None}
+use Rattle.std.specs.List.{list_any}
 use Rattle.std.specs.Ordering.{nat_cmp}
 use Rattle.std.specs.FinMap.{FinMap, insert}
-use Rattle.cs_heap.specs.Object.{Object, hash_of, object_at, slot_count_of}
-use Rattle.cs_classes.specs.Meaning.{count_of, header_in, is_context, kept_of, ref_of}
+use Rattle.cs_word.specs.Word.{small_word}
+use Rattle.cs_heap.specs.Object.{Object, hash_of, object_at}
+use Rattle.cs_classes.specs.Meaning.{count_of, is_context, kept_of, ref_of}
 use Rattle.cs_classes.specs.declared.Loaded.{Loaded}
-use Rattle.cs_frame.specs.Frame.{Frame}
+use Rattle.cs_frame.specs.Frame.{Frame, nil}
 use Rattle.cs_frame.specs.Page.{frames_of}
+use Rattle.cs_marriage.specs.Agree.{frame_size}
+use Rattle.cs_marriage.specs.Place.{names_place}
 use Rattle.cs_model.specs.Ref.{Ref}
 use Rattle.cs_model.specs.Ref as ref
-use Rattle.cs_model.specs.Obj.{Obj, Context, Ctx, context_fields, context_size}
+use Rattle.cs_model.specs.Obj.{Obj, Context, Ctx}
 use Rattle.cs_model.specs.State.{Kept}
 use Rattle.cs_acts.specs.declared.act.Act.{Act}
 use Rattle.cs_acts.specs.declared.act.Act.TheVariants as act
@@ -17,29 +22,28 @@ use Rattle.cs_acts.specs.Layout.{Layout}
 use Rattle.cs_acts.specs.Names.{Store}
 use Rattle.cs_stack.specs.declared.parts.Parts.{Parts}
 
--- the frames of the page, the last one first
-abbrev pub page_of : Parts → List Frame
-page_of w = frames_of w.frames 0
+-- ---- the heap without frames
+
+-- A context whose sender slot names a place is married or widowed: sender, pc and stack don't stand in its words.
+abbrev pub is_linked : Object → Bool
+is_linked x = is_context x && names_place (slice_index x.words 0)
+
+-- the words of a dead context: sender and pc are nil, and the stack is empty
+abbrev pub dead_words : List ℕ → List ℕ
+dead_words ws = slice_set (slice_set (slice_set ws 0 nil) 1 nil) 2 (small_word (pos 0))
+
+abbrev pub unframed : Object → Object
+unframed x = if is_linked x then record x { words = dead_words x.words } else x
+
+-- the objects as they are where no frame stands
+unfoldable pub bare : List Object → List Object
+bare os = map unframed os
 
 -- ---- a frame as a context
 
-abbrev pub header_if : Option Object → ℕ
-header_if None = 0
-header_if (Some x) = header_in x.words
-
--- the header of the method at an address
-abbrev pub header_at : List Object → ℕ → ℕ
-header_at os a = header_if (object_at os a)
-
--- The base frame of a page, below which there is none, is the body of a context of the heap, and has its hash and its size; any
--- other has no hash, and the size that its method asks for.
-abbrev pub frame_hash : List Object → Frame → List Frame → ℕ
-frame_hash os f [] = hash_of os f.context
-frame_hash os f (g ∷ gs) = 0
-
-abbrev pub frame_size : List Object → Frame → List Frame → ℕ
-frame_size os f [] = slot_count_of os f.context - context_fields
-frame_size os f (g ∷ gs) = context_size (header_at os f.method)
+-- without a context it has no hash
+abbrev pub frame_hash : List Object → Frame → ℕ
+frame_hash os f = if f.context == nil then 0 else hash_of os f.context
 
 -- the base frame keeps its sender; any other frame's is the one below
 abbrev pub frame_sender : List Object → Frame → List Frame → Ref
@@ -49,33 +53,47 @@ frame_sender os f (g ∷ gs) = ref.Obj g.birth
 -- the context that a frame is, above these
 unfoldable pub frame_context : List Object → Frame → List Frame → Context
 frame_context os f fs = record {
-  hash = frame_hash os f fs;
+  hash = frame_hash os f;
   sender = frame_sender os f fs;
   pc = count_of f.saved_pc;
   method = ref_of os f.method;
   closure = ref_of os f.closure;
   receiver = ref_of os f.receiver;
   stack = map (ref_of os) f.stack;
-  size = frame_size os f fs;
+  size = frame_size os f;
 }
 
--- the frames hide what has their births
+-- the frames of a page hide what has their births
 unfoldable pub frames_onto : List Object → List Frame → FinMap nat_cmp Obj → FinMap nat_cmp Obj
 frames_onto os [] m = m
 frames_onto os (f ∷ fs) m = insert (frames_onto os fs m) f.birth (Ctx (frame_context os f fs))
 
+-- and so do those of all pages
+unfoldable pub pages_onto : List Object → List (List Frame) → FinMap nat_cmp Obj → FinMap nat_cmp Obj
+pages_onto os [] m = m
+pages_onto os (p ∷ ps) m = frames_onto os p (pages_onto os ps m)
+
 -- ---- the state
 
--- the last frame is active
+-- the frames of the first of these pages
+abbrev pub first_of : List (List Frame) → List ℕ → List Frame
+first_of ps [] = []
+first_of ps (p ∷ qs) = frames_of ps p
+
+-- the frames of the most recent page
+abbrev pub active_page : Parts → List Frame
+active_page w = first_of w.frames w.pages.recent
+
+-- its last frame is active
 abbrev pub active_in : List Frame → Option ℕ
 active_in [] = None
 active_in (f ∷ fs) = Some f.birth
 
-abbrev pub over : List Object → List Frame → Kept → Kept
-over os fs k = record k { objects = frames_onto os fs k.objects }
+abbrev pub over : List Object → List (List Frame) → Kept → Kept
+over os ps k = record k { objects = pages_onto os ps k.objects }
 
 abbrev pub view_of : Parts → Kept
-view_of w = over w.heap.objects (page_of w) (kept_of w.heap.objects w.classes w.roots (active_in (page_of w)))
+view_of w = over w.heap.objects w.frames (kept_of (bare w.heap.objects) w.classes w.roots (active_in (active_page w)))
 
 -- what a loaded image stands for: no context is active
 abbrev pub loaded_kept : Loaded → Kept
@@ -90,31 +108,22 @@ abbrev pub birth_in : Option Object → Option ℕ
 birth_in None = None
 birth_in (Some x) = if is_context x then Some x.birth else None
 
--- the context of the base frame, if there is one
-abbrev pub base_context : List Frame → Option ℕ
-base_context [] = None
-base_context (f ∷ []) = Some f.context
-base_context (f ∷ g ∷ gs) = base_context (g ∷ gs)
+-- whether a frame is the body of the context at this address
+abbrev pub has_context : ℕ → List Frame → Bool
+has_context a fs = list_any (λ f. f.context == a) fs
 
--- whether a frame hides what is at this address
-abbrev pub hides : Option ℕ → ℕ → Bool
-hides None a = false
-hides (Some b) a = b == a
+abbrev pub is_married : ℕ → List (List Frame) → Bool
+is_married a ps = list_any (has_context a) ps
 
 -- the frame that begins at this place
 abbrev pub birth_from : List Frame → ℕ → Option ℕ
 birth_from [] at = None
 birth_from (f ∷ fs) at = if f.at == at then Some f.birth else birth_from fs at
 
--- the size of that frame
-abbrev pub size_from : List Object → List Frame → ℕ → ℕ
-size_from os [] at = 0
-size_from os (f ∷ fs) at = if f.at == at then frame_size os f fs else size_from os fs at
-
--- an act is a frame of the page, or the context at an address that has no frame
+-- an act is a frame of a page, or the context at an address that has no frame
 abbrev pub act_of : Parts → Act → Option ℕ
-act_of w (act.Frame page at) = if page == 0 then birth_from (page_of w) at else None
-act_of w (act.Context o) = if hides (base_context (page_of w)) o.0 then None else birth_in (object_at w.heap.objects o.0)
+act_of w (act.Frame page at) = birth_from (frames_of w.frames page) at
+act_of w (act.Context o) = if is_married o.0 w.frames then None else birth_in (object_at w.heap.objects o.0)
 act_of w act.Gone = None
 
 -- ---- the layout
@@ -122,9 +131,9 @@ act_of w act.Gone = None
 abbrev pub births_of : List Frame → List ℕ
 births_of fs = map (λ f. f.birth) fs
 
-abbrev pub pages_of : List Frame → List (List ℕ)
-pages_of [] = []
-pages_of (f ∷ fs) = births_of (f ∷ fs) ∷ []
+abbrev pub laid_pages : List (List Frame) → List ℕ → List (List ℕ)
+laid_pages ps [] = []
+laid_pages ps (p ∷ qs) = births_of (frames_of ps p) ∷ laid_pages ps qs
 
 abbrev pub layout_of : Parts → Option Layout
-layout_of w = Some (record { most = 1; pages = pages_of (page_of w) })
+layout_of w = Some (record { most = w.pages.total; pages = laid_pages w.frames w.pages.recent })

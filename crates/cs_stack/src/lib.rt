@@ -1,13 +1,16 @@
-//! A world that keeps activations as frames on a stack page.
+//! A world that keeps activations as frames on stack pages.
 //!
-//! A context that the machine enters is a frame of the page, and has no object in the heap. The context that was active when the
-//! machine was opened, and one into which it returns later, become the base frame of the page: its words in the heap are then
-//! stale, and the frame hides them. All other contexts stay in the heap.
+//! A context that the machine enters is a frame, and has no object in the heap until code looks at it, or until a method that it calls
+//! finds no room on its page and begins another one. Then frame and context are married, and the frame goes on as its body. The
+//! context that was active when the machine was opened, and a single one into which it returns later, become the base frame of a page.
+//! All other contexts stay in the heap.
 #![tactic(auto)]
 
 ghost use Rattle.std.specs.Prelude.{◌≡◌};
 ghost use Rattle.cs_stack.specs.View.{act_of, layout_of, stored_of, view_of};
 
+mod arguments;
+mod looks;
 mod moves;
 mod parts;
 mod words;
@@ -23,7 +26,7 @@ pub use parts::Parts;
 use std::alloc::{AllocError, Global};
 use std::marker::Model;
 
-/// A world of frames on one stack page.
+/// A world of frames on stack pages.
 ///
 /// It is seen as its parts, of which the invariant holds that heap and frames agree.
 #[derive(Drop)]
@@ -50,8 +53,9 @@ impl Model for StackWorld {
 const PROCESS_SLOTS: u32 = 4;
 
 impl StackWorld {
-    ghost use Rattle.std.specs.Prelude.{◌≤◌, length, ℕ, IfOk, false, None, Some, []};
+    ghost use Rattle.std.specs.Prelude.{◌≤◌, ◌<◌, length, ℕ, IfOk, false, None, Some, []};
     ghost use Rattle.cs_classes.specs.Sound.{IsWhole};
+    ghost use Rattle.cs_classes.specs.Senders.{SendersStand};
     ghost use Rattle.cs_model.specs.Due.{is_idle};
     ghost use Rattle.cs_model.specs.Obj.{Context, Ctx};
     ghost use Rattle.cs_model.specs.Operation.{nil_of};
@@ -63,18 +67,19 @@ impl StackWorld {
     ghost use Rattle.cs_acts.specs.Names.{IsNamed, Names, name_of};
     ghost use Rattle.cs_acts.specs.Ready.{IsReady, IsSound};
     ghost use Rattle.cs_stack.specs.Moved.{taken_of};
-    ghost use Rattle.cs_stack.specs.View.{layout_of, loaded_kept, page_of, stored_of, view_of};
+    ghost use Rattle.cs_stack.specs.View.{active_page, layout_of, loaded_kept, stored_of, view_of};
 
-    /// Opens a loaded image on one stack page: the active process gives its context to the machine. With no active process none
-    /// is active. The only error is that memory is refused.
+    /// Opens a loaded image on so many stack pages, 2 to 64 of 4,096 words each: the active process gives its context to the machine.
+    /// With no active process none is active. The only error is that memory is refused.
     ///
-    /// Births are below 2^62, and the pc of each context is nil or lies in its method. Where a process is active, the context
-    /// that it gives must be live.
+    /// Births are below 2^62, the pc of each context is nil or lies in its method, and its sender is nil or a context. Where a process
+    /// is active, the context that it gives must be live.
     pub fn new(alloc: Global, loaded: Loaded, pages: u32) -> Result<StackWorld, AllocError>
-        requires one { pages ≡ 1 }
+        requires few { (2 ≤ pages) × (pages ≤ 64) }
         requires whole { IsWhole loaded.heap.objects loaded.classes loaded.roots }
         requires births { loaded.roots.next_birth ≤ 4611686018427387904 }
         requires pcs { (i : ℕ) (c : Context) → object_at (loaded_kept loaded) i ≡ Some (Ctx c) → PcLies (loaded_kept loaded) c }
+        requires senders { SendersStand (loaded_kept loaded) }
         requires running { is_idle (loaded_kept loaded) ≡ false → IsRunning (open_kept (loaded_kept loaded)) }
         ensures view { IfOk result (λ w. view_of w ≡ open_kept (loaded_kept loaded)) }
         ensures sound { IfOk result (λ w. IsSound (stored_of w) (view_of w)) }
@@ -111,11 +116,13 @@ impl StackWorld {
     #[tactic(auto, unfolding(cs_model::specs::Settle::open_kept))]
     fn open(&mut self)
         requires sound { IsSound (stored_of self.old) (view_of self.old) }
-        requires closed { page_of self.old ≡ [] }
+        requires closed { self.old.pages.recent ≡ [] }
+        requires some { 0 < length self.old.frames }
         requires running { is_idle (view_of self.old) ≡ false → IsRunning (open_kept (view_of self.old)) }
         ensures view { view_of self.new ≡ open_kept (view_of self.old) }
         ensures sound { IsSound (stored_of self.new) (view_of self.new) }
-        ensures one { length (page_of self.new) ≤ 1 }
+        ensures one { length (active_page self.new) ≤ 1 }
+        ensures alone { length self.new.pages.recent ≤ 1 }
         ensures limit { self.new.heap.limit ≡ self.old.heap.limit }
     {
         let nil = nil(self);
@@ -128,13 +135,15 @@ impl StackWorld {
 
     /// Takes the context that a process keeps, and leaves nil there.
     fn take_context(&mut self, process: Oop, nil: Oop)
-        requires closed { page_of self.old ≡ [] }
+        requires closed { self.old.pages.recent ≡ [] }
+        requires some { 0 < length self.old.frames }
         requires named { IsNamed (stored_of self.old) process }
         requires nil { Names (stored_of self.old) nil (nil_of (view_of self.old)) }
         requires running { IsRunning (taken_of (view_of self.old) (name_of (stored_of self.old) process)) }
         ensures view { view_of self.new ≡ taken_of (view_of self.old) (name_of (stored_of self.old) process) }
         ensures sound { IsSound (stored_of self.new) (view_of self.new) }
-        ensures one { length (page_of self.new) ≤ 1 }
+        ensures one { length (active_page self.new) ≤ 1 }
+        ensures alone { length self.new.pages.recent ≤ 1 }
         ensures limit { self.new.heap.limit ≡ self.old.heap.limit }
     {
         if let Some(context) = slot(self, process, PROCESS_SLOTS, parts::SUSPENDED_CONTEXT) {
@@ -198,6 +207,10 @@ impl World for StackWorld {
         self.parts.sender_act(a)
     }
 
+    fn act_of(&self, ctx: Oop) -> Act {
+        self.parts.act_of(ctx)
+    }
+
     fn receiver(&self) -> Oop {
         self.parts.receiver()
     }
@@ -240,6 +253,22 @@ impl World for StackWorld {
 
     fn pop(&mut self) -> Oop {
         self.parts.pop()
+    }
+
+    fn this_context(&mut self) -> Result<Oop, Full> {
+        self.parts.this_context()
+    }
+
+    fn act_context(&mut self, a: Act) -> Result<Oop, Full> {
+        self.parts.act_context(a)
+    }
+
+    fn context_get(&mut self, ctx: Oop, i: u32) -> Result<Oop, Full> {
+        self.parts.context_get(ctx, i)
+    }
+
+    fn allocate(&mut self, class: u32, format: u8, slots: u32) -> Result<Oop, Full> {
+        self.parts.allocate(class, format, slots)
     }
 
     fn enter(&mut self, method: Oop, args: u32, skip: bool) -> Result<(), Full> {

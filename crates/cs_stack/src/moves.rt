@@ -1,8 +1,8 @@
 //! How activations are entered and left.
-ghost use Rattle.std.specs.Prelude.{◌≡◌, ◌≤◌, ◌+◌, [], ◌∷◌, IfErr, IfSome, IsSomeAnd, OnOk, Some, length};
-ghost use Rattle.cs_heap.specs.Object.{slot_count_of};
-ghost use Rattle.cs_frame.specs.Frame.{with_stack};
+ghost use Rattle.std.specs.Prelude.{◌≡◌, ◌≢◌, ◌≤◌, ◌<◌, ◌+◌, [], IfErr, IfSome, IsSomeAnd, OnOk, Some, length};
+ghost use Rattle.cs_frame.specs.Frame.{nil};
 ghost use Rattle.cs_frame.specs.Page.{IsBase, ref_of, top, used};
+ghost use Rattle.cs_marriage.specs.Marriage.{CanBase};
 ghost use Rattle.cs_model.specs.Keeps.{Keeps};
 ghost use Rattle.cs_model.specs.Operation.{enter_of, leave_of, nil_of};
 ghost use Rattle.cs_model.specs.Read.{IsRunning, active_birth};
@@ -11,20 +11,20 @@ ghost use Rattle.cs_model.specs.Settle.{context_kept};
 ghost use Rattle.cs_model.specs.State.{Kept};
 ghost use Rattle.cs_acts.specs.Full.{CausesFull};
 ghost use Rattle.cs_acts.specs.Layout.{LaidBy, entered, left};
+ghost use Rattle.cs_acts.specs.Made.{MakesAtMost, made_by_entering};
 ghost use Rattle.cs_acts.specs.Names.{IsNamed, KeepsNames, Names, NamesOption, name_of};
 ghost use Rattle.cs_acts.specs.Ready.{IsReady};
 ghost use Rattle.cs_acts.specs.Targets.{CanArrive, CanEnter};
 ghost use Rattle.cs_stack.specs.Good.{IsGood};
-ghost use Rattle.cs_stack.specs.Moved.{CanBase, IsContextAt, Unwound, based, buried, called_parts, entry_of, stack_words, taken_of};
-ghost use Rattle.cs_stack.specs.View.{layout_of, page_of, stored_of, view_of};
+ghost use Rattle.cs_stack.specs.Moved.{Takes, Unwound, active_number, based_parts, begun_parts, called_parts, entry_of, taken_of};
+ghost use Rattle.cs_stack.specs.View.{active_page, layout_of, stored_of, view_of};
 
-use crate::parts::{
-    CLOSURE, METHOD, PAGE, PC, Parts, RECEIVER, SENDER, STACK, STACKP, SUSPENDED_CONTEXT,
-};
-use crate::words::{count, count_word, header, literal_count, temporary_count};
+use crate::arguments::{copy_arguments, drop_values, push_nils};
+use crate::parts::{NIL, Parts, SUSPENDED_CONTEXT};
+use crate::words::{count_word, header, literal_count, temporary_count};
 use cs_acts::Full;
 use cs_frame::{FrameRef, NewFrame};
-use cs_heap::BASE;
+use cs_marriage::{base, marry};
 use cs_word::Oop;
 
 /// The words that must be free where a frame is made: its ten, and those of 56 values.
@@ -37,22 +37,23 @@ impl Parts {
     /// The context that a process keeps becomes active, and the process keeps nil.
     pub(crate) fn take(&mut self, process: Oop, nil: Oop, context: Oop)
         requires good { IsGood self.old }
-        requires closed { page_of self.old ≡ [] }
+        requires closed { self.old.pages.recent ≡ [] }
+        requires some { 0 < length self.old.frames }
         requires named { IsNamed (stored_of self.old) process }
         requires nil { Names (stored_of self.old) nil (nil_of (view_of self.old)) }
         requires kept { NamesOption (stored_of self.old) (Some context) (context_kept (view_of self.old) (name_of (stored_of self.old) process)) }
         requires running { IsRunning (taken_of (view_of self.old) (name_of (stored_of self.old) process)) }
         ensures good { IsGood self.new }
         ensures view { view_of self.new ≡ taken_of (view_of self.old) (name_of (stored_of self.old) process) }
-        ensures one { length (page_of self.new) ≤ 1 }
+        ensures one { length (active_page self.new) ≤ 1 }
+        ensures alone { length self.new.pages.recent ≤ 1 }
         ensures limit { self.new.heap.limit ≡ self.old.heap.limit }
     {
         self.store(process, SUSPENDED_CONTEXT, nil);
-        let _page = self.pages.take_free();
-        self.base(context);
+        self.rebase(context);
     }
 
-    /// Enters a method on a frame of its own, above the active one. It is refused where 66 words aren't free.
+    /// Enters a method on a frame of its own: above the active one, or where 66 words aren't free there, on a page of its own.
     pub(crate) fn enter(&mut self, method: Oop, args: u32, skip: bool) -> Result<(), Full>
         requires good { IsGood self.old }
         requires ready { IsReady (stored_of self.old) (view_of self.old) }
@@ -62,23 +63,24 @@ impl Parts {
         ensures view { OnOk result (view_of self.new ≡ enter_of (view_of self.old) (name_of (stored_of self.old) method) args skip) }
         ensures layout { OnOk result (LaidBy (entered (view_of self.old) (view_of self.old).rest.next) (layout_of self.old) (layout_of self.new)) }
         ensures limit { self.new.heap.limit ≡ self.old.heap.limit }
+        ensures contexts { OnOk result (MakesAtMost (made_by_entering (view_of self.old) (layout_of self.old)) (layout_of self.old) (stored_of self.old) (stored_of self.new)) }
         ensures names { OnOk result (KeepsNames (stored_of self.old) (stored_of self.new)) }
         ensures full { IfErr result (CausesFull (stored_of self.new) (layout_of self.old) (view_of self.old) 0 (enter_of (view_of self.old) (name_of (stored_of self.old) method) args skip)) }
     {
-        if self.frames.room(PAGE) < FRAME_ROOM {
-            return Err(Full::Stack);
+        if self.frames.room(self.pages.order(0)) < FRAME_ROOM {
+            return self.overflow(method, args, skip);
         }
         self.call(method, args, skip);
         Ok(())
     }
 
-    /// Makes the frame of a method, where there is room for it.
+    /// Makes the frame of a method above the active one, where there is room for it.
     fn call(&mut self, method: Oop, args: u32, skip: bool)
         requires good { IsGood self.old }
         requires ready { IsReady (stored_of self.old) (view_of self.old) }
         requires named { IsNamed (stored_of self.old) method }
         requires fits { CanEnter (view_of self.old) (name_of (stored_of self.old) method) args skip }
-        requires room { used (page_of self.old) + 66 ≤ 4096 }
+        requires room { used (active_page self.old) + 66 ≤ 4096 }
         ensures made { self.new ≡ called_parts method.0 args skip self.old }
     {
         let head = header(&self.heap, method);
@@ -87,15 +89,77 @@ impl Parts {
         let birth = self.roots.next_birth;
         let new = NewFrame {
             method,
-            closure: Oop(BASE),
+            closure: NIL,
             receiver,
             birth,
             args,
             fill: temporary_count(head) - args,
         };
-        let frame = self.frames.build(PAGE, new);
+        let frame = self.frames.build(top.page, new);
         self.frames
             .set_saved_pc(frame, count_word(entry_pc(head, skip)));
+        self.roots.next_birth = birth + 1;
+    }
+
+    /// Makes the frame of a method on a page that is taken. The caller is married, so that the frame can name it as its sender.
+    fn overflow(&mut self, method: Oop, args: u32, skip: bool) -> Result<(), Full>
+        requires good { IsGood self.old }
+        requires ready { IsReady (stored_of self.old) (view_of self.old) }
+        requires named { IsNamed (stored_of self.old) method }
+        requires fits { CanEnter (view_of self.old) (name_of (stored_of self.old) method) args skip }
+        requires full { 4096 < used (active_page self.old) + 66 }
+        ensures good { IsGood self.new }
+        ensures view { OnOk result (view_of self.new ≡ enter_of (view_of self.old) (name_of (stored_of self.old) method) args skip) }
+        ensures layout { OnOk result (LaidBy (entered (view_of self.old) (view_of self.old).rest.next) (layout_of self.old) (layout_of self.new)) }
+        ensures limit { self.new.heap.limit ≡ self.old.heap.limit }
+        ensures contexts { OnOk result (MakesAtMost 1 (layout_of self.old) (stored_of self.old) (stored_of self.new)) }
+        ensures names { OnOk result (KeepsNames (stored_of self.old) (stored_of self.new)) }
+        ensures full { IfErr result (CausesFull (stored_of self.new) (layout_of self.old) (view_of self.old) 0 (enter_of (view_of self.old) (name_of (stored_of self.old) method) args skip)) }
+    {
+        if self.pages.used() == self.pages.len() {
+            return Err(Full::Stack);
+        }
+        let caller = self.top();
+        let sender = self.context_of(caller)?;
+        self.call_on_page(caller, sender, method, args, skip);
+        Ok(())
+    }
+
+    /// Makes the frame of a method the base frame of a free page: receiver and arguments leave its caller.
+    fn call_on_page(&mut self, caller: FrameRef, sender: Oop, method: Oop, args: u32, skip: bool)
+        requires good { IsGood self.old }
+        requires ready { IsReady (stored_of self.old) (view_of self.old) }
+        requires named { IsNamed (stored_of self.old) method }
+        requires fits { CanEnter (view_of self.old) (name_of (stored_of self.old) method) args skip }
+        requires caller { caller ≡ ref_of (active_number self.old) (top (active_page self.old)) }
+        requires sender { (top (active_page self.old)).context ≡ sender.0 }
+        requires married { sender.0 ≢ nil }
+        requires free { length self.old.pages.recent < self.old.pages.total }
+        ensures made { Takes self.old.pages self.new (λ page. begun_parts page sender.0 method.0 args skip self.old) }
+    {
+        let Some(page) = self.pages.take_free() else {
+            unreachable!();
+        };
+        let head = header(&self.heap, method);
+        let birth = self.roots.next_birth;
+        let receiver = self
+            .frames
+            .slot(caller, self.frames.depth(caller) - args - 1);
+        let new = NewFrame {
+            method,
+            closure: NIL,
+            receiver,
+            birth,
+            args: 0,
+            fill: 0,
+        };
+        let frame = self.frames.build(page, new);
+        self.frames.set_sender(frame, sender);
+        self.frames
+            .set_saved_pc(frame, count_word(entry_pc(head, skip)));
+        copy_arguments(&mut self.frames, caller, frame, args);
+        push_nils(&mut self.frames, frame, temporary_count(head) - args);
+        drop_values(&mut self.frames, caller, args + 1);
         self.roots.next_birth = birth + 1;
     }
 
@@ -109,6 +173,7 @@ impl Parts {
         ensures state { (m : Kept) → Keeps (view_of self.old) m → Keeps (view_of self.new) (leave_of m (name_of (stored_of self.old) v)) }
         ensures layout { IfSome (sender_birth (view_of self.old) (active_birth (view_of self.old))) (λ target. LaidBy (left target) (layout_of self.old) (layout_of self.new)) }
         ensures limit { self.new.heap.limit ≡ self.old.heap.limit }
+        ensures contexts { MakesAtMost 0 (layout_of self.old) (stored_of self.old) (stored_of self.new) }
         ensures ready { IsReady (stored_of self.new) (view_of self.new) }
         ensures names { KeepsNames (stored_of self.old) (stored_of self.new) }
     {
@@ -122,73 +187,47 @@ impl Parts {
         requires ready { IsReady (stored_of self.old) (view_of self.old) }
         requires target { IsSomeAnd (sender_birth (view_of self.old) (active_birth (view_of self.old))) (CanArrive (view_of self.old)) }
         ensures limit { self.new.heap.limit ≡ self.old.heap.limit }
+        ensures contexts { MakesAtMost 0 (layout_of self.old) (stored_of self.old) (stored_of self.new) }
         ensures unwound { IfSome (sender_birth (view_of self.old) (active_birth (view_of self.old))) (Unwound self.old self.new) }
     {
         let top = self.top();
         match self.frames.caller(top) {
-            Some(_) => self.frames.drop_top(PAGE),
-            None => self.rebase(top),
+            Some(_) => self.frames.drop_top(top.page),
+            None => self.leave_page(top),
         }
     }
 
-    /// The context of the base frame dies, and its sender is the base frame.
-    fn rebase(&mut self, frame: FrameRef)
+    /// The base frame of the first page dies, which was its last one, and the page is given back. Its sender is the last frame of the page
+    /// behind it; where no other page is used it is a single context, which becomes the base frame of one.
+    fn leave_page(&mut self, frame: FrameRef)
         requires good { IsGood self.old }
         requires ready { IsReady (stored_of self.old) (view_of self.old) }
         requires target { IsSomeAnd (sender_birth (view_of self.old) (active_birth (view_of self.old))) (CanArrive (view_of self.old)) }
-        requires top { frame ≡ ref_of 0 (top (page_of self.old)) }
+        requires top { frame ≡ ref_of (active_number self.old) (top (active_page self.old)) }
         requires base { IsBase self.old.frames frame }
-        ensures made { self.new ≡ based (top (page_of self.old)).caller (buried (top (page_of self.old)).context self.old) }
+        ensures limit { self.new.heap.limit ≡ self.old.heap.limit }
+        ensures contexts { MakesAtMost 0 (layout_of self.old) (stored_of self.old) (stored_of self.new) }
+        ensures unwound { IfSome (sender_birth (view_of self.old) (active_birth (view_of self.old))) (Unwound self.old self.new) }
     {
         let sender = self.frames.sender(frame);
-        let context = self.frames.context(frame);
-        self.frames.drop_top(PAGE);
-        self.bury(context);
-        self.base(sender);
-    }
-
-    /// A context of the heap dies: its sender and its pc are nil, and its stack is empty.
-    fn bury(&mut self, context: Oop)
-        requires { 6 ≤ slot_count_of self.old.heap.objects context.0 }
-        ensures { self.new ≡ buried context.0 self.old }
-    {
-        self.heap.set_slot(context, SENDER, Oop(BASE));
-        self.heap.set_slot(context, PC, Oop(BASE));
-        self.heap.set_slot(context, STACKP, count_word(0));
-    }
-
-    /// Makes a context of the heap the base frame of the empty page.
-    fn base(&mut self, context: Oop)
-        requires { CanBase self.old context.0 }
-        ensures { self.new ≡ based context.0 self.old }
-    {
-        let new = NewFrame {
-            method: self.heap.slot(context, METHOD),
-            closure: self.heap.slot(context, CLOSURE),
-            receiver: self.heap.slot(context, RECEIVER),
-            birth: self.heap.birth(context),
-            args: 0,
-            fill: 0,
-        };
-        let frame = self.frames.build(PAGE, new);
-        self.frames
-            .set_sender(frame, self.heap.slot(context, SENDER));
-        self.frames.set_saved_pc(frame, self.heap.slot(context, PC));
-        self.frames.set_context(frame, context);
-        self.copy_stack(frame, context);
-    }
-
-    /// Pushes the stack of a context onto that of a frame whose stack is empty.
-    fn copy_stack(&mut self, frame: FrameRef, context: Oop)
-        requires alone { self.old.frames ≡ (top (page_of self.old) ∷ []) ∷ [] }
-        requires frame { frame ≡ ref_of 0 (top (page_of self.old)) }
-        requires empty { (top (page_of self.old)).stack ≡ [] }
-        requires context { IsContextAt self.old.heap.objects context.0 }
-        ensures { self.new ≡ record self.old { frames = (with_stack (stack_words self.old.heap.objects context.0) (top (page_of self.old)) ∷ []) ∷ [] } }
-    {
-        for i in 0..count(self.heap.slot(context, STACKP)) {
-            self.frames.push(frame, self.heap.slot(context, STACK + i));
+        self.frames.drop_top(frame.page);
+        self.pages.free(frame.page);
+        if self.pages.used() == 0 {
+            self.rebase(sender);
         }
+    }
+
+    /// Makes a live single context of the heap the base frame of a free page.
+    fn rebase(&mut self, context: Oop)
+        requires good { IsGood self.old }
+        requires context { CanBase self.old.heap.objects context.0 }
+        requires free { length self.old.pages.recent < self.old.pages.total }
+        ensures made { Takes self.old.pages self.new (λ page. based_parts page context.0 self.old) }
+    {
+        let Some(page) = self.pages.take_free() else {
+            unreachable!();
+        };
+        base(&mut self.heap, &mut self.frames, context, page);
     }
 }
 

@@ -1,35 +1,43 @@
 //! What a world of frames keeps, and how its parts change.
-ghost use Rattle.std.specs.Prelude.{◌≡◌, ◌<◌, ◌≤◌, ◌-◌, length, nat_lt, Some, IfSome, IsSome, is_some, not, true, slice_get, unwrap_or};
+ghost use Rattle.std.specs.Prelude.{◌≡◌, ◌<◌, ◌≤◌, ◌-◌, length, nat_lt, Some, IfSome, IfErr, IfOk, OnOk, false, IsSome, is_some, not, true, slice_get, unwrap_or};
 ghost use Rattle.cs_frame.specs.Page.{IsFrame, IsTop, frame, ref_of, top};
+ghost use Rattle.cs_marriage.specs.Agree.{frame_size as size_of_frame};
 ghost use Rattle.cs_model.specs.Obj.{context_in, lies_in};
-ghost use Rattle.cs_model.specs.Operation.{nil_of, pop_of, push_of, set_pc_of, set_stack_of, store_of};
+ghost use Rattle.cs_model.specs.Operation.{add_of, next_ref, nil_of, pop_of, push_of, set_pc_of, set_stack_of, store_of};
 ghost use Rattle.cs_model.specs.Read.{active_context, depth_of, method_of, pc_of, receiver_of, size_of, stack_of};
 ghost use Rattle.cs_model.specs.Return.{closure_at, context_birth, has_room, is_live, sender_birth};
 ghost use Rattle.cs_model.specs.State.{object_at, object_of};
+ghost use Rattle.cs_heap.specs.Object.{size};
+ghost use Rattle.cs_acts.specs.declared.act.Full.TheVariants as full;
+ghost use Rattle.cs_acts.specs.Full.{CausesFull};
+ghost use Rattle.cs_acts.specs.Made.{CanAllocate, MakesAtMost, blank_of};
 ghost use Rattle.cs_acts.specs.Names.{IsNamed, KeepsNames, Names, name_of};
 ghost use Rattle.cs_acts.specs.Ready.{IsReady, is_storable};
 ghost use Rattle.cs_acts.specs.Targets.{is_gone, method_in};
-ghost use Rattle.cs_stack.specs.View.{act_of, base_context, hides, layout_of, page_of, size_from, stored_of, view_of};
+ghost use Rattle.cs_model.specs.Context.{is_context_ref};
+ghost use Rattle.cs_stack.specs.View.{act_of, active_page, layout_of, stored_of, view_of};
+ghost use Rattle.cs_stack.specs.Moved.{active_number};
 ghost use Rattle.cs_stack.specs.Good.{IsGood};
 
 use crate::words::{context_size, count, count_word, header, is_context, is_count};
-use cs_acts::{Act, Roots};
+use cs_acts::{Act, Full, Roots};
 use cs_classes::Classes;
 use cs_frame::{FrameRef, Frames};
-use cs_heap::Heap;
+use cs_heap::{BASE, Heap};
+use cs_marriage::{Spouse, spouse};
 use cs_pages::Pages;
 use cs_word::Oop;
 
 /// Heap, class table and roots, which stack pages are used, and the frames on them.
 #[derive(Drop)]
 pub struct Parts {
-    /// All objects, and each context that has an object. The words of one that has a frame are stale.
+    /// All objects, and each context that has an object. One that has or had a frame names the place of that frame.
     pub heap: Heap,
     /// The class table.
     pub classes: Classes,
     /// What an image keeps beside its objects.
     pub roots: Roots,
-    /// Which pages are used. There is one, and it is used where it has a frame.
+    /// Which pages are used: those that have a frame, the most recent first.
     pub pages: Pages,
     /// The frames of the pages.
     pub frames: Frames,
@@ -53,21 +61,18 @@ pub(crate) const STACK: u32 = 6;
 /// The slot in which a process keeps its context while it doesn't run.
 pub(crate) const SUSPENDED_CONTEXT: u32 = 1;
 
-/// The only page.
-pub(crate) const PAGE: u32 = 0;
-
-/// The base frame, which begins with its page.
-const BASE_FRAME: FrameRef = FrameRef { page: PAGE, at: 0 };
+/// The word of nil.
+pub(crate) const NIL: Oop = Oop(BASE);
 
 impl Parts {
     /// The last frame, which is the active one.
     pub(crate) fn top(&self) -> FrameRef
         requires good { IsGood self.now }
         requires ready { IsReady (stored_of self.now) (view_of self.now) }
-        ensures is { result ≡ ref_of 0 (top (page_of self.now)) }
+        ensures is { result ≡ ref_of (active_number self.now) (top (active_page self.now)) }
         ensures last { IsTop self.now.frames result }
     {
-        let Some(top) = self.frames.top(PAGE) else {
+        let Some(top) = self.frames.top(self.pages.order(0)) else {
             unreachable!();
         };
         top
@@ -79,7 +84,10 @@ impl Parts {
         ensures value { act_of self.now result ≡ (view_of self.now).rest.active }
         ensures gone { is_gone result ≡ not (is_some (act_of self.now result)) }
     {
-        match self.frames.top(PAGE) {
+        if self.pages.used() == 0 {
+            return Act::Gone;
+        }
+        match self.frames.top(self.pages.order(0)) {
             Some(f) => act(f),
             None => Act::Gone,
         }
@@ -95,35 +103,34 @@ impl Parts {
         if !is_context(&self.heap, word) {
             return Act::Gone;
         }
-        if self.is_hidden(word) {
-            act(BASE_FRAME)
-        } else {
-            Act::Context(word)
-        }
+        self.act_of(word)
     }
 
-    /// Whether the context at an address is the base frame's.
-    fn is_hidden(&self, context: Oop) -> bool
-        requires { IsGood self.now }
-        ensures { result ≡ hides (base_context (page_of self.now)) context.0 }
+    /// What stands for a context: its frame, or where it is single or widowed its address.
+    pub(crate) fn act_of(&self, context: Oop) -> Act
+        requires good { IsGood self.now }
+        requires named { IsNamed (stored_of self.now) context }
+        requires context { is_context_ref (view_of self.now) (name_of (stored_of self.now) context) ≡ true }
+        ensures value { act_of self.now result ≡ context_birth (view_of self.now) (name_of (stored_of self.now) context) }
+        ensures gone { is_gone result ≡ false }
     {
-        match self.frames.top(PAGE) {
-            Some(_) => self.frames.context(BASE_FRAME) == context,
-            None => false,
+        match spouse(&self.heap, &self.frames, context) {
+            Spouse::Married(f) => act(f),
+            Spouse::Single | Spouse::Widowed => Act::Context(context),
         }
     }
 
     /// How many values the stack of a frame may hold.
     fn frame_size(&self, f: FrameRef) -> u32
         requires good { IsGood self.now }
-        requires page { f.page ≡ 0 }
         requires frame { IsFrame self.now.frames f }
-        ensures { result ≡ size_from self.now.heap.objects (page_of self.now) f.at }
+        ensures { result ≡ size_of_frame self.now.heap.objects (frame self.now.frames f) }
     {
-        if f.at == 0 {
-            self.heap.slot_count(self.frames.context(f)) - STACK
-        } else {
+        let context = self.frames.context(f);
+        if context == NIL {
             context_size(header(&self.heap, self.frames.method(f)))
+        } else {
+            self.heap.slot_count(context) - STACK
         }
     }
 
@@ -197,9 +204,8 @@ impl Parts {
     /// Whether the stack of a frame holds as many values as its size.
     fn is_full(&self, f: FrameRef) -> bool
         requires good { IsGood self.now }
-        requires page { f.page ≡ 0 }
         requires frame { IsFrame self.now.frames f }
-        ensures { not result ≡ nat_lt (length (frame self.now.frames f).stack) (size_from self.now.heap.objects (page_of self.now) f.at) }
+        ensures { not result ≡ nat_lt (length (frame self.now.frames f).stack) (size_of_frame self.now.heap.objects (frame self.now.frames f)) }
     {
         self.frames.depth(f) >= self.frame_size(f)
     }
@@ -327,10 +333,35 @@ impl Parts {
         ensures good { IsGood self.new }
         ensures view { view_of self.new ≡ store_of (view_of self.old) (name_of (stored_of self.old) o) i (name_of (stored_of self.old) v) }
         ensures names { KeepsNames (stored_of self.old) (stored_of self.new) }
+        ensures contexts { MakesAtMost 0 (layout_of self.old) (stored_of self.old) (stored_of self.new) }
+        ensures layout { layout_of self.new ≡ layout_of self.old }
         ensures rest { self.new ≡ record self.old { heap = self.new.heap } }
         ensures limit { self.new.heap.limit ≡ self.old.heap.limit }
     {
         self.heap.set_slot(o, i, v);
+    }
+
+    /// Makes an object.
+    pub(crate) fn allocate(&mut self, class: u32, format: u8, slots: u32) -> Result<Oop, Full>
+        requires good { IsGood self.old }
+        requires fits { CanAllocate (view_of self.old) class format slots }
+        ensures good { IsGood self.new }
+        ensures view { OnOk result (view_of self.new ≡ add_of (view_of self.old) (blank_of (view_of self.old) class format slots)) }
+        ensures value { IfOk result (λ o. Names (stored_of self.new) o (next_ref (view_of self.old))) }
+        ensures layout { layout_of self.new ≡ layout_of self.old }
+        ensures limit { self.new.heap.limit ≡ self.old.heap.limit }
+        ensures contexts { MakesAtMost 0 (layout_of self.old) (stored_of self.old) (stored_of self.new) }
+        ensures names { OnOk result (KeepsNames (stored_of self.old) (stored_of self.new)) }
+        ensures full { IfErr result (λ why. (why ≡ full.Heap) × CausesFull (stored_of self.new) (layout_of self.old) (view_of self.old) (size slots) (add_of (view_of self.old) (blank_of (view_of self.old) class format slots)) why) }
+    {
+        let birth = self.roots.next_birth;
+        match self.heap.allocate(class, format, slots, birth) {
+            Ok(made) => {
+                self.roots.next_birth = birth + 1;
+                Ok(made)
+            }
+            Err(_) => Err(Full::Heap),
+        }
     }
 
     /// Pushes a value onto the active stack.

@@ -6,6 +6,7 @@ ghost use Rattle.cs_classes.specs.Meaning.{count_of};
 ghost use Rattle.cs_model.specs.Obj.{context_size, temporary_count, literal_count};
 ghost use Rattle.cs_model.specs.Ref.{natural_of};
 ghost use Rattle.cs_acts.specs.Reading.{is_context_at};
+ghost use Rattle.cs_marriage.specs.Place.{names_place};
 
 use cs_heap::Heap;
 use cs_word::{Kind, Oop};
@@ -55,6 +56,13 @@ pub(crate) fn count_word(count: u32) -> Oop
     ensures { result.0 ≡ small_word (pos count) }
 {
     Oop(2 * count + 1)
+}
+
+/// Whether a word of a sender slot names the place of a frame: it is a SmallInteger.
+pub(crate) fn names_place(word: Oop) -> bool
+    ensures { result ≡ names_place word.0 }
+{
+    word.0 % 2 == 1
 }
 
 /// Whether a word is the address of a context.
