@@ -8,3 +8,6 @@ pub mod Alike
 pub mod Tops
 pub mod Laid
 pub mod Counting
+pub mod Changes
+pub mod Edits
+pub mod Writing
