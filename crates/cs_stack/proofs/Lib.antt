@@ -4,3 +4,8 @@ pub mod Bare
 pub mod Framed
 pub mod Closed
 pub mod Tops
+pub mod Dying
+pub mod Dropping
+pub mod Returning
+pub mod Leaving
+pub mod Unwinding
