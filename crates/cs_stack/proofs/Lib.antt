@@ -9,3 +9,5 @@ pub mod Dropping
 pub mod Returning
 pub mod Leaving
 pub mod Unwinding
+pub mod Linking
+pub mod Rebasing
