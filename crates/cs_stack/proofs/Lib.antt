@@ -11,3 +11,4 @@ pub mod Leaving
 pub mod Unwinding
 pub mod Linking
 pub mod Rebasing
+pub mod Based
