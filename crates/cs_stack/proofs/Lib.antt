@@ -12,3 +12,4 @@ pub mod Unwinding
 pub mod Linking
 pub mod Rebasing
 pub mod Based
+pub mod Freeing

@@ -136,7 +136,7 @@ module _ {w : Parts} (good : IsGood w) (ready : IsReady (stored_of w) (view_of w
         ∙ ap (λ c. Some (Ctx (dead (view_of w).rest.nil c))) (sym o.context))
   ]
 
-  other : (pages : Order) (i : ℕ) → i ≢ active_birth (view_of w) → state.object_at (view_of (dropped pages)) i ≡ state.object_at (view_of w) i
+  pub other : (pages : Order) (i : ℕ) → i ≢ active_birth (view_of w) → state.object_at (view_of (dropped pages)) i ≡ state.object_at (view_of w) i
   other pages i off = onto_kept o.p o.f o.fs fit o.is (objects_of (bare os)) i (λ e. off (e ∙ sym o.birth))
 
   -- what is left of the state, with another context active
@@ -157,7 +157,7 @@ module _ {w : Parts} (good : IsGood w) (ready : IsReady (stored_of w) (view_of w
   total_kept = good.total ∙ sym (length-on_page w.frames o.p rest_of)
 
   module _ (g : Target w) where
-    sender_is : ref.Obj g.t ≡ frame_sender os o.f o.fs
+    pub sender_is : ref.Obj g.t ≡ frame_sender os o.f o.fs
     unfolding frame_context
     sender_is = sym g.sends.is ∙ ap (λ c. c.sender) o.context
 
@@ -215,7 +215,7 @@ module _ {w : Parts} (good : IsGood w) (ready : IsReady (stored_of w) (view_of w
 
     module _ (alone : o.fs ≡ []) (pages : Order) (freed : pages ≡ record w.pages { recent = without o.p w.pages.recent }) (free : IsFree pages o.p)
         (others : (q : ℕ) → q ≢ o.p → Contains pages.recent q ↔ Contains w.pages.recent q) (sound : IsSound pages) where
-      recent_is : pages.recent ≡ o.qs
+      pub recent_is : pages.recent ≡ o.qs
       recent_is =
           ap (λ (n : Order). n.recent) freed ∙ ap (without o.p) o.recent
           ∙ ap (λ b. if not b then o.p ∷ without o.p o.qs else without o.p o.qs) (eq-eqb o.p o.p refl) ∙ without-lacking o.p o.qs off
@@ -257,7 +257,7 @@ module _ {w : Parts} (good : IsGood w) (ready : IsReady (stored_of w) (view_of w
       pub sender_at : (is_object os o.f.caller ≡ true) × (birth_of os o.f.caller ≡ g.t)
       sender_at = address_of-object os o.f.caller g.t caller_names (sym (sender_is ∙ ap (frame_sender os o.f) alone))
 
-      laid_alone : layout_of w ≡ Some (record { most = w.pages.total; pages = (o.f.birth ∷ []) ∷ laid_pages w.frames o.qs })
+      pub laid_alone : layout_of w ≡ Some (record { most = w.pages.total; pages = (o.f.birth ∷ []) ∷ laid_pages w.frames o.qs })
       laid_alone = laid ∙ ap (λ fs. Some (record { most = w.pages.total; pages = births_of (o.f ∷ fs) ∷ laid_pages w.frames o.qs })) alone
 
       -- another page is behind it
