@@ -13,3 +13,4 @@ pub mod Linking
 pub mod Rebasing
 pub mod Based
 pub mod Freeing
+pub mod Taking
