@@ -14,3 +14,5 @@ pub mod Rebasing
 pub mod Based
 pub mod Freeing
 pub mod Taking
+pub mod Opening
+pub mod Scheduled
