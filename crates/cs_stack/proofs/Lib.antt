@@ -2,7 +2,9 @@ pub mod Maps
 pub mod Lives
 pub mod Bare
 pub mod Framed
+pub mod Places
 pub mod Closed
+pub mod Alike
 pub mod Tops
 pub mod Dying
 pub mod Dropping
@@ -16,3 +18,5 @@ pub mod Freeing
 pub mod Taking
 pub mod Opening
 pub mod Scheduled
+pub mod Laid
+pub mod Counting
