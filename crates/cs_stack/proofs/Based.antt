@@ -292,9 +292,3 @@ module _ {u : Parts} (good : IsGood u) (closed : u.pages.recent ≡ []) (s : ℕ
   pub based_layout : layout_of (based_parts page s u) ≡ Some (record { most = u.pages.total; pages = (birth_of os s ∷ []) ∷ [] })
   based_layout = ap (λ ns. Some (record { most = u.pages.total; pages = laid_pages ps ns })) recent_is
       ∙ ap (λ fs. Some (record { most = u.pages.total; pages = births_of fs ∷ [] })) page_here
-
-  pub based_one : length (active_page (based_parts page s u)) ≤ 1
-  based_one = omega (arith, ap length page_is)
-
-  pub based_alone : length (based_parts page s u).pages.recent ≤ 1
-  based_alone = omega (arith, ap length recent_is)

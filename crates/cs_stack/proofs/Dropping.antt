@@ -63,10 +63,6 @@ laid_apart ps p h (q ∷ qs) l =
 
 -- ---- births on pages
 
-pub lacks_births : (i : ℕ) (fs : List Frame) → Lacks i fs → is_on i (births_of fs) ≡ false
-lacks_births i [] l = refl
-lacks_births i (f ∷ fs) l = ap (λ b. b || is_on i (births_of fs)) (ne_eqb i f.birth l.0) ∙ lacks_births i fs l.1
-
 filter_on : (i : ℕ) (pages : List (List ℕ)) → AllByRecursion (λ page. is_on i page ≡ false) pages → filter (is_on i) pages ≡ []
 filter_on i [] h = refl
 filter_on i (page ∷ pages) h = rw h.0 (filter_on i pages h.1)

@@ -4,13 +4,12 @@ use Rattle.std.specs.Prelude.{slice_get, slice_index, if◌then◌else◌, ◌==
 use Rattle.std.specs.Option.{option_map_or}
 use Rattle.std.specs.Ordering.{nat_cmp}
 use Rattle.std.specs.FinMap.{FinMap, get}
-use Rattle.std.proofs.lemmas.Bool.{eq-eqb, ne_eqb}
+use Rattle.std.proofs.lemmas.Bool.{ne_eqb}
 use Rattle.cs_word.specs.Word.{small_word}
 use Rattle.cs_heap.specs.Object.{Object, hash_of, object_at, slot_count_of, slot_of}
 use Rattle.cs_classes.specs.declared.Roots.{Roots}
 use Rattle.cs_classes.specs.Meaning.{context_of, count_of, depth_in, is_context, obj_of, objects_of, ref_of}
 use Rattle.cs_classes.specs.Sound.{IsWhole}
-use Rattle.cs_classes.proofs.Heaps.{birth_of-object_at, object_there, stands}
 use Rattle.cs_classes.proofs.Refs.{count_of-small}
 use Rattle.cs_classes.proofs.Sorts.{obj_of-context}
 use Rattle.cs_classes.proofs.Sounds.{IsWholeContext, sound_at, whole_context}
@@ -19,12 +18,12 @@ use Rattle.cs_frame.specs.Frame.{Frame, nil}
 use Rattle.cs_marriage.specs.Agree.{AreMarried, frame_size}
 use Rattle.cs_marriage.specs.Place.{names_place}
 use Rattle.cs_marriage.proofs.Agreeing.{size_some}
-use Rattle.cs_marriage.proofs.Objects.{context_there}
 use Rattle.cs_marriage.proofs.Places.{link_names}
 use Rattle.cs_model.specs.Ref as ref
 use Rattle.cs_model.specs.Obj.{Context, Ctx, dead}
 use Rattle.cs_stack.specs.View.{bare, dead_words, frame_context, frame_hash, is_linked, unframed}
 use Rattle.cs_stack.proofs.Bare.{bare_element}
+use Rattle.cs_stack.proofs.Places.{SpouseOf, spouse}
 
 -- ---- the words of a dead context
 
@@ -63,14 +62,17 @@ pub unframed_linked : (x : Object) → is_linked x ≡ true → unframed x ≡ r
 unframed_linked x h = ap (λ b. if b then record x { words = dead_words x.words } else x) h
 
 module _ {os : List Object} {table : FinMap nat_cmp ℕ} {roots : Roots} (heap : IsWhole os table roots) (r : FrameRef) (f : Frame) (gs : List Frame) (ne : f.context ≢ nil) (m : AreMarried os r f) where
+  the_spouse : SpouseOf os f
+  the_spouse = spouse os r f m
+
   abbrev x : Object
-  x = (object_there os f.context (context_there os f.context m.context)).0
+  x = the_spouse.object
 
   there : object_at os f.context ≡ Some x
-  there = (object_there os f.context (context_there os f.context m.context)).1
+  there = the_spouse.there
 
   class : is_context x ≡ true
-  class = eq-eqb _ _ (sym (ap (λ (o : Option Object). option_map_or (λ (y : Object). y.class) o 0) there) ∙ m.context.class)
+  class = the_spouse.context
 
   slot_is : (i : ℕ) → slot_of os f.context i ≡ slice_index x.words i
   slot_is i = ap (λ (o : Option Object). option_map_or (λ (y : Object). slice_index y.words i) o 0) there
@@ -108,9 +110,7 @@ module _ {os : List Object} {table : FinMap nat_cmp ℕ} {roots : Roots} (heap :
 
     pub widow : get (objects_of (bare os)) f.birth ≡ Some (Ctx (dead n (frame_context os f gs)))
     widow =
-        let s = stands os f.context x there in
-        let birth : f.birth ≡ x.birth = sym m.birth ∙ birth_of-object_at os f.context x there in
-        ap (get (objects_of (bare os))) birth ∙ bare_element os s.0 x heap.heap s.1.element
+        ap (get (objects_of (bare os))) (sym the_spouse.birth) ∙ bare_element os the_spouse.place x heap.heap the_spouse.element
         ∙ ap (λ y. Some (obj_of (ref_of os) y)) (unframed_linked x linked)
         ∙ ap (λ o. Some o) (obj_of-context (ref_of os) (record x { words = dead_words x.words }) class)
         ∙ ap (λ c. Some (Ctx c)) death

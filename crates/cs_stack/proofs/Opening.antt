@@ -5,7 +5,6 @@ use Rattle.std.specs.Option.{option_map_or}
 use Rattle.std.specs.Ordering.{nat_cmp}
 use Rattle.std.specs.FinMap.{FinMap, get}
 use Rattle.std.proofs.lemmas.Bool.{eq-eqb}
-use Rattle.std.proofs.lemmas.Bool.Decides.{eqb_tells}
 use Rattle.std.proofs.lemmas.List.{length-replicate}
 use Rattle.cs_word.specs.declared.Kind.{Kind}
 use Rattle.cs_word.specs.declared.Kind.TheVariants as kind
@@ -36,7 +35,6 @@ use Rattle.cs_model.specs.State.{Kept, PcLies, active_process, is_nil, object_of
 use Rattle.cs_model.specs.Read.{IsRunning}
 use Rattle.cs_model.specs.Due.{is_idle, is_idle_at}
 use Rattle.cs_model.specs.Settle.{open_if, open_kept}
-use Rattle.cs_acts.specs.Layout.{IsFresh, is_frame}
 use Rattle.cs_stack.specs.declared.parts.Parts.{Parts}
 use Rattle.cs_stack.specs.View.{active_in, active_page, bare, births_of, dead_words, first_of, is_linked, laid_pages, layout_of, loaded_kept, unframed, view_of}
 use Rattle.cs_stack.specs.Good.{AreApart, FramesFit, IsChain, IsGood, LinkFits, PcFits}
@@ -189,22 +187,3 @@ module _ (l : Loaded) (n : ℕ) (order : Order) (frames : List (List Frame)) (wh
 
     pub made_runs : (is_idle (loaded_kept l) ≡ false → IsRunning (open_kept (loaded_kept l))) → is_idle (view_of made) ≡ false → IsRunning (open_kept (view_of made))
     made_runs running = subst (λ (k : Kept). is_idle k ≡ false → IsRunning (open_kept k)) (sym made_view) running
-
--- ---- the layout
-
--- on one page at most, with one frame at most, no context but the active one has a frame
-pub fresh_one : (w : Parts) → length (active_page w) ≤ 1 → length w.pages.recent ≤ 1 → IsFresh (view_of w) (layout_of w)
-fresh_one w few alone = go w.pages.recent few alone
-  where
-    at : (fs : List Frame) → length fs ≤ 1 → (birth : ℕ) → is_frame birth (births_of fs ∷ []) ≡ true → active_in fs ≡ Some birth
-    at [] few birth h = absurd (cc)
-    at (f ∷ []) few birth h = elim (eqb_tells birth f.birth) [
-      | inl e ↦ ap (λ n. Some n) (sym e.1)
-      | inr e ↦ absurd (let no : false ≡ true = sym (ap (λ b. (b || false) || false) e.0) ∙ h in cc)
-    ]
-    at (f ∷ g ∷ gs) few birth h = absurd (omega (arith, few))
-
-    go : (ns : List ℕ) → length (first_of w.frames ns) ≤ 1 → length ns ≤ 1 → (birth : ℕ) → is_frame birth (laid_pages w.frames ns) ≡ true → active_in (first_of w.frames ns) ≡ Some birth
-    go [] few alone birth h = absurd (cc)
-    go (p ∷ []) few alone birth h = at (frames_of w.frames p) few birth h
-    go (p ∷ q ∷ ns) few alone birth h = absurd (omega (arith, alone))

@@ -23,7 +23,7 @@ use Rattle.cs_stack.specs.declared.parts.Parts.{Parts}
 use Rattle.cs_stack.specs.View.{active_in, active_page, bare, first_of, stored_of, view_of}
 use Rattle.cs_stack.specs.Good.{IsGood}
 use Rattle.cs_stack.specs.Moved.{Takes, based_parts, taken_of}
-use Rattle.cs_stack.proofs.Based.{based_alone, based_good, based_one, based_view}
+use Rattle.cs_stack.proofs.Based.{based_good, based_view}
 use Rattle.cs_stack.proofs.Rebasing.{IsLive, bare_objects, can_base, live_at}
 use Rattle.cs_stack.proofs.Unwinding.{address_of-object}
 
@@ -118,9 +118,3 @@ module _ (w v : Parts) (closed : w.pages.recent ≡ []) (process nil context : O
     pub taken_view : view_of z ≡ taken_of (view_of w) (name_of (stored_of w) process)
     taken_view = ap view_of takes.is ∙ based_view good bare_pages context.0 live takes.page takes.free nil_named
         ∙ ap (λ n. record (view_of v) { rest = record (view_of v).rest { active = Some n } }) address.1 ∙ sym taken_is
-
-    pub taken_one : length (active_page z) ≤ 1
-    taken_one = subst (λ n. length (active_page n) ≤ 1) (sym takes.is) (based_one good bare_pages context.0 live takes.page takes.free nil_named)
-
-    pub taken_alone : length z.pages.recent ≤ 1
-    taken_alone = subst (λ (n : Parts). length n.pages.recent ≤ 1) (sym takes.is) (based_alone good bare_pages context.0 live takes.page takes.free nil_named)

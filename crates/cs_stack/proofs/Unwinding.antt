@@ -14,6 +14,7 @@ use Rattle.cs_classes.specs.Meaning.{kept_of, objects_of, ref_of, ref_of_kind}
 use Rattle.cs_classes.specs.Sound.{is_reference, is_reference_kind}
 use Rattle.cs_frame.specs.Frame.{Frame, nil}
 use Rattle.cs_frame.specs.Page.{IsStacked, frames_of, on_page, rest_of, top, used}
+use Rattle.cs_frame.specs.Page.{ref_of as ref_of_frame}
 use Rattle.cs_frame.proofs.PageLaws.{length-on_page}
 use Rattle.cs_marriage.specs.Agree.{Agree, AreMarried, FrameFits}
 use Rattle.cs_marriage.proofs.Laws.{agree_dropped, top_fits}
@@ -35,9 +36,11 @@ use Rattle.cs_stack.specs.Good as good_specs
 use Rattle.cs_stack.specs.Moved.{Unwinds, Unwound}
 use Rattle.cs_stack.proofs.Bare.{bare_none}
 use Rattle.cs_stack.proofs.Dying.{widow}
-use Rattle.cs_stack.proofs.Dropping.{chain_apart, chain_first, chain_rest, gone_fit, gone_here, gone_other, laid_apart, lacks_births, onto_gone, onto_kept, touched_first, within}
-use Rattle.cs_stack.proofs.Framed.{AllFit, all_fit}
+use Rattle.cs_stack.proofs.Dropping.{chain_apart, chain_first, chain_rest, gone_fit, gone_here, gone_other, laid_apart, onto_gone, onto_kept, touched_first, within}
+use Rattle.cs_stack.proofs.Framed.{AllFit, IsOn, all_fit, here}
+use Rattle.cs_stack.proofs.Laid.{off_births}
 use Rattle.cs_stack.proofs.Leaving.{Target}
+use Rattle.cs_stack.proofs.Places.{good_stacked, married_on}
 use Rattle.cs_stack.proofs.Tops.{Opened}
 
 -- ---- words that name objects
@@ -90,13 +93,6 @@ module _ {w : Parts} (good : IsGood w) (ready : IsReady (stored_of w) (view_of w
   abbrev fit : AllFit w.heap.objects w.roots.next_birth w.frames
   fit = all_fit w good
 
-  stacked : IsStacked (frames_of w.frames o.p)
-  stacked = go (frames_of w.frames o.p) (good.frames o.p)
-    where
-      go : (fs : List Frame) → FramesFit os w.roots.next_birth fs → IsStacked fs
-      go [] h = tt
-      go (f ∷ fs) h = (h.0.stands, go fs h.1)
-
   pub good_dropped : (pages : Order) → IsOrdered (on_page w.frames o.p rest_of) pages → IsGood (dropped pages)
   good_dropped pages ordered =
       let all = gone_fit o.p o.f o.fs fit o.is in
@@ -107,7 +103,7 @@ module _ {w : Parts} (good : IsGood w) (ready : IsReady (stored_of w) (view_of w
         births = good.births;
         pcs = good.pcs;
         links = good.links;
-        agree = agree_dropped os w.frames o.p good.agree o.within stacked;
+        agree = agree_dropped os w.frames o.p good.agree o.within (good_stacked w good o.p);
         frames = all.frames;
         apart = all.apart;
         total = ordered.total;
@@ -119,11 +115,8 @@ module _ {w : Parts} (good : IsGood w) (ready : IsReady (stored_of w) (view_of w
   nil_name : ref_of os nil ≡ ref.Obj (view_of w).rest.nil
   nil_name = (nil_names (stored_of w) (view_of w) (record { 0 = nil }) ready.sound refl).is
 
-  married : o.f.context ≢ nil → AreMarried os (record { page = o.p; at = o.f.at }) o.f
-  married ne =
-      let fits = subst (λ (fs : List Frame). FrameFits os (record { page = o.p; at = (top fs).at }) (top fs)) o.is
-      (top_fits os w.frames o.p good.agree (omega (arith, ap length o.is))) in
-      fits.married ne
+  married : o.f.context ≢ nil → AreMarried os (ref_of_frame o.p o.f) o.f
+  married = married_on w good o.p (subst (IsOn o.f o.fs) (sym o.is) here)
 
   here_is : (pages : Order) → state.object_at (view_of (dropped pages)) (active_birth (view_of w)) ≡ get (objects_of (bare os)) o.f.birth
   here_is pages = ap (state.object_at (view_of (dropped pages))) o.birth ∙ onto_gone o.p o.f o.fs fit o.is (objects_of (bare os))
@@ -132,7 +125,7 @@ module _ {w : Parts} (good : IsGood w) (ready : IsReady (stored_of w) (view_of w
       ⊎ (state.object_at (view_of (dropped pages)) (active_birth (view_of w)) ≡ Some (Ctx (dead (view_of w).rest.nil (active_context (view_of w)))))
   died pages = elim (cases_eq o.f.context nil) [
     | inl none ↦ inl (here_is pages ∙ bare_none os o.f.birth good.whole.heap (o.fits.alone none))
-    | inr ne ↦ inr (here_is pages ∙ widow good.whole (record { page = o.p; at = o.f.at }) o.f o.fs ne (married ne) (view_of w).rest.nil nil_name
+    | inr ne ↦ inr (here_is pages ∙ widow good.whole (ref_of_frame o.p o.f) o.f o.fs ne (married ne) (view_of w).rest.nil nil_name
         ∙ ap (λ c. Some (Ctx (dead (view_of w).rest.nil c))) (sym o.context))
   ]
 
@@ -167,8 +160,8 @@ module _ {w : Parts} (good : IsGood w) (ready : IsReady (stored_of w) (view_of w
       goal_is : g.t ≡ d.birth
       goal_is = let same : ref.Obj g.t ≡ ref.Obj d.birth = sender_is ∙ ap (frame_sender os o.f) below in cc
 
-      here : frames_of (on_page w.frames o.p rest_of) o.p ≡ d ∷ ds
-      here = gone_here o.p o.f o.fs fit o.is ∙ below
+      stays : frames_of (on_page w.frames o.p rest_of) o.p ≡ d ∷ ds
+      stays = gone_here o.p o.f o.fs fit o.is ∙ below
 
       both : frames_of w.frames o.p ≡ o.f ∷ d ∷ ds
       both = o.is ∙ ap (λ fs. o.f ∷ fs) below
@@ -176,7 +169,7 @@ module _ {w : Parts} (good : IsGood w) (ready : IsReady (stored_of w) (view_of w
       used_kept : (q : ℕ) → Contains w.pages.recent q ↔ (0 < length (frames_of (on_page w.frames o.p rest_of) q))
       used_kept q = elim (cases_eq q o.p) [
         | inl e ↦ (
-          λ _. subst (λ n. 0 < length (frames_of (on_page w.frames o.p rest_of) n)) (sym e) (omega (arith, ap length here)),
+          λ _. subst (λ n. 0 < length (frames_of (on_page w.frames o.p rest_of) n)) (sym e) (omega (arith, ap length stays)),
           λ _. (good.used_pages q).1 (subst (λ n. 0 < length (frames_of w.frames n)) (sym e) (omega (arith, ap length both))),
         )
         | inr ne ↦ (
@@ -191,15 +184,15 @@ module _ {w : Parts} (good : IsGood w) (ready : IsReady (stored_of w) (view_of w
         order = good.order;
         used_pages = used_kept;
         chain = subst (IsChain (on_page w.frames o.p rest_of)) (sym o.recent)
-            (chain_first w.frames o.p rest_of o.qs off (ap (λ fs. (base_of fs).caller) here ∙ sym (ap (λ fs. (base_of fs).caller) both)) chain);
+            (chain_first w.frames o.p rest_of o.qs off (ap (λ fs. (base_of fs).caller) stays ∙ sym (ap (λ fs. (base_of fs).caller) both)) chain);
       }
 
       page_is : active_page (dropped w.pages) ≡ d ∷ ds
-      page_is = ap (first_of (on_page w.frames o.p rest_of)) o.recent ∙ here
+      page_is = ap (first_of (on_page w.frames o.p rest_of)) o.recent ∙ stays
 
       laid_now : layout_of (dropped w.pages) ≡ Some (record { most = w.pages.total; pages = births_of (d ∷ ds) ∷ laid_pages w.frames o.qs })
       laid_now = ap (λ ns. Some (record { most = w.pages.total; pages = laid_pages (on_page w.frames o.p rest_of) ns })) o.recent
-          ∙ ap (λ fs. Some (record { most = w.pages.total; pages = births_of fs ∷ laid_pages (on_page w.frames o.p rest_of) o.qs })) here
+          ∙ ap (λ fs. Some (record { most = w.pages.total; pages = births_of fs ∷ laid_pages (on_page w.frames o.p rest_of) o.qs })) stays
           ∙ ap (λ pages. Some (record { most = w.pages.total; pages = births_of (d ∷ ds) ∷ pages })) (laid_apart w.frames o.p rest_of o.qs off)
 
       pub to_below : Unwound w (dropped w.pages) g.t
@@ -276,7 +269,7 @@ module _ {w : Parts} (good : IsGood w) (ready : IsReady (stored_of w) (view_of w
 
         apart_off : (i : ℕ) (fs gs : List Frame) → AreApart fs gs → 0 < length fs → (top fs).birth ≡ i → is_on i (births_of gs) ≡ false
         apart_off i [] gs h some e = absurd (omega (arith, some))
-        apart_off i (f ∷ fs) gs h some e = lacks_births i gs (subst (λ n. Lacks n gs) e h.0)
+        apart_off i (f ∷ fs) gs h some e = off_births i gs (subst (λ n. Lacks n gs) e h.0)
 
         all_off : (ns : List ℕ) → Off q ns → AllByRecursion (λ page. is_on g.t page ≡ false) (laid_pages w.frames ns)
         all_off [] l = tt
