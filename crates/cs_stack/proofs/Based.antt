@@ -1,37 +1,32 @@
 -- A world without frames in which a live context of the heap becomes a base frame: it is good, and the context is active.
-use Rattle.std.proofs.Common.{◌≡◌, ◌≢◌, ◌↔◌, ℕ, pos, set, ◌+◌, ◌-◌, ◌<◌, ◌≤◌, Bool, true, false, refl, sym, ap, ap₂, subst, ◌∙◌, arith, Option, Some, None, IsSome, List, [], ◌∷◌, length, length-set, map, option_map, take, drop, zero, suc, inl, inr}
-use Rattle.std.specs.Prelude.{All, Contains, nat_eq, slice_get, slice_index, if◌then◌else◌, ◌==◌}
+use Rattle.std.proofs.Common.{◌≡◌, ◌≢◌, ◌↔◌, ℕ, pos, set, ◌-◌, ◌<◌, ◌≤◌, true, refl, sym, ap, subst, ◌∙◌, arith, Option, Some, None, IsSome, List, [], ◌∷◌, length, length-set, map, option_map, take, drop, zero, suc, inl, inr}
+use Rattle.std.specs.Prelude.{Contains, nat_eq, if◌then◌else◌}
 use Rattle.std.specs.List.{AllPass, IsDistinct}
 use Rattle.std.specs.Option.{option_map_or}
-use Rattle.std.specs.Ordering.{nat_cmp}
-use Rattle.std.specs.FinMap.{FinMap, get, insert, same_map, nat_cmp-IsAntisymmetric}
+use Rattle.std.specs.FinMap.{get, same_map, nat_cmp-IsAntisymmetric}
 use Rattle.std.specs.Cmp.{nat_cmp_total}
-use Rattle.std.proofs.lemmas.Bool.{cases_eq, eq-eqb, ne_eqb}
-use Rattle.std.proofs.lemmas.List.Elements.{All-cons, All-drop, All-nil, All-take}
+use Rattle.std.proofs.lemmas.Bool.{cases_eq, ne_eqb}
+use Rattle.std.proofs.lemmas.List.Elements.{All-cons, All-drop, All-take}
 use Rattle.std.proofs.lemmas.Map.Keys.{IsDistinct-cons}
-use Rattle.cs_heap.specs.Object.{Object, birth_of, class_of, hash_of, object_at, slot_count_of, slot_of, used, with_object}
+use Rattle.cs_heap.specs.Object.{Object, birth_of, class_of, hash_of, object_at, slot_count_of, slot_of, with_object}
 use Rattle.cs_heap.proofs.Laws.{field_of-with_object_kept}
 use Rattle.cs_word.specs.Word.{small_word}
-use Rattle.cs_classes.specs.declared.Roots.{Roots}
-use Rattle.cs_classes.specs.Meaning.{context_of, count_of, depth_in, is_context, kept_of, meaning_at, obj_of, objects_of, ref_of}
+use Rattle.cs_classes.specs.Meaning.{context_of, count_of, depth_in, kept_of, meaning_at, obj_of, objects_of, ref_of}
 use Rattle.cs_classes.specs.Sound.{IsWhole, is_reference}
-use Rattle.cs_classes.proofs.Heaps.{IsEdit, birth_of-object_at, stands}
-use Rattle.cs_classes.proofs.Refs.{is_reference-object}
+use Rattle.cs_classes.proofs.Heaps.{IsEdit, stands}
 use Rattle.cs_classes.proofs.Sorts.{obj_of-context}
 use Rattle.cs_classes.proofs.Wholes.{kept_of-with_object}
 use Rattle.cs_frame.specs.declared.FrameRef.{FrameRef}
 use Rattle.cs_frame.specs.Frame.{Frame, nil}
 use Rattle.cs_frame.specs.Page.{frames_of, on_page}
 use Rattle.cs_frame.proofs.PageLaws.{frames_of-on_page, frames_of-on_page_other, length-on_page}
-use Rattle.cs_marriage.specs.Agree.{IsContextAt}
 use Rattle.cs_marriage.specs.Marriage.{base_frame, linked, stack_words, words_at, words_if}
-use Rattle.cs_marriage.specs.Place.{link_word, names_place}
+use Rattle.cs_marriage.specs.Place.{names_place}
 use Rattle.cs_marriage.proofs.Agreeing.{size_some}
 use Rattle.cs_marriage.proofs.Based.{agree_based, deep, stack_long}
 use Rattle.cs_marriage.proofs.Places.{link_names}
-use Rattle.cs_model.specs.Ref.{Ref}
 use Rattle.cs_model.specs.Ref as ref
-use Rattle.cs_model.specs.Obj.{Context, Ctx, Obj}
+use Rattle.cs_model.specs.Obj.{Ctx, Obj}
 use Rattle.cs_model.specs.Context.{lies_if_index, lies_if_live}
 use Rattle.cs_model.specs.State as state
 use Rattle.cs_model.specs.State.{Kept, put}
@@ -39,17 +34,16 @@ use Rattle.cs_model.specs.Operation.{edit_found, edit_object}
 use Rattle.cs_model.proofs.Objects.{object_at-put_other}
 use Rattle.cs_acts.specs.Made.{contexts_in}
 use Rattle.cs_acts.specs.Names.{KeepsNames}
-use Rattle.cs_pages.specs.Order.{IsFree, IsSound, Order}
+use Rattle.cs_pages.specs.Order.{IsFree, IsSound}
 use Rattle.cs_stack.specs.declared.parts.Parts.{Parts}
-use Rattle.cs_stack.specs.View.{active_in, active_page, bare, births_of, dead_words, frame_context, frame_hash, is_linked, laid_pages, layout_of, pages_onto, stored_of, unframed, view_of}
+use Rattle.cs_stack.specs.View.{active_in, active_page, bare, births_of, dead_words, frame_context, is_linked, laid_pages, layout_of, pages_onto, stored_of, unframed, view_of}
 use Rattle.cs_stack.specs.Good.{AreApart, FramesFit, IsChain, IsGood, Lacks}
 use Rattle.cs_stack.specs.Moved.{based_parts}
-use Rattle.cs_stack.proofs.Maps.{Objects}
 use Rattle.cs_stack.proofs.Bare.{bare_at, bare_birth, bare_element, bare_whole, bare_with_object, unlinked}
-use Rattle.cs_stack.proofs.Dying.{dead_long, linked_is, unframed_linked}
+use Rattle.cs_stack.proofs.Dying.{linked_is, unframed_linked}
 use Rattle.cs_stack.proofs.Framed.{AllFit, IsOn, here, onto_bare, onto_frame}
 use Rattle.cs_stack.proofs.Linking.{contexts_kept, linked_edit, linked_links, linked_pcs, linked_place, linked_references, linked_refers, linked_whole, linked_words, live_kept}
-use Rattle.cs_stack.proofs.Rebasing.{IsLive, bare_objects, can_base, lack_all, live_below, live_birth, live_context, live_count, live_lies, live_named, live_slot, live_whole, no_frames}
+use Rattle.cs_stack.proofs.Rebasing.{IsLive, bare_objects, can_base, live_below, live_birth, live_context, live_count, live_lies, live_named, live_slot, live_whole, no_frames}
 
 live_index : (m : Option Obj) (at : Option ℕ) → IsSome at → lies_if_live m at ≡ true → lies_if_index m at ≡ true
 live_index m None some h = absurd (cc)
@@ -131,22 +125,21 @@ module _ {u : Parts} (good : IsGood u) (closed : u.pages.recent ≡ []) (s : ℕ
       (All-take (λ (v : ℕ). is_reference os v ≡ true) (depth_in x.words) (drop 6 x.words) (All-drop (λ (v : ℕ). is_reference os v ≡ true) 6 x.words (live_whole good.whole at good.pcs good.births).references)))
 
   base_fits : FramesFit us u.roots.next_birth (f ∷ [])
-  base_fits = let can = can_base good.whole at good.pcs good.births in
-      (
-        record {
-          names = record { closure = slot_named 4 (omega arith); receiver = slot_named 5 (omega arith); stack = stack_named };
-          lies = live_index (meaning_at us (slot_of os s 3)) (count_of (slot_of os s 1)) can.live
-              (live_kept s x r good.whole at.there at.context named (slot_of os s 3) (count_of (slot_of os s 1)) ∙ live_lies good.whole at good.pcs good.births);
-          fits = omega (arith, stack_long os s can, deep os s can, size_some us f not_nil, kept_count);
-          stands = refl;
-          room = omega arith;
-          birth = live_below good.whole at good.pcs good.births;
-          apart = tt;
-          sender = slot_named 0 (omega arith);
-          alone = λ e. absurd (not_nil e);
-        },
-        tt,
-      )
+  base_fits = let can = can_base good.whole at good.pcs good.births in (
+    record {
+      names = record { closure = slot_named 4 (omega arith); receiver = slot_named 5 (omega arith); stack = stack_named };
+      lies = live_index (meaning_at us (slot_of os s 3)) (count_of (slot_of os s 1)) can.live
+          (live_kept s x r good.whole at.there at.context named (slot_of os s 3) (count_of (slot_of os s 1)) ∙ live_lies good.whole at good.pcs good.births);
+      fits = omega (arith, stack_long os s can, deep os s can, size_some us f not_nil, kept_count);
+      stands = refl;
+      room = omega arith;
+      birth = live_below good.whole at good.pcs good.births;
+      apart = tt;
+      sender = slot_named 0 (omega arith);
+      alone = λ e. absurd (not_nil e);
+    },
+    tt,
+  )
 
   fits : (q : ℕ) → FramesFit us u.roots.next_birth (frames_of ps q)
   fits q = elim (cases_eq q page) [

@@ -1,14 +1,14 @@
 -- The pages without the last frame of one of them.
-use Rattle.std.proofs.Common.{◌≡◌, ◌≢◌, ℕ, ◌<◌, Bool, true, false, refl, sym, ap, subst, ◌∙◌, arith, List, [], ◌∷◌, ◌++◌, length, inl, inr}
-use Rattle.std.specs.Prelude.{◌==◌, ◌||◌, not, if◌then◌else◌}
-use Rattle.std.specs.List.{AllByRecursion, filter, list_any}
+use Rattle.std.proofs.Common.{◌≡◌, ◌≢◌, ℕ, ◌<◌, true, false, refl, sym, ap, subst, ◌∙◌, arith, List, [], ◌∷◌, ◌++◌, length, inl, inr}
+use Rattle.std.specs.Prelude.{◌||◌, not}
+use Rattle.std.specs.List.{AllByRecursion, filter}
 use Rattle.std.specs.FinMap.{get}
-use Rattle.std.proofs.lemmas.Bool.{cases_eq, eq-eqb, eqb-false, ne_eqb}
+use Rattle.std.proofs.lemmas.Bool.{cases_eq, eq-eqb, eqb-false}
 use Rattle.cs_heap.specs.Object.{Object}
 use Rattle.cs_frame.specs.Frame.{Frame}
 use Rattle.cs_frame.specs.Page.{frames_of, on_page, rest_of, top}
 use Rattle.cs_frame.proofs.PageLaws.{frames_of-on_page, frames_of-on_page_other, length-on_page, on_page-on_page, page_in}
-use Rattle.cs_acts.specs.Layout.{is_frame, is_on, touched}
+use Rattle.cs_acts.specs.Layout.{is_on, touched}
 use Rattle.cs_model.specs.Obj.{Ctx}
 use Rattle.cs_pages.proofs.Lists.{Lacks as Off}
 use Rattle.cs_stack.specs.View.{births_of, frame_context, frames_onto, laid_pages, pages_onto}
@@ -32,8 +32,7 @@ chain_apart ps p h [] l c = tt
 chain_apart ps p h (q ∷ []) l c = tt
 chain_apart ps p h (q ∷ r ∷ rs) l c =
     let first = frames_of-on_page_other ps p q h (off_ne p q (r ∷ rs) l) in
-    let second = frames_of-on_page_other ps p r h (off_ne p r rs l.1) in
-    (
+    let second = frames_of-on_page_other ps p r h (off_ne p r rs l.1) in (
       ap (λ fs. (base_of fs).caller) first ∙ c.0 ∙ ap (λ fs. (top fs).context) (sym second),
       (λ e. c.1 (ap (λ fs. (top fs).context) (sym second) ∙ e)),
       chain_apart ps p h (r ∷ rs) l.1 c.2,
@@ -44,8 +43,7 @@ pub chain_first : (ps : List (List Frame)) (p : ℕ) (h : List Frame → List Fr
     → IsChain ps (p ∷ qs) → IsChain (on_page ps p h) (p ∷ qs)
 chain_first ps p h [] l same c = tt
 chain_first ps p h (r ∷ rs) l same c =
-    let second = frames_of-on_page_other ps p r h (off_ne p r rs l) in
-    (
+    let second = frames_of-on_page_other ps p r h (off_ne p r rs l) in (
       same ∙ c.0 ∙ ap (λ fs. (top fs).context) (sym second),
       (λ e. c.1 (ap (λ fs. (top fs).context) (sym second) ∙ e)),
       chain_apart ps p h (r ∷ rs) l c.2,

@@ -1,6 +1,6 @@
 -- What is left of a frame that had a context: in the heap without frames that context is dead.
-use Rattle.std.proofs.Common.{◌≡◌, ◌≢◌, ℕ, pos, ◌+◌, ◌-◌, ◌<◌, ◌≤◌, true, false, refl, sym, ap, ◌∙◌, arith, Option, Some, None, List, [], ◌∷◌, length, length-set, map, take, drop, get_or-set_same, get_or-set_other, set, unwrap_or}
-use Rattle.std.specs.Prelude.{slice_get, slice_index, if◌then◌else◌, ◌==◌, ◌&&◌}
+use Rattle.std.proofs.Common.{◌≡◌, ◌≢◌, ℕ, pos, ◌-◌, ◌<◌, ◌≤◌, true, refl, sym, ap, ◌∙◌, arith, Option, Some, None, List, length, length-set, map, take, drop, get_or-set_same, get_or-set_other, set, unwrap_or}
+use Rattle.std.specs.Prelude.{slice_index, if◌then◌else◌, ◌&&◌}
 use Rattle.std.specs.Option.{option_map_or}
 use Rattle.std.specs.Ordering.{nat_cmp}
 use Rattle.std.specs.FinMap.{FinMap, get}
@@ -20,7 +20,7 @@ use Rattle.cs_marriage.specs.Place.{names_place}
 use Rattle.cs_marriage.proofs.Agreeing.{size_some}
 use Rattle.cs_marriage.proofs.Places.{link_names}
 use Rattle.cs_model.specs.Ref as ref
-use Rattle.cs_model.specs.Obj.{Context, Ctx, dead}
+use Rattle.cs_model.specs.Obj.{Ctx, dead}
 use Rattle.cs_stack.specs.View.{bare, dead_words, frame_context, frame_hash, is_linked, unframed}
 use Rattle.cs_stack.proofs.Bare.{bare_element}
 use Rattle.cs_stack.proofs.Places.{SpouseOf, spouse}

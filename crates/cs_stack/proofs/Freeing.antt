@@ -1,6 +1,6 @@
 -- The active frame goes, by what a call sees of it: another frame is below it, or its page is given back.
-use Rattle.std.proofs.Common.{◌≡◌, ◌≢◌, ◌↔◌, ℕ, ◌+◌, ◌<◌, ◌≤◌, Bool, true, false, refl, sym, ap, subst, ◌∙◌, arith, Option, Some, None, is_some, List, [], ◌∷◌, length, option_and_then, suc}
-use Rattle.std.specs.Prelude.{Contains, IfSome, slice_index, if◌then◌else◌, ◌==◌}
+use Rattle.std.proofs.Common.{◌≡◌, ◌≢◌, ◌↔◌, ℕ, ◌+◌, ◌≤◌, true, refl, sym, ap, subst, ◌∙◌, arith, Some, is_some, List, [], ◌∷◌, length, option_and_then, suc}
+use Rattle.std.specs.Prelude.{Contains, IfSome, slice_index, if◌then◌else◌}
 use Rattle.std.specs.FinMap.{get}
 use Rattle.std.proofs.lemmas.Bool.{eq-eqb}
 use Rattle.std.proofs.lemmas.List.{nil_from_length}
@@ -13,7 +13,6 @@ use Rattle.cs_frame.specs.Page.{IsBase, IsFrame, frame, frames_of, index_in, ind
 use Rattle.cs_marriage.specs.Marriage.{CanBase}
 use Rattle.cs_pages.specs.Order.{IsFree, IsSound, Order, without}
 use Rattle.cs_model.specs.Obj.{Context, Ctx, context_in}
-use Rattle.cs_model.specs.State as state
 use Rattle.cs_model.specs.Read.{active_birth}
 use Rattle.cs_model.specs.Return.{sender_birth}
 use Rattle.cs_acts.specs.Layout.{LaidBy, left}

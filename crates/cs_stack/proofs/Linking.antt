@@ -1,5 +1,5 @@
 -- A context of the heap that is linked to a frame: the heap is whole, and nothing else of it changes.
-use Rattle.std.proofs.Common.{◌≡◌, ◌≢◌, ◌⊎◌, ℕ, pos, ◌+◌, ◌*◌, ◌-◌, ◌%◌, ◌/◌, ◌<◌, ◌≤◌, Bool, true, false, refl, sym, ap, subst, ◌∙◌, arith, Option, Some, None, is_some, List, [], ◌∷◌, length, length-set, option_map, get_or-set_same, get_or-set_other, set, unwrap_or, zero, suc, take, replicate, inl, inr}
+use Rattle.std.proofs.Common.{◌≡◌, ◌≢◌, ◌⊎◌, ℕ, ◌+◌, ◌-◌, ◌%◌, ◌/◌, ◌<◌, ◌≤◌, true, false, refl, sym, ap, subst, ◌∙◌, arith, Option, Some, None, is_some, List, [], ◌∷◌, length, length-set, option_map, get_or-set_same, get_or-set_other, set, unwrap_or, zero, suc, take, replicate, inl, inr}
 use Rattle.std.specs.Prelude.{IsTrue, slice_get, slice_index, ◌==◌, ◌||◌, if◌then◌else◌}
 use Rattle.std.specs.List.{AllPass}
 use Rattle.std.specs.Option.{option_map_or}
@@ -8,12 +8,12 @@ use Rattle.std.specs.FinMap.{FinMap}
 use Rattle.std.proofs.lemmas.Bool.{cases_eq, eq-eqb, false≢true}
 use Rattle.std.proofs.lemmas.List.Elements.{All-append, All-replicate, All-take}
 use Rattle.cs_word.specs.declared.Kind.TheVariants as kind
-use Rattle.cs_word.specs.Word.{kind_of, small_value}
-use Rattle.cs_heap.specs.Format.{format_allows, is_method, is_pointers}
+use Rattle.cs_word.specs.Word.{small_value}
+use Rattle.cs_heap.specs.Format.{format_allows, is_pointers}
 use Rattle.cs_heap.specs.Object.{Object, at_index, index_of, object_at, set_word, used, with_object}
 use Rattle.cs_heap.proofs.Laws.{object_at-with_object_other, object_at-with_object_same, used-with_object}
 use Rattle.cs_classes.specs.declared.Roots.{Roots}
-use Rattle.cs_classes.specs.Meaning.{count_of, depth_in, is_context, meaning_at, obj_of, ref_of}
+use Rattle.cs_classes.specs.Meaning.{count_of, is_context, meaning_at, obj_of, ref_of}
 use Rattle.cs_classes.specs.Sound.{IsSoundObject, IsWhole, is_reference, is_reference_kind, nil_of}
 use Rattle.cs_classes.proofs.Heaps.{IsEdit, slice_get-at_index_other, slice_get-at_index_same, stands, with_object-stands}
 use Rattle.cs_classes.proofs.Refs.{is_reference-with_object, ref_of-with_object}

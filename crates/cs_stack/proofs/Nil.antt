@@ -2,12 +2,13 @@
 use Rattle.std.proofs.Common.{◌≡◌, ℕ, Bool, true, false, refl, sym, ap, subst, ◌∙◌, Option, Some, None, List, [], option_and_then, inl, inr}
 use Rattle.std.specs.Prelude.{if◌then◌else◌}
 use Rattle.std.proofs.lemmas.Bool.Decides.{eqb_tells}
+use Rattle.cs_model.specs.declared.event.Event.{Event}
 use Rattle.cs_model.specs.Ref.{Ref, Small, Char, birth_of}
 use Rattle.cs_model.specs.Ref as ref
 use Rattle.cs_model.specs.Obj.{Ctx, Method, Obj, Ptr, Raw, is_context_at, slots_in}
-use Rattle.cs_model.specs.State.{Kept, active_process, is_nil, object_at, put}
+use Rattle.cs_model.specs.State.{IsValid, Kept, active_process, is_nil, object_at, put}
 use Rattle.cs_model.specs.Operation.{edit_found, nil_of, resume_of, store_of, with_slot}
-use Rattle.cs_model.specs.Settle.{context_kept, open_at, open_if, open_kept}
+use Rattle.cs_model.specs.Settle.{context_kept, open_at, open_if, open_kept, opened}
 use Rattle.cs_model.proofs.Objects.{object_at-put_other, object_at-put_same}
 
 -- behind a store into slot 1 of what p names
@@ -54,9 +55,9 @@ plain_open k p None h = plain (object_at k k.rest.nil) h
 plain_open k p (Some i) h = plain_store k (nil_of k) p k.rest.nil (subst (λ r. slots_in (object_at (store_of k p 1 (nil_of k)) r) ≡ Some []) (ap (λ r. r.nil) (store_rest k p (nil_of k))) h)
 
 -- where nil is a pointer object behind the opening, it was no context before
-pub nil_is_plain : (k : Kept) → slots_in (object_at (open_kept k) (open_kept k).rest.nil) ≡ Some [] → is_context_at (object_at k k.rest.nil) ≡ false
+nil_before : (k : Kept) → slots_in (object_at (open_kept k) (open_kept k).rest.nil) ≡ Some [] → is_context_at (object_at k k.rest.nil) ≡ false
 unfolding open_kept
-nil_is_plain k bare = go (active_process k) bare
+nil_before k bare = go (active_process k) bare
   where
     by_nil : (p : Ref) (b : Bool) (o : Option ℕ) → slots_in (object_at (if b then k else open_at k p o) (if b then k else open_at k p o).rest.nil) ≡ Some [] → is_context_at (object_at k k.rest.nil) ≡ false
     by_nil p true o h = plain (object_at k k.rest.nil) h
@@ -65,3 +66,8 @@ nil_is_plain k bare = go (active_process k) bare
     go : (o : Option Ref) → slots_in (object_at (open_if k o) (open_if k o).rest.nil) ≡ Some [] → is_context_at (object_at k k.rest.nil) ≡ false
     go None h = plain (object_at k k.rest.nil) h
     go (Some p) h = by_nil p (is_nil k p) (option_and_then (λ x. birth_of x) (context_kept k p)) h
+
+-- in a state that opens to a valid one nil is no context
+pub nil_is_plain : (k : Kept) (events : List Event) (snapping : Bool) → IsValid (opened k events snapping) → is_context_at (object_at k k.rest.nil) ≡ false
+unfolding opened
+nil_is_plain k events snapping valid = nil_before k valid.bare

@@ -1,6 +1,6 @@
 -- Opening an image: a loaded image is a good world without frames.
-use Rattle.std.proofs.Common.{◌≡◌, ◌≢◌, ◌↔◌, ℕ, zero, suc, ◌+◌, ◌<◌, ◌≤◌, true, false, refl, sym, ap, subst, ◌∙◌, Option, Some, None, is_some, List, [], ◌∷◌, length, option_map, replicate, arith, inl, inr}
-use Rattle.std.specs.Prelude.{Contains, slice_get, slice_index, unwrap_or, if◌then◌else◌, ◌==◌, ◌||◌, ◌&&◌, Bool}
+use Rattle.std.proofs.Common.{◌≡◌, ◌≢◌, ◌↔◌, ℕ, zero, suc, ◌<◌, ◌≤◌, true, false, refl, sym, ap, subst, ◌∙◌, Option, Some, None, is_some, List, [], length, option_map, replicate, arith}
+use Rattle.std.specs.Prelude.{Contains, slice_get, slice_index, unwrap_or, if◌then◌else◌, ◌&&◌, Bool}
 use Rattle.std.specs.Option.{option_map_or}
 use Rattle.std.specs.Ordering.{nat_cmp}
 use Rattle.std.specs.FinMap.{FinMap, get}
@@ -9,11 +9,11 @@ use Rattle.std.proofs.lemmas.List.{length-replicate}
 use Rattle.cs_word.specs.declared.Kind.{Kind}
 use Rattle.cs_word.specs.declared.Kind.TheVariants as kind
 use Rattle.cs_word.specs.Word.{kind_of}
-use Rattle.cs_heap.specs.Object.{Memory, Object, address_of, class_of, is_object, object_at as object_of_heap, used}
+use Rattle.cs_heap.specs.Object.{Object, address_of, class_of, is_object, object_at as object_of_heap, used}
 use Rattle.cs_heap.proofs.Laws.{address_of-below, index_of-address, object_at-address}
 use Rattle.cs_classes.specs.declared.Loaded.{Loaded}
 use Rattle.cs_classes.specs.declared.Roots.{Roots}
-use Rattle.cs_classes.specs.Meaning.{context_of, count_of, is_context, kept_of, meaning_at, obj_of, objects_of, ref_of, ref_of_kind}
+use Rattle.cs_classes.specs.Meaning.{context_of, count_of, is_context, kept_of, meaning_at, objects_of, ref_of, ref_of_kind}
 use Rattle.cs_classes.specs.Senders.{SendersStand}
 use Rattle.cs_classes.specs.Sound.{IsSound, IsWhole, is_reference, is_reference_kind}
 use Rattle.cs_classes.proofs.Heaps.{element_within}
@@ -36,7 +36,7 @@ use Rattle.cs_model.specs.Read.{IsRunning}
 use Rattle.cs_model.specs.Due.{is_idle, is_idle_at}
 use Rattle.cs_model.specs.Settle.{open_if, open_kept}
 use Rattle.cs_stack.specs.declared.parts.Parts.{Parts}
-use Rattle.cs_stack.specs.View.{active_in, active_page, bare, births_of, dead_words, first_of, is_linked, laid_pages, layout_of, loaded_kept, unframed, view_of}
+use Rattle.cs_stack.specs.View.{active_in, bare, first_of, is_linked, loaded_kept, unframed, view_of}
 use Rattle.cs_stack.specs.Good.{AreApart, FramesFit, IsChain, IsGood, LinkFits, PcFits}
 use Rattle.cs_stack.specs.Moved.{taken_of}
 use Rattle.cs_stack.proofs.Bare.{bare_get, bare_loaded}

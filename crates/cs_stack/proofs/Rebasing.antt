@@ -1,45 +1,31 @@
 -- A live single context of the heap becomes the base frame of a page, where no other page is used.
-use Rattle.std.proofs.Common.{◌≡◌, ◌≢◌, ◌⊎◌, ◌↔◌, ℕ, ◌+◌, ◌-◌, ◌<◌, ◌≤◌, Bool, true, false, refl, sym, ap, ap₂, subst, ◌∙◌, arith, Option, Some, None, IsSome, is_some, List, [], ◌∷◌, length, map, option_map, take, drop, unwrap_or, inl, inr}
-use Rattle.std.specs.Prelude.{Contains, IsTrue, nat_eq, slice_get, slice_index, ◌==◌, ◌&&◌, ◌||◌, if◌then◌else◌}
-use Rattle.std.specs.List.{AllPass}
+use Rattle.std.proofs.Common.{◌≡◌, ◌⊎◌, ℕ, ◌-◌, ◌<◌, ◌≤◌, Bool, true, false, refl, sym, ap, ap₂, subst, ◌∙◌, arith, Option, Some, None, IsSome, is_some, List, [], ◌∷◌, length, unwrap_or, inl, inr}
+use Rattle.std.specs.Prelude.{Contains, slice_get, slice_index, ◌==◌, ◌&&◌, ◌||◌}
 use Rattle.std.specs.Option.{option_map_or}
 use Rattle.std.specs.Ordering.{nat_cmp}
-use Rattle.std.specs.FinMap.{FinMap, get, insert, same_map, nat_cmp-IsAntisymmetric}
+use Rattle.std.specs.FinMap.{FinMap, get, same_map, nat_cmp-IsAntisymmetric}
 use Rattle.std.specs.Cmp.{nat_cmp_total}
-use Rattle.std.proofs.lemmas.Bool.{cases_eq, eq-eqb, eqb-true, ne_eqb}
-use Rattle.std.proofs.lemmas.List.Elements.{All-cons, All-drop, All-nil, All-take}
-use Rattle.std.proofs.lemmas.Map.Keys.{IsDistinct-cons}
-use Rattle.cs_heap.specs.Object.{Object, birth_of, class_of, format_of, hash_of, is_object, object_at, slot_count_of, slot_of, with_object}
-use Rattle.cs_classes.specs.Meaning.{context_of, count_of, depth_in, is_context, kept_of, meaning_at, obj_of, objects_of, ref_of}
+use Rattle.std.proofs.lemmas.Bool.{eqb-true}
+use Rattle.cs_heap.specs.Object.{Object, birth_of, is_object, object_at, slot_count_of, slot_of}
+use Rattle.cs_classes.specs.Meaning.{context_of, count_of, is_context, meaning_at, obj_of, objects_of, ref_of}
 use Rattle.cs_word.specs.Word.{kind_of}
 use Rattle.cs_word.proofs.Words.{kind_of-link}
 use Rattle.cs_heap.specs.Format.{is_method}
 use Rattle.cs_classes.specs.declared.Roots.{Roots}
 use Rattle.cs_classes.specs.Sound.{IsWhole, is_reference, is_reference_kind}
-use Rattle.cs_classes.proofs.Heaps.{IsEdit, birth_of-object_at, is_object-object_at, object_there, stands}
-use Rattle.cs_classes.proofs.Objects.{objects_of-with_object}
-use Rattle.cs_classes.proofs.Refs.{is_reference-object}
-use Rattle.cs_classes.proofs.Sorts.{context_is, obj_of-context}
+use Rattle.cs_classes.proofs.Heaps.{birth_of-object_at, object_there, stands}
+use Rattle.cs_classes.proofs.Sorts.{context_is}
 use Rattle.cs_classes.proofs.Sounds.{IsWholeContext, sound_at, whole_context}
-use Rattle.cs_frame.specs.declared.FrameRef.{FrameRef}
-use Rattle.cs_frame.specs.Frame.{Frame, IsValue, nil}
-use Rattle.cs_frame.specs.Page.{frames_of, on_page}
-use Rattle.cs_frame.proofs.PageLaws.{frames_of-on_page, frames_of-on_page_other, length-on_page}
+use Rattle.cs_frame.specs.Frame.{Frame, IsValue}
+use Rattle.cs_frame.specs.Page.{frames_of}
 use Rattle.cs_marriage.specs.Agree.{IsContextAt, IsMethodAt}
-use Rattle.cs_marriage.specs.Marriage.{CanBase, base_frame, linked}
-use Rattle.cs_marriage.specs.Place.{link_word, names_place}
-use Rattle.cs_marriage.proofs.Based.{agree_based, deep, stack_long}
-use Rattle.cs_marriage.proofs.Agreeing.{size_some}
-use Rattle.cs_model.specs.Ref.{Ref}
-use Rattle.cs_model.specs.Ref as ref
-use Rattle.cs_model.specs.Obj.{Context, Ctx, Obj}
-use Rattle.cs_model.specs.Context.{lies_if_index, lies_if_live}
-use Rattle.cs_model.specs.State.{Kept}
-use Rattle.cs_pages.specs.Order.{IsFree, IsSound, Order}
+use Rattle.cs_marriage.specs.Marriage.{CanBase}
+use Rattle.cs_marriage.specs.Place.{names_place}
+use Rattle.cs_model.specs.Obj.{Context, Ctx}
+use Rattle.cs_model.specs.Context.{lies_if_live}
 use Rattle.cs_stack.specs.declared.parts.Parts.{Parts}
-use Rattle.cs_stack.specs.View.{bare, dead_words, frame_context, is_linked, pages_onto, unframed, view_of}
-use Rattle.cs_stack.specs.Good.{AreApart, FramesFit, IsGood, Lacks, PcFits}
-use Rattle.cs_stack.proofs.Maps.{Objects}
+use Rattle.cs_stack.specs.View.{bare, is_linked, unframed, view_of}
+use Rattle.cs_stack.specs.Good.{IsGood, Lacks, PcFits}
 use Rattle.cs_stack.proofs.Bare.{bare_element, unframed_context, unlinked}
 use Rattle.cs_stack.proofs.Dying.{dead_pc, unframed_linked}
 use Rattle.cs_stack.proofs.Framed.{onto_bare}

@@ -2,7 +2,7 @@
 use Rattle.std.proofs.Common.{◌≡◌, ◌≢◌, ℕ, Bool, true, false, refl, sym, ap, subst, ◌∙◌, Option, Some, None, is_some, List, [], ◌∷◌, length, option_and_then, arith, inl, inr}
 use Rattle.std.specs.Prelude.{◌&&◌, not, nat_le, slice_get, slice_set, if◌then◌else◌}
 use Rattle.std.proofs.lemmas.Bool.Decides.{eqb_tells, nat_tests}
-use Rattle.cs_model.specs.Ref.{Ref, Small, Char, birth_of, same_ref}
+use Rattle.cs_model.specs.Ref.{Ref, Small, Char, birth_of}
 use Rattle.cs_model.specs.Ref as ref
 use Rattle.cs_model.specs.Obj.{Ctx, Method, Obj, Ptr, Raw, at_least, slots_in}
 use Rattle.cs_model.specs.State.{Kept, active_process, is_nil, object_at, put, scheduler_of, slots_of, special_at}

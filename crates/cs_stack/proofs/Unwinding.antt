@@ -1,26 +1,24 @@
 -- The active frame goes, and its sender is active: the frame below it, or the last one of the page behind it.
-use Rattle.std.proofs.Common.{◌≡◌, ◌≢◌, ◌⊎◌, ◌↔◌, ℕ, ◌+◌, ◌<◌, ◌≤◌, true, false, refl, sym, ap, subst, ◌∙◌, arith, Option, Some, None, List, [], ◌∷◌, length, inl, inr}
-use Rattle.std.specs.Prelude.{Contains, nat_eq, not, ◌==◌, ◌||◌, ◌%◌, ◌/◌, Bool, if◌then◌else◌}
+use Rattle.std.proofs.Common.{◌≡◌, ◌≢◌, ◌⊎◌, ◌↔◌, ℕ, ◌<◌, true, false, refl, sym, ap, subst, ◌∙◌, arith, Option, Some, None, List, [], ◌∷◌, length, inl, inr}
+use Rattle.std.specs.Prelude.{Contains, nat_eq, not, ◌==◌, ◌%◌, ◌/◌, Bool, if◌then◌else◌}
 use Rattle.std.specs.List.{AllByRecursion, IsDistinct}
 use Rattle.std.specs.FinMap.{get}
 use Rattle.std.proofs.lemmas.Bool.{cases_eq, eq-eqb, eqb-false}
 use Rattle.std.proofs.lemmas.Map.Keys.{IsDistinct-head, IsDistinct-tail}
-use Rattle.std.specs.Cmp.{nat_eq_equiv}
 use Rattle.cs_word.specs.declared.Kind.{Kind}
 use Rattle.cs_word.specs.declared.Kind.TheVariants as kind
 use Rattle.cs_word.specs.Word.{kind_of, small_value}
 use Rattle.cs_heap.specs.Object.{Object, birth_of, is_object}
-use Rattle.cs_classes.specs.Meaning.{kept_of, objects_of, ref_of, ref_of_kind}
+use Rattle.cs_classes.specs.Meaning.{objects_of, ref_of, ref_of_kind}
 use Rattle.cs_classes.specs.Sound.{is_reference, is_reference_kind}
 use Rattle.cs_frame.specs.Frame.{Frame, nil}
-use Rattle.cs_frame.specs.Page.{IsStacked, frames_of, on_page, rest_of, top, used}
+use Rattle.cs_frame.specs.Page.{frames_of, on_page, rest_of, top}
 use Rattle.cs_frame.specs.Page.{ref_of as ref_of_frame}
 use Rattle.cs_frame.proofs.PageLaws.{length-on_page}
-use Rattle.cs_marriage.specs.Agree.{Agree, AreMarried, FrameFits}
+use Rattle.cs_marriage.specs.Agree.{AreMarried, FrameFits}
 use Rattle.cs_marriage.proofs.Laws.{agree_dropped, top_fits}
 use Rattle.cs_pages.specs.Order.{IsFree, IsSound, Order, without}
-use Rattle.cs_pages.proofs.Lists.{Lacks as Off, lacks_not, without-lacking}
-use Rattle.cs_model.specs.Ref.{Ref}
+use Rattle.cs_pages.proofs.Lists.{Lacks as Off, without-lacking}
 use Rattle.cs_model.specs.Ref as ref
 use Rattle.cs_model.specs.Obj.{Ctx, Obj, dead}
 use Rattle.cs_model.specs.State as state
@@ -30,8 +28,8 @@ use Rattle.cs_acts.specs.Layout.{LaidBy, is_on, left, touched}
 use Rattle.cs_acts.specs.Ready.{IsReady}
 use Rattle.cs_acts.proofs.Firsts.{nil_names}
 use Rattle.cs_stack.specs.declared.parts.Parts.{Parts}
-use Rattle.cs_stack.specs.View.{active_in, active_page, bare, births_of, first_of, frame_context, frame_sender, laid_pages, layout_of, pages_onto, stored_of, view_of}
-use Rattle.cs_stack.specs.Good.{AreApart, FramesFit, IsChain, IsGood, Lacks, base_of}
+use Rattle.cs_stack.specs.View.{active_in, active_page, bare, births_of, first_of, frame_context, frame_sender, laid_pages, layout_of, stored_of, view_of}
+use Rattle.cs_stack.specs.Good.{AreApart, IsChain, IsGood, Lacks, base_of}
 use Rattle.cs_stack.specs.Good as good_specs
 use Rattle.cs_stack.specs.Moved.{Unwinds, Unwound}
 use Rattle.cs_stack.proofs.Bare.{bare_none}
