@@ -3,5 +3,6 @@ pub mod Lives
 pub mod Bare
 pub mod Framed
 pub mod Closed
+pub mod Alike
 pub mod Tops
 pub mod Stacking
