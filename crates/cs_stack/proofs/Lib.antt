@@ -6,3 +6,4 @@ pub mod Closed
 pub mod Alike
 pub mod Tops
 pub mod Stacking
+pub mod Adding
