@@ -7,3 +7,5 @@ pub mod Alike
 pub mod Tops
 pub mod Stacking
 pub mod Adding
+pub mod Entries
+pub mod Entering

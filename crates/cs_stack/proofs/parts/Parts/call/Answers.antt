@@ -1,3 +1,5 @@
+use Rattle.cs_stack.proofs.Entering.{entered_state}
+use Rattle.cs_stack.proofs.Entries.{entry}
 use Rattle.cs_stack.proofs.Adding.{added_good}
 use Rattle.std.proofs.Common.{rules, ◌≡◌, ◌≢◌, ◌≤◌, ◌<◌, ◌+◌, [], IfErr, IfSome, IsSomeAnd, OnOk, Some, length, ℕ, ◌-◌, ◌*◌, ◌/◌, ◌%◌, Bool, true, false, nat_eq, nat_lt, List, ◌∷◌, ◌++◌, slice_index_or, slice_set, bit_and, bit_or, Fits, w8, w32, w64, Bor, MutBor}
 use Rattle.cs_frame.specs.Frame.{nil}
