@@ -98,6 +98,18 @@ chain_stay ps ss (p ∷ q ∷ rs) stay c =
       chain_stay ps ss (q ∷ rs) (λ n h. stay n (later p (q ∷ rs) n h)) c.2,
     )
 
+-- the first page has the same base frame's sender
+pub chain_first : (ps ss : List (List Frame)) (p : ℕ) (rs : List ℕ) → (base_of (frames_of ss p)).caller ≡ (base_of (frames_of ps p)).caller → Stay ps ss rs
+    → IsChain ps (p ∷ rs) → IsChain ss (p ∷ rs)
+chain_first ps ss p [] caller stay c = tt
+chain_first ps ss p (q ∷ rs) caller stay c =
+    let second = stay q (0, omega arith, refl) in
+    (
+      caller ∙ c.0 ∙ sym (ap (λ (f : List Frame). (top f).context) second),
+      λ e. c.1 (sym (ap (λ (f : List Frame). (top f).context) second) ∙ e),
+      chain_stay ps ss (q ∷ rs) stay c.2,
+    )
+
 -- ---- the new frame
 
 -- a context more, which is active

@@ -76,7 +76,7 @@ cut_sender : (os : List Object) (n : ℕ) (f : Frame) (fs : List Frame) → HasS
 cut_sender os n f [] h = h
 cut_sender os n f (g ∷ gs) h = tt
 
-cut_fits : (os : List Object) (next n : ℕ) (f : Frame) (fs : List Frame) → FrameFits os next f fs → FrameFits os next (cut n f) fs
+pub cut_fits : (os : List Object) (next n : ℕ) (f : Frame) (fs : List Frame) → FrameFits os next f fs → FrameFits os next (cut n f) fs
 cut_fits os next n f fs fits = record {
   names = record {
     closure = fits.names.closure;

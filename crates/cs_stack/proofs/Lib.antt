@@ -9,3 +9,4 @@ pub mod Stacking
 pub mod Adding
 pub mod Entries
 pub mod Entering
+pub mod Called
