@@ -10,3 +10,4 @@ pub mod Adding
 pub mod Entries
 pub mod Entering
 pub mod Called
+pub mod Begun
