@@ -38,7 +38,8 @@ use Rattle.cs_stack.specs.Moved.{active_number, begun_parts, callee, entry_of, g
 use Rattle.cs_stack.proofs.Tops.{Opened}
 use Rattle.cs_stack.proofs.Adding.{CanAdd, Stay, added_good, added_layout, added_parts, behind, chain_first, chain_stay, laid_stay}
 use Rattle.cs_stack.proofs.Entering.{cut_edited, cut_parts, entered_state, new_fits, new_married, pages_are, stacked, words_used}
-use Rattle.cs_stack.proofs.Called.{number_is, top_ref}
+use Rattle.cs_stack.proofs.Called.{number_is, top_frame, top_is_frame, top_ref}
+use Rattle.cs_stack.proofs.Stacking.{longer, shorter, shorter_page}
 
 -- ---- a page that is free
 
@@ -115,7 +116,7 @@ module _ {w : Parts} (good : IsGood w) (ready : IsReady (stored_of w) (view_of w
   has : o.f.context ≢ nil
   has e = some (sym context_is ∙ e)
 
-  sender_named : is_reference os sender ≡ true
+  pub sender_named : is_reference os sender ≡ true
   sender_named = subst (λ a. is_reference os a ≡ true) context_is (is_reference-object os o.f.context (spouse_there w good o stand has))
 
   sender_name : ref_of os sender ≡ ref.Obj (active_birth (view_of w))
@@ -202,3 +203,92 @@ module _ {w : Parts} (good : IsGood w) (ready : IsReady (stored_of w) (view_of w
       ∙ ap₂ (λ (fs : List Frame) bs. Some (record { most = most; pages = (next ∷ []) ∷ births_of fs ∷ bs })) below (laid_stay w.frames w1.frames o.qs cut_stay)
       ∙ ap (λ b. Some (record { most = most; pages = if b then (next ∷ births_of (o.f ∷ o.fs)) ∷ laid_pages w.frames o.qs else (next ∷ []) ∷ births_of (o.f ∷ o.fs) ∷ laid_pages w.frames o.qs })) (sym tight)
       ∙ ap (λ ps. Some (record { most = most; pages = entered (view_of w) next ps })) (sym (pages_are w o))
+
+-- ---- how the frame is made
+
+-- the frame g stands alone on page p
+pub record Stage (ps : List (List Frame)) (p : ℕ) (ss : List (List Frame)) (r : FrameRef) (g : Frame) : Type 0 where
+  pub within : p < length ps
+  pub is : ss ≡ alone ps p g
+  pub ref : r ≡ record { page = p; at = 0 }
+  pub at : g.at ≡ 0
+
+module _ {ps : List (List Frame)} {p : ℕ} {ss : List (List Frame)} {r : FrameRef} {g : Frame} (s : Stage ps p ss r g) where
+  ref_is : r ≡ page.ref_of p g
+  ref_is = s.ref ∙ ap (λ n. record { page = p; at = n }) (sym s.at)
+
+  page_is : r.page ≡ p
+  page_is = ap (λ (q : FrameRef). q.page) s.ref
+
+  frames_are : frames_of ss r.page ≡ g ∷ []
+  frames_are = ap₂ frames_of s.is page_is ∙ alone_frames ps p s.within g
+
+  pub stage_base : IsBase ss r
+  stage_base = subst (λ qs. IsBase qs r) (sym s.is) (subst (IsBase (alone ps p g)) (sym ref_is) (alone_base ps p s.within g))
+
+  pub stage_top : IsTop ss r
+  stage_top = subst (λ qs. IsTop qs r) (sym s.is) (subst (IsTop (alone ps p g)) (sym ref_is) (alone_top ps p s.within g))
+
+  pub stage_used : used (frames_of ss r.page) ≡ 10 + length g.stack
+  stage_used = omega (arith, ap used frames_are)
+
+  pub stage_other : (q : ℕ) → q ≢ p → frames_of ss q ≡ frames_of ps q
+  stage_other q other = ap (λ qs. frames_of qs q) s.is ∙ frames_of-on_page_other ps p q (λ _. g ∷ []) other
+
+  pub stage_on_frame : (qs : List (List Frame)) (h : Frame → Frame) → (h g).at ≡ g.at → qs ≡ on_frame ss r h → Stage ps p qs r (h g)
+  stage_on_frame qs h keeps made = record {
+    within = s.within;
+    is = made ∙ ap₂ (λ ts q. on_frame ts q h) s.is ref_is ∙ alone_on_frame ps p s.within g h;
+    ref = s.ref;
+    at = keeps ∙ s.at;
+  }
+
+  -- so many values more on its stack
+  pub stage_longer : (qs : List (List Frame)) (ys : List ℕ) → qs ≡ longer ss r.page ys → Stage ps p qs r (with_stack (g.stack ++ ys) g)
+  stage_longer qs ys made = record {
+    within = s.within;
+    is = made
+        ∙ ap (λ (fs : List Frame). on_page ss r.page (on_top (with_stack ((top fs).stack ++ ys)))) frames_are
+        ∙ ap₂ (λ ts n. on_page ts n (on_top (with_stack (g.stack ++ ys)))) s.is page_is
+        ∙ alone_on_top ps p s.within g (with_stack (g.stack ++ ys));
+    ref = s.ref;
+    at = s.at;
+  }
+
+pub stage_built : (ps : List (List Frame)) (p : ℕ) (ss : List (List Frame)) (r : FrameRef) (new : NewFrame) → p < length ps → frames_of ps p ≡ [] → ss ≡ on_page ps p (called new)
+    → r ≡ page.ref_of p (top (frames_of ss p)) → Stage ps p ss r (fresh new 0 new.receiver.0 [])
+stage_built ps p ss r new within empty made at =
+    let whole : ss ≡ alone ps p (fresh new 0 new.receiver.0 []) = made ∙ ap (λ (fs : List Frame). on_page ps p (λ _. called new fs)) empty in
+    record {
+      within = within;
+      is = whole;
+      ref = at ∙ ap (λ (fs : List Frame). page.ref_of p (top fs)) (ap (λ qs. frames_of qs p) whole ∙ alone_frames ps p within (fresh new 0 new.receiver.0 []));
+      at = refl;
+    }
+
+module _ {w : Parts} (o : Opened w) (p : ℕ) (other : p ≢ o.p) {ss : List (List Frame)} {r : FrameRef} {g : Frame} (s : Stage w.frames p ss r g)
+    (c : FrameRef) (place : c ≡ page.ref_of (active_number w) (top (active_page w))) where
+  caller_page : c.page ≡ o.p
+  caller_page = ap (λ (q : FrameRef). q.page) (top_ref o c place)
+
+  pub caller_frames : frames_of ss c.page ≡ o.f ∷ o.fs
+  caller_frames = ap (frames_of ss) caller_page ∙ stage_other s o.p (λ e. other (sym e)) ∙ o.is
+
+  pub caller_same : frame ss c ≡ o.f
+  caller_same = ap (λ (fs : List Frame). nth fs (index_of fs c.at)) (caller_frames ∙ sym (ap (frames_of w.frames) caller_page ∙ o.is)) ∙ top_frame o c place
+
+  pub caller_stands : IsFrame ss c
+  caller_stands = subst (λ (fs : List Frame). index_of fs c.at < length fs) (sym (caller_frames ∙ sym (ap (frames_of w.frames) caller_page ∙ o.is))) (top_is_frame o c place)
+
+  pub caller_top : IsTop ss c
+  caller_top = (omega (arith, ap length caller_frames), ap (λ (q : FrameRef). q.at) (top_ref o c place) ∙ sym (ap (λ (fs : List Frame). (top fs).at) caller_frames))
+
+  -- receiver and arguments leave it
+  pub stage_cut : (qs : List (List Frame)) (args : ℕ) → qs ≡ shorter ss c.page (args + 1) → qs ≡ on_page (on_page w.frames (active_number w) (on_top (cut args))) p (λ _. g ∷ [])
+  stage_cut qs args made =
+      made
+      ∙ ap (λ (fs : List Frame). on_page ss c.page (λ _. shorter_page (args + 1) fs)) caller_frames
+      ∙ ap₂ (λ ts n. on_page ts n (λ _. cut args o.f ∷ o.fs)) s.is caller_page
+      ∙ on_page-on_page_other w.frames p o.p (λ _. g ∷ []) (λ _. cut args o.f ∷ o.fs) other
+      ∙ ap (λ (fs : List Frame). on_page (on_page w.frames o.p (λ _. on_top (cut args) fs)) p (λ _. g ∷ [])) (sym o.is)
+      ∙ ap (λ n. on_page (on_page w.frames n (on_top (cut args))) p (λ _. g ∷ [])) (sym (number_is o))
