@@ -11,3 +11,4 @@ pub mod Entries
 pub mod Entering
 pub mod Called
 pub mod Begun
+pub mod Overflowing
