@@ -43,7 +43,7 @@ use Rattle.cs_stack.proofs.Stacking.{longer, shorter, shorter_page}
 
 -- ---- a page that is free
 
-at_least : (a b : ℕ) → b < a → nat_le a b ≡ false
+pub at_least : (a b : ℕ) → b < a → nat_le a b ≡ false
 at_least a b h = grind (arith, nat_tests, h)
 
 no_frames : (fs : List Frame) → ¬ (0 < length fs) → fs ≡ []

@@ -50,6 +50,9 @@ module _ {w : Parts} (o : Opened w) where
   pub number_is : active_number w ≡ o.p
   number_is = ap (λ ps. slice_index ps 0) o.recent
 
+  pub active_used : used (frames_of w.frames (active_number w)) ≡ used (active_page w)
+  active_used = ap used (ap (frames_of w.frames) number_is ∙ o.is ∙ sym o.page_is)
+
   pub top_ref : (r : FrameRef) → r ≡ ref_of (active_number w) (top (active_page w)) → r ≡ ref_of o.p o.f
   top_ref r is = is ∙ ap₂ (λ n (fs : List Frame). ref_of n (top fs)) number_is o.page_is
 

@@ -1,6 +1,6 @@
 -- A method is entered where no room is left on the page: the caller is married first, and a call that is refused has its cause.
 use Rattle.std.proofs.Common.{◌≡◌, ◌≢◌, ℕ, ◌+◌, ◌<◌, ◌≤◌, Bool, true, false, refl, sym, ap, ap₂, subst, ◌∙◌, arith, Option, Some, None, List, [], ◌∷◌, length, zero, suc, inl, inr, cond}
-use Rattle.std.specs.Prelude.{◌==◌, if◌then◌else◌}
+use Rattle.std.specs.Prelude.{◌==◌, nat_le, if◌then◌else◌}
 use Rattle.std.specs.FinMap.{get, insert}
 use Rattle.std.proofs.lemmas.Bool.Decides.{eqb_tells}
 use Rattle.cs_word.specs.declared.Oop.{Oop}
@@ -12,6 +12,10 @@ use Rattle.cs_model.specs.Obj.{Context, Ctx, popped}
 use Rattle.cs_model.specs.State.{Kept, object_at, put}
 use Rattle.cs_model.specs.Read.{IsRunning, active_birth, active_context}
 use Rattle.cs_model.specs.Operation.{drop_of, enter_of, enter_with, method_context}
+use Rattle.cs_model.specs.Keeps.{Keeps}
+use Rattle.cs_model.proofs.Operating.{enter_moved}
+use Rattle.cs_model.proofs.Same.{same}
+use Rattle.cs_acts.proofs.Held.{named_held}
 use Rattle.cs_model.specs.Demand.{words_at, words_below, words_in}
 use Rattle.cs_acts.specs.declared.act.Act.{Act}
 use Rattle.cs_acts.specs.declared.act.Act.TheVariants as act
@@ -19,6 +23,7 @@ use Rattle.cs_acts.specs.declared.act.Full.{Full}
 use Rattle.cs_acts.specs.declared.act.Full.TheVariants as full
 use Rattle.cs_acts.specs.Full.{CausesFull, IsFullHeap}
 use Rattle.cs_acts.specs.Layout.{LaidBy, Layout, entered, first_page, page_words}
+use Rattle.cs_acts.specs.Made.{made_by_entering}
 use Rattle.cs_acts.specs.Names.{IsNamed, KeepsNames, Store, name_of}
 use Rattle.cs_acts.specs.Ready.{IsReady}
 use Rattle.cs_acts.specs.Targets.{CanEnter}
@@ -27,10 +32,10 @@ use Rattle.cs_stack.specs.View.{act_of, active_page, birth_from, births_of, laid
 use Rattle.cs_stack.specs.Good.{IsGood, Lacks}
 use Rattle.cs_stack.specs.Moved.{IsContextOf, Takes, active_number, begun_parts}
 use Rattle.cs_stack.proofs.Maps.{Objects, get_apart, get_here}
-use Rattle.cs_stack.proofs.Tops.{Opened, opened, ready_again}
+use Rattle.cs_stack.proofs.Tops.{Opened, good_ready, opened, opened_at, ready_again}
 use Rattle.cs_stack.proofs.Entering.{pages_are, words_used}
 use Rattle.cs_stack.proofs.Called.{number_is, top_frame, top_ref}
-use Rattle.cs_stack.proofs.Begun.{begun_good, begun_layout, begun_view}
+use Rattle.cs_stack.proofs.Begun.{at_least, begun_good, begun_layout, begun_view}
 
 -- ---- the words of a state in which a method is entered
 
@@ -79,6 +84,10 @@ first_words w good o = ap (λ ps. page_words (view_of w) (first_page ps)) (pages
 pub refused_stack : (w : Parts) → IsGood w → Opened w → (s : Store) (t : Kept) → length w.pages.recent ≡ w.pages.total → 4096 < used (active_page w) + 66
     → CausesFull s (layout_of w) (view_of w) 0 t full.Stack
 refused_stack w good o s t all room = (length_laid w.frames w.pages.recent ∙ all, subst (λ n. 4096 < n + 66) (sym (first_words w good o)) room)
+
+-- one context is made at most
+pub made_one : (w : Parts) → IsGood w → Opened w → 4096 < used (active_page w) + 66 → made_by_entering (view_of w) (layout_of w) ≡ 1
+made_one w good o room = ap (λ b. if b then 0 else 1) (ap (λ n. nat_le (n + 66) 4096) (first_words w good o) ∙ at_least (used (active_page w) + 66) 4096 room)
 
 -- ---- the caller is married
 
@@ -181,3 +190,20 @@ module _ {w v : Parts} (good : IsGood w) (ready : IsReady (stored_of w) (view_of
           subst (λ l. LaidBy (entered (view_of w) w.roots.next_birth) l (layout_of z)) m.layout
           (subst (λ (k : Kept). LaidBy (entered k k.rest.next) (layout_of v) (layout_of z)) m.view
           (subst (λ (y : Parts). LaidBy (entered (view_of v) v.roots.next_birth) (layout_of v) (layout_of y)) (sym t.is) laid))
+
+-- ---- the world behind it
+
+entered_active : (k : Kept) (x : Ref) (args : ℕ) (skip : Bool) → (enter_of k x args skip).rest.active ≡ Some k.rest.next
+unfolding enter_of enter_with
+entered_active k x args skip = refl
+
+pub entered_keeps : (w v : Parts) (method : Oop) (args : ℕ) (skip : Bool) → IsReady (stored_of w) (view_of w) → IsNamed (stored_of w) method
+    → view_of v ≡ enter_of (view_of w) (name_of (stored_of w) method) args skip
+    → (m : Kept) → Keeps (view_of w) m → Keeps (view_of v) (enter_of m (name_of (stored_of w) method) args skip)
+entered_keeps w v method args skip ready named view m keeps =
+    let held = named_held (stored_of w) (view_of w) method ready.sound.holds named in
+    subst (λ u. Keeps u (enter_of m (name_of (stored_of w) method) args skip)) (sym view) (enter_moved keeps (same (name_of (stored_of w) method) held) args skip).keeps
+
+pub entered_ready : (w v : Parts) (method : Oop) (args : ℕ) (skip : Bool) → IsGood v → view_of v ≡ enter_of (view_of w) (name_of (stored_of w) method) args skip → IsReady (stored_of v) (view_of v)
+entered_ready w v method args skip good view =
+    good_ready v good (opened_at v _ good (ap (λ (k : Kept). k.rest.active) view ∙ entered_active (view_of w) (name_of (stored_of w) method) args skip))

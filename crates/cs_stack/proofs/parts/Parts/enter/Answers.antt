@@ -1,37 +1,43 @@
-use Rattle.std.proofs.Common.{rules, ◌≡◌, ◌≢◌, ◌≤◌, ◌<◌, ◌+◌, [], IfErr, IfSome, IsSomeAnd, OnOk, Some, length, ℕ, ◌-◌, ◌*◌, ◌/◌, ◌%◌, Bool, true, false, nat_eq, nat_lt, List, ◌∷◌, ◌++◌, slice_index_or, slice_set, bit_and, bit_or, Fits, w8, w32, w64, Bor, MutBor}
-use Rattle.cs_frame.specs.Frame.{nil}
-use Rattle.cs_frame.specs.Page.{IsBase, ref_of, top, used}
-use Rattle.cs_marriage.specs.Marriage.{CanBase}
-use Rattle.cs_model.specs.Keeps.{Keeps}
-use Rattle.cs_model.specs.Operation.{enter_of, leave_of, nil_of}
-use Rattle.cs_model.specs.Read.{IsRunning, active_birth}
-use Rattle.cs_model.specs.Return.{sender_birth}
-use Rattle.cs_model.specs.Settle.{context_kept}
-use Rattle.cs_model.specs.State.{Kept}
-use Rattle.cs_acts.specs.Full.{CausesFull}
-use Rattle.cs_acts.specs.Layout.{LaidBy, entered, left}
-use Rattle.cs_acts.specs.Made.{MakesAtMost, made_by_entering}
-use Rattle.cs_acts.specs.Names.{IsNamed, KeepsNames, Names, NamesOption, name_of}
-use Rattle.cs_acts.specs.Ready.{IsReady}
-use Rattle.cs_acts.specs.Targets.{CanArrive, CanEnter}
+use Rattle.std.proofs.Common.{◌≡◌, ◌≤◌, ◌+◌, ap, sym, subst, ◌∙◌, arith}
+use Rattle.std.specs.Prelude.{OnOk}
+use Rattle.cs_frame.specs.Page.{frames_of, used}
+use Rattle.cs_acts.specs.Made.{MakesAtMost}
+use Rattle.cs_stack.specs.declared.parts.Parts.{Parts}
 use Rattle.cs_stack.specs.Good.{IsGood}
-use Rattle.cs_stack.specs.Moved.{Takes, Unwound, active_number, based_parts, begun_parts, called_parts, entry_of, taken_of}
 use Rattle.cs_stack.specs.View.{active_page, layout_of, stored_of, view_of}
+use Rattle.cs_stack.proofs.Tops.{opened}
+use Rattle.cs_stack.proofs.Called.{active_used, called_good, called_layout, called_view}
+use Rattle.cs_stack.proofs.Overflowing.{made_one}
 use Rattle.cs_stack.proofs.parts.Parts.enter.Goals as goal
 
--- src/moves.rt:71:13
-pub returns-then-room-lt-FRAME_ROOM-clause-contexts :
-    goal.returns-then-room-lt-FRAME_ROOM-clause-contexts
-returns-then-room-lt-FRAME_ROOM-clause-contexts c = ?
+pub returns-then-room-lt-FRAME_ROOM-clause-contexts : goal.returns-then-room-lt-FRAME_ROOM-clause-contexts
+returns-then-room-lt-FRAME_ROOM-clause-contexts c =
+    let w : Parts = c.args.self.now in
+    let o = opened w c.requires.good c.requires.ready in
+    let words = ap (λ n. used (frames_of w.frames n)) c.order.ensures.page ∙ active_used o in
+    subst (λ n. OnOk c.overflow.result (MakesAtMost n (layout_of w) (stored_of w) (stored_of c.overflow.new.self))) (sym (made_one w c.requires.good o (omega (arith, words, c.room.ensures.room, c.if-room-lt-FRAME_ROOM.true))))
+    c.overflow.ensures.contexts
 
--- src/moves.rt:57:5
 pub returns-clause-good : goal.returns-clause-good
-returns-clause-good c = ?
+returns-clause-good c =
+    let w : Parts = c.args.self.now in
+    let o = opened w c.requires.good c.requires.ready in
+    let words = ap (λ n. used (frames_of w.frames n)) c.order.ensures.page ∙ active_used o in
+    subst IsGood (sym c.call.ensures.made)
+    (called_good c.requires.good c.requires.ready o c.args.method c.args.args c.args.skip c.requires.named c.requires.fits (omega (arith, words, c.room.ensures.room, c.if-room-lt-FRAME_ROOM.false)))
 
--- src/moves.rt:57:5
 pub returns-clause-view : goal.returns-clause-view
-returns-clause-view c = ?
+returns-clause-view c =
+    let w : Parts = c.args.self.now in
+    let o = opened w c.requires.good c.requires.ready in
+    let words = ap (λ n. used (frames_of w.frames n)) c.order.ensures.page ∙ active_used o in
+    ap view_of c.call.ensures.made
+    ∙ called_view c.requires.good c.requires.ready o c.args.method c.args.args c.args.skip c.requires.named c.requires.fits (omega (arith, words, c.room.ensures.room, c.if-room-lt-FRAME_ROOM.false))
 
--- src/moves.rt:57:5
 pub returns-clause-layout : goal.returns-clause-layout
-returns-clause-layout c = ?
+returns-clause-layout c =
+    let w : Parts = c.args.self.now in
+    let o = opened w c.requires.good c.requires.ready in
+    let words = ap (λ n. used (frames_of w.frames n)) c.order.ensures.page ∙ active_used o in
+    ap layout_of c.call.ensures.made
+    ∙ called_layout c.requires.good c.requires.ready o c.args.method c.args.args c.args.skip c.requires.named c.requires.fits (omega (arith, words, c.room.ensures.room, c.if-room-lt-FRAME_ROOM.false))
