@@ -1,4 +1,4 @@
-use Rattle.std.proofs.Common.{◌≡◌, ◌-◌, ◌+◌, ap, sym, arith, take, drop, length, length-take, length-drop, List, [], ◌∷◌, ◌++◌, ◌∙◌}
+use Rattle.std.proofs.Common.{◌-◌, ◌+◌, ap, sym, arith, take, drop, length, length-take, List, [], ◌∷◌, ◌++◌, ◌∙◌}
 use Rattle.std.specs.Prelude.{slice_index}
 use Rattle.cs_frame.specs.Frame.{Frame, pushed}
 use Rattle.cs_frame.specs.Page.{frame, frames_of, on_page, on_top, used, nth, index_of}

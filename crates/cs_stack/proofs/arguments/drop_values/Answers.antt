@@ -1,8 +1,8 @@
-use Rattle.std.proofs.Common.{◌≡◌, ap, sym, arith, length, List, ◌∙◌}
+use Rattle.std.proofs.Common.{ap, arith, length, List, ◌∙◌}
 use Rattle.cs_frame.specs.Frame.{Frame, popped}
 use Rattle.cs_frame.specs.Page.{frames_of, on_page, on_top, top}
 use Rattle.cs_frame.proofs.PageLaws.{page_in}
-use Rattle.cs_stack.proofs.Stacking.{shorter, shorter_depth, shorter_more}
+use Rattle.cs_stack.proofs.Stacking.{shorter_depth, shorter_more}
 use Rattle.cs_stack.proofs.arguments.drop_values.Goals as goal
 
 pub pop-requires-clause-value : goal.pop-requires-clause-value

@@ -1,4 +1,4 @@
-use Rattle.std.proofs.Common.{◌≡◌, ap, sym, arith, List, replicate, ◌∙◌}
+use Rattle.std.proofs.Common.{ap, arith, List, replicate, ◌∙◌}
 use Rattle.std.proofs.lemmas.List.{length-replicate, replicate_more}
 use Rattle.cs_frame.specs.Frame.{Frame, nil, pushed}
 use Rattle.cs_frame.specs.Page.{frames_of, on_page, on_top, used}

@@ -2,7 +2,7 @@ use Rattle.std.proofs.Common.{◌≡◌, ◌≤◌, ◌+◌, ◌-◌, List, leng
 use Rattle.std.specs.Prelude.{slice_index}
 use Rattle.cs_word.specs.Word.{small_word}
 use Rattle.cs_frame.specs.Frame.{Frame}
-use Rattle.cs_frame.specs.Page.{CanCall, frames_of, used}
+use Rattle.cs_frame.specs.Page.{CanCall, frames_of}
 use Rattle.cs_frame.specs.declared.FrameRef.{FrameRef}
 use Rattle.cs_model.specs.Obj.{temporary_count}
 use Rattle.cs_stack.specs.declared.parts.Parts.{Parts}

@@ -1,6 +1,5 @@
-use Rattle.std.proofs.Common.{◌≡◌, ◌≢◌, ◌≤◌, ◌<◌, ◌+◌, ◌-◌, ℕ, List, [], ◌∷◌, ◌++◌, length, length-append, length-drop, subst, sym, ap, ap₂, ◌∙◌, arith, pos, drop, refl, replicate}
+use Rattle.std.proofs.Common.{◌≡◌, ◌≤◌, ◌<◌, ◌+◌, ◌-◌, ℕ, List, [], ◌∷◌, ◌++◌, length, length-drop, subst, sym, ap, ap₂, ◌∙◌, arith, pos, drop, refl, replicate}
 use Rattle.std.specs.Prelude.{slice_index}
-use Rattle.cs_word.specs.declared.Oop.{Oop}
 use Rattle.cs_word.specs.Word.{small_word}
 use Rattle.cs_frame.specs.declared.NewFrame.{NewFrame}
 use Rattle.cs_frame.specs.Frame.{Frame, IsValue, cut, nil, with_caller, with_saved_pc}
