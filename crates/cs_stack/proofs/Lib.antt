@@ -24,3 +24,10 @@ pub mod Counting
 pub mod Changes
 pub mod Edits
 pub mod Writing
+pub mod Stacking
+pub mod Adding
+pub mod Entries
+pub mod Entering
+pub mod Called
+pub mod Begun
+pub mod Overflowing
