@@ -8,3 +8,5 @@ pub mod Alike
 pub mod Tops
 pub mod Laid
 pub mod Counting
+pub mod Writing
+pub mod Stores
