@@ -31,3 +31,4 @@ pub mod Entering
 pub mod Called
 pub mod Begun
 pub mod Overflowing
+pub mod Stores
