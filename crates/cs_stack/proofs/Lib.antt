@@ -4,3 +4,4 @@ pub mod Bare
 pub mod Framed
 pub mod Closed
 pub mod Tops
+pub mod Acts
