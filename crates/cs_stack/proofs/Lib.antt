@@ -5,3 +5,4 @@ pub mod Framed
 pub mod Closed
 pub mod Tops
 pub mod Acts
+pub mod Spouses

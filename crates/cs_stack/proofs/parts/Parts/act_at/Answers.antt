@@ -1,32 +1,14 @@
-use Rattle.std.proofs.Common.{rules, ◌≡◌, ◌<◌, ◌≤◌, ◌-◌, length, nat_lt, Some, IfSome, IfErr, IfOk, OnOk, false, IsSome, is_some, not, true, slice_get, unwrap_or, ℕ, ◌+◌, ◌*◌, ◌/◌, ◌%◌, Bool, nat_eq, List, [], ◌∷◌, ◌++◌, slice_index_or, slice_set, bit_and, bit_or, Fits, w8, w32, w64, Bor, MutBor}
-use Rattle.cs_frame.specs.Page.{IsFrame, IsTop, frame, ref_of, top}
-use Rattle.cs_marriage.specs.Agree.{frame_size as size_of_frame}
-use Rattle.cs_model.specs.Obj.{context_in, lies_in}
-use Rattle.cs_model.specs.Operation.{add_of, next_ref, nil_of, pop_of, push_of, set_pc_of, set_stack_of, store_of}
-use Rattle.cs_model.specs.Read.{active_context, depth_of, method_of, pc_of, receiver_of, size_of, stack_of}
-use Rattle.cs_model.specs.Return.{closure_at, context_birth, has_room, is_live, sender_birth}
-use Rattle.cs_model.specs.State.{object_at, object_of}
-use Rattle.cs_heap.specs.Object.{size}
-use Rattle.cs_acts.specs.declared.act.Full.TheVariants as full
-use Rattle.cs_acts.specs.Full.{CausesFull}
-use Rattle.cs_acts.specs.Made.{CanAllocate, MakesAtMost, blank_of}
-use Rattle.cs_acts.specs.Names.{IsNamed, KeepsNames, Names, name_of}
-use Rattle.cs_acts.specs.Ready.{IsReady, is_storable}
-use Rattle.cs_acts.specs.Targets.{is_gone, method_in}
-use Rattle.cs_model.specs.Context.{is_context_ref}
-use Rattle.cs_stack.specs.View.{act_of, active_page, layout_of, stored_of, view_of}
-use Rattle.cs_stack.specs.Moved.{active_number}
-use Rattle.cs_stack.specs.Good.{IsGood}
+use Rattle.std.proofs.Common.{ap, is_some, not, refl, sym, ◌∙◌}
+use Rattle.cs_stack.proofs.Spouses.{context_known, names_none, names_some}
 use Rattle.cs_stack.proofs.parts.Parts.act_at.Goals as goal
 
--- src/parts.rt:104:13
 pub returns-then-not-is_context-clause-value : goal.returns-then-not-is_context-clause-value
-returns-then-not-is_context-clause-value c = ?
+returns-then-not-is_context-clause-value c = names_none c.args.self.now c.requires.good c.args.word c.requires.named (sym c.is_context.ensures ∙ c.if-not-is_context.true)
 
--- src/parts.rt:106:9
 pub act_of-requires-clause-context : goal.act_of-requires-clause-context
-act_of-requires-clause-context c = ?
+act_of-requires-clause-context c = context_known c.args.self.now c.requires.good c.args.word c.requires.named ∙ sym c.is_context.ensures ∙ c.if-not-is_context.false
 
--- src/parts.rt:97:5
 pub returns-clause-gone : goal.returns-clause-gone
-returns-clause-gone c = ?
+returns-clause-gone c =
+    let some = names_some c.args.self.now c.requires.good c.args.word c.requires.named (sym c.is_context.ensures ∙ c.if-not-is_context.false) in
+    c.act_of.ensures.gone ∙ ap not (sym (ap is_some c.act_of.ensures.value ∙ some))

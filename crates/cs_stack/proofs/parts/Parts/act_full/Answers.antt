@@ -2,7 +2,7 @@ use Rattle.std.proofs.Common.{ap, ap₂, arith, refl, subst, sym, ◌∙◌, ◌
 use Rattle.std.specs.Prelude.{nat_lt}
 use Rattle.cs_stack.specs.View.{act_of}
 use Rattle.cs_stack.proofs.Acts.{answers, context_act, context_room, frame_act, frame_room, if_some, object, slot_within, slots_are}
-use Rattle.cs_stack.proofs.Bases.{not_less}
+use Rattle.cs_stack.proofs.Spouses.{not_less}
 use Rattle.cs_stack.proofs.parts.Parts.act_full.Goals as goal
 
 pub is_full-requires-clause-frame : goal.is_full-requires-clause-frame

@@ -1,32 +1,27 @@
-use Rattle.std.proofs.Common.{rules, ◌≡◌, ◌<◌, ◌≤◌, ◌-◌, length, nat_lt, Some, IfSome, IfErr, IfOk, OnOk, false, IsSome, is_some, not, true, slice_get, unwrap_or, ℕ, ◌+◌, ◌*◌, ◌/◌, ◌%◌, Bool, nat_eq, List, [], ◌∷◌, ◌++◌, slice_index_or, slice_set, bit_and, bit_or, Fits, w8, w32, w64, Bor, MutBor}
-use Rattle.cs_frame.specs.Page.{IsFrame, IsTop, frame, ref_of, top}
-use Rattle.cs_marriage.specs.Agree.{frame_size as size_of_frame}
-use Rattle.cs_model.specs.Obj.{context_in, lies_in}
-use Rattle.cs_model.specs.Operation.{add_of, next_ref, nil_of, pop_of, push_of, set_pc_of, set_stack_of, store_of}
-use Rattle.cs_model.specs.Read.{active_context, depth_of, method_of, pc_of, receiver_of, size_of, stack_of}
-use Rattle.cs_model.specs.Return.{closure_at, context_birth, has_room, is_live, sender_birth}
-use Rattle.cs_model.specs.State.{object_at, object_of}
-use Rattle.cs_heap.specs.Object.{size}
-use Rattle.cs_acts.specs.declared.act.Full.TheVariants as full
-use Rattle.cs_acts.specs.Full.{CausesFull}
-use Rattle.cs_acts.specs.Made.{CanAllocate, MakesAtMost, blank_of}
-use Rattle.cs_acts.specs.Names.{IsNamed, KeepsNames, Names, name_of}
-use Rattle.cs_acts.specs.Ready.{IsReady, is_storable}
-use Rattle.cs_acts.specs.Targets.{is_gone, method_in}
-use Rattle.cs_model.specs.Context.{is_context_ref}
-use Rattle.cs_stack.specs.View.{act_of, active_page, layout_of, stored_of, view_of}
-use Rattle.cs_stack.specs.Moved.{active_number}
-use Rattle.cs_stack.specs.Good.{IsGood}
+use Rattle.std.proofs.Common.{ap, refl, subst, sym, ◌≡◌, ◌∙◌, true, inl, inr}
+use Rattle.cs_frame.specs.declared.FrameRef.{FrameRef}
+use Rattle.cs_marriage.specs.Agree.{HasContext}
+use Rattle.cs_stack.specs.View.{act_of}
+use Rattle.cs_stack.proofs.Spouses.{context_known, context_stands, names_free, names_married, no_body}
 use Rattle.cs_stack.proofs.parts.Parts.act_of.Goals as goal
 
--- src/parts.rt:117:15
 pub spouse-requires-clause-context : goal.spouse-requires-clause-context
-spouse-requires-clause-context c = ?
+spouse-requires-clause-context c = context_stands c.args.self.now c.requires.good c.args.context c.requires.named (sym (context_known c.args.self.now c.requires.good c.args.context c.requires.named) ∙ c.requires.context)
 
--- src/parts.rt:110:5
 pub returns-in-Married-clause-value : goal.returns-in-Married-clause-value
-returns-in-Married-clause-value c = ?
+returns-in-Married-clause-value c =
+    let w = c.args.self.now in
+    let is = sym (context_known w c.requires.good c.args.context c.requires.named) ∙ c.requires.context in
+    ap (act_of w) c.act.ensures ∙ names_married w c.requires.good c.args.context c.requires.named c.in-Married.f is ((c.spouse.ensures.exact.married c.in-Married.f).0 c.in-Married.is)
 
--- src/parts.rt:110:5
 pub returns-in-Single : goal.returns-in-Single
-returns-in-Single c = ?
+returns-in-Single c =
+    let w = c.args.self.now in
+    let is = sym (context_known w c.requires.good c.args.context c.requires.named) ∙ c.requires.context in
+    let none : (r : FrameRef) → HasContext w.frames c.args.context.0 r → ⊥ = λ r h.
+    let other = (c.spouse.ensures.exact.married r).1 h in
+    elim c.in-Single.is [ inl e ↦ absurd (cc) | inr e ↦ absurd (cc) ] in
+    record {
+      value = names_free w c.requires.good c.args.context c.requires.named is (no_body w c.requires.good c.args.context c.requires.named none);
+      gone = refl;
+    }

@@ -1,7 +1,7 @@
 use Rattle.std.proofs.lemmas.Bool.{true≢false}
 use Rattle.std.proofs.Common.{ap, is_some, not, refl, subst, sym, ◌≡◌, ◌∙◌}
 use Rattle.cs_acts.specs.Targets.{is_gone}
-use Rattle.cs_stack.proofs.Bases.{here_frame}
+use Rattle.cs_stack.proofs.Spouses.{here_frame}
 use Rattle.cs_stack.specs.View.{act_of}
 use Rattle.cs_stack.proofs.Acts.{base_act, caller_act, frame_act, if_some}
 use Rattle.cs_stack.proofs.parts.Parts.frame_sender.Goals as goal
