@@ -10,3 +10,4 @@ pub mod Laid
 pub mod Counting
 pub mod Acts
 pub mod Spouses
+pub mod Marrying
