@@ -1,7 +1,8 @@
 -- A frame gets a context: heap and frames say the same of everything, and stay good.
-use Rattle.std.proofs.Common.{◌≡◌, ◌≢◌, ◌⊎◌, ◌↔◌, ℕ, zero, suc, ◌+◌, ◌-◌, ◌<◌, ◌≤◌, Bool, true, false, cond, refl, sym, ap, ap₂, subst, ◌∙◌, Option, Some, None, IsSome, is_some, List, [], ◌∷◌, ◌++◌, length, map, replicate, arith, inl, inr, length-append}
+use Rattle.std.proofs.Common.{◌≡◌, ◌≢◌, ◌⊎◌, ◌↔◌, ℕ, zero, suc, ◌+◌, ◌-◌, ◌<◌, ◌≤◌, Bool, true, false, cond, refl, sym, ap, ap₂, subst, ◌∙◌, Option, Some, None, IsSome, is_some, List, [], ◌∷◌, ◌++◌, length, map, option_and_then, replicate, arith, inl, inr, length-append}
 use Rattle.std.specs.Prelude.{◌==◌, ◌||◌, ◌*◌, pos, ◌/◌, ◌%◌, ◌^◌, if◌then◌else◌, option_map, slice_get, slice_index, unwrap_or, Contains, IsTrue}
 use Rattle.std.specs.List.{AllPass}
+use Rattle.std.specs.Option.{option_map_or}
 use Rattle.std.specs.Ordering.{nat_cmp}
 use Rattle.std.specs.FinMap.{FinMap, get, insert, nat_cmp-IsAntisymmetric, same_map}
 use Rattle.std.specs.Cmp.{nat_cmp_total}
@@ -12,13 +13,13 @@ use Rattle.std.proofs.lemmas.List.Elements.{All-cons, All-replicate}
 use Rattle.cs_heap.specs.Format.{format_allows}
 use Rattle.cs_classes.specs.declared.Roots.{Roots}
 use Rattle.cs_word.specs.declared.Oop.{Oop}
-use Rattle.cs_heap.specs.Object.{Object, birth_of, hash_of, is_object, next_address, object_at, size, slot_count_of, used}
-use Rattle.cs_heap.proofs.Laws.{field_of-new, field_of-old, is_object-old, is_object-pushed, no_object-next, object_at-new, object_at-old, used-pushed}
+use Rattle.cs_heap.specs.Object.{Object, birth_of, class_of, hash_of, index_of as place_of, is_object, next_address, object_at, size, slot_count_of, used}
+use Rattle.cs_heap.proofs.Laws.{field_of-new, field_of-old, is_object-new, is_object-old, is_object-pushed, no_object-next, object_at-new, object_at-old, used-pushed}
 use Rattle.cs_classes.specs.Meaning.{birth_at, classes_of, context_of, count_of, is_context, kept_of, meaning_at, obj_of, objects_of, ref_of}
 use Rattle.cs_classes.specs.Sound.{IsSound, IsSoundObject, IsWhole, is_reference, nil_of}
 use Rattle.cs_classes.proofs.Heaps.{birth_of-push, object_at-push, slice_get-push}
 use Rattle.cs_classes.proofs.Objects.{IsFresh, get-objects_of-element, objects_of-push}
-use Rattle.cs_classes.proofs.Refs.{is_reference-object, is_reference-push, is_reference-small, nil_of-push, ref_of-push, small_natural}
+use Rattle.cs_classes.proofs.Refs.{is_reference-object, is_reference-push, is_reference-small, nil_of-push, ref_of-object, ref_of-push, small_natural}
 use Rattle.cs_classes.proofs.Sorts.{map_alike}
 use Rattle.cs_classes.proofs.Sounds.{sound-push, sound_at}
 use Rattle.cs_classes.proofs.Wholes.{get-classes_of, obj_of-push}
@@ -35,19 +36,22 @@ use Rattle.cs_marriage.proofs.Agreeing.{agree_married, size_none, size_some}
 use Rattle.cs_marriage.proofs.Objects.{context_there as spouse_there, method_there as code_there}
 use Rattle.cs_model.specs.Ref as ref
 use Rattle.cs_model.specs.Obj.{Context, Ctx, Obj, context_class, context_size, lies_in}
-use Rattle.cs_model.specs.State.{Kept, object_at as object_of_state}
+use Rattle.cs_model.specs.State.{Kept, Rest, object_at as object_of_state}
 use Rattle.cs_model.specs.Context.{lies_if_index, lies_if_live}
 use Rattle.cs_acts.specs.declared.act.Act.{Act}
 use Rattle.cs_acts.specs.declared.act.Act.TheVariants as act
 use Rattle.cs_acts.specs.Made.{contexts_in}
+use Rattle.cs_acts.specs.Names.{KeepsNames, Names}
 use Rattle.cs_stack.specs.declared.parts.Parts.{Parts}
-use Rattle.cs_stack.specs.View.{act_of, bare, birth_from, births_of, frame_context, frame_hash, frame_sender, frames_onto, has_context, is_married, pages_onto, stored_of, unframed, view_of}
-use Rattle.cs_stack.specs.Good.{AreApart, FrameFits, FrameNames, FramesFit, IsGood, Lacks, PcFits, base_of}
+use Rattle.cs_stack.specs.View.{act_of, active_in, bare, birth_from, birth_in, births_of, first_of, laid_pages, layout_of, frame_context, frame_hash, frame_sender, frames_onto, has_context, is_linked, is_married, pages_onto, stored_of, unframed, view_of}
+use Rattle.cs_stack.specs.Good.{FrameFits, FramesFit, HasSender, IsChain, IsGood, Lacks, LinkFits, PcFits, base_of}
 use Rattle.cs_stack.proofs.Lives.{Lives, lives, lives_at}
 use Rattle.cs_stack.proofs.Maps.{Objects, get_apart}
 use Rattle.cs_stack.proofs.Framed.{AllFit, Bare, Framed, IsOn, Which, above, all_fit, apart_on, below_on, fits_on, here, lacks_on, one_birth, onto_bare, onto_frame, which}
+use Rattle.cs_stack.proofs.Alike.{active_alike, apart_alike, length_alike, lacks_alike}
+use Rattle.cs_stack.proofs.Bare.{bare_none, bare_push, bare_rest, bare_whole, unframed_birth}
 use Rattle.cs_stack.proofs.Places.{agreed}
-use Rattle.cs_stack.proofs.Acts.{Begins, FrameAct, frame_at, nil_counts}
+use Rattle.cs_stack.proofs.Acts.{Begins, FrameAct, body_married, frame_at, nil_counts}
 
 -- ---- the frame of a birth gets a context
 
@@ -376,3 +380,297 @@ module _ (w : Parts) (good : IsGood w) (r : FrameRef) (is : IsFrame w.frames r) 
   pages_same (p ∷ ps) (t ∷ ts) m len each same =
       ap₂ (λ (fs : List Frame) (n : Objects). frames_onto us fs n) (each 0) (pages_same ps ts m (omega (arith, len)) (λ q. each (suc q)) (λ q. same (suc q)))
       ∙ page_same p (pages_onto os ps m) (same 0)
+
+  -- ---- the state
+
+  abbrev old_map : Objects
+  old_map = objects_of (bare os)
+
+  bare_good : IsWhole (bare os) w.classes w.roots
+  bare_good = bare_whole os w.classes w.roots good.whole
+
+  bare_birth_is : (unframed y).birth ≡ b
+  bare_birth_is = unframed_birth y
+
+  bare_fresh : IsFresh (bare os) (unframed y).birth
+  bare_fresh k x h e =
+      let no : ◌≡◌ {A = Option Obj} None (Some (obj_of (ref_of (bare os)) x)) =
+      sym (bare_none os b good.whole.heap (fits_r.alone none)) ∙ ap (get old_map) (sym (e ∙ bare_birth_is)) ∙ get-objects_of-element (bare os) k x bare_good.heap.apart h in
+      absurd (cc)
+
+  map_is : objects_of (bare us) ≡ insert old_map (unframed y).birth (obj_of (ref_of (bare os ++ unframed y ∷ [])) (unframed y))
+  map_is = ap objects_of (bare_push os y) ∙ objects_of-push (bare os) (unframed y) bare_fresh (λ k x h. obj_of-push (bare os) (unframed y) x (bare_good.heap.each k x h))
+
+  map_other : (i : ℕ) → i ≢ b → get (objects_of (bare us)) i ≡ get old_map i
+  map_other i ne = ap (λ m. get m i) map_is ∙ get_apart old_map (unframed y).birth i _ (λ e. ne (e ∙ bare_birth_is))
+
+  objects_same : pages_onto us qs (objects_of (bare us)) ≡ pages_onto os w.frames old_map
+  objects_same =
+      pages_same w.frames qs (objects_of (bare us)) (length-on_page w.frames r.page (on_nth (index_in w.frames r) (with_context a))) page_is (λ p f gs on. context_same p on)
+      ∙ same_map nat_cmp_total nat_cmp-IsAntisymmetric (pages_onto os w.frames (objects_of (bare us))) (pages_onto os w.frames old_map) (λ i. go i (which i w.frames))
+    where
+      go : (i : ℕ) → Which i w.frames → get (pages_onto os w.frames (objects_of (bare us))) i ≡ get (pages_onto os w.frames old_map) i
+      go i (Framed p f gs on e) =
+          ap (get (pages_onto os w.frames (objects_of (bare us)))) e
+          ∙ onto_frame os next w.frames (objects_of (bare us)) p (all_fit w good) on
+          ∙ sym (ap (get (pages_onto os w.frames old_map)) e ∙ onto_frame os next w.frames old_map p (all_fit w good) on)
+      go i (Bare l) = onto_bare os w.frames (objects_of (bare us)) i l ∙ map_other i (lacks_on i on_r (l r.page)) ∙ sym (onto_bare os w.frames old_map i l)
+
+  -- the world in which the frame has a context
+  abbrev pub wedded : Parts
+  wedded = record w { heap = record w.heap { objects = us }; frames = qs }
+
+  active_same : (rs : List ℕ) → active_in (first_of qs rs) ≡ active_in (first_of w.frames rs)
+  active_same [] = refl
+  active_same (p ∷ rs) = active_alike (frames_of qs p) (frames_of w.frames p) (page_births p)
+
+  pub view_wedded : view_of wedded ≡ view_of w
+  view_wedded =
+      ap₂ (λ (m : Objects) (t : Rest). record { objects = m; rest = t }) objects_same
+      (bare_rest us w.classes w.roots (active_in (first_of qs w.pages.recent)) ∙ rest_pushed os y w.classes w.roots (active_in (first_of qs w.pages.recent)) good.whole
+      ∙ ap (λ o. (kept_of os w.classes w.roots o).rest) (active_same w.pages.recent)
+      ∙ sym (bare_rest os w.classes w.roots (active_in (first_of w.frames w.pages.recent))))
+
+  laid_same : (rs : List ℕ) → laid_pages qs rs ≡ laid_pages w.frames rs
+  laid_same [] = refl
+  laid_same (p ∷ rs) = ap₂ (λ (ns : List ℕ) (ms : List (List ℕ)). ns ∷ ms) (page_births p) (laid_same rs)
+
+  pub layout_wedded : layout_of wedded ≡ layout_of w
+  layout_wedded = ap (λ ls. Some (record { most = w.pages.total; pages = ls })) (laid_same w.pages.recent)
+
+  -- ---- acts
+
+  page_has : (c : ℕ) (p : ℕ) (fs : List Frame) → c ≢ a → c ≢ nil → ((f : Frame) (gs : List Frame) → IsOn f gs fs → IsOn f gs (frames_of w.frames p)) → has_context c (wed_page b a fs) ≡ has_context c fs
+  page_has c p [] ne nn within = refl
+  page_has c p (f ∷ fs) ne nn within =
+      ap₂ (λ s t. s || t) (go (cases_eq f.birth b)) (page_has c p fs ne nn (λ g gs on. within g gs (above f fs on)))
+    where
+      go : (f.birth ≡ b) ⊎ (f.birth ≡ b → ⊥) → ((wed b a f).context == c) ≡ (f.context == c)
+      go (inl e) =
+          ap (λ (g : Frame). g.context == c) (wed_is p (within f fs here) e) ∙ ne_eqb a c (λ s. ne (sym s))
+          ∙ sym (ap (λ n. n == c) (ap (λ (g : Frame). g.context) (is_r p (within f fs here) e) ∙ none) ∙ ne_eqb nil c (λ s. nn (sym s)))
+      go (inr other) = ap (λ (g : Frame). g.context == c) (wed_not f other)
+
+  married_same : (c : ℕ) → c ≢ a → c ≢ nil → is_married c qs ≡ is_married c w.frames
+  married_same c ne nn =
+      pages_have w.frames qs (length-on_page w.frames r.page (on_nth (index_in w.frames r) (with_context a)))
+      (λ p. ap (has_context c) (page_is p) ∙ page_has c p (frames_of w.frames p) ne nn (λ f gs on. on))
+    where
+      pages_have : (ps ts : List (List Frame)) → length ts ≡ length ps → ((p : ℕ) → has_context c (frames_of ts p) ≡ has_context c (frames_of ps p)) → is_married c ts ≡ is_married c ps
+      pages_have [] [] len each = refl
+      pages_have [] (t ∷ ts) len each = absurd (omega (arith, len))
+      pages_have (p ∷ ps) [] len each = absurd (omega (arith, len))
+      pages_have (p ∷ ps) (t ∷ ts) len each = ap₂ (λ s u. s || u) (each 0) (pages_have ps ts (omega (arith, len)) (λ q. each (suc q)))
+
+  no_birth : (c : Bool) (o : Option Object) → birth_in o ≡ None → (if c then None else birth_in o) ≡ None
+  no_birth true o e = refl
+  no_birth false o e = e
+
+  nil_no_birth : (xs : List Object) → class_of xs nil ≢ context_class → birth_in (object_at xs nil) ≡ None
+  nil_no_birth xs ne = go (object_at xs nil) refl
+    where
+      go : (o : Option Object) → object_at xs nil ≡ o → birth_in o ≡ None
+      go None e = refl
+      go (Some x) e = ap (λ c. if c then Some x.birth else None) (ne_eqb x.class context_class (λ s. ne (ap (λ (o : Option Object). option_map_or (λ (z : Object). z.class) o 0) e ∙ s)))
+
+  not_object : (xs : List Object) (c : ℕ) → is_object xs c ≡ false → object_at xs c ≡ None
+  not_object xs c e = go (place_of xs c) e
+    where
+      go : (o : Option ℕ) → is_some o ≡ false → option_and_then (slice_get xs) o ≡ None
+      go None h = refl
+      go (Some k) h = absurd (cc)
+
+  object_same : (c : ℕ) → c ≢ a → object_at us c ≡ object_at os c
+  object_same c ne = go (is_object os c) refl (is_object us c) refl
+    where
+      go : (s : Bool) → is_object os c ≡ s → (t : Bool) → is_object us c ≡ t → object_at us c ≡ object_at os c
+      go true e t d = object_at-old os y c e
+      go false e false d = not_object us c d ∙ sym (not_object os c e)
+      go false e true d = elim (is_object-pushed os y c d) [
+        | inl h ↦ absurd (let no : false ≡ true = sym e ∙ h in cc)
+        | inr h ↦ absurd (ne (h ∙ sym at_end))
+      ]
+
+  context_act_same : (c : ℕ) → (if is_married c qs then None else birth_in (object_at us c)) ≡ (if is_married c w.frames then None else birth_in (object_at os c))
+  context_act_same c = elim (cases_eq c a) [
+    | inl e ↦
+        subst (λ n. (if is_married n qs then None else birth_in (object_at us n)) ≡ (if is_married n w.frames then None else birth_in (object_at os n))) (sym e)
+        (ap (λ t. if t then None else birth_in (object_at us a)) new_body ∙ sym (no_birth (is_married a w.frames) (object_at os a) (ap birth_in (not_object os a not_there))))
+    | inr ne ↦ elim (cases_eq c nil) [
+      | inl e ↦
+          subst (λ n. (if is_married n qs then None else birth_in (object_at us n)) ≡ (if is_married n w.frames then None else birth_in (object_at os n))) (sym e)
+          (no_birth (is_married nil qs) (object_at us nil) (nil_no_birth us agrees.nil_class)
+          ∙ sym (no_birth (is_married nil w.frames) (object_at os nil) (nil_no_birth os good.agree.nil_class)))
+      | inr nn ↦ ap₂ (λ (t : Bool) (o : Option Object). if t then None else birth_in o) (married_same c ne nn) (object_same c ne)
+    ]
+  ]
+    where
+      new_on : {f : Frame} {gs fs : List Frame} → IsOn f gs fs → f.birth ≡ b → IsOn (wed b a f) (wed_page b a gs) (wed_page b a fs)
+      new_on here e = here
+      new_on (above d ds on) e = above (wed b a d) (wed_page b a ds) (new_on on e)
+
+      new_body : is_married a qs ≡ true
+      new_body = body_married a qs (record {
+        p = r.page;
+        f = wed b a fr;
+        gs = wed_page b a fact.begins_at.gs;
+        on = subst (IsOn (wed b a fr) (wed_page b a fact.begins_at.gs)) (sym (page_is r.page)) (new_on on_r refl);
+        is = ap (λ (g : Frame). g.context) (wed_is r.page on_r refl);
+      })
+
+  pub acts_wedded : (c : Act) → act_of wedded c ≡ act_of w c
+  acts_wedded (act.Frame p place) = ap (λ fs. birth_from fs place) (page_is p) ∙ birth_from_wed b a (frames_of w.frames p) place
+  acts_wedded (act.Context o) = context_act_same o.0
+  acts_wedded act.Gone = refl
+
+  -- ---- it is good
+
+  pub names_wedded : KeepsNames (stored_of w) (stored_of wedded)
+  names_wedded o h = record { sound = refers o.0 h; is = refer o.0 h }
+
+  pub contexts_wedded : contexts_in us ≤ contexts_in os + 1
+  contexts_wedded = contexts_pushed os y
+
+  pub value_wedded : (o : Oop) → o.0 ≡ a → Names (stored_of wedded) o (ref.Obj b)
+  value_wedded o e =
+      let there : is_object us a ≡ true = is_object-new os y a at_end in
+      record {
+        sound = ap (is_reference us) e ∙ is_reference-object us a there;
+        is = ap (ref_of us) e ∙ ref_of-object us a there ∙ ap (λ n. ref.Obj n) (field_of-new (λ x. x.birth) os y a at_end);
+      }
+
+  page_few : r.page < 64
+  page_few = omega (arith, page-IsFrame w.frames r is, good.agree.few)
+
+  at_few : r.at < 4096
+  at_few = (good.agree.frames r is).within
+
+  sound_new : IsSoundObject us y
+  sound_new =
+      spouse_sound us r fr (header_at os fr.method) (nil_of-push os y (omega (arith, good.whole.first)) ∙ good.whole.nil) (link_named us r page_few at_few)
+      (is_reference-object us nil (is_object-old os y nil good.agree.nil_there))
+      (refers fr.method (is_reference-object os fr.method (method_named r.page on_r))) (refers fr.closure fits_r.names.closure) (refers fr.receiver fits_r.names.receiver)
+
+  used_page : Contains w.pages.recent r.page
+  used_page = (good.used_pages r.page).1 (omega (arith, is))
+
+  entry : is_some (get w.classes context_class) ≡ true
+  entry = good.entry (omega (arith, used_page.1))
+
+  whole : IsWhole us w.classes w.roots
+  whole = record {
+    heap = sound-push os y good.whole.heap fresh sound_new;
+    first = omega (arith, good.whole.first, length-append os (y ∷ []));
+    nil = nil_of-push os y (omega (arith, good.whole.first)) ∙ good.whole.nil;
+    births = λ k x h. births k x (slice_get-push os y k x h);
+    indices = λ k x h. indices k x (slice_get-push os y k x h);
+    classes = λ i c e. is_object-old os y c (good.whole.classes i c e);
+    special = is_object-old os y w.roots.special.0 good.whole.special;
+  }
+    where
+      births : (k : ℕ) (x : Object) → (slice_get os k ≡ Some x) ⊎ ((k ≡ length os) × (y ≡ x)) → x.birth < w.roots.next_birth
+      births k x (inl h) = good.whole.births k x h
+      births k x (inr h) = omega (arith, fits_r.birth, ap (λ (z : Object). z.birth) h.1)
+
+      indices : (k : ℕ) (x : Object) → (slice_get os k ≡ Some x) ⊎ ((k ≡ length os) × (y ≡ x)) → is_some (get w.classes x.class) ≡ true
+      indices k x (inl h) = good.whole.indices k x h
+      indices k x (inr h) = subst (λ (z : Object). is_some (get w.classes z.class) ≡ true) h.1 entry
+
+  pcs : (k : ℕ) (x : Object) → slice_get us k ≡ Some x → is_context x ≡ true → PcFits us x
+  pcs k x h context = go (slice_get-push os y k x h)
+    where
+      go : (slice_get os k ≡ Some x) ⊎ ((k ≡ length os) × (y ≡ x)) → PcFits us x
+      go (inl e) = live_pushed os y (slice_index x.words 3) (count_of (slice_index x.words 1)) good.whole.heap (good.pcs k x e context)
+      go (inr e) = subst (PcFits us) e.1 (ap (lies_if_live (meaning_at us fr.method)) nil_counts)
+
+  links : (k : ℕ) (x : Object) → slice_get us k ≡ Some x → is_linked x ≡ true → LinkFits x
+  links k x h linked = go (slice_get-push os y k x h)
+    where
+      go : (slice_get os k ≡ Some x) ⊎ ((k ≡ length os) × (y ≡ x)) → LinkFits x
+      go (inl e) = good.links k x e linked
+      go (inr e) = subst LinkFits e.1 (refl, refl)
+
+  -- the frames
+
+  none_but_other : {f : Frame} {gs : List Frame} (p : ℕ) → IsOn f gs (frames_of w.frames p) → (wed b a f).context ≡ nil → (f.context ≡ nil) × (f.birth ≢ b)
+  none_but_other {f = f} p on e = elim (cases_eq f.birth b) [
+    | inl h ↦ absurd (some (ap (λ (g : Frame). g.context) (sym (wed_is p on h)) ∙ e))
+    | inr ne ↦ (ap (λ (g : Frame). g.context) (sym (wed_not f ne)) ∙ e, ne)
+  ]
+
+  alone_still : (i : ℕ) → i ≢ b → get (objects_of os) i ≡ None → get (objects_of us) i ≡ None
+  alone_still i ne h =
+      ap (λ m. get m i) (objects_of-push os y fresh (λ k x e. obj_of-push os y x (good.whole.heap.each k x e)))
+      ∙ get_apart (objects_of os) b i (obj_of (ref_of us) y) ne ∙ h
+
+  wed_on : {f : Frame} {gs fs : List Frame} → IsOn f gs fs → IsOn (wed b a f) (wed_page b a gs) (wed_page b a fs)
+  wed_on here = here
+  wed_on (above d ds on) = above (wed b a d) (wed_page b a ds) (wed_on on)
+
+  -- what fits the frame in the heap and above the others
+  fits_wed : {f : Frame} {gs : List Frame} (p : ℕ) → IsOn f gs (frames_of w.frames p) → FrameFits us next (wed b a f) (wed_page b a gs)
+  fits_wed {f = f} {gs = gs} p on =
+      let fits : FrameFits os next f gs = fits_on os next on (good.frames p) in
+      let method = wed_keeps (λ g. g.method) b a f refl in
+      let saved = wed_keeps (λ g. g.saved_pc) b a f refl in
+      let stack = wed_keeps (λ g. g.stack) b a f refl in
+      let place = wed_keeps (λ g. g.at) b a f refl in
+      let birth = wed_keeps (λ g. g.birth) b a f refl in
+      record {
+        names = record {
+          closure = ap (is_reference us) (wed_keeps (λ g. g.closure) b a f refl) ∙ refers f.closure fits.names.closure;
+          receiver = ap (is_reference us) (wed_keeps (λ g. g.receiver) b a f refl) ∙ refers f.receiver fits.names.receiver;
+          stack = subst (AllPass (is_reference us)) (sym stack) (λ k d l. refers _ (fits.names.stack k d l));
+        };
+        lies = ap₂ (λ m v. lies_if_index (meaning_at us m) (count_of v)) method saved ∙ index_pushed os y f.method (count_of f.saved_pc) good.whole.heap fits.lies;
+        fits = omega (arith, fits.fits, ap length stack, (wed_same p on).0);
+        stands = place ∙ fits.stands ∙ sym (used_wed b a gs);
+        room = omega (arith, fits.room, place);
+        birth = omega (arith, fits.birth, birth);
+        apart = subst (λ n. Lacks n (wed_page b a gs)) (sym birth) (lacks_alike f.birth gs (wed_page b a gs) (sym (births_wed b a gs)) fits.apart);
+        sender = sender_still gs fits;
+        alone = λ e. let o = none_but_other p on e in ap (get (objects_of us)) birth ∙ alone_still f.birth o.1 (fits.alone o.0);
+      }
+    where
+      sender_still : (hs : List Frame) → FrameFits os next f hs → HasSender us (wed b a f) (wed_page b a hs)
+      sender_still [] fits = ap (is_reference us) (wed_keeps (λ g. g.caller) b a f refl) ∙ refers f.caller fits.sender
+      sender_still (h ∷ hs) fits = tt
+
+  frames_fit : (p : ℕ) (fs : List Frame) → ((f : Frame) (gs : List Frame) → IsOn f gs fs → IsOn f gs (frames_of w.frames p)) → FramesFit us next (wed_page b a fs)
+  frames_fit p [] within = tt
+  frames_fit p (f ∷ fs) within = (fits_wed p (within f fs here), frames_fit p fs (λ g gs on. within g gs (above f fs on)))
+
+  top_kept : (p : ℕ) → (top (frames_of w.frames p)).context ≢ nil → (top (frames_of qs p)).context ≡ (top (frames_of w.frames p)).context
+  top_kept p ne = ap (λ fs. (top fs).context) (page_is p) ∙ go (frames_of w.frames p) ne (λ f gs on. on)
+    where
+      go : (fs : List Frame) → (top fs).context ≢ nil → ((f : Frame) (gs : List Frame) → IsOn f gs fs → IsOn f gs (frames_of w.frames p)) → (top (wed_page b a fs)).context ≡ (top fs).context
+      go [] nn within = refl
+      go (f ∷ fs) nn within = elim (cases_eq f.birth b) [
+        | inl e ↦ absurd (nn (ap (λ (g : Frame). g.context) (is_r p (within f fs here) e) ∙ none))
+        | inr other ↦ ap (λ (g : Frame). g.context) (wed_not f other)
+      ]
+
+  chain_still : (rs : List ℕ) → IsChain w.frames rs → IsChain qs rs
+  chain_still [] c = tt
+  chain_still (p ∷ []) c = tt
+  chain_still (p ∷ q ∷ rs) c =
+      let kept = top_kept q c.1 in
+      (ap (λ fs. (base_of fs).caller) (page_is p) ∙ base_wed b a (frames_of w.frames p) ∙ c.0 ∙ sym kept, λ e. c.1 (sym kept ∙ e), chain_still (q ∷ rs) c.2)
+
+  pub good_wedded : IsGood wedded
+  good_wedded = record {
+    whole = whole;
+    within = omega (arith, used-pushed os y, ap size long, room);
+    most = good.most;
+    births = good.births;
+    pcs = pcs;
+    links = links;
+    agree = agrees;
+    frames = λ p. subst (FramesFit us next) (sym (page_is p)) (frames_fit p (frames_of w.frames p) (λ f gs on. on));
+    apart = λ p q ne. apart_alike (frames_of w.frames p) (frames_of qs p) (frames_of w.frames q) (frames_of qs q) (sym (page_births p)) (sym (page_births q)) (good.apart p q ne);
+    total = good.total ∙ sym (length-on_page w.frames r.page (on_nth (index_in w.frames r) (with_context a)));
+    order = good.order;
+    used_pages = λ p. subst (λ n. Contains w.pages.recent p ↔ (0 < n)) (sym (length_alike (frames_of qs p) (frames_of w.frames p) (page_births p))) (good.used_pages p);
+    chain = chain_still w.pages.recent good.chain;
+    entry = good.entry;
+  }
