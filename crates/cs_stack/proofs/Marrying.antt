@@ -13,7 +13,7 @@ use Rattle.std.proofs.lemmas.List.Elements.{All-cons, All-replicate}
 use Rattle.cs_heap.specs.Format.{format_allows}
 use Rattle.cs_classes.specs.declared.Roots.{Roots}
 use Rattle.cs_word.specs.declared.Oop.{Oop}
-use Rattle.cs_heap.specs.Object.{Object, birth_of, class_of, hash_of, index_of as place_of, is_object, next_address, object_at, size, slot_count_of, used}
+use Rattle.cs_heap.specs.Object.{Memory, Object, birth_of, class_of, hash_of, index_of as place_of, is_object, next_address, object_at, size, slot_count_of, used}
 use Rattle.cs_heap.proofs.Laws.{field_of-new, field_of-old, is_object-new, is_object-old, is_object-pushed, no_object-next, object_at-new, object_at-old, used-pushed}
 use Rattle.cs_classes.specs.Meaning.{birth_at, classes_of, context_of, count_of, is_context, kept_of, meaning_at, obj_of, objects_of, ref_of}
 use Rattle.cs_classes.specs.Sound.{IsSound, IsSoundObject, IsWhole, is_reference, nil_of}
@@ -30,9 +30,9 @@ use Rattle.cs_frame.specs.Page.{IsFrame, frame, frames_of, index_in, index_of, n
 use Rattle.cs_frame.proofs.PageLaws.{frames_of-on_page, frames_of-on_page_other, length-on_page, page-IsFrame}
 use Rattle.cs_marriage.specs.Agree as agree
 use Rattle.cs_marriage.specs.Agree.{Agree, frame_size, header_at}
-use Rattle.cs_marriage.specs.Marriage.{new_size, new_spouse}
+use Rattle.cs_marriage.specs.Marriage.{married_objects, new_size, new_spouse, spouse_address}
 use Rattle.cs_marriage.specs.Place.{link_word}
-use Rattle.cs_marriage.proofs.Agreeing.{agree_married, size_none, size_some}
+use Rattle.cs_marriage.proofs.Agreeing.{agree_married, context_again, size_none, size_some}
 use Rattle.cs_marriage.proofs.Objects.{context_there as spouse_there, method_there as code_there}
 use Rattle.cs_model.specs.Ref as ref
 use Rattle.cs_model.specs.Obj.{Context, Ctx, Obj, context_class, context_size, lies_in}
@@ -40,6 +40,7 @@ use Rattle.cs_model.specs.State.{Kept, Rest, object_at as object_of_state}
 use Rattle.cs_model.specs.Context.{lies_if_index, lies_if_live}
 use Rattle.cs_acts.specs.declared.act.Act.{Act}
 use Rattle.cs_acts.specs.declared.act.Act.TheVariants as act
+use Rattle.cs_acts.specs.Full.{IsFullHeap}
 use Rattle.cs_acts.specs.Made.{contexts_in}
 use Rattle.cs_acts.specs.Names.{KeepsNames, Names}
 use Rattle.cs_stack.specs.declared.parts.Parts.{Parts}
@@ -51,6 +52,7 @@ use Rattle.cs_stack.proofs.Framed.{AllFit, Bare, Framed, IsOn, Which, above, all
 use Rattle.cs_stack.proofs.Alike.{active_alike, apart_alike, length_alike, lacks_alike}
 use Rattle.cs_stack.proofs.Bare.{bare_none, bare_push, bare_rest, bare_whole, unframed_birth}
 use Rattle.cs_stack.proofs.Places.{agreed}
+use Rattle.cs_stack.proofs.Counting.{words_frame}
 use Rattle.cs_stack.proofs.Acts.{Begins, FrameAct, body_married, frame_at, nil_counts}
 
 -- ---- the frame of a birth gets a context
@@ -674,3 +676,91 @@ module _ (w : Parts) (good : IsGood w) (r : FrameRef) (is : IsFrame w.frames r) 
     chain = chain_still w.pages.recent good.chain;
     entry = good.entry;
   }
+
+-- ---- the call
+
+-- a look at the frame at r: it is the context o, and the world says the same of everything
+pub record Looks (w v : Parts) (r : FrameRef) (o : Oop) : Type 0 where
+  pub good : IsGood v
+  pub view : view_of v ≡ view_of w
+  pub layout : layout_of v ≡ layout_of w
+  pub acts : (c : Act) → act_of v c ≡ act_of w c
+  pub contexts : contexts_in v.heap.objects ≤ contexts_in w.heap.objects + 1
+  pub names : KeepsNames (stored_of w) (stored_of v)
+  pub value : Names (stored_of v) o (ref.Obj (frame w.frames r).birth)
+
+-- the frame gets one, where there is room
+looks_new : (w : Parts) → IsGood w → (r : FrameRef) → IsFrame w.frames r → (o : Oop) → (frame w.frames r).context ≡ nil
+    → used w.heap.objects + size (6 + new_size w.heap.objects (frame w.frames r)) ≤ w.heap.limit
+    → o.0 ≡ next_address w.heap.objects (6 + new_size w.heap.objects (frame w.frames r))
+    → Looks w (record w { heap = record w.heap { objects = w.heap.objects ++ new_spouse r (new_size w.heap.objects (frame w.frames r)) (frame w.frames r) ∷ [] }; frames = on_frame w.frames r (with_context o.0) }) r o
+looks_new w good r is o none room at = record {
+  good = good_wedded w good r is none o.0 at room;
+  view = view_wedded w good r is none o.0 at room;
+  layout = layout_wedded w good r is none o.0 at room;
+  acts = acts_wedded w good r is none o.0 at room;
+  contexts = contexts_wedded w good r is none o.0 at room;
+  names = names_wedded w good r is none o.0 at room;
+  value = value_wedded w good r is none o.0 at room o refl;
+}
+
+-- or has one
+looks_old : (w : Parts) → IsGood w → (r : FrameRef) → IsFrame w.frames r → (o : Oop) → (frame w.frames r).context ≢ nil → o.0 ≡ (frame w.frames r).context → Looks w w r o
+looks_old w good r is o some e =
+    let m = (good.agree.frames r is).married some in
+    let there : is_object w.heap.objects (frame w.frames r).context ≡ true = spouse_there w.heap.objects (frame w.frames r).context m.context in
+    record {
+      good = good;
+      view = refl;
+      layout = refl;
+      acts = λ c. refl;
+      contexts = omega arith;
+      names = λ v h. record { sound = h; is = refl };
+      value = record {
+        sound = ap (is_reference w.heap.objects) e ∙ is_reference-object w.heap.objects (frame w.frames r).context there;
+        is = ap (ref_of w.heap.objects) e ∙ ref_of-object w.heap.objects (frame w.frames r).context there ∙ ap (λ n. ref.Obj n) m.birth;
+      };
+    }
+
+pub looks : (w : Parts) → IsGood w → (r : FrameRef) → IsFrame w.frames r → (o : Oop) (heap : Memory) (frames : List (List Frame))
+    → ((frame w.frames r).context ≡ nil → used w.heap.objects + size (6 + new_size w.heap.objects (frame w.frames r)) ≤ w.heap.limit)
+    → o.0 ≡ spouse_address w.heap.objects (frame w.frames r)
+    → heap ≡ record w.heap { objects = married_objects w.heap.objects r (frame w.frames r) }
+    → frames ≡ on_frame w.frames r (with_context o.0)
+    → Looks w (record w { heap = heap; frames = frames }) r o
+looks w good r is o heap frames room address heap_is frames_are = elim (cases_eq (frame w.frames r).context nil) [
+  | inl none ↦
+      let yes = eq-eqb (frame w.frames r).context nil none in
+      let objects : married_objects w.heap.objects r (frame w.frames r) ≡ w.heap.objects ++ new_spouse r (new_size w.heap.objects (frame w.frames r)) (frame w.frames r) ∷ [] =
+      ap (λ c. if c then w.heap.objects ++ new_spouse r (new_size w.heap.objects (frame w.frames r)) (frame w.frames r) ∷ [] else w.heap.objects) yes in
+      let at = address ∙ ap (λ c. if c then next_address w.heap.objects (6 + new_size w.heap.objects (frame w.frames r)) else (frame w.frames r).context) yes in
+      subst (λ (v : Parts). Looks w v r o)
+      (sym (ap₂ (λ (h : Memory) (fs : List (List Frame)). record w { heap = h; frames = fs }) (heap_is ∙ ap (λ os. record w.heap { objects = os }) objects) frames_are))
+      (looks_new w good r is o none (room none) at)
+  | inr some ↦
+      let no = ne_eqb (frame w.frames r).context nil some in
+      let objects : married_objects w.heap.objects r (frame w.frames r) ≡ w.heap.objects =
+      ap (λ c. if c then w.heap.objects ++ new_spouse r (new_size w.heap.objects (frame w.frames r)) (frame w.frames r) ∷ [] else w.heap.objects) no in
+      let at : o.0 ≡ (frame w.frames r).context = address ∙ ap (λ c. if c then next_address w.heap.objects (6 + new_size w.heap.objects (frame w.frames r)) else (frame w.frames r).context) no in
+      subst (λ (v : Parts). Looks w v r o)
+      (sym (ap₂ (λ (h : Memory) (fs : List (List Frame)). record w { heap = h; frames = fs }) (heap_is ∙ ap (λ os. record w.heap { objects = os }) objects) (frames_are ∙ context_again w.frames r o.0 at)))
+      (looks_old w good r is o some at)
+]
+
+-- there was no room for it
+size_small : (header : ℕ) → size (6 + context_size header) ≤ 64
+size_small header = go (header / 2 ^ 17 % 2 == 1)
+  where
+    go : (b : Bool) → size (6 + (if b then 56 else 16)) ≤ 64
+    go true = omega arith
+    go false = omega arith
+
+pub no_room : (w : Parts) → IsGood w → (r : FrameRef) → IsFrame w.frames r → (frame w.frames r).context ≡ nil
+    → w.heap.limit < used w.heap.objects + size (6 + new_size w.heap.objects (frame w.frames r)) → IsFullHeap (stored_of w) (layout_of w) 0 (view_of w)
+no_room w good r is none full =
+    let a = frame_at w r good is in
+    let on : IsOn (frame w.frames r) a.begins_at.gs (frames_of w.frames r.page) = subst (λ g. IsOn g a.begins_at.gs (frames_of w.frames r.page)) (sym a.is) a.begins_at.on in
+    record {
+      words = omega (arith, full, words_frame w good r.page on none, ap (λ n. size (6 + n)) (size_none w.heap.objects (frame w.frames r) none));
+      room = omega (arith, full, size_small (header_at w.heap.objects (frame w.frames r).method), good.total, page-IsFrame w.frames r is);
+    }
