@@ -32,3 +32,6 @@ pub mod Called
 pub mod Begun
 pub mod Overflowing
 pub mod Stores
+pub mod Acts
+pub mod Spouses
+pub mod Marrying

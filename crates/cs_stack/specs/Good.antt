@@ -1,5 +1,5 @@
 -- When heap, frames and the order of the pages agree.
-use Rattle.std.specs.Prelude.{◌≡◌, ◌≢◌, ◌↔◌, ℕ, ◌+◌, ◌<◌, ◌≤◌, true, List, [], ◌∷◌, length, slice_index, slice_get, Some, None, Contains}
+use Rattle.std.specs.Prelude.{◌≡◌, ◌≢◌, ◌↔◌, ℕ, ◌+◌, ◌<◌, ◌≤◌, true, List, [], ◌∷◌, length, slice_index, slice_get, Some, None, is_some, Contains}
 use Rattle.std.specs.List.{AllPass}
 use Rattle.std.specs.FinMap.{get}
 use Rattle.cs_heap.specs.Object.{Object, used}
@@ -9,6 +9,7 @@ use Rattle.cs_frame.specs.Frame.{Frame, blank, nil}
 use Rattle.cs_frame.specs.Page as page
 use Rattle.cs_frame.specs.Page.{frames_of, top}
 use Rattle.cs_marriage.specs.Agree.{Agree, frame_size}
+use Rattle.cs_model.specs.Obj.{context_class}
 use Rattle.cs_model.specs.Context.{lies_if_index, lies_if_live}
 use Rattle.cs_pages.specs.Order.{IsSound}
 use Rattle.cs_stack.specs.declared.parts.Parts.{Parts}
@@ -88,3 +89,5 @@ pub record IsGood (w : Parts) : Type 0 where
   pub order : IsSound w.pages
   pub used_pages : (p : ℕ) → Contains w.pages.recent p ↔ (0 < length (frames_of w.frames p))
   pub chain : IsChain w.frames w.pages.recent
+  -- a frame may become an object: contexts have a class
+  pub entry : 0 < length w.pages.recent → is_some (get w.classes context_class) ≡ true

@@ -1,0 +1,20 @@
+use Rattle.std.proofs.Common.{ap, refl, subst, ◌∙◌, IsSome, arith}
+use Rattle.cs_stack.specs.View.{act_of}
+use Rattle.cs_stack.proofs.Acts.{answers, context_act, context_closure, frame_act, frame_closure, if_some, slot_within}
+use Rattle.cs_stack.proofs.parts.Parts.act_closure.Goals as goal
+
+pub closure-requires : goal.closure-requires
+closure-requires c = record { frame = (frame_act c.args.self.now c.in-Frame.page c.in-Frame.at c.requires.good (subst (λ a. IsSome (act_of c.args.self.now a)) c.in-Frame.is c.requires.stands)).there }
+
+pub slot-requires : goal.slot-requires
+slot-requires c = slot_within (context_act c.args.self.now c.in-Context.context c.requires.good (subst (λ a. IsSome (act_of c.args.self.now a)) c.in-Context.is c.requires.stands)) 4 (omega arith)
+
+pub returns-in-Frame : goal.returns-in-Frame
+returns-in-Frame c =
+    let f = frame_act c.args.self.now c.in-Frame.page c.in-Frame.at c.requires.good (subst (λ a. IsSome (act_of c.args.self.now a)) c.in-Frame.is c.requires.stands) in
+    if_some _ _ _ (ap (act_of c.args.self.now) c.in-Frame.is ∙ f.answers) (frame_closure c.requires.good f c.closure.result (c.closure.ensures.closure ∙ ap (λ g. g.closure) f.is))
+
+pub returns-in-Context : goal.returns-in-Context
+returns-in-Context c =
+    let x = context_act c.args.self.now c.in-Context.context c.requires.good (subst (λ a. IsSome (act_of c.args.self.now a)) c.in-Context.is c.requires.stands) in
+    if_some _ _ _ (ap (act_of c.args.self.now) c.in-Context.is ∙ answers x c.in-Context.context refl) (context_closure x c.slot.result c.slot.ensures)
