@@ -1,9 +1,9 @@
 -- A new frame on a page of a good world: above the last frame of the most recent page, or alone on one that was free.
-use Rattle.std.proofs.Common.{◌≡◌, ◌≢◌, ℕ, ◌+◌, ◌<◌, ◌≤◌, true, refl, sym, ap, ap₂, subst, ◌∙◌, arith, Some, None, List, [], ◌∷◌, length, inl, inr, suc, zero}
+use Rattle.std.proofs.Common.{◌≡◌, ◌≢◌, ℕ, ◌+◌, ◌<◌, ◌≤◌, true, refl, sym, ap, ap₂, subst, ◌∙◌, arith, Some, None, List, [], ◌∷◌, length, inl, inr, suc, zero, is_some}
 use Rattle.std.specs.Prelude.{◌↔◌, Contains, nat_eq}
 use Rattle.std.specs.List.{IsDistinct}
 use Rattle.std.specs.Ordering.{nat_cmp}
-use Rattle.std.specs.FinMap.{FinMap, insert}
+use Rattle.std.specs.FinMap.{FinMap, insert, get}
 use Rattle.std.proofs.lemmas.Bool.{cases_eq}
 use Rattle.std.proofs.lemmas.Map.Keys.{IsDistinct-head}
 use Rattle.cs_heap.specs.Object.{Object}
@@ -16,7 +16,7 @@ use Rattle.cs_frame.proofs.PageLaws.{frames_of-on_page, frames_of-on_page_other,
 use Rattle.cs_marriage.specs.Agree as marriage
 use Rattle.cs_marriage.specs.Agree.{Agree}
 use Rattle.cs_marriage.proofs.Laws.{agree_on_page, fits_above, page_fits}
-use Rattle.cs_model.specs.Obj.{Context, Ctx, Obj}
+use Rattle.cs_model.specs.Obj.{Context, Ctx, Obj, context_class}
 use Rattle.cs_model.specs.State.{Kept, Rest, put, with_rest}
 use Rattle.cs_model.specs.Operation.{activate, with_next}
 use Rattle.cs_pages.specs.Order.{IsSound, Order}
@@ -124,6 +124,7 @@ added_parts w m new order = record w { roots = record w.roots { next_birth = w.r
 
 -- The frame fits above those of page m, which is the most recent one from now on, and the pages are a chain again.
 pub record CanAdd (w : Parts) (m : ℕ) (new : Frame) (order : Order) : Type 0 where
+  pub entry : is_some (get w.classes context_class) ≡ true
   pub within : m < length w.frames
   pub births : w.roots.next_birth < 4611686018427387904
   pub fresh : new.birth ≡ w.roots.next_birth
@@ -202,6 +203,7 @@ module _ (w : Parts) (good : IsGood w) (m : ℕ) (new : Frame) (order : Order) (
     order = can.sound;
     used_pages = used_pages;
     chain = subst (IsChain ss) (sym can.recent) can.chain;
+    entry = λ _. can.entry;
   }
 
   -- ---- its context

@@ -1,11 +1,11 @@
 -- A world without frames in which a live context of the heap becomes a base frame: it is good, and the context is active.
-use Rattle.std.proofs.Common.{◌≡◌, ◌≢◌, ◌↔◌, ℕ, pos, set, ◌-◌, ◌<◌, ◌≤◌, true, refl, sym, ap, subst, ◌∙◌, arith, Option, Some, None, IsSome, List, [], ◌∷◌, length, length-set, map, option_map, take, drop, zero, suc, inl, inr}
+use Rattle.std.proofs.Common.{◌≡◌, ◌≢◌, ◌↔◌, ℕ, pos, set, ◌-◌, ◌<◌, ◌≤◌, true, refl, sym, ap, subst, ◌∙◌, arith, Option, Some, None, IsSome, List, [], ◌∷◌, length, length-set, map, option_map, take, drop, zero, suc, inl, inr, is_some}
 use Rattle.std.specs.Prelude.{Contains, nat_eq, if◌then◌else◌}
 use Rattle.std.specs.List.{AllPass, IsDistinct}
 use Rattle.std.specs.Option.{option_map_or}
 use Rattle.std.specs.FinMap.{get, same_map, nat_cmp-IsAntisymmetric}
 use Rattle.std.specs.Cmp.{nat_cmp_total}
-use Rattle.std.proofs.lemmas.Bool.{cases_eq, ne_eqb}
+use Rattle.std.proofs.lemmas.Bool.{cases_eq, ne_eqb, eqb-true}
 use Rattle.std.proofs.lemmas.List.Elements.{All-cons, All-drop, All-take}
 use Rattle.std.proofs.lemmas.Map.Keys.{IsDistinct-cons}
 use Rattle.cs_heap.specs.Object.{Object, birth_of, class_of, hash_of, object_at, slot_count_of, slot_of, with_object}
@@ -26,7 +26,7 @@ use Rattle.cs_marriage.proofs.Agreeing.{size_some}
 use Rattle.cs_marriage.proofs.Based.{agree_based, deep, stack_long}
 use Rattle.cs_marriage.proofs.Places.{link_names}
 use Rattle.cs_model.specs.Ref as ref
-use Rattle.cs_model.specs.Obj.{Ctx, Obj}
+use Rattle.cs_model.specs.Obj.{Ctx, Obj, context_class}
 use Rattle.cs_model.specs.Context.{lies_if_index, lies_if_live}
 use Rattle.cs_model.specs.State as state
 use Rattle.cs_model.specs.State.{Kept, put}
@@ -178,6 +178,12 @@ module _ {u : Parts} (good : IsGood u) (closed : u.pages.recent ≡ []) (s : ℕ
       none q ne (zero, less, same) = ne (sym same)
       none q ne (suc k, less, same) = omega (arith, less)
 
+  -- the context is of the class of contexts
+  context_known : is_some (get u.classes context_class) ≡ true
+  context_known =
+      let place = stands os s at.object at.there in
+      subst (λ (n : ℕ). is_some (get u.classes n) ≡ true) (eqb-true at.object.class 36 at.context) (good.whole.indices place.0 at.object place.1.element)
+
   pub based_good : IsGood (based_parts page s u)
   based_good = record {
     whole = whole;
@@ -193,6 +199,7 @@ module _ {u : Parts} (good : IsGood u) (closed : u.pages.recent ≡ []) (s : ℕ
     order = order;
     used_pages = λ q. subst (λ ns. Contains ns q ↔ (0 < length (frames_of ps q))) (sym recent_is) (only q);
     chain = subst (λ ns. IsChain ps ns) (sym recent_is) tt;
+    entry = λ _. context_known;
   }
 
   -- ---- the state

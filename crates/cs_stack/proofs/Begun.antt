@@ -35,7 +35,7 @@ use Rattle.cs_stack.specs.declared.parts.Parts.{Parts}
 use Rattle.cs_stack.specs.View.{active_page, births_of, frame_sender, laid_pages, layout_of, stored_of, view_of}
 use Rattle.cs_stack.specs.Good.{FrameFits, IsChain, IsGood, base_of}
 use Rattle.cs_stack.specs.Moved.{active_number, begun_parts, callee, entry_of, given_birth}
-use Rattle.cs_stack.proofs.Tops.{Opened}
+use Rattle.cs_stack.proofs.Tops.{Opened, contexts_known}
 use Rattle.cs_stack.proofs.Adding.{CanAdd, Stay, added_good, added_layout, added_parts, behind, chain_first, chain_stay, laid_stay}
 use Rattle.cs_stack.proofs.Entering.{cut_edited, cut_parts, entered_state, new_fits, new_married, pages_are, stacked, words_used}
 use Rattle.cs_stack.proofs.Called.{number_is, top_frame, top_is_frame, top_ref}
@@ -167,6 +167,7 @@ module _ {w : Parts} (good : IsGood w) (ready : IsReady (stored_of w) (view_of w
 
   can_add : CanAdd w1 p new order
   can_add = record {
+    entry = contexts_known w good o;
     within = inside;
     births = can.births;
     fresh = refl;

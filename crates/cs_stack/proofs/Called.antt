@@ -24,7 +24,7 @@ use Rattle.cs_stack.specs.declared.parts.Parts.{Parts}
 use Rattle.cs_stack.specs.View.{active_page, births_of, frame_sender, laid_pages, layout_of, stored_of, view_of}
 use Rattle.cs_stack.specs.Good.{FrameFits, IsChain, IsGood, base_of}
 use Rattle.cs_stack.specs.Moved.{active_number, called_page, called_parts, callee, entry_of, given_birth}
-use Rattle.cs_stack.proofs.Tops.{Opened}
+use Rattle.cs_stack.proofs.Tops.{Opened, contexts_known}
 use Rattle.cs_stack.proofs.Adding.{CanAdd, Stay, added_good, added_layout, added_parts, behind, chain_first, lacks_next, laid_stay}
 use Rattle.cs_stack.proofs.Entering.{cut_edited, cut_fits, cut_frames, cut_parts, e, entered_state, new_fits, new_married, nil_named, pages_are, reference_value, there, value_named, words_used}
 
@@ -152,6 +152,7 @@ module _ {w : Parts} (good : IsGood w) (ready : IsReady (stored_of w) (view_of w
 
     can_add : CanAdd w1 o.p new w.pages
     can_add = record {
+      entry = contexts_known w good o;
       within = inside;
       births = can.births;
       fresh = refl;

@@ -176,6 +176,7 @@ module _ (l : Loaded) (n : ℕ) (order : Order) (frames : List (List Frame)) (wh
       order = sound;
       used_pages = used_none;
       chain = subst (IsChain frames) (sym recent) tt;
+      entry = λ some. absurd (omega (arith, some, ap length recent));
     }
 
     -- the state is that of the image

@@ -397,6 +397,7 @@ module _ (w : Parts) (good : IsGood w) (o i x : ℕ) (can : Storable (stored_of 
           order = good.order;
           used_pages = good.used_pages;
           chain = good.chain;
+          entry = good.entry;
         };
         view = ap (λ m. at m (kept_of (bare us) w.classes w.roots active).rest) map_is
             ∙ ap (at (insert (pages_onto w.heap.objects ps (objects_of (bare w.heap.objects))) can.x.birth (changed was))) rest ∙ sym store_is;

@@ -39,7 +39,7 @@ use Rattle.cs_stack.proofs.Framed.{AllFit, IsOn, all_fit, here}
 use Rattle.cs_stack.proofs.Laid.{off_births}
 use Rattle.cs_stack.proofs.Leaving.{Target}
 use Rattle.cs_stack.proofs.Places.{good_stacked, married_on}
-use Rattle.cs_stack.proofs.Tops.{Opened}
+use Rattle.cs_stack.proofs.Tops.{Opened, contexts_known}
 
 -- ---- words that name objects
 
@@ -108,6 +108,7 @@ module _ {w : Parts} (good : IsGood w) (ready : IsReady (stored_of w) (view_of w
         order = ordered.order;
         used_pages = ordered.used_pages;
         chain = ordered.chain;
+        entry = λ _. contexts_known w good o;
       }
 
   nil_name : ref_of os nil ≡ ref.Obj (view_of w).rest.nil

@@ -53,7 +53,7 @@ impl Model for StackWorld {
 const PROCESS_SLOTS: u32 = 4;
 
 impl StackWorld {
-    ghost use Rattle.std.specs.Prelude.{◌≤◌, ◌<◌, length, ℕ, IfOk, false, None, Some, []};
+    ghost use Rattle.std.specs.Prelude.{◌≤◌, ◌<◌, length, ℕ, IfOk, false, None, Some, [], option_map};
     ghost use Rattle.cs_classes.specs.Sound.{IsWhole};
     ghost use Rattle.cs_classes.specs.Senders.{SendersStand};
     ghost use Rattle.cs_model.specs.Due.{is_idle};
@@ -63,7 +63,7 @@ impl StackWorld {
     ghost use Rattle.cs_model.specs.Settle.{open_kept};
     ghost use Rattle.cs_model.specs.State.{PcLies, object_at};
     ghost use Rattle.cs_model.specs.Step.{shape_fault};
-    ghost use Rattle.cs_acts.specs.Layout.{IsFresh};
+    ghost use Rattle.cs_acts.specs.Layout.{IsFresh, Layout};
     ghost use Rattle.cs_acts.specs.Names.{IsNamed, Names, name_of};
     ghost use Rattle.cs_acts.specs.Ready.{IsReady, IsSound};
     ghost use Rattle.cs_stack.specs.Moved.{taken_of};
@@ -85,6 +85,7 @@ impl StackWorld {
         ensures view { IfOk result (λ w. view_of w ≡ open_kept (loaded_kept loaded)) }
         ensures sound { IfOk result (λ w. IsSound (stored_of w) (view_of w)) }
         ensures fresh { IfOk result (λ w. IsFresh (view_of w) (layout_of w)) }
+        ensures most { IfOk result (λ w. option_map (λ (l : Layout). l.most) (layout_of w) ≡ Some pages) }
         ensures limit { IfOk result (λ w. (stored_of w).memory.limit ≡ loaded.heap.limit) }
         ensures idle { IfOk result (λ w. is_idle (view_of w) ≡ is_idle (loaded_kept loaded)) }
         ensures shape { IfOk result (λ w. shape_fault (view_of w) ≡ None) }
@@ -124,6 +125,7 @@ impl StackWorld {
         ensures sound { IsSound (stored_of self.new) (view_of self.new) }
         ensures one { length (active_page self.new) ≤ 1 }
         ensures alone { length self.new.pages.recent ≤ 1 }
+        ensures total { self.new.pages.total ≡ self.old.pages.total }
         ensures limit { self.new.heap.limit ≡ self.old.heap.limit }
     {
         let nil = nil(self);
@@ -145,6 +147,7 @@ impl StackWorld {
         ensures sound { IsSound (stored_of self.new) (view_of self.new) }
         ensures one { length (active_page self.new) ≤ 1 }
         ensures alone { length self.new.pages.recent ≤ 1 }
+        ensures total { self.new.pages.total ≡ self.old.pages.total }
         ensures limit { self.new.heap.limit ≡ self.old.heap.limit }
     {
         if let Some(context) = slot(self, process, PROCESS_SLOTS, parts::SUSPENDED_CONTEXT) {
