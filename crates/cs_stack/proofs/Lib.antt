@@ -10,3 +10,5 @@ pub mod Laid
 pub mod Counting
 pub mod Writing
 pub mod Stores
+pub mod Grown
+pub mod Allocating
