@@ -30,6 +30,7 @@ use Rattle.cs_model.proofs.Same.{Same, same}
 use Rattle.cs_acts.specs.Full.{IsFullHeap}
 use Rattle.cs_acts.specs.Made.{CanAllocate, blank_of, contexts_in}
 use Rattle.cs_acts.specs.Names.{KeepsNames, Names}
+use Rattle.cs_acts.specs.Ready.{IsReady, IsSound}
 use Rattle.cs_stack.specs.declared.parts.Parts.{Parts}
 use Rattle.cs_stack.specs.View.{active_in, active_page, bare, layout_of, over, pages_onto, stored_of, view_of}
 use Rattle.cs_stack.specs.Good.{FramesFit, IsGood, Lacks}
@@ -37,6 +38,8 @@ use Rattle.cs_stack.proofs.Maps.{Objects}
 use Rattle.cs_stack.proofs.Bare.{bare_push, bare_whole, plain_unlinked, unlinked}
 use Rattle.cs_stack.proofs.Counting.{few_unused, raw_slots, some_slot, words_heap}
 use Rattle.cs_stack.proofs.Grown.{frames_grown, lacks_next, links_grown, pages_grown, pcs_grown}
+use Rattle.cs_stack.proofs.Closed.{good_sound}
+use Rattle.cs_stack.proofs.Tops.{ready_again}
 use Rattle.cs_stack.proofs.Stores.{pages_insert}
 
 -- the world with an object more
@@ -206,17 +209,37 @@ module _ (w : Parts) (good : IsGood w) (class format slots : ℕ) (fits : CanAll
     room = omega (arith, ap (λ (g : Memory). g.limit) unchanged, ap (λ (g : Memory). used g.objects) unchanged, over, made_words);
   }
 
-  -- ---- what a call of it does
+-- ---- what a call of it does
 
-  blank_same : (m : Kept) → Keeps (view_of w) m → Same (NamesHeld (view_of w)) (blank_of (view_of w) class format slots) (blank_of m class format slots)
-  blank_same m keeps = go (is_pointers format)
-    where
-      go : (b : Bool) → Same (NamesHeld (view_of w)) (blank_by b (view_of w)) (blank_by b m)
-      go true = new_pointers_same keeps class format slots
-      go false = same (blank_by false (view_of w)) tt
+-- a state that keeps another one makes the same object
+blank_same : (k m : Kept) (class format slots : ℕ) → Keeps k m → Same (NamesHeld k) (blank_of k class format slots) (blank_of m class format slots)
+blank_same k m class format slots keeps = go (is_pointers format)
+  where
+    blank_by : Bool → Kept → Obj
+    blank_by b j = if b then new_pointers j class format slots else Raw class format 0 (replicate (4 * slots - unused_bytes format) 0)
 
-  pub made_state : (m : Kept) → Keeps (view_of w) m → Keeps (add_of (view_of w) (blank_of (view_of w) class format slots)) (add_of m (blank_of m class format slots))
-  made_state m keeps = (add_moved keeps (blank_same m keeps)).keeps
+    go : (b : Bool) → Same (NamesHeld k) (blank_by b k) (blank_by b m)
+    go true = new_pointers_same keeps class format slots
+    go false = same (blank_by false k) tt
+
+rest-add : (k : Kept) (o : Obj) → (add_of k o).rest.active ≡ k.rest.active
+unfolding add_of
+rest-add k o = refl
+
+pub record Allocated (w v : Parts) (class format slots : ℕ) : Type 0 where
+  pub state : (m : Kept) → Keeps (view_of w) m → Keeps (view_of v) (add_of m (blank_of m class format slots))
+  pub sound : IsSound (stored_of v) (view_of v)
+  pub ready : IsReady (stored_of w) (view_of w) → IsReady (stored_of v) (view_of v)
+
+-- behind a call, whose world u before it is w
+pub call-allocate : (u w v : Parts) (class format slots : ℕ) → u ≡ w → IsGood v → view_of v ≡ add_of (view_of u) (blank_of (view_of u) class format slots) → Allocated w v class format slots
+call-allocate u w v class format slots e good is =
+    let view : view_of v ≡ add_of (view_of w) (blank_of (view_of w) class format slots) = subst (λ x. view_of v ≡ add_of (view_of x) (blank_of (view_of x) class format slots)) e is in
+    record {
+      state = λ m keeps. subst (λ k. Keeps k (add_of m (blank_of m class format slots))) (sym view) (add_moved keeps (blank_same (view_of w) m class format slots keeps)).keeps;
+      sound = good_sound v good;
+      ready = λ ready. ready_again w v good ready (ap (λ (k : Kept). k.rest.active) view ∙ rest-add (view_of w) (blank_of (view_of w) class format slots));
+    }
 
 pub within : (limit words : ℕ) → (limit < words → ⊥) → words ≤ limit
 within limit words not_over = go (nat_lt limit words) refl
