@@ -116,17 +116,17 @@ words_by-state (suc n) k = ap (λ m. m + words_at (object_at k n)) (words_by-sta
 method_slots : (count long code unused bytes : ℕ) → count < long → code ≡ long - (1 + count) → unused < 4 → (unused ≡ 0) ⊎ (0 < code) → bytes ≡ 4 * code - unused → 1 + count + (bytes + 3) / 4 ≡ long
 method_slots count long code unused bytes fits code_is few some bytes_are = omega (arith, fits, code_is, few, some, bytes_are)
 
-raw_slots : (long unused bytes : ℕ) → unused < 4 → (unused ≡ 0) ⊎ (0 < long) → bytes ≡ 4 * long - unused → (bytes + 3) / 4 ≡ long
+pub raw_slots : (long unused bytes : ℕ) → unused < 4 → (unused ≡ 0) ⊎ (0 < long) → bytes ≡ 4 * long - unused → (bytes + 3) / 4 ≡ long
 raw_slots long unused bytes few some bytes_are = omega (arith, few, some, bytes_are)
 
 -- fewer bytes than a slot has are unused, and none where there is no slot
-few_unused : (format slots : ℕ) → format_allows format slots ≡ true → is_pointers format ≡ false → unused_bytes format < 4
+pub few_unused : (format slots : ℕ) → format_allows format slots ≡ true → is_pointers format ≡ false → unused_bytes format < 4
 few_unused format slots h p = grind (arith, nat_tests, h, p)
 
 none_unused : (format : ℕ) → format_allows format 0 ≡ true → is_pointers format ≡ false → unused_bytes format ≡ 0
 none_unused format h p = grind (arith, nat_tests, h, p)
 
-some_slot : (format slots : ℕ) → format_allows format slots ≡ true → is_pointers format ≡ false → (unused_bytes format ≡ 0) ⊎ (0 < slots)
+pub some_slot : (format slots : ℕ) → format_allows format slots ≡ true → is_pointers format ≡ false → (unused_bytes format ≡ 0) ⊎ (0 < slots)
 some_slot format zero h p = inl (none_unused format h p)
 some_slot format (suc n) h p = inr (omega arith)
 

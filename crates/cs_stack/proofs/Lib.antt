@@ -35,3 +35,5 @@ pub mod Stores
 pub mod Acts
 pub mod Spouses
 pub mod Marrying
+pub mod Grown
+pub mod Allocating

@@ -311,7 +311,7 @@ module _ (s : Store) (o i v : ℕ) (can : Storable s o i v) (whole : IsWhole s.m
 
 -- ---- the map behind a store of something that no frame hides
 
-pages_insert : (xs : List Object) (ps : List (List Frame)) (m : Objects) (b : ℕ) (y : Obj) → ((p : ℕ) → Lacks b (frames_of ps p)) → pages_onto xs ps (insert m b y) ≡ insert (pages_onto xs ps m) b y
+pub pages_insert : (xs : List Object) (ps : List (List Frame)) (m : Objects) (b : ℕ) (y : Obj) → ((p : ℕ) → Lacks b (frames_of ps p)) → pages_onto xs ps (insert m b y) ≡ insert (pages_onto xs ps m) b y
 unfolding pages_onto
 pages_insert xs [] m b y l = refl
 pages_insert xs (q ∷ qs) m b y l = ap (frames_onto xs q) (pages_insert xs qs m b y (λ p. l (suc p))) ∙ sym (insert_below xs q (pages_onto xs qs m) b y (l 0))

@@ -354,6 +354,8 @@ impl Parts {
         ensures names { OnOk result (KeepsNames (stored_of self.old) (stored_of self.new)) }
         ensures full { IfErr result (λ why. (why ≡ full.Heap) × CausesFull (stored_of self.new) (layout_of self.old) (view_of self.old) (size slots) (add_of (view_of self.old) (blank_of (view_of self.old) class format slots)) why) }
     {
+        // for what its clauses say: no class index from there on has an entry
+        let _entries = self.classes.len();
         let birth = self.roots.next_birth;
         match self.heap.allocate(class, format, slots, birth) {
             Ok(made) => {
