@@ -1,5 +1,5 @@
 -- What stands at a birth where the frames of all pages hide what the heap has.
-use Rattle.std.proofs.Common.{◌≡◌, ◌≢◌, ℕ, zero, suc, ◌<◌, true, false, refl, sym, ap, ap₂, subst, ◌∙◌, Option, Some, None, IsSome, List, [], ◌∷◌, length, inl, inr, arith}
+use Rattle.std.proofs.Common.{◌≡◌, ◌≢◌, ℕ, zero, suc, ◌<◌, refl, sym, ap, subst, ◌∙◌, Some, IsSome, List, [], ◌∷◌, length, inl, inr, arith}
 use Rattle.std.specs.FinMap.{get, insert}
 use Rattle.std.proofs.lemmas.Bool.Decides.{eqb_tells}
 use Rattle.cs_heap.specs.Object.{Object}
@@ -29,7 +29,7 @@ pub below_on : {f g : Frame} {gs fs : List Frame} → IsOn f (g ∷ gs) fs → I
 below_on {f = f} {gs = gs} here = above f _ here
 below_on (above e es on) = above e es (below_on on)
 
-no_frame : {f : Frame} {gs fs : List Frame} → IsOn f gs fs → fs ≡ [] → ⊥
+pub no_frame : {f : Frame} {gs fs : List Frame} → IsOn f gs fs → fs ≡ [] → ⊥
 no_frame here e = absurd (cc)
 no_frame (above d ds on) e = absurd (cc)
 

@@ -2,9 +2,12 @@ pub mod Maps
 pub mod Lives
 pub mod Bare
 pub mod Framed
+pub mod Places
 pub mod Closed
 pub mod Alike
 pub mod Tops
+pub mod Laid
+pub mod Counting
 pub mod Stacking
 pub mod Adding
 pub mod Entries
