@@ -19,7 +19,6 @@ use Rattle.cs_frame.proofs.PageLaws.{frames_of-on_page, frames_of-on_page_other,
 use Rattle.cs_marriage.specs.Agree as marriage
 use Rattle.cs_marriage.specs.Agree.{AreMarried, header_at}
 use Rattle.cs_marriage.proofs.Based.{alone, alone_base, alone_frames, alone_on_frame, alone_on_top, alone_top}
-use Rattle.cs_marriage.proofs.Laws.{PageFits, fits_top, page_fits}
 use Rattle.cs_marriage.proofs.Objects.{context_there}
 use Rattle.cs_model.specs.Ref as ref
 use Rattle.cs_model.specs.Obj.{temporary_count}
@@ -36,8 +35,10 @@ use Rattle.cs_stack.specs.View.{active_page, births_of, frame_sender, laid_pages
 use Rattle.cs_stack.specs.Good.{FrameFits, IsChain, IsGood, base_of}
 use Rattle.cs_stack.specs.Moved.{active_number, begun_parts, callee, entry_of, given_birth}
 use Rattle.cs_stack.proofs.Tops.{Opened, contexts_known}
+use Rattle.cs_stack.proofs.Framed.{IsOn, here}
+use Rattle.cs_stack.proofs.Places.{married_on}
 use Rattle.cs_stack.proofs.Adding.{CanAdd, Stay, added_good, added_layout, added_parts, behind, chain_first, chain_stay, laid_stay}
-use Rattle.cs_stack.proofs.Entering.{cut_edited, cut_parts, entered_state, new_fits, new_married, pages_are, stacked, words_used}
+use Rattle.cs_stack.proofs.Entering.{cut_edited, cut_parts, entered_state, new_fits, new_married, pages_are, words_used}
 use Rattle.cs_stack.proofs.Called.{number_is, top_frame, top_is_frame, top_ref}
 use Rattle.cs_stack.proofs.Stacking.{longer, shorter, shorter_page}
 
@@ -74,14 +75,14 @@ taken_others order p q other = (back, λ h. (suc h.0, omega (arith, h.1), h.2))
 
 -- ---- a caller that is married
 
-module _ (w : Parts) (good : IsGood w) (o : Opened w) (stand : page.IsStacked (o.f ∷ o.fs)) (some : o.f.context ≢ nil) where
-  married : AreMarried w.heap.objects (record { page = o.p; at = o.f.at }) o.f
-  married = (fits_top w.heap.objects o.p o.f o.fs (subst (PageFits w.heap.objects o.p) o.is (page_fits w.heap.objects w.frames o.p good.agree))).married some
+module _ (w : Parts) (good : IsGood w) (o : Opened w) (some : o.f.context ≢ nil) where
+  married : AreMarried w.heap.objects (page.ref_of o.p o.f) o.f
+  married = married_on w good o.p (subst (IsOn o.f o.fs) (sym o.is) here) some
 
-  pub spouse_there : is_object w.heap.objects o.f.context ≡ true
+  spouse_there : is_object w.heap.objects o.f.context ≡ true
   spouse_there = context_there w.heap.objects o.f.context married.context
 
-  pub spouse_name : ref_of w.heap.objects o.f.context ≡ ref.Obj (active_birth (view_of w))
+  spouse_name : ref_of w.heap.objects o.f.context ≡ ref.Obj (active_birth (view_of w))
   spouse_name = ref_of-object w.heap.objects o.f.context spouse_there ∙ ap (λ b. ref.Obj b) (married.birth ∙ sym o.birth)
 
 -- ---- the world
@@ -107,9 +108,6 @@ module _ {w : Parts} (good : IsGood w) (ready : IsReady (stored_of w) (view_of w
   abbrev order : Order
   order = taken_order w.pages p
 
-  stand : page.IsStacked (o.f ∷ o.fs)
-  stand = stacked os next (o.f ∷ o.fs) (o.fits, o.rest)
-
   context_is : o.f.context ≡ sender
   context_is = sym (ap (λ (fs : List Frame). (top fs).context) o.page_is) ∙ same
 
@@ -117,10 +115,10 @@ module _ {w : Parts} (good : IsGood w) (ready : IsReady (stored_of w) (view_of w
   has e = some (sym context_is ∙ e)
 
   pub sender_named : is_reference os sender ≡ true
-  sender_named = subst (λ a. is_reference os a ≡ true) context_is (is_reference-object os o.f.context (spouse_there w good o stand has))
+  sender_named = subst (λ a. is_reference os a ≡ true) context_is (is_reference-object os o.f.context (spouse_there w good o has))
 
   sender_name : ref_of os sender ≡ ref.Obj (active_birth (view_of w))
-  sender_name = subst (λ a. ref_of os a ≡ ref.Obj (active_birth (view_of w))) context_is (spouse_name w good o stand has)
+  sender_name = subst (λ a. ref_of os a ≡ ref.Obj (active_birth (view_of w))) context_is (spouse_name w good o has)
 
   other : p ≢ o.p
   other = free_other o p free

@@ -43,6 +43,8 @@ use Rattle.cs_stack.specs.Good.{FrameFits, FramesFit, HasSender, IsGood, Lacks}
 use Rattle.cs_stack.specs.Moved.{callee, entry_of}
 use Rattle.cs_stack.proofs.Framed.{IsOn, all_fit, below_on, here, onto_frame}
 use Rattle.cs_stack.proofs.Tops.{Edited, Opened, edited, with_frames}
+use Rattle.cs_stack.proofs.Laid as laid
+use Rattle.cs_stack.proofs.Places.{stacked}
 use Rattle.cs_stack.proofs.Adding.{CanAdd, added_parts, added_view, begun_kept}
 use Rattle.cs_stack.proofs.Entries.{Entry, entry}
 
@@ -54,10 +56,6 @@ map-replicate r (suc n) w = ap (λ xs. r w ∷ xs) (map-replicate r n w)
 pub reference_value : (os : List Object) (w : ℕ) → is_reference os w ≡ true → IsValue w
 unfolding is_reference
 reference_value os w named link = let no : is_reference_kind os (kind_of w) ≡ false = ap (is_reference_kind os) (kind_of-link w link) in absurd (cc)
-
-pub stacked : (os : List Object) (n : ℕ) (fs : List Frame) → FramesFit os n fs → IsStacked fs
-stacked os n [] h = tt
-stacked os n (f ∷ fs) h = (h.0.stands, stacked os n fs h.1)
 
 -- ---- the caller, once receiver and arguments have left it
 
@@ -135,21 +133,8 @@ module _ {w : Parts} (o : Opened w) where
       sym (ap (λ (xs : List Ref). unwrap_or (slice_get xs i) d) stack_read
       ∙ ap (λ x. unwrap_or x d) (slice_get-map (ref_of w.heap.objects) o.f.stack i ∙ ap (option_map (ref_of w.heap.objects)) got))
 
--- the words of the frames of a page are those that the frames take
-module _ (w : Parts) (good : IsGood w) (p : ℕ) where
-  depth_on : (f : Frame) (gs : List Frame) → IsOn f gs (frames_of w.frames p) → frame_words (view_of w) f.birth ≡ 10 + length f.stack
-  unfolding frame_context
-  depth_on f gs on =
-      ap (λ o. 10 + depth_in (context_in o)) (onto_frame w.heap.objects w.roots.next_birth w.frames (objects_of (bare w.heap.objects)) p (all_fit w good) on)
-      ∙ ap (λ n. 10 + n) (length-map f.stack (ref_of w.heap.objects))
-
-  words_on : (f : Frame) (gs : List Frame) → IsOn f gs (frames_of w.frames p) → page_words (view_of w) (births_of (f ∷ gs)) ≡ used (f ∷ gs)
-  unfolding page_words
-  words_on f [] on = let deep = depth_on f [] on in omega (arith, deep)
-  words_on f (g ∷ hs) on = let deep = depth_on f (g ∷ hs) on in let rest = words_on g hs (below_on on) in omega (arith, deep, rest)
-
 pub words_used : (w : Parts) → IsGood w → (o : Opened w) → page_words (view_of w) (births_of (o.f ∷ o.fs)) ≡ used (o.f ∷ o.fs)
-words_used w good o = words_on w good o.p o.f o.fs (subst (λ es. IsOn o.f o.fs es) (sym o.is) here)
+words_used w good o = ap (λ (fs : List Frame). page_words (view_of w) (births_of fs)) (sym o.is) ∙ laid.words_used w good o.p ∙ ap used o.is
 
 pub pages_are : (w : Parts) (o : Opened w) → laid_pages w.frames w.pages.recent ≡ births_of (o.f ∷ o.fs) ∷ laid_pages w.frames o.qs
 pages_are w o = ap (laid_pages w.frames) o.recent ∙ ap (λ (fs : List Frame). births_of fs ∷ laid_pages w.frames o.qs) o.is
