@@ -11,3 +11,4 @@ pub mod Counting
 pub mod Acts
 pub mod Spouses
 pub mod Marrying
+pub mod Fields

@@ -1,5 +1,5 @@
 -- What stands for the context that a word names, and the sizes of frames.
-use Rattle.std.proofs.Common.{◌≡◌, ◌≢◌, ◌⊎◌, ℕ, suc, ◌-◌, ◌<◌, ◌≤◌, Bool, true, false, refl, sym, ap, subst, ◌∙◌, Option, Some, None, is_some, List, [], ◌∷◌, length, unwrap_or, option_and_then, arith, inl, inr}
+use Rattle.std.proofs.Common.{◌≡◌, ◌≢◌, ◌⊎◌, ℕ, suc, ◌-◌, ◌<◌, ◌≤◌, Bool, true, false, refl, sym, ap, subst, ◌∙◌, Option, Some, None, IsSome, is_some, List, [], ◌∷◌, length, unwrap_or, option_and_then, arith, inl, inr}
 use Rattle.std.specs.Prelude.{◌==◌, ◌&&◌, ◌||◌, ◌%◌, if◌then◌else◌, nat_lt, nat_le, not, slice_index}
 use Rattle.std.specs.Option.{option_map_or}
 use Rattle.std.proofs.lemmas.Bool.Decides.{eqb_tells, nat_tests}
@@ -30,7 +30,12 @@ use Rattle.cs_acts.specs.Targets.{is_gone}
 use Rattle.cs_acts.specs.Reading as reading
 use Rattle.cs_acts.proofs.Named.{context_read}
 use Rattle.cs_stack.specs.declared.parts.Parts.{Parts}
-use Rattle.cs_stack.specs.View.{act_of, dead_words, is_linked, is_married, stored_of, unframed, view_of}
+use Rattle.cs_model.specs.Read.{active_birth}
+use Rattle.cs_acts.specs.Ready.{IsReady}
+use Rattle.cs_stack.specs.Moved.{active_number}
+use Rattle.cs_stack.proofs.Tops.{good_ready, opened, opened_at}
+use Rattle.std.proofs.lemmas.Bool.{eq-eqb}
+use Rattle.cs_stack.specs.View.{act_of, active_page, birth_from, dead_words, is_linked, is_married, stored_of, unframed, view_of}
 use Rattle.cs_stack.specs.Good.{IsGood}
 use Rattle.cs_stack.proofs.Closed.{good_sound}
 use Rattle.cs_stack.proofs.Framed.{IsOn}
@@ -170,7 +175,7 @@ nil_no_context w good = elim (eqb_tells (class_of w.heap.objects nil) context_cl
     and_false true = refl
     and_false false = refl
 
-sender_dead : (ws : List ℕ) → 6 ≤ length ws → slice_index (dead_words ws) 0 ≡ nil
+pub sender_dead : (ws : List ℕ) → 6 ≤ length ws → slice_index (dead_words ws) 0 ≡ nil
 sender_dead [] h = absurd (omega (arith, h))
 sender_dead (x ∷ []) h = absurd (omega (arith, h))
 sender_dead (x ∷ y ∷ []) h = absurd (omega (arith, h))
@@ -200,6 +205,25 @@ context_sender {w = w} {a = a} good c v e = go (is_linked c.x) refl
     go false l =
         let same : slice_index (unframed c.x).words 0 ≡ slice_index c.x.words 0 = ap (λ b. slice_index (if b then record c.x { words = dead_words c.x.words } else c.x).words 0) l in
         ap (λ n. context_birth (view_of w) (ref_of os n)) (word ∙ sym same) ∙ sym (reads_sender (context_reads c))
+
+-- ---- the active frame
+
+pub ready_active : (w : Parts) → IsGood w → IsSome (view_of w).rest.active → IsReady (stored_of w) (view_of w)
+ready_active w good some = go (view_of w).rest.active refl some
+  where
+    go : (o : Option ℕ) → (view_of w).rest.active ≡ o → IsSome o → IsReady (stored_of w) (view_of w)
+    go None e s = absurd (cc)
+    go (Some i) e s = good_ready w good (opened_at w i good e)
+
+pub top_act : (w : Parts) → IsGood w → IsSome (view_of w).rest.active → (r : FrameRef) → r ≡ page.ref_of (active_number w) (page.top (active_page w)) → act_of w (act.Frame r.page r.at) ≡ Some (active_birth (view_of w))
+top_act w good some r is =
+    let o = opened w good (ready_active w good some) in
+    let number : active_number w ≡ o.p = ap (λ (ns : List ℕ). slice_index ns 0) o.recent in
+    let ref_is : r ≡ page.ref_of o.p o.f = is ∙ ap (λ p. page.ref_of p (page.top (active_page w))) number ∙ ap (λ fs. page.ref_of o.p (page.top fs)) o.page_is in
+    ap (λ (q : FrameRef). act_of w (act.Frame q.page q.at)) ref_is
+    ∙ ap (λ fs. birth_from fs o.f.at) o.is
+    ∙ ap (λ b. if b then Some o.f.birth else birth_from o.fs o.f.at) (eq-eqb o.f.at o.f.at refl)
+    ∙ ap Some (sym o.birth)
 
 -- ---- small laws
 

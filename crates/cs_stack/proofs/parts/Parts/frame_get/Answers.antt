@@ -12,6 +12,7 @@ use Rattle.cs_acts.specs.Targets.{field_of}
 use Rattle.cs_stack.specs.Good.{IsGood}
 use Rattle.cs_stack.specs.Moved.{IsContextOf, field_at}
 use Rattle.cs_stack.specs.View.{act_of, layout_of, stored_of, view_of}
+use Rattle.cs_stack.proofs.Fields.{frame_field}
 use Rattle.cs_stack.proofs.parts.Parts.frame_get.Goals as goal
 
 -- src/looks.rt:125:21
