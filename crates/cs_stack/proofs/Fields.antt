@@ -35,6 +35,7 @@ use Rattle.cs_stack.specs.Good.{IsGood}
 use Rattle.cs_stack.specs.Moved.{field_at}
 use Rattle.cs_stack.proofs.Closed.{good_sound}
 use Rattle.cs_stack.proofs.Acts.{Below, ContextAct, FrameAct, answers, base_sender, context_reads, depth_kept, field_named, frame_lives, frame_method_named, frame_reads, kept_depth, kept_pc, kept_word, reads_field, slot_is, slot_named, sender_below, slots_are, stack_counted, words_counted}
+use Rattle.cs_stack.proofs.Places.{size_few}
 use Rattle.cs_stack.proofs.Spouses.{sender_dead}
 
 -- ---- words
@@ -154,6 +155,9 @@ module _ {w : Parts} {p at : ℕ} (good : IsGood w) (a : FrameAct w p at) where
       let s = small_count w.heap.objects v.0 n e few in
       let long : n ≡ length (map (ref_of w.heap.objects) f.stack) = depth ∙ ap (λ (g : Frame). length g.stack) a.is ∙ sym (length-map f.stack (ref_of w.heap.objects)) in
       names v 2 (ref.Small (pos n)) s.named s.is (get_depth (view_of w) c ∙ ap (λ m. Some (ref.Small (pos m))) (sym long))
+
+  pub depth_small : (n : ℕ) → n ≡ length (frame w.frames (record { page = p; at = at })).stack → n < 2 ^ 30
+  depth_small n depth = omega (arith, depth, ap (λ (g : Frame). length g.stack) a.is, a.fits.fits, size_few w good p a.begins_at.on)
 
   pub frame_get_method : (v : Oop) → v.0 ≡ (frame w.frames (record { page = p; at = at })).method → NamesOption (stored_of w) (Some v) (field_at (view_of w) (act_of w (act.Frame p at)) 3)
   unfolding frame_context
