@@ -1,5 +1,5 @@
 -- The fields of contexts: those of a frame, and those of a context that has none.
-use Rattle.std.proofs.Common.{◌≡◌, ◌≢◌, ◌⊎◌, ℕ, zero, suc, ◌+◌, ◌-◌, ◌<◌, ◌≤◌, ◌^◌, Bool, true, false, refl, sym, ap, subst, ◌∙◌, Option, Some, None, IsSome, IfSome, IfOk, Result, Ok, Err, is_some, List, [], ◌∷◌, drop, length, map, take, unwrap_or, option_map, arith, inl, inr, length-take, length-drop}
+use Rattle.std.proofs.Common.{◌≡◌, ◌≢◌, ◌⊎◌, ℕ, zero, suc, ◌+◌, ◌-◌, ◌<◌, ◌≤◌, ◌^◌, Bool, true, false, refl, sym, ap, subst, ◌∙◌, Option, Some, None, IsSome, IfSome, IfOk, OnOk, Result, Ok, Err, is_some, List, [], ◌∷◌, drop, length, map, take, unwrap_or, option_and_then, option_map, arith, inl, inr, length-take, length-drop}
 use Rattle.std.specs.Prelude.{◌==◌, ◌&&◌, ◌||◌, if◌then◌else◌, negsuc, pos, slice_get, slice_index}
 use Rattle.std.proofs.lemmas.Bool.{cases_eq, cases_lt, ne_eqb}
 use Rattle.std.proofs.lemmas.Bool.Decides.{eqb_tells}
@@ -22,10 +22,12 @@ use Rattle.cs_frame.specs.Page.{IsFrame, frame, frames_of}
 use Rattle.cs_marriage.specs.Place.{names_place}
 use Rattle.cs_model.specs.Ref.{Ref, natural_of}
 use Rattle.cs_model.specs.Ref as ref
-use Rattle.cs_model.specs.Obj.{Context}
-use Rattle.cs_model.specs.State.{Kept}
+use Rattle.cs_model.specs.Obj.{Context, context_in}
+use Rattle.cs_model.specs.State.{Kept, object_at}
+use Rattle.cs_model.specs.Return.{context_at, context_birth}
+use Rattle.cs_acts.specs.Targets.{field_of}
 use Rattle.cs_model.specs.Operation.{nil_of}
-use Rattle.cs_model.specs.Context.{context_get, pc_value}
+use Rattle.cs_model.specs.Context.{context_get, is_context_ref, pc_value}
 use Rattle.cs_acts.specs.declared.act.Act.TheVariants as act
 use Rattle.cs_acts.specs.Names.{IsNamed, Names, NamesOption, Store, name_of}
 use Rattle.cs_acts.proofs.Firsts.{nil_names}
@@ -76,6 +78,10 @@ pub ok_map : {A E : Type 0} (P Q : A → Type 0) (r : Result A E) → ((x : A) �
 ok_map P Q (Ok x) f p = f x p
 ok_map P Q (Err e) f p = tt
 
+pub on_ok : {A E P : Type 0} (r : Result A E) → P → OnOk r P
+on_ok (Ok x) p = p
+on_ok (Err e) p = tt
+
 -- ---- the fields of a context
 
 pub get_sender : (k : Kept) (c : Context) → context_get k c 0 ≡ Some c.sender
@@ -123,6 +129,24 @@ some_within {A = A} xs k h = go (slice_get xs k) refl h
 
 mapped_at : (g : ℕ → Ref) (xs : List ℕ) (k : ℕ) → k < length xs → slice_get (map g xs) k ≡ Some (g (slice_index xs k))
 mapped_at g xs k l = slice_get-map g xs k ∙ ap (option_map g) (slice_get-get_or xs k 0 l)
+
+-- a field of what a reference names, by the birth of that
+pub field_by_birth : (k : Kept) (x : Ref) (i : ℕ) → field_of k x i ≡ field_at k (context_birth k x) i
+field_by_birth k (ref.Small n) i = refl
+field_by_birth k (ref.Char n) i = refl
+field_by_birth k (ref.Obj b) i = go (context_in (object_at k b)) refl
+  where
+    go : (d : Option Context) → context_in (object_at k b) ≡ d → option_and_then (λ c. context_get k c i) d ≡ field_at k (option_and_then (λ c. Some b) d) i
+    go None e = refl
+    go (Some c) e = sym (ap (λ q. option_and_then (λ c. context_get k c i) q) e)
+
+-- a context has the field
+pub field_context : (k : Kept) (x : Ref) (i : ℕ) → IsSome (field_of k x i) → is_context_ref k x ≡ true
+field_context k x i h = go (context_at k x) h
+  where
+    go : (d : Option Context) → IsSome (option_and_then (λ c. context_get k c i) d) → is_some d ≡ true
+    go None h = absurd (cc)
+    go (Some c) h = refl
 
 -- ---- of a frame
 

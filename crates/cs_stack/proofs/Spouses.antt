@@ -8,7 +8,7 @@ use Rattle.cs_heap.specs.Object.{Object, birth_of, class_of, is_object, object_a
 use Rattle.cs_heap.proofs.Laws.{object_placed}
 use Rattle.cs_classes.specs.Meaning.{context_of, count_of, is_context, ref_of}
 use Rattle.cs_classes.proofs.Heaps.{birth_of-object_at, is_object-object_at, object_there}
-use Rattle.cs_classes.proofs.Refs.{is_reference-object, ref_of-object}
+use Rattle.cs_classes.proofs.Refs.{is_reference-object, ref_of-object, same_births}
 use Rattle.cs_classes.proofs.Sounds.{sound_at, whole_context}
 use Rattle.cs_frame.specs.declared.FrameRef.{FrameRef}
 use Rattle.cs_frame.specs.Frame.{Frame, nil}
@@ -24,6 +24,7 @@ use Rattle.cs_model.specs.State as state
 use Rattle.cs_model.specs.State.{object_of}
 use Rattle.cs_model.specs.Context.{is_context_ref}
 use Rattle.cs_model.specs.Return.{context_birth, sender_birth}
+use Rattle.cs_acts.specs.declared.act.Act.{Act}
 use Rattle.cs_acts.specs.declared.act.Act.TheVariants as act
 use Rattle.cs_acts.specs.Names.{IsNamed, name_of}
 use Rattle.cs_acts.specs.Targets.{is_gone}
@@ -39,7 +40,7 @@ use Rattle.cs_stack.specs.View.{act_of, active_page, birth_from, dead_words, is_
 use Rattle.cs_stack.specs.Good.{IsGood}
 use Rattle.cs_stack.proofs.Closed.{good_sound}
 use Rattle.cs_stack.proofs.Framed.{IsOn}
-use Rattle.cs_stack.proofs.Acts.{ContextAct, FrameAct, answers, context_reads, context_there, field_named, frame_at, married_body, placed_on, reads_sender, slot_is}
+use Rattle.cs_stack.proofs.Acts.{ContextAct, FrameAct, answers, context_act, context_reads, context_there, field_named, frame_at, married_body, placed_on, reads_sender, slot_is}
 
 -- ---- what stands for the context that a word names
 
@@ -150,6 +151,23 @@ module _ (w : Parts) (good : IsGood w) (o : Oop) (named : IsNamed (stored_of w) 
           let placed = placed_on os w.roots.next_birth b.on (good.frames b.p) in
           absurd (none (record { page = b.p; at = b.f.at }) (placed.within, ap (λ (g : Frame). g.context) placed.is ∙ b.is))
       go false e = e
+
+-- what stands for it, and is no frame, is its address
+pub context_stands_for : (w : Parts) → IsGood w → (o : Oop) → IsNamed (stored_of w) o → is_context_ref (view_of w) (name_of (stored_of w) o) ≡ true → (r : Act) → act_of w r ≡ context_birth (view_of w) (name_of (stored_of w) o)
+    → is_gone r ≡ false → ((p at : ℕ) → r ≡ act.Frame p at → ⊥) → act_of w (act.Context o) ≡ context_birth (view_of w) (name_of (stored_of w) o)
+context_stands_for w good o named known (act.Frame p at) value here other = absurd (other p at refl)
+context_stands_for w good o named known act.Gone value here other = absurd (cc)
+context_stands_for w good o named known (act.Context v) value here other =
+    let is = sym (context_known w good o named) ∙ known in
+    let n = names_context w good o named is in
+    let some : IsSome (act_of w (act.Context v)) = ap is_some value ∙ names_some w good o named is in
+    let c = context_act w v good some in
+    let births : Some c.x.birth ≡ Some n.x.birth = sym (answers c v refl) ∙ value ∙ n.birth in
+    let birth : c.x.birth ≡ n.x.birth = cc in
+    let same : v.0 ≡ o.0 =
+    same_births w.heap.objects v.0 o.0 good.whole.heap (is_object-object_at w.heap.objects v.0 c.x c.there) (is_object-object_at w.heap.objects o.0 n.x n.there)
+    (birth_of-object_at w.heap.objects v.0 c.x c.there ∙ birth ∙ sym (birth_of-object_at w.heap.objects o.0 n.x n.there)) in
+    names_free w good o named is (ap (λ a. is_married a w.frames) (sym same) ∙ c.free)
 
 -- ---- the sender of a context that has no frame
 
