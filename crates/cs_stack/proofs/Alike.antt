@@ -1,5 +1,5 @@
 -- Pages that are alike: their frames have the same births, the same base frames' senders and the same contexts of their last frames.
-use Rattle.std.proofs.Common.{◌≡◌, ◌≢◌, ℕ, ◌<◌, refl, sym, ap, ap₂, subst, ◌∙◌, List, [], ◌∷◌, length, inl, inr, suc}
+use Rattle.std.proofs.Common.{◌≡◌, ℕ, ◌<◌, refl, sym, ap, ap₂, subst, ◌∙◌, List, [], ◌∷◌, length, inl, inr, suc}
 use Rattle.std.proofs.lemmas.Bool.{cases_eq}
 use Rattle.cs_frame.specs.Frame.{Frame}
 use Rattle.cs_frame.specs.Page.{frames_of, on_page, top}

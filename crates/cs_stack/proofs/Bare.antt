@@ -1,5 +1,5 @@
 -- The heap without its frames: every object is where it was, and only the words of married and widowed contexts are other ones.
-use Rattle.std.proofs.Common.{◌≡◌, ◌≢◌, ℕ, zero, suc, pos, ◌<◌, ◌≤◌, Bool, true, false, refl, sym, ap, ap₂, cond, subst, ◌∙◌, Option, Some, None, List, [], ◌∷◌, ◌++◌, length, map, option_map, option_and_then, is_some, get_or, unwrap_or, arith}
+use Rattle.std.proofs.Common.{◌≡◌, ℕ, zero, suc, pos, ◌<◌, ◌≤◌, Bool, true, false, refl, sym, ap, ap₂, cond, subst, ◌∙◌, Option, Some, None, List, [], ◌∷◌, ◌++◌, length, map, option_map, option_and_then, is_some, unwrap_or, arith}
 use Rattle.std.specs.Prelude.{◌&&◌, ◌||◌, ◌==◌, IsTrue, slice_get, slice_index, sum_by}
 use Rattle.std.specs.List.{AllPass}
 use Rattle.std.specs.Option.{option_map_or}

@@ -1,5 +1,5 @@
 -- A good world names only what it has, and its heap has what it must.
-use Rattle.std.proofs.Common.{◌≡◌, ℕ, zero, suc, pos, ◌≤◌, Bool, true, false, refl, sym, ap, ap₂, cond, subst, ◌∙◌, Option, Some, None, IsSome, is_some, List, [], ◌∷◌, length, map, option_map, arith, set, get_or-set_other, get_or-set_same}
+use Rattle.std.proofs.Common.{◌≡◌, ℕ, suc, pos, ◌≤◌, Bool, true, false, refl, sym, ap, cond, subst, ◌∙◌, Option, Some, None, IsSome, is_some, List, [], ◌∷◌, length, map, option_map, arith, set, get_or-set_other, get_or-set_same}
 use Rattle.std.specs.Prelude.{slice_get, slice_index}
 use Rattle.std.specs.List.{AllByRecursion, AllPass}
 use Rattle.std.specs.FinMap.{get}

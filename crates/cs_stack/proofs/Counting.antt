@@ -17,11 +17,10 @@ use Rattle.cs_frame.specs.Page as page
 use Rattle.cs_frame.specs.Page.{frames_of}
 use Rattle.cs_marriage.specs.Agree.{frame_size}
 use Rattle.cs_marriage.proofs.Agreeing.{size_some}
-use Rattle.cs_model.specs.Obj.{Ctx, Obj, literal_count, words_of}
+use Rattle.cs_model.specs.Obj.{Obj, literal_count, words_of}
 use Rattle.cs_model.specs.State.{Kept, object_at}
-use Rattle.cs_classes.specs.declared.Roots.{Roots}
-use Rattle.cs_classes.specs.Meaning.{bytes_of, code_in, context_of, header_in, kept_of, literals_in, obj_of, objects_of, ref_of, unused_bytes, used_bytes}
-use Rattle.cs_classes.specs.Sound.{IsSoundObject, IsWhole}
+use Rattle.cs_classes.specs.Meaning.{bytes_of, code_in, context_of, header_in, literals_in, obj_of, objects_of, ref_of, unused_bytes, used_bytes}
+use Rattle.cs_classes.specs.Sound.{IsSoundObject}
 use Rattle.cs_classes.proofs.Objects.{AreApart, IsFresh, entries_by}
 use Rattle.cs_classes.proofs.Sorts.{AContext, AMethod, Bytes, Pointers, Sort, obj_of-bytes, obj_of-context, obj_of-method, obj_of-pointers, sort_of}
 use Rattle.cs_classes.proofs.Sounds.{whole_context}

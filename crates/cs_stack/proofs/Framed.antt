@@ -1,5 +1,5 @@
 -- What stands at a birth where the frames of all pages hide what the heap has.
-use Rattle.std.proofs.Common.{◌≡◌, ◌≢◌, ℕ, zero, suc, ◌<◌, true, false, refl, sym, ap, ap₂, subst, ◌∙◌, Option, Some, None, IsSome, List, [], ◌∷◌, length, inl, inr, arith}
+use Rattle.std.proofs.Common.{◌≡◌, ◌≢◌, ℕ, zero, suc, ◌<◌, refl, sym, ap, subst, ◌∙◌, Some, IsSome, List, [], ◌∷◌, length, inl, inr, arith}
 use Rattle.std.specs.FinMap.{get, insert}
 use Rattle.std.proofs.lemmas.Bool.Decides.{eqb_tells}
 use Rattle.cs_heap.specs.Object.{Object}

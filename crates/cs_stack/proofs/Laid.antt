@@ -1,16 +1,15 @@
 -- The layout of a good world keeps its rules.
-use Rattle.std.proofs.Common.{◌≡◌, ◌≢◌, ℕ, zero, suc, ◌+◌, ◌<◌, ◌≤◌, Bool, true, false, eqb, refl, sym, ap, ap₂, subst, ◌∙◌, Option, Some, None, IsSome, is_some, List, [], ◌∷◌, ◌++◌, length, option_and_then, arith, inl, inr}
+use Rattle.std.proofs.Common.{◌≡◌, ◌≢◌, ℕ, zero, suc, ◌+◌, ◌<◌, ◌≤◌, Bool, true, false, eqb, refl, sym, ap, ap₂, subst, ◌∙◌, Option, Some, None, is_some, List, [], ◌∷◌, ◌++◌, length, option_and_then, arith, inl, inr}
 use Rattle.std.specs.Prelude.{◌||◌, ◌==◌, Contains}
 use Rattle.std.specs.List.{AllByRecursion, IsDistinct, concat}
 use Rattle.std.specs.FinMap.{get}
-use Rattle.std.proofs.lemmas.Bool.{eqb-false}
 use Rattle.std.proofs.lemmas.Bool.Decides.{eqb_tells}
 use Rattle.std.proofs.lemmas.List.{length-map}
 use Rattle.std.proofs.lemmas.Map.Keys.{IsDistinct-head, IsDistinct-tail}
 use Rattle.cs_classes.specs.Meaning.{objects_of, ref_of}
 use Rattle.cs_frame.specs.Frame.{Frame}
 use Rattle.cs_frame.specs.Page.{frames_of, used}
-use Rattle.cs_pages.proofs.Lists.{Lacks as lacks, lacks_not, length-le_total}
+use Rattle.cs_pages.proofs.Lists.{lacks_not, length-le_total}
 use Rattle.cs_model.specs.Ref as ref
 use Rattle.cs_model.specs.Obj.{Context, Ctx, Obj, context_in, is_context_at}
 use Rattle.cs_model.specs.State.{object_at}

@@ -1,5 +1,5 @@
 -- Frames by the places where they begin, and the contexts to which they are married.
-use Rattle.std.proofs.Common.{◌≡◌, ◌≢◌, ℕ, zero, suc, ◌<◌, ◌≤◌, ◌^◌, Bool, true, false, refl, sym, ap, cond, subst, ◌∙◌, Option, Some, None, List, [], ◌∷◌, length, inl, inr, arith}
+use Rattle.std.proofs.Common.{◌≡◌, ◌≢◌, ℕ, suc, ◌<◌, ◌≤◌, ◌^◌, Bool, true, false, refl, sym, ap, subst, ◌∙◌, Option, Some, List, [], ◌∷◌, length, inl, inr, arith}
 use Rattle.std.specs.Prelude.{◌==◌, ◌/◌, ◌%◌, if◌then◌else◌, slice_get}
 use Rattle.std.specs.Option.{option_map_or}
 use Rattle.std.specs.FinMap.{get}
@@ -19,8 +19,8 @@ use Rattle.cs_marriage.proofs.Objects.{context_there}
 use Rattle.cs_model.specs.Obj.{Obj, context_size}
 use Rattle.cs_model.specs.Obj as obj
 use Rattle.cs_stack.specs.declared.parts.Parts.{Parts}
-use Rattle.cs_stack.specs.Good.{FrameFits, FramesFit, IsGood, Lacks}
-use Rattle.cs_stack.proofs.Framed.{IsOn, above, all_fit, fits_on, here}
+use Rattle.cs_stack.specs.Good.{FramesFit, IsGood, Lacks}
+use Rattle.cs_stack.proofs.Framed.{IsOn, above, fits_on, here}
 use Rattle.cs_stack.proofs.Bare.{a_context, meaning_there}
 
 -- frames that fit lie on each other
