@@ -1,7 +1,7 @@
 -- The fields of contexts: those of a frame, and those of a context that has none.
-use Rattle.std.proofs.Common.{◌≡◌, ◌≢◌, ◌⊎◌, ℕ, zero, suc, ◌+◌, ◌-◌, ◌<◌, ◌≤◌, ◌^◌, Bool, true, false, refl, sym, ap, subst, ◌∙◌, Option, Some, None, IsSome, IfSome, IfOk, OnOk, Result, Ok, Err, is_some, List, [], ◌∷◌, drop, length, map, take, unwrap_or, option_and_then, option_map, arith, inl, inr, length-take, length-drop}
+use Rattle.std.proofs.Common.{◌≡◌, ◌≢◌, ℕ, zero, suc, ◌+◌, ◌-◌, ◌<◌, ◌≤◌, ◌^◌, Bool, true, false, refl, sym, ap, subst, ◌∙◌, Option, Some, None, IsSome, IfSome, IfOk, OnOk, Result, Ok, Err, is_some, List, drop, length, map, take, unwrap_or, option_and_then, option_map, arith, inl, inr}
 use Rattle.std.specs.Prelude.{◌==◌, ◌&&◌, ◌||◌, if◌then◌else◌, negsuc, pos, slice_get, slice_index}
-use Rattle.std.proofs.lemmas.Bool.{cases_eq, cases_lt, ne_eqb}
+use Rattle.std.proofs.lemmas.Bool.{cases_lt, ne_eqb}
 use Rattle.std.proofs.lemmas.Bool.Decides.{eqb_tells}
 use Rattle.std.proofs.lemmas.List.{get_or-drop, get_or-take, length-map}
 use Rattle.std.proofs.lemmas.List.Elements.{All-get_or}
@@ -10,17 +10,17 @@ use Rattle.cs_word.specs.declared.Kind.{Kind}
 use Rattle.cs_word.specs.declared.Kind.TheVariants as kind
 use Rattle.cs_word.specs.declared.Oop.{Oop}
 use Rattle.cs_word.specs.Word.{kind_of, small_word}
-use Rattle.cs_heap.specs.Object.{Object, slot_count_of, slot_of}
+use Rattle.cs_heap.specs.Object.{Object, slot_of}
 use Rattle.cs_classes.specs.Meaning.{context_of, count_of, count_of_kind, depth_in, ref_of, ref_of_kind}
 use Rattle.cs_classes.specs.Sound.{is_reference, is_reference_kind, nil_of as heap_nil}
 use Rattle.cs_frame.specs.declared.FrameRef.{FrameRef}
 use Rattle.cs_frame.specs.Page.{IsBase}
-use Rattle.cs_classes.proofs.Refs.{count_of-small, is_reference-object, is_reference-small, ref_of-small, small_natural}
+use Rattle.cs_classes.proofs.Refs.{is_reference-object, is_reference-small, ref_of-small, small_natural}
 use Rattle.cs_classes.proofs.Sounds.{sound_at}
 use Rattle.cs_frame.specs.Frame.{Frame, nil}
-use Rattle.cs_frame.specs.Page.{IsFrame, frame, frames_of}
+use Rattle.cs_frame.specs.Page.{frame}
 use Rattle.cs_marriage.specs.Place.{names_place}
-use Rattle.cs_model.specs.Ref.{Ref, natural_of}
+use Rattle.cs_model.specs.Ref.{Ref}
 use Rattle.cs_model.specs.Ref as ref
 use Rattle.cs_model.specs.Obj.{Context, context_in}
 use Rattle.cs_model.specs.State.{Kept, object_at}
@@ -36,7 +36,7 @@ use Rattle.cs_stack.specs.View.{act_of, dead_words, frame_context, is_linked, st
 use Rattle.cs_stack.specs.Good.{IsGood}
 use Rattle.cs_stack.specs.Moved.{field_at}
 use Rattle.cs_stack.proofs.Closed.{good_sound}
-use Rattle.cs_stack.proofs.Acts.{Below, ContextAct, FrameAct, answers, base_sender, context_reads, depth_kept, field_named, frame_lives, frame_method_named, frame_reads, kept_depth, kept_pc, kept_word, reads_field, slot_is, slot_named, sender_below, slots_are, stack_counted, words_counted}
+use Rattle.cs_stack.proofs.Acts.{Below, ContextAct, FrameAct, answers, base_sender, context_reads, depth_kept, field_named, frame_lives, frame_method_named, frame_reads, kept_depth, kept_pc, kept_word, reads_field, slot_is, slot_named, sender_below, stack_counted}
 use Rattle.cs_stack.proofs.Places.{size_few}
 use Rattle.cs_stack.proofs.Spouses.{sender_dead}
 

@@ -1,25 +1,24 @@
 -- What stands for the context that a word names, and the sizes of frames.
-use Rattle.std.proofs.Common.{◌≡◌, ◌≢◌, ◌⊎◌, ℕ, suc, ◌-◌, ◌<◌, ◌≤◌, Bool, true, false, refl, sym, ap, subst, ◌∙◌, Option, Some, None, IsSome, is_some, List, [], ◌∷◌, length, unwrap_or, option_and_then, arith, inl, inr}
+use Rattle.std.proofs.Common.{◌≡◌, ◌≢◌, ◌⊎◌, ℕ, ◌-◌, ◌≤◌, Bool, true, false, refl, sym, ap, ◌∙◌, Option, Some, None, IsSome, is_some, List, [], ◌∷◌, length, option_and_then, arith, inl, inr}
 use Rattle.std.specs.Prelude.{◌==◌, ◌&&◌, ◌||◌, ◌%◌, if◌then◌else◌, nat_lt, nat_le, not, slice_index}
 use Rattle.std.specs.Option.{option_map_or}
 use Rattle.std.proofs.lemmas.Bool.Decides.{eqb_tells, nat_tests}
 use Rattle.cs_word.specs.declared.Oop.{Oop}
 use Rattle.cs_heap.specs.Object.{Object, birth_of, class_of, is_object, object_at, slot_count_of, slot_of}
 use Rattle.cs_heap.proofs.Laws.{object_placed}
-use Rattle.cs_classes.specs.Meaning.{context_of, count_of, is_context, ref_of}
+use Rattle.cs_classes.specs.Meaning.{context_of, is_context, ref_of}
 use Rattle.cs_classes.proofs.Heaps.{birth_of-object_at, is_object-object_at, object_there}
 use Rattle.cs_classes.proofs.Refs.{is_reference-object, ref_of-object, same_births}
-use Rattle.cs_classes.proofs.Sounds.{sound_at, whole_context}
+use Rattle.cs_classes.proofs.Sounds.{sound_at}
 use Rattle.cs_frame.specs.declared.FrameRef.{FrameRef}
 use Rattle.cs_frame.specs.Frame.{Frame, nil}
 use Rattle.cs_frame.specs.Page as page
-use Rattle.cs_frame.specs.Page.{IsFrame, frame, frames_of, index_of, used}
-use Rattle.cs_marriage.specs.Agree.{HasContext, IsContextAt, IsSpouse, frame_size, header_at}
+use Rattle.cs_frame.specs.Page.{frame}
+use Rattle.cs_marriage.specs.Agree.{HasContext, IsContextAt}
 use Rattle.cs_marriage.specs.Place.{names_place}
-use Rattle.cs_marriage.specs.declared.state.Spouse.TheVariants as spouse
 use Rattle.cs_model.specs.Ref.{Ref}
 use Rattle.cs_model.specs.Ref as ref
-use Rattle.cs_model.specs.Obj.{Context, Obj, context_class, context_in, context_size}
+use Rattle.cs_model.specs.Obj.{Context, Obj, context_class, context_in}
 use Rattle.cs_model.specs.State as state
 use Rattle.cs_model.specs.State.{object_of}
 use Rattle.cs_model.specs.Context.{is_context_ref}
@@ -39,8 +38,7 @@ use Rattle.std.proofs.lemmas.Bool.{eq-eqb}
 use Rattle.cs_stack.specs.View.{act_of, active_page, birth_from, dead_words, is_linked, is_married, stored_of, unframed, view_of}
 use Rattle.cs_stack.specs.Good.{IsGood}
 use Rattle.cs_stack.proofs.Closed.{good_sound}
-use Rattle.cs_stack.proofs.Framed.{IsOn}
-use Rattle.cs_stack.proofs.Acts.{ContextAct, FrameAct, answers, context_act, context_reads, context_there, field_named, frame_at, married_body, placed_on, reads_sender, slot_is}
+use Rattle.cs_stack.proofs.Acts.{ContextAct, answers, context_act, context_reads, context_there, field_named, frame_at, married_body, placed_on, reads_sender, slot_is}
 
 -- ---- what stands for the context that a word names
 

@@ -1,4 +1,4 @@
-use Rattle.std.proofs.Common.{IsSome, ap, refl, subst, sym, ◌∙◌}
+use Rattle.std.proofs.Common.{IsSome, ap, refl, subst, ◌∙◌}
 use Rattle.cs_classes.proofs.Refs.{is_reference-object, ref_of-object}
 use Rattle.cs_model.specs.Ref as ref
 use Rattle.cs_stack.specs.View.{act_of}

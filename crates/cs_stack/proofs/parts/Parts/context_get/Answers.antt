@@ -1,9 +1,7 @@
-use Rattle.std.proofs.Common.{IsSome, Some, ap, arith, is_some, refl, subst, sym, ◌∙◌, ◌≡◌, ◌+◌, ◌≤◌}
+use Rattle.std.proofs.Common.{Some, ap, arith, is_some, refl, subst, sym, ◌∙◌, ◌≡◌}
 use Rattle.cs_acts.specs.Names.{NamesOption, name_of}
-use Rattle.cs_acts.specs.Made.{contexts_in}
 use Rattle.cs_acts.specs.declared.act.Act.TheVariants as act
 use Rattle.cs_model.specs.Return.{context_birth}
-use Rattle.cs_acts.specs.Targets.{field_of}
 use Rattle.cs_stack.specs.Moved.{field_at}
 use Rattle.cs_stack.specs.View.{act_of, stored_of, view_of}
 use Rattle.cs_stack.proofs.Acts.{frame_act}

@@ -1,4 +1,4 @@
-use Rattle.std.proofs.Common.{Some, ap, arith, subst, sym, ◌∙◌, ◌≤◌, ◌<◌, ◌-◌}
+use Rattle.std.proofs.Common.{Some, arith, subst, sym, ◌-◌}
 use Rattle.cs_acts.specs.Names.{NamesOption}
 use Rattle.cs_acts.specs.declared.act.Act.TheVariants as act
 use Rattle.cs_stack.specs.Moved.{field_at}

@@ -1,6 +1,6 @@
-use Rattle.std.proofs.Common.{Some, ap, refl, subst, sym, ◌∙◌, ◌≡◌}
+use Rattle.std.proofs.Common.{refl}
 use Rattle.std.proofs.lemmas.Bool.{true≢false}
-use Rattle.cs_stack.proofs.Acts.{Below, FrameAct, frame_at, frame_below}
+use Rattle.cs_stack.proofs.Acts.{frame_at, frame_below}
 use Rattle.cs_stack.proofs.Fields.{frame_get_base, frame_get_below, ok_map, some_if}
 use Rattle.cs_stack.proofs.parts.Parts.sender_of.Goals as goal
 

@@ -1,12 +1,3 @@
-use Rattle.std.proofs.Common.{IsSome, Option, None, Some, ap, subst, sym, ◌≡◌, ◌∙◌}
-use Rattle.cs_frame.specs.declared.FrameRef.{FrameRef}
-use Rattle.cs_model.specs.Ref as ref
-use Rattle.cs_acts.specs.Names.{Names}
-use Rattle.cs_acts.specs.Ready.{IsReady}
-use Rattle.cs_acts.specs.declared.act.Act.TheVariants as act
-use Rattle.cs_stack.specs.declared.parts.Parts.{Parts}
-use Rattle.cs_stack.specs.Good.{IsGood}
-use Rattle.cs_stack.specs.View.{act_of, stored_of, view_of}
 use Rattle.cs_stack.proofs.Fields.{ok_map, some_if}
 use Rattle.cs_stack.proofs.Spouses.{ready_active, top_act}
 use Rattle.cs_stack.proofs.parts.Parts.this_context.Goals as goal

@@ -1,4 +1,4 @@
-use Rattle.std.proofs.Common.{IsSome, Some, ap, arith, refl, subst, sym, ◌∙◌, ◌≡◌, ℕ}
+use Rattle.std.proofs.Common.{Some, ap, arith, refl, subst, sym, ◌∙◌, ℕ}
 use Rattle.std.specs.Prelude.{pos}
 use Rattle.cs_word.specs.Word.{small_word}
 use Rattle.cs_heap.specs.Object.{slot_of}
