@@ -27,14 +27,13 @@ use Rattle.cs_frame.specs.Frame.{Frame, nil, with_context}
 use Rattle.cs_frame.specs.Page as page
 use Rattle.cs_frame.specs.Page.{IsFrame, frame, frames_of, index_in, on_frame, on_nth, top}
 use Rattle.cs_frame.proofs.PageLaws.{frames_of-on_page, frames_of-on_page_other, length-on_page, page-IsFrame}
-use Rattle.cs_marriage.specs.Agree as agree
 use Rattle.cs_marriage.specs.Agree.{Agree, frame_size, header_at}
 use Rattle.cs_marriage.specs.Marriage.{married_objects, new_size, new_spouse, spouse_address}
 use Rattle.cs_marriage.specs.Place.{link_word}
 use Rattle.cs_marriage.proofs.Agreeing.{agree_married, context_again, size_none, size_some}
 use Rattle.cs_marriage.proofs.Objects.{context_there as spouse_there, method_there as code_there}
 use Rattle.cs_model.specs.Ref as ref
-use Rattle.cs_model.specs.Obj.{Context, Ctx, Obj, context_class, context_size, lies_in}
+use Rattle.cs_model.specs.Obj.{Ctx, Obj, context_class, context_size, lies_in}
 use Rattle.cs_model.specs.State.{Kept, Rest}
 use Rattle.cs_model.specs.Context.{lies_if_index, lies_if_live}
 use Rattle.cs_acts.specs.declared.act.Act.{Act}

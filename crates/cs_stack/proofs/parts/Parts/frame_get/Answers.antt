@@ -1,4 +1,4 @@
-use Rattle.std.proofs.Common.{Some, arith, subst, sym, ◌-◌}
+use Rattle.std.proofs.Common.{Some, arith, subst, sym}
 use Rattle.cs_acts.specs.Names.{NamesOption}
 use Rattle.cs_acts.specs.declared.act.Act.TheVariants as act
 use Rattle.cs_stack.specs.Moved.{field_at}
@@ -9,7 +9,7 @@ use Rattle.cs_stack.proofs.parts.Parts.frame_get.Goals as goal
 
 pub slot-requires-clause-index : goal.slot-requires-clause-index
 slot-requires-clause-index c =
-    frame_value_within c.requires.good (frame_at c.args.self.now c.args.f c.requires.good c.requires.frame) c.args.i (grind (arith, c.in_default.in_default-own)) c.requires.there
+    frame_value_within c.requires.good (frame_at c.args.self.now c.args.f c.requires.good c.requires.frame) c.args.i (omega arith) c.requires.there
 
 pub returns-in-0-clause-value : goal.returns-in-0-clause-value
 returns-in-0-clause-value c =
@@ -51,4 +51,4 @@ pub returns-in_default-clause-value : goal.returns-in_default-clause-value
 returns-in_default-clause-value c =
     let w = c.args.self.now in
     let a = frame_at w c.args.f c.requires.good c.requires.frame in
-    frame_get_value c.requires.good a c.slot.result c.args.i (grind (arith, c.in_default.in_default-own)) (frame_value_within c.requires.good a c.args.i (grind (arith, c.in_default.in_default-own)) c.requires.there) c.slot.ensures.value
+    frame_get_value c.requires.good a c.slot.result c.args.i (omega arith) (frame_value_within c.requires.good a c.args.i (omega arith) c.requires.there) c.slot.ensures.value

@@ -47,4 +47,4 @@ pub returns-in_default-2 : goal.returns-in_default-2
 returns-in_default-2 c =
     let w = c.args.self.now in
     let x = context_act w c.args.ctx c.requires.good c.requires.stands in
-    word_get_other c.requires.good x c.args.ctx refl c.slot-word.result c.args.i (λ e. grind (arith, e, c.in_default.in_default-own)) (λ e. grind (arith, e, c.in_default.in_default-own)) c.requires.there c.slot-word.ensures
+    word_get_other c.requires.good x c.args.ctx refl c.slot-word.result c.args.i (λ e. omega (arith, e)) (λ e. omega (arith, e)) c.requires.there c.slot-word.ensures
