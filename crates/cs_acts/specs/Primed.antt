@@ -4,6 +4,8 @@ use Rattle.cs_model.specs.State.{Kept}
 use Rattle.cs_model.specs.Keeps.{Keeps}
 use Rattle.cs_model.specs.End.{End, Out}
 use Rattle.cs_model.specs.End as ends
+use Rattle.cs_acts.specs.declared.act.Full.{Full as Why}
+use Rattle.cs_acts.specs.declared.act.Full.TheVariants.{Heap, Stack}
 use Rattle.cs_acts.specs.declared.prim.PrimEnd.{PrimEnd}
 use Rattle.cs_acts.specs.declared.prim.PrimEnd.TheVariants.{Answer, Entered, Fail, Stop, Full}
 use Rattle.cs_acts.specs.Full.{CausesFull}
@@ -21,6 +23,11 @@ pub record GoesOn (old new : Store) (v : Kept) (o : Out) : Type 0 where
 abbrev pub IsSuccess : End → Type 0
 IsSuccess end = (end ≡ ends.Answer) ⊎ (end ≡ ends.Entered)
 
+-- how a primitive ends in the model for which there is no room: the stack is full for a context that is entered alone
+abbrev pub EndsWithout : Why → End → Type 0
+EndsWithout Heap end = IsSuccess end
+EndsWithout Stack end = end ≡ ends.Entered
+
 -- A primitive called in a world of the view k and of this layout, with the view v and the store behind it, ends as in the model. It
 -- finds no room only where the model succeeds, for what that makes.
 abbrev pub PrimGives : Store → Store → Option Layout → Kept → Kept → PrimEnd → Out → Type 0
@@ -28,4 +35,4 @@ PrimGives old new l k v Answer o = (o.end ≡ ends.Answer) × GoesOn old new v o
 PrimGives old new l k v Entered o = (o.end ≡ ends.Entered) × GoesOn old new v o
 PrimGives old new l k v Fail o = (o.end ≡ ends.Fail) × (v ≡ k) × GoesOn old new v o
 PrimGives old new l k v (Stop reason) o = o.end ≡ ends.Stopped reason
-PrimGives old new l k v (Full why) o = IsSuccess o.end × CausesFull new l k o.count.objects o.state why
+PrimGives old new l k v (Full why) o = EndsWithout why o.end × CausesFull new l k o.count.objects o.state why

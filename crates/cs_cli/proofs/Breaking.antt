@@ -1,5 +1,5 @@
 -- A run that finds no room.
-use Rattle.std.proofs.Common.{◌≡◌, inl, refl, ap, subst, ◌∙◌, ℕ, ◌<◌, ◌≤◌, List, Option, codes}
+use Rattle.std.proofs.Common.{◌≡◌, inl, refl, ap, subst, ◌∙◌, ℕ, ◌<◌, ◌≤◌, List, Option, Some, None, IsSomeAnd, codes, unwrap_or}
 use Rattle.cs_model.specs.State.{Kept}
 use Rattle.cs_model.specs.Demand.{words_in}
 use Rattle.cs_model.specs.Step.{bytecode}
@@ -9,10 +9,10 @@ use Rattle.cs_acts.specs.Layout.{Layout}
 use Rattle.cs_acts.specs.Names.{Store}
 use Rattle.cs_core.specs.declared.run.RunError.{RunError}
 use Rattle.cs_core.specs.declared.run.RunError.TheVariants.{Full}
-use Rattle.cs_core.specs.Deep.{run_of, state_of}
+use Rattle.cs_core.specs.Deep.{IsDeep, most_of, run_of, state_of}
 use Rattle.cs_core.specs.Stepped.{IsNext}
 use Rattle.cs_core.specs.Running.{RunFails, RunFills}
-use Rattle.cs_cli.specs.Answer.{heap_limit, IsUnderWay, Printed, Reported, answering}
+use Rattle.cs_cli.specs.Answer.{heap_limit, IsUnderWay, Printed, Reported, answering, stack_pages}
 use Rattle.cs_cli.specs.Answer as answer
 use Rattle.cs_cli.proofs.Writings.{printed_behind, writing}
 
@@ -27,8 +27,13 @@ heap_reported k s m a b i j n e why is same limit h =
     let f = fills k s m a b n e why Heap is same h in
     answer.heap f.done (under_way k s m a b n Heap f f.room.next) f.room.over (subst (λ l. l < words_in (bytecode (run_of k f.done).state).out.state) limit f.room.words) (inl (refl, f.written))
 
-pub stack_reported : (k : Kept) (s : Store) (m : Option Layout) (a b c : Option (List ℕ)) (i j l n : ℕ) (e : RunError) (why : Why) (status : ℕ) → e ≡ Full why → why ≡ Stack → RunFails k s m a b n e → i ≤ j
+-- the pages that the machine has
+deep_pages : (k : Kept) (n : ℕ) (m : Option Layout) → most_of m ≡ Some stack_pages → IsSomeAnd m (λ laid. IsDeep laid.most k n) → IsDeep stack_pages k n
+deep_pages k n None pages h = absurd h
+deep_pages k n (Some l) pages h = subst (λ most. IsDeep most k n) (ap (λ o. unwrap_or o l.most) pages) h
+
+pub stack_reported : (k : Kept) (s : Store) (m : Option Layout) (a b c : Option (List ℕ)) (i j l n : ℕ) (e : RunError) (why : Why) (status : ℕ) → e ≡ Full why → why ≡ Stack → most_of m ≡ Some stack_pages → RunFails k s m a b n e → i ≤ j
     → Printed (answering 10 (codes "cogstack: stack\n")) (writing b c j l) status → Reported k n (writing a c i l) status
-stack_reported k s m a b c i j l n e why status is same h le printed =
+stack_reported k s m a b c i j l n e why status is same pages h le printed =
     let f = fills k s m a b n e why Stack is same h in
-    answer.stack f.done (under_way k s m a b n Stack f f.room.next) f.room.entered f.room.deep (printed_behind a b c i j l (run_of k f.done).state.run.output (codes "cogstack: stack\n") 10 status f.written le printed)
+    answer.stack f.done (under_way k s m a b n Stack f f.room.next) f.room.entered (deep_pages k f.done m pages f.room.deep) (printed_behind a b c i j l (run_of k f.done).state.run.output (codes "cogstack: stack\n") 10 status f.written le printed)

@@ -20,6 +20,10 @@ use Rattle.cs_core.specs.Stepped.{IsNext, IsOver}
 abbrev pub heap_limit : ℕ
 heap_limit = 16777216
 
+-- the stack pages of the machine
+abbrev pub stack_pages : ℕ
+stack_pages = 8
+
 -- the bytes that an image may have
 abbrev pub longest_image : ℕ
 longest_image = 536870912
@@ -112,11 +116,12 @@ abbrev pub full_stack : Kept → ℕ → Answer
 full_stack k done = answering 10 ((run_of k done).state.run.output ++ codes "cogstack: stack\n")
 
 -- n bytecodes from k are run and reported; or the next one doesn't stop, and the state that it leads to has more words than the heap's
--- limit; or it enters a method, and the contexts that have begun in the run and await a return need more than 3,900 words of the stack
+-- limit; or it enters a method, and the contexts that have begun in the run and await a return need more than 3,900 words for each of
+-- the stack pages
 pub data Reported (k : Kept) (n : ℕ) (out : Writing) (status : ℕ) : Type 0 where
   ended : Printed (run_answer (run_of k n)) out status → Reported k n out status
   heap : (done : ℕ) → IsUnderWay k n done → IsOver (next_end k done) → heap_limit < words_in (bytecode (run_of k done).state).out.state → Printed (full_heap k done) out status → Reported k n out status
-  stack : (done : ℕ) → IsUnderWay k n done → next_end k done ≡ ends.Entered → IsDeep k done → Printed (full_stack k done) out status → Reported k n out status
+  stack : (done : ℕ) → IsUnderWay k n done → next_end k done ≡ ends.Entered → IsDeep stack_pages k done → Printed (full_stack k done) out status → Reported k n out status
 
 -- or memory is wanted before the run begins
 abbrev pub Begun : Kept → ℕ → Writing → ℕ → Type 0

@@ -1,5 +1,5 @@
 -- What comes of opening an image.
-use Rattle.std.specs.Prelude.{◌≡◌, ℕ, List, false, Option, IfSome, Result, Ok, Err}
+use Rattle.std.specs.Prelude.{◌≡◌, ℕ, List, false, Option, Some, IfSome, Result, Ok, Err}
 use Rattle.cs_model.specs.State.{Kept}
 use Rattle.cs_model.specs.Settle.{open_kept}
 use Rattle.cs_model.specs.Due.{is_idle}
@@ -10,7 +10,8 @@ use Rattle.cs_stack.specs.declared.StackWorld.{StackWorld}
 use Rattle.cs_stack.specs.View.{layout_of, stored_of, view_of}
 use Rattle.cs_cli.specs.declared.top.Refusal.{Refusal}
 use Rattle.cs_cli.specs.declared.top.Refusal.TheVariants as refusal
-use Rattle.cs_cli.specs.Answer.{IsImage, IsRefused, ReadFailed, Reading, heap_limit}
+use Rattle.cs_core.specs.Deep.{most_of}
+use Rattle.cs_cli.specs.Answer.{IsImage, IsRefused, ReadFailed, Reading, heap_limit, stack_pages}
 
 -- a world in which a run of the opened image begins
 pub record IsOpened (content : Option (List ℕ)) (w : StackWorld) : Type 0 where
@@ -20,6 +21,7 @@ pub record IsOpened (content : Option (List ℕ)) (w : StackWorld) : Type 0 wher
   pub sound : IsSound (stored_of w) (view_of w)
   pub running : is_idle (view_of w) ≡ false → IsRunning (view_of w)
   pub fresh : IsFresh (view_of w) (layout_of w)
+  pub pages : most_of (layout_of w) ≡ Some stack_pages
   pub limit : (stored_of w).memory.limit ≡ heap_limit
 
 -- the world, or why there is none

@@ -2,8 +2,12 @@
 #![tactic(auto)]
 
 #[cfg(test)]
+mod context_images;
+#[cfg(test)]
 mod entering_images;
 mod line;
+#[cfg(test)]
+mod long_shelf;
 mod report;
 #[cfg(test)]
 mod test_images;

@@ -1,7 +1,9 @@
 //! Rows of the line, of the report and of the top call, and the images that the tests run.
 
+use crate::context_images::{DEAD_CONTEXT, DEAD_CONTEXT_BELOW};
 use crate::entering_images::{NO_INSTRUCTION, RECURSES, SENDS, SUM_OVERFLOWS};
 use crate::line::parse;
+use crate::long_shelf::LongShelf;
 use crate::report::report;
 use crate::test_images::{ADDS, POPS_AN_EMPTY_STACK, image_of};
 use crate::top::cogstack;
@@ -105,6 +107,15 @@ fn with_room(room: usize) -> Outside {
     }
 }
 
+/// The words of a line.
+fn words_of(alloc: Global, line: &[&str]) -> Result<Vec<String>, AllocError> {
+    let mut words = Vec::new(alloc);
+    for word in line {
+        words.push(String::from_str(alloc, word)?)?;
+    }
+    Ok(words)
+}
+
 /// The status of a line where the name `a` holds this image, and the shelf and the sink behind it.
 fn answer(
     alloc: Global,
@@ -112,10 +123,7 @@ fn answer(
     line: &[&str],
     outside: Outside,
 ) -> Result<(u8, MemShelf, MemSink), AllocError> {
-    let mut words = Vec::new(alloc);
-    for word in line {
-        words.push(String::from_str(alloc, word)?)?;
-    }
+    let words = words_of(alloc, line)?;
     let mut shelf = shelf_with(alloc, image, &[outside.shelf])?;
     let mut out = MemSink::new(alloc, outside.room, &[outside.sink])?;
     let status = cogstack(alloc, words.as_slice(), &mut shelf, &mut out);
@@ -191,6 +199,12 @@ fn runs_enter_and_return(rt: HostRuntime) -> Result<(), FromHexError> {
             0,
             "\nSteps steps=100 process=41 context=196 pc=9\n",
         ),
+        (
+            recurses,
+            "2000",
+            0,
+            "\nSteps steps=2000 process=41 context=1146 pc=9\n",
+        ),
         (recurses, "10000", 10, "cogstack: stack\n"),
         (
             none,
@@ -202,6 +216,31 @@ fn runs_enter_and_return(rt: HostRuntime) -> Result<(), FromHexError> {
     for (image, steps, status, text) in rows {
         let (answered, _, out) = answer(alloc, image, &["run", "a", steps], with_room(99))?;
         assert_eq!(rt; answered, status, "{text}");
+        assert_eq!(rt; out.taken(), text.as_bytes());
+    }
+    Ok(())
+}
+
+#[test]
+fn a_dead_context_is_read(rt: HostRuntime) -> Result<(), FromHexError> {
+    let alloc = rt.alloc();
+    let dead = image_of(alloc, &DEAD_CONTEXT)?;
+    let below = image_of(alloc, &DEAD_CONTEXT_BELOW)?;
+    let rows = [
+        (
+            dead.as_slice(),
+            "40",
+            "dr\nSteps steps=40 process=44 context=43 pc=52\n",
+        ),
+        (
+            below.as_slice(),
+            "60",
+            "dr\nSteps steps=60 process=45 context=44 pc=52\n",
+        ),
+    ];
+    for (image, steps, text) in rows {
+        let (answered, _, out) = answer(alloc, image, &["run", "a", steps], with_room(99))?;
+        assert_eq!(rt; answered, 0, "{text}");
         assert_eq!(rt; out.taken(), text.as_bytes());
     }
     Ok(())
@@ -337,6 +376,49 @@ fn a_cut_image_is_refused_and_one_with_births(rt: HostRuntime) -> Result<(), Fro
         let (answered, _, out) = answer(alloc, born.as_slice(), &line, with_room(99))?;
         assert_eq!(rt; answered, 3, "{len}");
         assert_eq!(rt; out.taken(), REFUSED.as_bytes(), "{len}");
+    }
+    Ok(())
+}
+
+/// The image of `tools/rows/adds.txt` up to the slots of one object more, which is added behind the others and has so many of 32
+/// bits. They stand behind these bytes.
+fn before_slots(alloc: Global, slots: u32) -> Result<Vec<u8>, FromHexError> {
+    let mut image = image_of(alloc, &ADDS)?;
+    let heap = 7560_u32.wrapping_add(slots.wrapping_mul(4));
+    for (byte, new) in image.iter_mut().skip(8).zip(heap.to_le_bytes()) {
+        *byte = new;
+    }
+    for word in [slots, 0xff00_0000, 0x0a00_002a, 0xff00_0000] {
+        image.extend_from_slice(&word.to_le_bytes())?;
+    }
+    Ok(image)
+}
+
+// The other visible objects take 836 words: the heap has 1,886, of which the hidden words object takes 4, the root 18 and its
+// page 1,028. The object that is added takes its slots, and four words before them. Of a file
+// that is too long no more is read than one byte beyond the longest file.
+#[test]
+fn a_long_image_is_refused(rt: HostRuntime) -> Result<(), FromHexError> {
+    let alloc = rt.alloc();
+    let rows = [
+        ("the objects take 16,777,216 words", 16_776_376, 0, SUM),
+        ("the objects take two words more", 16_776_378, 3, REFUSED),
+        ("the file has 536,870,920 bytes", 134_215_824, 3, REFUSED),
+    ];
+    for (what, slots, status, text) in rows {
+        let front = before_slots(alloc, slots)?;
+        let len = 7624 + 4 * u64::from(slots);
+        let mut shelf = LongShelf {
+            front: front.as_slice(),
+            len,
+            end: 0,
+        };
+        let words = words_of(alloc, &["run", "a", "20"])?;
+        let mut out = MemSink::new(alloc, 99, &[])?;
+        let answered = cogstack(alloc, words.as_slice(), &mut shelf, &mut out);
+        assert_eq!(rt; answered, status, "{what}");
+        assert_eq!(rt; out.taken(), text.as_bytes(), "{what}");
+        assert_eq!(rt; shelf.end, len.min(536_870_913), "{what}");
     }
     Ok(())
 }

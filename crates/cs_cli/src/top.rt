@@ -1,14 +1,15 @@
 //! The call that the program makes.
 
-ghost use Rattle.std.specs.Prelude.{◌≡◌, ◌≤◌, ℕ, List, false, OnErr, OnOk, length, map, string_bytes};
+ghost use Rattle.std.specs.Prelude.{◌≡◌, ◌≤◌, ℕ, List, Some, false, OnErr, OnOk, length, map, string_bytes};
 ghost use Rattle.cs_model.specs.Due.{is_idle};
 ghost use Rattle.cs_model.specs.Line.{line_of};
 ghost use Rattle.cs_model.specs.Read.{IsRunning};
 ghost use Rattle.cs_acts.specs.Layout.{IsFresh};
 ghost use Rattle.cs_acts.specs.Ready.{IsSound};
+ghost use Rattle.cs_core.specs.Deep.{most_of};
 ghost use Rattle.cs_core.specs.Running.{ending_of};
 ghost use Rattle.cs_shelf.specs.Outside.{Appends, AppendsPart, Rose};
-ghost use Rattle.cs_cli.specs.Answer.{Answered, Begun, Printed, Reported, answering, failed_read, heap_limit, read_text, run_status};
+ghost use Rattle.cs_cli.specs.Answer.{Answered, Begun, Printed, Reported, answering, failed_read, heap_limit, read_text, run_status, stack_pages};
 ghost use Rattle.cs_cli.specs.Opening.{Opens};
 
 use crate::line::parse;
@@ -28,7 +29,7 @@ const LONGEST_IMAGE: usize = 536_870_912;
 const HEAP_LIMIT: u32 = 16_777_216;
 
 /// The stack pages.
-const PAGES: u32 = 1;
+const PAGES: u32 = 8;
 
 /// The statuses of the program.
 const STOPPED: u8 = 1;
@@ -144,6 +145,7 @@ fn begin<W: World + Drop, K: Sink>(alloc: Global, world: W, steps: u64, out: &mu
     requires sound { IsSound (W.stored world) (W.view world) }
     requires running { is_idle (W.view world) ≡ false → IsRunning (W.view world) }
     requires fresh { IsFresh (W.view world) (W.layout world) }
+    requires pages { most_of (W.layout world) ≡ Some stack_pages }
     requires limit { (W.stored world).memory.limit ≡ heap_limit }
     ensures { Begun (W.view world) steps
         (record { old = K.taken out.old; new = K.taken out.new; before = K.fault_count out.old; behind = K.fault_count out.new }) result }
@@ -159,6 +161,7 @@ fn run_and_report<W: World + Drop, K: Sink>(world: W, sender: Sender, steps: u64
     requires sound { IsSound (W.stored world) (W.view world) }
     requires running { is_idle (W.view world) ≡ false → IsRunning (W.view world) }
     requires fresh { IsFresh (W.view world) (W.layout world) }
+    requires pages { most_of (W.layout world) ≡ Some stack_pages }
     requires limit { (W.stored world).memory.limit ≡ heap_limit }
     ensures { Reported (W.view world) steps
         (record { old = K.taken out.old; new = K.taken out.new; before = K.fault_count out.old; behind = K.fault_count out.new }) result }

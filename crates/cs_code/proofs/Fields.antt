@@ -91,9 +91,9 @@ field-stored k i v (Some (Method class format hash header literals bytecodes)) h
 field-stored k i v (Some (Ctx c)) h = absurd (cc)
 
 pub receiver-pushed : (k : Kept) (i : ℕ) → is_context_ref k (receiver_of k) ≡ false
-    → built_exec (op.PushRcvr i) k ≡ given (option_and_then (λ slots. slice_get slots i) (slots_in (object_of k (receiver_of k)))) (stop why.BadField k) (λ x. push_out k x)
-unfolding built_exec exec push_receiver_out
-receiver-pushed k i other = rw other (field-pushed k i (object_of k (receiver_of k)) other)
+    → push_receiver_out k i ≡ given (option_and_then (λ slots. slice_get slots i) (slots_in (object_of k (receiver_of k)))) (stop why.BadField k) (λ x. push_out k x)
+unfolding push_receiver_out
+receiver-pushed k i other = field-pushed k i (object_of k (receiver_of k)) other
 
 pub receiver-stored : (k : Kept) (i : ℕ) (v : Ref) → is_context_ref k (receiver_of k) ≡ false
     → store_receiver_out k i v ≡ given (option_and_then (λ slots. slice_get slots i) (slots_in (object_of k (receiver_of k)))) (stop why.BadField k) (λ old. done (store_of k (receiver_of k) i v))
@@ -110,7 +110,7 @@ receiver-popped k i other = rw other refl
 
 -- the same as the code reads it: by the word of the receiver, and by widened indices
 pub receiver-pushed-there : (k : Kept) (i j : ℕ) (r y : Ref) → is_context_ref k (receiver_of k) ≡ false → r ≡ receiver_of k → j ≡ i → Some y ≡ option_and_then (λ slots. slice_get slots j) (slots_in (object_of k r))
-    → built_exec (op.PushRcvr i) k ≡ push_out k y
+    → push_receiver_out k i ≡ push_out k y
 receiver-pushed-there k i j r y other is same_index there =
     receiver-pushed k i other
     ∙ ap (λ o. given o (stop why.BadField k) (λ x. push_out k x)) (sym (there ∙ ap₂ (λ (x : Ref) (n : ℕ). option_and_then (λ (slots : List Ref). slice_get slots n) (slots_in (object_of k x))) is same_index))

@@ -3,3 +3,4 @@ pub mod Fields
 pub mod Tops
 pub mod Bits
 pub mod Sending
+pub mod Looking

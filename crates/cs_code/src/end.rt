@@ -1,4 +1,5 @@
 //! What an instruction leads to.
+use cs_acts::Full;
 use cs_model::Stop;
 use cs_word::Oop;
 
@@ -21,4 +22,6 @@ pub enum CodeEnd {
     },
     /// The step stops.
     Stop(Stop),
+    /// There is no room for a context that the instruction looks at.
+    Full(Full),
 }

@@ -3,12 +3,15 @@
 //! The pc has been moved past the instruction when it is done. Where it sends or returns, that is left to who asked for it.
 #![tactic(auto)]
 
-ghost use Rattle.std.specs.Prelude.{◌≡◌};
+ghost use Rattle.std.specs.Prelude.{◌≡◌, false};
+ghost use Rattle.cs_acts.specs.declared.act.Full.{Full};
 ghost use Rattle.cs_acts.specs.Ready.{IsReady};
 ghost use Rattle.cs_code.specs.Built.{built_exec};
-ghost use Rattle.cs_code.specs.Gives.{Gives};
+ghost use Rattle.cs_code.specs.declared.end.CodeEnd.TheVariants as ends;
+ghost use Rattle.cs_code.specs.Gives.{Gives, Refuses, is_refused};
 
 mod arithmetic;
+mod contexts;
 mod end;
 mod jumps;
 mod pushes;
@@ -21,12 +24,13 @@ use cs_acts::World;
 use cs_model::{Instr, Op, Stop};
 pub use end::CodeEnd;
 
-/// Does one instruction.
+/// Does one instruction. `Full` comes only from a look at a context, where all else would be done.
 #[tactic(auto, unfolding(crate::specs::Built::built_exec, cs_model::specs::Exec::exec))]
 pub fn exec<W: World>(i: &Instr, w: &mut W) -> CodeEnd
     requires { IsReady (W.stored w.old) (W.view w.old) }
-    ensures gives { Gives (W.stored w.old) (W.stored w.new) (W.view w.new) result (built_exec i.now.op (W.view w.old)) }
-    ensures layout { W.layout w.new ≡ W.layout w.old }
+    ensures gives { is_refused result ≡ false → Gives (W.stored w.old) (W.stored w.new) (W.layout w.old) (W.view w.new) result (built_exec i.now.op (W.view w.old)) }
+    ensures full { (why : Full) → result ≡ ends.Full why → Refuses (W.stored w.new) (W.layout w.old) (W.view w.old) (built_exec i.now.op (W.view w.old)) why }
+    ensures layout { is_refused result ≡ false → W.layout w.new ≡ W.layout w.old }
     ensures limit { (W.stored w.new).memory.limit ≡ (W.stored w.old).memory.limit }
 {
     match i.op {
@@ -55,6 +59,7 @@ pub fn exec<W: World>(i: &Instr, w: &mut W) -> CodeEnd
         Op::SendSuper { lit, args } => sends::send_super(w, lit, args),
         Op::Pop => pushes::pop(w),
         Op::Dup => pushes::dup(w),
+        Op::ThisContext => contexts::push_this(w),
         Op::Prim { .. } => CodeEnd::Done,
         Op::PushVec { k, j } => variables::push_vector(w, k, j),
         Op::StoreVec { k, j } => stores::keep_vector(w, k, j),

@@ -1,9 +1,9 @@
 //! Pushes of single values, and what is done to the top of the stack alone.
-ghost use Rattle.std.specs.Prelude.{◌≡◌};
+ghost use Rattle.std.specs.Prelude.{◌≡◌, nat_lt};
 ghost use Rattle.cs_word.specs.Word.{IsSmall};
 ghost use Rattle.cs_model.specs.Number.{boolean as boolean_of};
 ghost use Rattle.cs_model.specs.Operation.{nil_of};
-ghost use Rattle.cs_model.specs.Read.{receiver_of};
+ghost use Rattle.cs_model.specs.Read.{depth_of, receiver_of, size_of};
 ghost use Rattle.cs_model.specs.Ref.{Ref};
 ghost use Rattle.cs_model.specs.Ref as ref;
 ghost use Rattle.cs_model.specs.Exec.{push_out, push_temp_out, push_literal_out, pop_out, dup_out};
@@ -17,16 +17,24 @@ use cs_acts::read::{boolean, from_top, literal, nil, temporary};
 use cs_model::Stop;
 use cs_word::Oop;
 
+/// Whether the active stack has room for a value.
+pub fn has_room<W: World>(w: &W) -> bool
+    requires { IsReady (W.stored w.now) (W.view w.now) }
+    ensures { result ≡ nat_lt (depth_of (W.view w.now)) (size_of (W.view w.now)) }
+{
+    w.depth() < w.size()
+}
+
 /// Pushes a value, where there is room.
 #[tactic(auto, unfolding(cs_model::specs::Exec::push_out))]
 pub fn push<W: World>(w: &mut W, x: Oop) -> CodeEnd
     requires ready { IsReady (W.stored w.old) (W.view w.old) }
     requires named { IsNamed (W.stored w.old) x }
-    ensures gives { Gives (W.stored w.old) (W.stored w.new) (W.view w.new) result (push_out (W.view w.old) (name_of (W.stored w.old) x)) }
+    ensures gives { Gives (W.stored w.old) (W.stored w.new) (W.layout w.old) (W.view w.new) result (push_out (W.view w.old) (name_of (W.stored w.old) x)) }
     ensures layout { W.layout w.new ≡ W.layout w.old }
     ensures limit { (W.stored w.new).memory.limit ≡ (W.stored w.old).memory.limit }
 {
-    if w.depth() < w.size() {
+    if has_room(w) {
         w.push(x);
         CodeEnd::Done
     } else {
@@ -38,7 +46,7 @@ pub fn push<W: World>(w: &mut W, x: Oop) -> CodeEnd
 #[tactic(auto, unfolding(cs_model::specs::Exec::push_temp_out))]
 pub fn push_temporary<W: World>(w: &mut W, i: u8) -> CodeEnd
     requires { IsReady (W.stored w.old) (W.view w.old) }
-    ensures gives { Gives (W.stored w.old) (W.stored w.new) (W.view w.new) result (push_temp_out (W.view w.old) i) }
+    ensures gives { Gives (W.stored w.old) (W.stored w.new) (W.layout w.old) (W.view w.new) result (push_temp_out (W.view w.old) i) }
     ensures layout { W.layout w.new ≡ W.layout w.old }
     ensures limit { (W.stored w.new).memory.limit ≡ (W.stored w.old).memory.limit }
 {
@@ -52,7 +60,7 @@ pub fn push_temporary<W: World>(w: &mut W, i: u8) -> CodeEnd
 #[tactic(auto, unfolding(cs_model::specs::Exec::push_literal_out))]
 pub fn push_literal<W: World>(w: &mut W, i: u8) -> CodeEnd
     requires { IsReady (W.stored w.old) (W.view w.old) }
-    ensures gives { Gives (W.stored w.old) (W.stored w.new) (W.view w.new) result (push_literal_out (W.view w.old) i) }
+    ensures gives { Gives (W.stored w.old) (W.stored w.new) (W.layout w.old) (W.view w.new) result (push_literal_out (W.view w.old) i) }
     ensures layout { W.layout w.new ≡ W.layout w.old }
     ensures limit { (W.stored w.new).memory.limit ≡ (W.stored w.old).memory.limit }
 {
@@ -65,7 +73,7 @@ pub fn push_literal<W: World>(w: &mut W, i: u8) -> CodeEnd
 /// Pushes the receiver.
 pub fn push_receiver<W: World>(w: &mut W) -> CodeEnd
     requires { IsReady (W.stored w.old) (W.view w.old) }
-    ensures gives { Gives (W.stored w.old) (W.stored w.new) (W.view w.new) result (push_out (W.view w.old) (receiver_of (W.view w.old))) }
+    ensures gives { Gives (W.stored w.old) (W.stored w.new) (W.layout w.old) (W.view w.new) result (push_out (W.view w.old) (receiver_of (W.view w.old))) }
     ensures layout { W.layout w.new ≡ W.layout w.old }
     ensures limit { (W.stored w.new).memory.limit ≡ (W.stored w.old).memory.limit }
 {
@@ -76,7 +84,7 @@ pub fn push_receiver<W: World>(w: &mut W) -> CodeEnd
 /// Pushes true or false.
 pub fn push_boolean<W: World>(w: &mut W, truth: bool) -> CodeEnd
     requires { IsReady (W.stored w.old) (W.view w.old) }
-    ensures gives { Gives (W.stored w.old) (W.stored w.new) (W.view w.new) result (push_out (W.view w.old) (boolean_of (W.view w.old) truth)) }
+    ensures gives { Gives (W.stored w.old) (W.stored w.new) (W.layout w.old) (W.view w.new) result (push_out (W.view w.old) (boolean_of (W.view w.old) truth)) }
     ensures layout { W.layout w.new ≡ W.layout w.old }
     ensures limit { (W.stored w.new).memory.limit ≡ (W.stored w.old).memory.limit }
 {
@@ -87,7 +95,7 @@ pub fn push_boolean<W: World>(w: &mut W, truth: bool) -> CodeEnd
 /// Pushes nil.
 pub fn push_nil<W: World>(w: &mut W) -> CodeEnd
     requires { IsReady (W.stored w.old) (W.view w.old) }
-    ensures gives { Gives (W.stored w.old) (W.stored w.new) (W.view w.new) result (push_out (W.view w.old) (nil_of (W.view w.old))) }
+    ensures gives { Gives (W.stored w.old) (W.stored w.new) (W.layout w.old) (W.view w.new) result (push_out (W.view w.old) (nil_of (W.view w.old))) }
     ensures layout { W.layout w.new ≡ W.layout w.old }
     ensures limit { (W.stored w.new).memory.limit ≡ (W.stored w.old).memory.limit }
 {
@@ -98,7 +106,7 @@ pub fn push_nil<W: World>(w: &mut W) -> CodeEnd
 /// Pushes a SmallInteger.
 pub fn push_small<W: World>(w: &mut W, z: i8) -> CodeEnd
     requires { IsReady (W.stored w.old) (W.view w.old) }
-    ensures gives { Gives (W.stored w.old) (W.stored w.new) (W.view w.new) result (push_out (W.view w.old) (ref.Small z)) }
+    ensures gives { Gives (W.stored w.old) (W.stored w.new) (W.layout w.old) (W.view w.new) result (push_out (W.view w.old) (ref.Small z)) }
     ensures layout { W.layout w.new ≡ W.layout w.old }
     ensures limit { (W.stored w.new).memory.limit ≡ (W.stored w.old).memory.limit }
 {
@@ -122,7 +130,7 @@ pub fn small_word(z: i32) -> Oop
 #[tactic(auto, unfolding(cs_model::specs::Exec::pop_out))]
 pub fn pop<W: World>(w: &mut W) -> CodeEnd
     requires { IsReady (W.stored w.old) (W.view w.old) }
-    ensures gives { Gives (W.stored w.old) (W.stored w.new) (W.view w.new) result (pop_out (W.view w.old)) }
+    ensures gives { Gives (W.stored w.old) (W.stored w.new) (W.layout w.old) (W.view w.new) result (pop_out (W.view w.old)) }
     ensures layout { W.layout w.new ≡ W.layout w.old }
     ensures limit { (W.stored w.new).memory.limit ≡ (W.stored w.old).memory.limit }
 {
@@ -139,7 +147,7 @@ pub fn pop<W: World>(w: &mut W) -> CodeEnd
 #[tactic(auto, unfolding(cs_model::specs::Exec::dup_out))]
 pub fn dup<W: World>(w: &mut W) -> CodeEnd
     requires { IsReady (W.stored w.old) (W.view w.old) }
-    ensures gives { Gives (W.stored w.old) (W.stored w.new) (W.view w.new) result (dup_out (W.view w.old)) }
+    ensures gives { Gives (W.stored w.old) (W.stored w.new) (W.layout w.old) (W.view w.new) result (dup_out (W.view w.old)) }
     ensures layout { W.layout w.new ≡ W.layout w.old }
     ensures limit { (W.stored w.new).memory.limit ≡ (W.stored w.old).memory.limit }
 {

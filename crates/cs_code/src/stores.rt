@@ -22,7 +22,7 @@ use cs_word::Oop;
 fn store_temporary<W: World>(w: &mut W, i: u8, x: Oop) -> CodeEnd
     requires ready { IsReady (W.stored w.old) (W.view w.old) }
     requires named { IsNamed (W.stored w.old) x }
-    ensures gives { Gives (W.stored w.old) (W.stored w.new) (W.view w.new) result (store_temp_out (W.view w.old) i (name_of (W.stored w.old) x)) }
+    ensures gives { Gives (W.stored w.old) (W.stored w.new) (W.layout w.old) (W.view w.new) result (store_temp_out (W.view w.old) i (name_of (W.stored w.old) x)) }
     ensures layout { W.layout w.new ≡ W.layout w.old }
     ensures limit { (W.stored w.new).memory.limit ≡ (W.stored w.old).memory.limit }
 {
@@ -40,7 +40,7 @@ fn store_temporary<W: World>(w: &mut W, i: u8, x: Oop) -> CodeEnd
 fn store_variable<W: World>(w: &mut W, i: u8, x: Oop) -> CodeEnd
     requires ready { IsReady (W.stored w.old) (W.view w.old) }
     requires named { IsNamed (W.stored w.old) x }
-    ensures gives { Gives (W.stored w.old) (W.stored w.new) (W.view w.new) result (store_variable_out (W.view w.old) i (name_of (W.stored w.old) x)) }
+    ensures gives { Gives (W.stored w.old) (W.stored w.new) (W.layout w.old) (W.view w.new) result (store_variable_out (W.view w.old) i (name_of (W.stored w.old) x)) }
     ensures layout { W.layout w.new ≡ W.layout w.old }
     ensures limit { (W.stored w.new).memory.limit ≡ (W.stored w.old).memory.limit }
 {
@@ -61,7 +61,7 @@ fn store_variable<W: World>(w: &mut W, i: u8, x: Oop) -> CodeEnd
 fn store_vector<W: World>(w: &mut W, k: u8, j: u8, x: Oop) -> CodeEnd
     requires ready { IsReady (W.stored w.old) (W.view w.old) }
     requires named { IsNamed (W.stored w.old) x }
-    ensures gives { Gives (W.stored w.old) (W.stored w.new) (W.view w.new) result (store_vector_out (W.view w.old) k j (name_of (W.stored w.old) x)) }
+    ensures gives { Gives (W.stored w.old) (W.stored w.new) (W.layout w.old) (W.view w.new) result (store_vector_out (W.view w.old) k j (name_of (W.stored w.old) x)) }
     ensures layout { W.layout w.new ≡ W.layout w.old }
     ensures limit { (W.stored w.new).memory.limit ≡ (W.stored w.old).memory.limit }
 {
@@ -83,7 +83,7 @@ fn store_field<W: World>(w: &mut W, i: u8, x: Oop) -> CodeEnd
     requires ready { IsReady (W.stored w.old) (W.view w.old) }
     requires named { IsNamed (W.stored w.old) x }
     requires plain { is_context_ref (W.view w.old) (receiver_of (W.view w.old)) ≡ false }
-    ensures gives { Gives (W.stored w.old) (W.stored w.new) (W.view w.new) result (store_receiver_out (W.view w.old) i (name_of (W.stored w.old) x)) }
+    ensures gives { Gives (W.stored w.old) (W.stored w.new) (W.layout w.old) (W.view w.new) result (store_receiver_out (W.view w.old) i (name_of (W.stored w.old) x)) }
     ensures layout { W.layout w.new ≡ W.layout w.old }
     ensures limit { (W.stored w.new).memory.limit ≡ (W.stored w.old).memory.limit }
 {
@@ -101,7 +101,7 @@ fn store_field<W: World>(w: &mut W, i: u8, x: Oop) -> CodeEnd
 #[tactic(auto, unfolding(cs_model::specs::Exec::store_into))]
 pub fn keep_temporary<W: World>(w: &mut W, i: u8) -> CodeEnd
     requires { IsReady (W.stored w.old) (W.view w.old) }
-    ensures gives { Gives (W.stored w.old) (W.stored w.new) (W.view w.new) result (store_into (W.view w.old) (λ t x. store_temp_out t i x)) }
+    ensures gives { Gives (W.stored w.old) (W.stored w.new) (W.layout w.old) (W.view w.new) result (store_into (W.view w.old) (λ t x. store_temp_out t i x)) }
     ensures layout { W.layout w.new ≡ W.layout w.old }
     ensures limit { (W.stored w.new).memory.limit ≡ (W.stored w.old).memory.limit }
 {
@@ -115,7 +115,7 @@ pub fn keep_temporary<W: World>(w: &mut W, i: u8) -> CodeEnd
 #[tactic(auto, unfolding(cs_model::specs::Exec::pop_into))]
 pub fn pop_temporary<W: World>(w: &mut W, i: u8) -> CodeEnd
     requires { IsReady (W.stored w.old) (W.view w.old) }
-    ensures gives { Gives (W.stored w.old) (W.stored w.new) (W.view w.new) result (pop_into (W.view w.old) (λ t x. store_temp_out t i x)) }
+    ensures gives { Gives (W.stored w.old) (W.stored w.new) (W.layout w.old) (W.view w.new) result (pop_into (W.view w.old) (λ t x. store_temp_out t i x)) }
     ensures layout { W.layout w.new ≡ W.layout w.old }
     ensures limit { (W.stored w.new).memory.limit ≡ (W.stored w.old).memory.limit }
 {
@@ -132,7 +132,7 @@ pub fn pop_temporary<W: World>(w: &mut W, i: u8) -> CodeEnd
 #[tactic(auto, unfolding(cs_model::specs::Exec::store_into))]
 pub fn keep_variable<W: World>(w: &mut W, i: u8) -> CodeEnd
     requires { IsReady (W.stored w.old) (W.view w.old) }
-    ensures gives { Gives (W.stored w.old) (W.stored w.new) (W.view w.new) result (store_into (W.view w.old) (λ t x. store_variable_out t i x)) }
+    ensures gives { Gives (W.stored w.old) (W.stored w.new) (W.layout w.old) (W.view w.new) result (store_into (W.view w.old) (λ t x. store_variable_out t i x)) }
     ensures layout { W.layout w.new ≡ W.layout w.old }
     ensures limit { (W.stored w.new).memory.limit ≡ (W.stored w.old).memory.limit }
 {
@@ -146,7 +146,7 @@ pub fn keep_variable<W: World>(w: &mut W, i: u8) -> CodeEnd
 #[tactic(auto, unfolding(cs_model::specs::Exec::pop_into))]
 pub fn pop_variable<W: World>(w: &mut W, i: u8) -> CodeEnd
     requires { IsReady (W.stored w.old) (W.view w.old) }
-    ensures gives { Gives (W.stored w.old) (W.stored w.new) (W.view w.new) result (pop_into (W.view w.old) (λ t x. store_variable_out t i x)) }
+    ensures gives { Gives (W.stored w.old) (W.stored w.new) (W.layout w.old) (W.view w.new) result (pop_into (W.view w.old) (λ t x. store_variable_out t i x)) }
     ensures layout { W.layout w.new ≡ W.layout w.old }
     ensures limit { (W.stored w.new).memory.limit ≡ (W.stored w.old).memory.limit }
 {
@@ -163,7 +163,7 @@ pub fn pop_variable<W: World>(w: &mut W, i: u8) -> CodeEnd
 #[tactic(auto, unfolding(cs_model::specs::Exec::store_into))]
 pub fn keep_vector<W: World>(w: &mut W, k: u8, j: u8) -> CodeEnd
     requires { IsReady (W.stored w.old) (W.view w.old) }
-    ensures gives { Gives (W.stored w.old) (W.stored w.new) (W.view w.new) result (store_into (W.view w.old) (λ t x. store_vector_out t k j x)) }
+    ensures gives { Gives (W.stored w.old) (W.stored w.new) (W.layout w.old) (W.view w.new) result (store_into (W.view w.old) (λ t x. store_vector_out t k j x)) }
     ensures layout { W.layout w.new ≡ W.layout w.old }
     ensures limit { (W.stored w.new).memory.limit ≡ (W.stored w.old).memory.limit }
 {
@@ -177,7 +177,7 @@ pub fn keep_vector<W: World>(w: &mut W, k: u8, j: u8) -> CodeEnd
 #[tactic(auto, unfolding(cs_model::specs::Exec::pop_into))]
 pub fn pop_vector<W: World>(w: &mut W, k: u8, j: u8) -> CodeEnd
     requires { IsReady (W.stored w.old) (W.view w.old) }
-    ensures gives { Gives (W.stored w.old) (W.stored w.new) (W.view w.new) result (pop_into (W.view w.old) (λ t x. store_vector_out t k j x)) }
+    ensures gives { Gives (W.stored w.old) (W.stored w.new) (W.layout w.old) (W.view w.new) result (pop_into (W.view w.old) (λ t x. store_vector_out t k j x)) }
     ensures layout { W.layout w.new ≡ W.layout w.old }
     ensures limit { (W.stored w.new).memory.limit ≡ (W.stored w.old).memory.limit }
 {
@@ -194,7 +194,7 @@ pub fn pop_vector<W: World>(w: &mut W, k: u8, j: u8) -> CodeEnd
 #[tactic(auto, unfolding(crate::specs::Built::built_exec, cs_model::specs::Exec::exec, cs_model::specs::Exec::store_into))]
 pub fn keep_field<W: World>(w: &mut W, i: u8) -> CodeEnd
     requires { IsReady (W.stored w.old) (W.view w.old) }
-    ensures gives { Gives (W.stored w.old) (W.stored w.new) (W.view w.new) result (built_exec (Op.StoreRcvr i) (W.view w.old)) }
+    ensures gives { Gives (W.stored w.old) (W.stored w.new) (W.layout w.old) (W.view w.new) result (built_exec (Op.StoreRcvr i) (W.view w.old)) }
     ensures layout { W.layout w.new ≡ W.layout w.old }
     ensures limit { (W.stored w.new).memory.limit ≡ (W.stored w.old).memory.limit }
 {
@@ -212,7 +212,7 @@ pub fn keep_field<W: World>(w: &mut W, i: u8) -> CodeEnd
 #[tactic(auto, unfolding(crate::specs::Built::built_exec, cs_model::specs::Exec::exec, cs_model::specs::Exec::pop_into))]
 pub fn pop_field<W: World>(w: &mut W, i: u8) -> CodeEnd
     requires { IsReady (W.stored w.old) (W.view w.old) }
-    ensures gives { Gives (W.stored w.old) (W.stored w.new) (W.view w.new) result (built_exec (Op.PopRcvr i) (W.view w.old)) }
+    ensures gives { Gives (W.stored w.old) (W.stored w.new) (W.layout w.old) (W.view w.new) result (built_exec (Op.PopRcvr i) (W.view w.old)) }
     ensures layout { W.layout w.new ≡ W.layout w.old }
     ensures limit { (W.stored w.new).memory.limit ≡ (W.stored w.old).memory.limit }
 {

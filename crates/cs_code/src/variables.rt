@@ -1,13 +1,14 @@
 //! Literal variables, receiver fields and vectors.
-ghost use Rattle.std.specs.Prelude.{◌≡◌, Some};
-ghost use Rattle.cs_model.specs.declared.instruction.Op.{Op};
-ghost use Rattle.cs_model.specs.Exec.{push_variable_out, variable_value, push_vector_out, vector_slot, store_temp_out, store_variable_out, store_vector_out, store_into, pop_into};
+ghost use Rattle.std.specs.Prelude.{◌≡◌, false, Some};
+ghost use Rattle.cs_model.specs.Exec.{push_variable_out, variable_value, push_vector_out, push_receiver_out, vector_slot};
 ghost use Rattle.cs_acts.specs.Names.{IsNamed, NamesOption, name_of};
 ghost use Rattle.cs_acts.specs.Ready.{IsReady};
-ghost use Rattle.cs_code.specs.Built.{built_exec};
-ghost use Rattle.cs_code.specs.Gives.{Gives};
+ghost use Rattle.cs_acts.specs.declared.act.Full.{Full};
+ghost use Rattle.cs_code.specs.declared.end.CodeEnd.TheVariants as ends;
+ghost use Rattle.cs_code.specs.Gives.{Gives, Refuses, is_refused};
 
 use crate::CodeEnd;
+use crate::contexts::push_context_field;
 use crate::pushes::push;
 use cs_acts::World;
 use cs_acts::read::{from_top, is_context, literal, slot, slot_if_any, temporary};
@@ -41,7 +42,7 @@ fn vector_slot<W: World>(w: &W, k: u8, j: u8) -> Option<Oop>
 #[tactic(auto, unfolding(cs_model::specs::Exec::push_variable_out))]
 pub fn push_variable<W: World>(w: &mut W, i: u8) -> CodeEnd
     requires { IsReady (W.stored w.old) (W.view w.old) }
-    ensures gives { Gives (W.stored w.old) (W.stored w.new) (W.view w.new) result (push_variable_out (W.view w.old) i) }
+    ensures gives { Gives (W.stored w.old) (W.stored w.new) (W.layout w.old) (W.view w.new) result (push_variable_out (W.view w.old) i) }
     ensures layout { W.layout w.new ≡ W.layout w.old }
     ensures limit { (W.stored w.new).memory.limit ≡ (W.stored w.old).memory.limit }
 {
@@ -55,7 +56,7 @@ pub fn push_variable<W: World>(w: &mut W, i: u8) -> CodeEnd
 #[tactic(auto, unfolding(cs_model::specs::Exec::push_vector_out))]
 pub fn push_vector<W: World>(w: &mut W, k: u8, j: u8) -> CodeEnd
     requires { IsReady (W.stored w.old) (W.view w.old) }
-    ensures gives { Gives (W.stored w.old) (W.stored w.new) (W.view w.new) result (push_vector_out (W.view w.old) k j) }
+    ensures gives { Gives (W.stored w.old) (W.stored w.new) (W.layout w.old) (W.view w.new) result (push_vector_out (W.view w.old) k j) }
     ensures layout { W.layout w.new ≡ W.layout w.old }
     ensures limit { (W.stored w.new).memory.limit ≡ (W.stored w.old).memory.limit }
 {
@@ -65,17 +66,18 @@ pub fn push_vector<W: World>(w: &mut W, k: u8, j: u8) -> CodeEnd
     }
 }
 
-/// Pushes field `i` of the receiver, where that is no context.
-#[tactic(auto, unfolding(crate::specs::Built::built_exec, cs_model::specs::Exec::exec, cs_model::specs::Exec::push_receiver_out))]
+/// Pushes field `i` of the receiver: a slot of a pointer object, or a field of a context.
+#[tactic(auto, unfolding(cs_model::specs::Exec::push_receiver_out))]
 pub fn push_field<W: World>(w: &mut W, i: u8) -> CodeEnd
     requires { IsReady (W.stored w.old) (W.view w.old) }
-    ensures gives { Gives (W.stored w.old) (W.stored w.new) (W.view w.new) result (built_exec (Op.PushRcvr i) (W.view w.old)) }
-    ensures layout { W.layout w.new ≡ W.layout w.old }
+    ensures gives { is_refused result ≡ false → Gives (W.stored w.old) (W.stored w.new) (W.layout w.old) (W.view w.new) result (push_receiver_out (W.view w.old) i) }
+    ensures full { (why : Full) → result ≡ ends.Full why → Refuses (W.stored w.new) (W.layout w.old) (W.view w.old) (push_receiver_out (W.view w.old) i) why }
+    ensures layout { is_refused result ≡ false → W.layout w.new ≡ W.layout w.old }
     ensures limit { (W.stored w.new).memory.limit ≡ (W.stored w.old).memory.limit }
 {
     let receiver = w.receiver();
     if is_context(w, receiver) {
-        return CodeEnd::Stop(Stop::NotBuilt);
+        return push_context_field(w, receiver, u32::from(i));
     }
     match slot_if_any(w, receiver, u32::from(i)) {
         Some(x) => push(w, x),

@@ -12,11 +12,11 @@ use Rattle.cs_model.specs.Obj.{Obj, Context, Ptr, Raw, Method, Ctx, context_in, 
 use Rattle.cs_model.specs.State.{Kept, Rest, object_of}
 use Rattle.cs_model.specs.Keeps.{Keeps}
 use Rattle.cs_model.specs.Read.{IsRunning, active_birth, active_context, depth_of, from_top, literals_of, pc_of, receiver_of, size_of, stack_of}
-use Rattle.cs_model.specs.Operation.{drop_of, pop_of, put_active, set_pc_of}
+use Rattle.cs_model.specs.Operation.{drop_of, pop_of, push_of, put_active, set_pc_of}
 use Rattle.cs_model.specs.Number.{boolean}
 use Rattle.cs_model.specs.End as ends
 use Rattle.cs_model.specs.End.{End, Out, given, done, stop, looked}
-use Rattle.cs_model.specs.Exec.{argument_count_in, is_local, return_out, literal_at, selector_pair, top_of, variable_value, class_out, common_out, dup_out, exec, jump_if_out, jump_out, pop_into, pop_out, push_field, push_literal_out, push_out, push_receiver_out, push_temp_out, push_variable_out, push_vector_out, same_out, send_literal_out, send_selector_out, send_super_out, special_out, special_send_out, store_field, store_into, store_receiver_out, store_temp_out, store_variable_out, store_vector_out}
+use Rattle.cs_model.specs.Exec.{argument_count_in, is_local, return_out, literal_at, selector_pair, top_of, variable_value, class_out, common_out, dup_out, exec, jump_if_out, jump_out, pop_into, pop_out, push_field, push_literal_out, push_out, push_receiver_out, push_temp_out, push_variable_out, push_vector_out, same_out, send_literal_out, send_selector_out, send_super_out, special_out, special_send_out, store_field, store_into, store_receiver_out, store_temp_out, store_variable_out, store_vector_out, this_context_out}
 use Rattle.cs_model.specs.Built.{is_built_op}
 use Rattle.cs_model.proofs.Editing.{edit_twice}
 use Rattle.cs_model.proofs.Objects.{object_at-put_other, object_at-put_same, rest-put}
@@ -134,6 +134,10 @@ dup_asks : (k : Kept) → Asks k (dup_out k)
 unfolding dup_out
 dup_asks k = given_asks k _ _ _ stop_asks (λ x. push_asks k x)
 
+this_asks : (k : Kept) → Asks k (this_context_out k)
+unfolding this_context_out
+this_asks k = if_asks k (nat_lt (depth_of k) (size_of k)) _ _ (looked_asks k (done (push_of k (ref.Obj (active_birth k)))) done_asks) stop_asks
+
 jump_asks : (k t : Kept) (offset : ℤ) → Asks k (jump_out t offset)
 unfolding jump_out
 jump_asks k t offset = given_asks k _ _ _ stop_asks (λ x. done_asks)
@@ -211,7 +215,7 @@ exec_asks (op.Send lit args) k h = send_literal_asks k lit args
 exec_asks (op.SendSuper lit args) k h = send_super_asks k lit args
 exec_asks op.Pop k h = pop_asks k
 exec_asks op.Dup k h = dup_asks k
-exec_asks op.ThisContext k h = absurd (cc)
+exec_asks op.ThisContext k h = this_asks k
 exec_asks (op.NewArray n) k h = absurd (cc)
 exec_asks (op.PopArray n) k h = absurd (cc)
 exec_asks (op.Prim i j) k h = done_asks

@@ -1,5 +1,5 @@
 -- How a step begins: what the code has read, and what it has done of the instruction.
-use Rattle.std.proofs.Common.{◌≡◌, ℕ, ◌+◌, ◌-◌, ◌<◌, ◌≤◌, Bool, true, false, refl, sym, ap, subst, ◌∙◌, arith, Option, Some, None, List, length, option_map, nat_lt, nat_le, IfSome}
+use Rattle.std.proofs.Common.{◌≡◌, ℕ, ◌+◌, ◌-◌, ◌<◌, ◌≤◌, Bool, true, false, refl, sym, ap, subst, ◌∙◌, arith, Option, Some, None, List, length, option_map, nat_lt, nat_le, IfSome, ◌*◌}
 use Rattle.std.specs.Prelude.{◌&&◌, if◌then◌else◌, slice_index}
 use Rattle.std.proofs.lemmas.Bool.Decides.{nat_tests}
 use Rattle.cs_word.specs.declared.Oop.{Oop}
@@ -15,17 +15,24 @@ use Rattle.cs_model.specs.Operation.{set_pc_of}
 use Rattle.cs_model.specs.Decode.{decode_at, len_of, op_of}
 use Rattle.cs_model.specs.Exec.{exec}
 use Rattle.cs_model.specs.End as ends
-use Rattle.cs_model.specs.End.{End, Out, stop}
+use Rattle.cs_model.specs.End.{Count, End, Out, stop}
 use Rattle.cs_model.specs.Step.{birth_limit, instruction_at}
 use Rattle.cs_model.specs.Built.{is_built_op}
 use Rattle.cs_model.proofs.Building.{is_built_op_same}
 use Rattle.cs_model.proofs.Keeping.{Keeps-trans}
 use Rattle.cs_model.proofs.Same.{equal}
 use Rattle.cs_model.proofs.Executing.{exec_alike}
+use Rattle.cs_heap.specs.Object.{used}
+use Rattle.cs_acts.specs.declared.act.Full.{Full as Why}
+use Rattle.cs_acts.specs.declared.act.Full.TheVariants.{Heap}
+use Rattle.cs_acts.specs.Full.{CausesFull, IsFullHeap}
+use Rattle.cs_acts.specs.Layout.{Layout}
 use Rattle.cs_acts.specs.Names.{IsNamed, Store, name_of}
 use Rattle.cs_acts.specs.Ready.{Holds}
 use Rattle.cs_acts.proofs.Held.{named_held}
 use Rattle.cs_code.specs.Built.{built_exec}
+use Rattle.cs_code.specs.Gives.{Refuses}
+use Rattle.cs_core.proofs.Laying.{state_words_kept}
 use Rattle.cs_core.proofs.Turning.{effect, past}
 
 -- ---- births
@@ -116,6 +123,42 @@ executed k u v i pc e at moved closed end keeps = go (is_built_op i.op u) refl e
     go : (b : Bool) → is_built_op i.op u ≡ b → e ≡ (if b then exec i.op u else stop why.NotBuilt u).end → Keeps v (if b then exec i.op u else stop why.NotBuilt u).state → Executed k i v e
     go true h end keeps = did (built ∙ h) (sym a.end ∙ sym end) (Keeps-trans keeps a.keeps)
     go false h end keeps = did_not (built ∙ h) end
+
+-- it is built and done in the model, and the heap has no room for what it looks at
+pub record Refused (s : Store) (l : Option Layout) (k : Kept) (i : Instr) (why : Why) : Type 0 where
+  pub op : is_built_op i.op (past k i) ≡ true
+  pub end : (effect k i).end ≡ ends.Done
+  pub heap : why ≡ Heap
+  pub cause : CausesFull s l k (effect k i).count.objects (effect k i).state Heap
+
+pub refused : (s : Store) (l : Option Layout) (k u : Kept) (i : Instr) (pc : ℕ) (reason : Why) → pc ≡ pc_of k + i.len → ((m : Kept) → Keeps k m → Keeps u (set_pc_of m pc)) → Keeps k k
+    → Refuses s l u (built_exec i.op u) reason → Refused s l k i reason
+unfolding built_exec
+refused s l k u i pc reason at moved closed h = go (is_built_op i.op u) refl h
+  where
+    start : Keeps u (past k i)
+    start = subst (λ n. Keeps u (set_pc_of k n)) at (moved k closed)
+
+    a : Alike u (exec i.op u) (effect k i)
+    a = exec_alike i.op start
+
+    made : (exec i.op u).count.objects ≡ (effect k i).count.objects
+    made = ap (λ (c : Count). c.objects) a.count
+
+    cause : IsFullHeap s l (exec i.op u).count.objects (exec i.op u).state → IsFullHeap s l (effect k i).count.objects (effect k i).state
+    cause c = record {
+      words = omega (arith, c.words, state_words_kept (exec i.op u).state (effect k i).state a.keeps);
+      room = subst (λ n. IfSome l (λ laid. s.memory.limit < used s.memory.objects + n + 26304 * laid.most)) made c.room;
+    }
+
+    go : (b : Bool) → is_built_op i.op u ≡ b → Refuses s l u (if b then exec i.op u else stop why.NotBuilt u) reason → Refused s l k i reason
+    go true op r = record {
+      op = equal (is_built_op_same start i.op) ∙ op;
+      end = sym a.end ∙ r.end;
+      heap = r.heap_alone;
+      cause = cause (subst (CausesFull s l u (exec i.op u).count.objects (exec i.op u).state) r.heap_alone r.cause);
+    }
+    go false op r = absurd (let no : ends.Stopped why.NotBuilt ≡ ends.Done = r.end in cc)
 
 -- ---- what a message names
 

@@ -3,7 +3,6 @@ use Rattle.std.proofs.Common.{◌≡◌, ℕ, zero, suc, ◌+◌, ◌<◌, ◌�
 use Rattle.std.specs.Prelude.{◌==◌, ◌&&◌, ◌||◌, if◌then◌else◌, not}
 use Rattle.std.proofs.lemmas.List.{append-nil, append_assoc, length-append, take-append-le}
 use Rattle.cs_shelf.specs.Outside.{Appends, AppendsPart}
-use Rattle.std.proofs.lemmas.Bool.Decides.{nat_tests}
 use Rattle.cs_model.specs.declared.stop.Stop.{Stop}
 use Rattle.cs_model.specs.declared.stop.Stop.TheVariants as why
 use Rattle.cs_model.specs.declared.instruction.Instr.{Instr}
@@ -24,11 +23,14 @@ use Rattle.cs_model.specs.Number.{number_result}
 use Rattle.cs_model.specs.PrimRun.{Result, bytes_to_write, fails, result, write_prim, written}
 use Rattle.cs_model.specs.PrimNumber.{number_prim}
 use Rattle.cs_model.specs.PrimTable.{kept_prim, prim}
+use Rattle.cs_model.specs.Context.{is_context_ref}
 use Rattle.cs_model.specs.Due.{due, due_of, happened, is_idle, with_events}
 use Rattle.cs_model.specs.Step as step
 use Rattle.cs_model.specs.Step.{Steps, Quit, Idle, Stopped, add_count, bytecode, call_in, do_call, do_return, go_on, idle, obey, run_by, saved_fault, step}
 use Rattle.cs_model.specs.Step.{Ending, Message, Step, birth_limit, completed, do_send, ends_with, finish, finish_of, followed, instruction_at, is_fail, message_in, next_step, or_enter, primitive_in, return_in, sent, shape_fault, stops, with_kept, arguments_of, tried, try_performed, try_primitive}
 use Rattle.cs_model.specs.Built.{built_run, built_step, is_built, is_built_bytecode, is_built_found, is_built_from, is_built_method, is_built_number, is_built_op, is_built_out, is_built_return, is_built_send, is_built_target}
+use Rattle.cs_core.proofs.Laying.{is_same}
+use Rattle.cs_core.proofs.Replying.{ReadsBy, reads_73, reads_210, reads_212, reply_last}
 
 -- a run that has written more, and has the same events left
 pub record Writes (r q : Run) : Type 0 where
@@ -84,17 +86,24 @@ record Leaves (s : State) (p : Result) : Type 0 where
   pub last : primitive_in p.out.end ≡ None
   pub writes : Writes s.run p.run
 
-built_leaves : (s : State) (args number : ℕ) → is_built_number (Some number) ≡ true → Leaves s (prim number args s)
-built_leaves s args number h = go (number == 1) (number == 900) refl refl h
+-- those that read a context answer or fail
+read_leaves : (s : State) (args number : ℕ) → (p : ReadsBy s args number) → Leaves s (prim number args s)
+read_leaves s args number p = record {
+  last = subst (λ (q : Result). primitive_in q.out.end ≡ None) (sym p.is) (reply_last p.reply);
+  writes = subst (λ (q : Result). Writes s.run q.run) (sym p.is) (writes_none s.run);
+}
+
+built_leaves : (s : State) (args number : ℕ) → is_built_number s.kept args (Some number) ≡ true → Leaves s (prim number args s)
+built_leaves s args number h = go (number == 1) (number == 210) (number == 212) (number == 900) (number == 73) refl refl refl refl refl h
   where
-    go : (a b : Bool) → (number == 1) ≡ a → (number == 900) ≡ b → (a || b) ≡ true → Leaves s (prim number args s)
-    go true b p q t =
-        let is : number ≡ 1 = grind (arith, nat_tests, p) in
-        subst (λ n. Leaves s (prim n args s)) (sym is) (record { last = prim_1_last args s; writes = subst (Writes s.run) (sym (prim_1_run args s)) (writes_none s.run) })
-    go false true p q t =
-        let is : number ≡ 900 = grind (arith, nat_tests, q) in
-        subst (λ n. Leaves s (prim n args s)) (sym is) (record { last = prim_900_last args s; writes = prim_900_writes args s })
-    go false false p q t = absurd (cc)
+    go : (a b c d e : Bool) → (number == 1) ≡ a → (number == 210) ≡ b → (number == 212) ≡ c → (number == 900) ≡ d → (number == 73) ≡ e
+        → ((a || b || c || d) || (e && is_context_ref s.kept (receiver s.kept args))) ≡ true → Leaves s (prim number args s)
+    go true b c d e p q r u w t = subst (λ n. Leaves s (prim n args s)) (sym (is_same number 1 p)) (record { last = prim_1_last args s; writes = subst (Writes s.run) (sym (prim_1_run args s)) (writes_none s.run) })
+    go false true c d e p q r u w t = subst (λ n. Leaves s (prim n args s)) (sym (is_same number 210 q)) (read_leaves s args 210 (reads_210 s args))
+    go false false true d e p q r u w t = subst (λ n. Leaves s (prim n args s)) (sym (is_same number 212 r)) (read_leaves s args 212 (reads_212 s args))
+    go false false false true e p q r u w t = subst (λ n. Leaves s (prim n args s)) (sym (is_same number 900 u)) (record { last = prim_900_last args s; writes = prim_900_writes args s })
+    go false false false false true p q r u w t = subst (λ n. Leaves s (prim n args s)) (sym (is_same number 73 w)) (read_leaves s args 73 (reads_73 s args))
+    go false false false false false p q r u w t = absurd (cc)
 
 -- ---- a send
 
@@ -117,18 +126,18 @@ tried_writes : (s : State) (x : Ref) (p : Result) → Leaves s p → Writes s.ru
 tried_writes s x p l =
     subst (λ (o : Option (Ref × ℕ)). Writes s.run (given o (or_enter s x p) (λ q. step.counting p.out.count (try_performed (with_kept p.out.state p.run) q.0 q.1))).run) (sym l.last) (or_enter_writes s x p l.writes)
 
-primitive_writes : (s : State) (x : Ref) (number : ℕ) → is_built_number (Some number) ≡ true → Writes s.run (try_primitive s x number).run
+primitive_writes : (s : State) (x : Ref) (number : ℕ) → is_built_number s.kept (arguments_of s.kept x) (Some number) ≡ true → Writes s.run (try_primitive s x number).run
 unfolding try_primitive
 primitive_writes s x number h = tried_writes s x (prim number (arguments_of s.kept x) s) (built_leaves s (arguments_of s.kept x) number h)
 
 method_writes : (r : Run) (k : Kept) (x : Ref) (args : ℕ) → is_built_method k x args ≡ true → Writes r (sent r (invoke k x args)).run
 unfolding invoke
-method_writes r k x args h = go (argument_count (header_in (object_of k x)) == args) (primitive_number (header_in (object_of k x)) (bytecodes_in (object_of k x))) h
+method_writes r k x args h = go (argument_count (header_in (object_of k x)) == args) refl (primitive_number (header_in (object_of k x)) (bytecodes_in (object_of k x))) h
   where
-    go : (b : Bool) (o : Option ℕ) → (if b then is_built_number o else true) ≡ true → Writes r (sent r (if b then offer k x args o else stop why.BadArgs k)).run
-    go true None t = subst (Writes r) (sym (entered_run r k x args false)) (writes_none r)
-    go true (Some n) t = primitive_writes (with_kept k r) x n t
-    go false o t = writes_none r
+    go : (b : Bool) → (arguments_of k x == args) ≡ b → (o : Option ℕ) → (if b then is_built_number k args o else true) ≡ true → Writes r (sent r (if b then offer k x args o else stop why.BadArgs k)).run
+    go true e None t = subst (Writes r) (sym (entered_run r k x args false)) (writes_none r)
+    go true e (Some n) t = primitive_writes (with_kept k r) x n (ap (λ m. is_built_number k m (Some n)) (is_same (arguments_of k x) args e) ∙ t)
+    go false e o t = writes_none r
 
 send_writes : (r : Run) (k : Kept) (m : Message) → is_built_send k m ≡ true → Writes r (do_send r k m.selector m.args m.above).run
 unfolding do_send send

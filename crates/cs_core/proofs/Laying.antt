@@ -1,5 +1,5 @@
 -- Where the frames of a world come from, and what the frames of a page count.
-use Rattle.std.proofs.Common.{◌≡◌, ◌⊎◌, inl, inr, ℕ, zero, suc, ◌+◌, ◌≤◌, Bool, true, false, refl, sym, ap, subst, ◌∙◌, arith, Option, Some, None, List, [], ◌∷◌, ◌++◌, nat_le}
+use Rattle.std.proofs.Common.{◌≡◌, ◌⊎◌, inl, inr, ℕ, zero, suc, ◌+◌, ◌≤◌, Bool, true, false, refl, sym, ap, subst, ◌∙◌, arith, Option, Some, None, List, [], ◌∷◌, ◌++◌, nat_le, ◌*◌, ◌<◌, IfSome}
 use Rattle.std.specs.Prelude.{◌==◌, ◌||◌, if◌then◌else◌, not}
 use Rattle.std.specs.List.{filter}
 use Rattle.std.proofs.lemmas.Bool.Decides.{nat_tests}
@@ -17,6 +17,7 @@ use Rattle.cs_acts.specs.declared.act.Full.{Full as Why}
 use Rattle.cs_acts.specs.declared.act.Full.TheVariants.{Heap, Stack}
 use Rattle.cs_acts.specs.Layout.{LaidBy, Layout, depth_in, entered, first_page, frame_words, is_frame, is_on, left, page_words, touched}
 use Rattle.cs_acts.specs.Names.{Store}
+use Rattle.cs_heap.specs.Object.{used}
 use Rattle.cs_model.specs.Demand.{words_at, words_below, words_in}
 use Rattle.cs_send.specs.Sent.{Refuses}
 use Rattle.cs_core.specs.Stepped.{EndsWithout, FramesFrom, IsOver, Overfills}
@@ -159,12 +160,17 @@ entered_without : (why : Why) (e : End) → e ≡ ends.Entered → EndsWithout w
 entered_without Heap e is = subst IsOver (sym is) tt
 entered_without Stack e is = is
 
+more_room : (s : Store) (l : Option Layout) (a b : ℕ) → a ≤ b → IfSome l (λ laid. s.memory.limit < used s.memory.objects + a + 26304 * laid.most) → IfSome l (λ laid. s.memory.limit < used s.memory.objects + b + 26304 * laid.most)
+more_room s None a b more h = tt
+more_room s (Some l) a b more h = omega (arith, more, h)
+
+-- the cause of a refusal is one from a state with no fewer words, for a call that makes no fewer and leads to no fewer
+pub causes_more : (s : Store) (l : Option Layout) (u k t x : Kept) (a b : ℕ) (why : Why) → ((page : List ℕ) → page_words u page ≤ page_words k page) → words_in t ≤ words_in x → a ≤ b → CausesFull s l u a t why → CausesFull s l k b x why
+causes_more s l u k t x a b Heap pages words more h = record { words = omega (arith, words, h.words); room = more_room s l a b more h.room }
+causes_more s None u k t x a b Stack pages words more h = h
+causes_more s (Some l) u k t x a b Stack pages words more h = (h.0, omega (arith, pages (first_page l.pages), h.1))
+
 -- a refusal to enter a method
 pub refused : (s : Store) (l : Option Layout) (k : Kept) (o : Out) (why : Why) → Refuses s l k o why → Overfills s l k o why
-refused s l k o why h = record { end = entered_without why o.end h.end; cause = h.cause }
-
--- the cause of a refusal is one from a state with no fewer words, for a call that leads to no fewer
-pub causes_more : (s : Store) (l : Option Layout) (u k t x : Kept) (why : Why) → ((page : List ℕ) → page_words u page ≤ page_words k page) → words_in t ≤ words_in x → CausesFull s l u 0 t why → CausesFull s l k 0 x why
-causes_more s l u k t x Heap pages words h = record { words = omega (arith, words, h.words); room = h.room }
-causes_more s None u k t x Stack pages words h = h
-causes_more s (Some l) u k t x Stack pages words h = (h.0, omega (arith, pages (first_page l.pages), h.1))
+refused s l k o why h =
+    record { end = entered_without why o.end h.end; cause = causes_more s l k k o.state o.state 0 o.count.objects why (λ page. omega arith) (omega arith) (omega arith) h.cause }

@@ -4,6 +4,9 @@ mod Piecing
 mod Portions
 mod Summing
 pub mod Laying
+mod Chaining
+mod Settling
+pub mod Stacking
 pub mod Turning
 pub mod Carrying
 pub mod Resolving
@@ -14,6 +17,8 @@ pub mod Places
 pub mod Deepening
 pub mod Rolling
 mod Growing
+pub mod Replying
+pub mod Viewing
 pub mod Beginning
 pub mod Nexting
 pub mod Stepping

@@ -9,17 +9,17 @@ use Rattle.cs_model.specs.Ref.{Ref}
 use Rattle.cs_model.specs.Obj.{argument_count, bytecodes_in, header_in, primitive_number}
 use Rattle.cs_model.specs.State.{Kept, Run, object_of}
 use Rattle.cs_model.specs.Keeps.{Keeps}
-use Rattle.cs_model.specs.Read.{depth_of}
+use Rattle.cs_model.specs.Read.{IsRunning, depth_of}
 use Rattle.cs_model.specs.Lookup.{Sought}
 use Rattle.cs_model.specs.Lookup as sought
 use Rattle.cs_model.specs.End as ends
 use Rattle.cs_model.specs.End.{Out, given}
 use Rattle.cs_model.specs.Send.{begins_at, look_from}
 use Rattle.cs_model.specs.PrimRun.{Result, result}
-use Rattle.cs_model.specs.Step.{Message, counting, do_send, primitive_in, sent, shape_fault, try_primitive, with_kept}
+use Rattle.cs_model.specs.Step.{Message, arguments_of, counting, do_send, primitive_in, sent, shape_fault, try_primitive, with_kept}
 use Rattle.cs_model.specs.Built.{is_built_found, is_built_number, is_built_send}
 use Rattle.cs_acts.specs.declared.act.Full.{Full as Why}
-use Rattle.cs_acts.specs.Layout.{Layout}
+use Rattle.cs_acts.specs.Layout.{LaidBy, Layout, entered}
 use Rattle.cs_acts.specs.Names.{Store, name_of}
 use Rattle.cs_model.specs.Demand.{words_in}
 use Rattle.cs_send.specs.Resolved.{Resolved, Offered, Plain, Missing, Stops, resolve_found, resolve_of}
@@ -27,34 +27,35 @@ use Rattle.cs_send.specs.Resolved as resolved
 use Rattle.cs_send.specs.Sent.{Enters, Halts, IsPlain, Offers, Refuses, found}
 use Rattle.cs_send.specs.Sent as send
 use Rattle.cs_send.proofs.Sends.{send-plain}
-use Rattle.cs_core.specs.Stepped.{DoneIn, EndsBy, IsOver, Overfills, TurnGives, unbuilt, stopped, run_at, sending, state_at, trying}
+use Rattle.cs_core.specs.Stepped.{DoneIn, EndsBy, IsOver, Lays, Overfills, TurnGives, unbuilt, stopped, run_at, sending, state_at, trying}
 use Rattle.cs_core.specs.declared.step.StepEnd.{StepEnd}
 use Rattle.cs_core.specs.declared.step.StepEnd.TheVariants.{Stopped as Stop, Full}
 use Rattle.cs_core.proofs.Carrying.{SameIn}
-use Rattle.cs_core.proofs.Laying.{entered_active, entered_frames, refused}
+use Rattle.cs_core.proofs.Laying.{is_same, refused}
+use Rattle.cs_core.proofs.Stacking.{entered_lays, few_arguments}
 use Rattle.cs_core.proofs.Turning.{ends_quietly}
 
 -- ---- whether it is built, by what it finds
 
-abbrev pub is_built_resolved : Resolved → Bool
-is_built_resolved (Offered method number) = is_built_number (Some number)
-is_built_resolved (Plain method) = true
-is_built_resolved Missing = false
-is_built_resolved (Stops reason) = true
+abbrev pub is_built_resolved : Kept → ℕ → Resolved → Bool
+is_built_resolved k args (Offered method number) = is_built_number k args (Some number)
+is_built_resolved k args (Plain method) = true
+is_built_resolved k args Missing = false
+is_built_resolved k args (Stops reason) = true
 
-built_found : (k : Kept) (m : Message) → is_built_send k m ≡ is_built_resolved (found k m)
+built_found : (k : Kept) (m : Message) → is_built_send k m ≡ is_built_resolved k m.args (found k m)
 unfolding resolve_of
 built_found k m = go (nat_lt m.args (depth_of k)) (look_from k m.selector (begins_at k m.args m.above))
   where
-    of_number : (x : Ref) (o : Option ℕ) → is_built_number o ≡ is_built_resolved (resolved.tried x o)
+    of_number : (x : Ref) (o : Option ℕ) → is_built_number k m.args o ≡ is_built_resolved k m.args (resolved.tried x o)
     of_number x None = refl
     of_number x (Some n) = refl
 
-    of_method : (x : Ref) (b : Bool) (o : Option ℕ) → (if b then is_built_number o else true) ≡ is_built_resolved (if b then resolved.tried x o else Stops why.BadArgs)
+    of_method : (x : Ref) (b : Bool) (o : Option ℕ) → (if b then is_built_number k m.args o else true) ≡ is_built_resolved k m.args (if b then resolved.tried x o else Stops why.BadArgs)
     of_method x true o = of_number x o
     of_method x false o = refl
 
-    go : (b : Bool) (l : Sought) → (if b then is_built_found k m.args l else true) ≡ is_built_resolved (if b then resolve_found k m.args l else Stops why.StackUnder)
+    go : (b : Bool) (l : Sought) → (if b then is_built_found k m.args l else true) ≡ is_built_resolved k m.args (if b then resolve_found k m.args l else Stops why.StackUnder)
     go true (sought.Method x) = of_method x (argument_count (header_in (object_of k x)) == m.args) (primitive_number (header_in (object_of k x)) (bytecodes_in (object_of k x)))
     go true sought.Missing = refl
     go true sought.Loop = refl
@@ -71,11 +72,11 @@ does_send r k m h = sent_over r (send.sent k m) h
 
 -- ---- a method is entered
 
-built_plain : (x : Resolved) → IsPlain x → is_built_resolved x ≡ true
-built_plain (Offered method number) h = absurd h
-built_plain (Plain method) h = refl
-built_plain Missing h = absurd h
-built_plain (Stops reason) h = absurd h
+built_plain : (k : Kept) (args : ℕ) (x : Resolved) → IsPlain x → is_built_resolved k args x ≡ true
+built_plain k args (Offered method number) h = absurd h
+built_plain k args (Plain method) h = refl
+built_plain k args Missing h = absurd h
+built_plain k args (Stops reason) h = absurd h
 
 plain_in : (x : Resolved) → IsPlain x → (method : Ref) × (x ≡ Plain method)
 plain_in (Offered method number) h = absurd h
@@ -83,21 +84,40 @@ plain_in (Plain method) h = (method, refl)
 plain_in Missing h = absurd h
 plain_in (Stops reason) h = absurd h
 
-active_behind : (k v : Kept) (m : Message) → IsPlain (found k m) → Keeps v (send.sent k m).state → v.rest.active ≡ Some k.rest.next
-active_behind k v m plain keeps =
-    let p = plain_in (found k m) plain in
-    entered_active k v p.0 m.args false (subst (λ (o : Out). Keeps v o.state) (send-plain k m.selector m.args m.above p.0 p.1) keeps)
+-- such a method takes as many arguments as the message has
+arguments_found : (k : Kept) (m : Message) (method : Ref) → found k m ≡ Plain method → arguments_of k method ≡ m.args
+unfolding resolve_of
+arguments_found k m method h = go (nat_lt m.args (depth_of k)) (look_from k m.selector (begins_at k m.args m.above)) h
+  where
+    plain : (x : Ref) (o : Option ℕ) → resolved.tried x o ≡ Plain method → x ≡ method
+    plain x None e = cc
+    plain x (Some n) e = absurd (cc)
 
-pub entered_gives : (k v : Kept) (m : Message) (l n : Option Layout) (told : Option (List ℕ)) (old s : Store) (e : StepEnd) → IsPlain (found k m) → Enters old s l n k v (send.sent k m) → EndsBy v e
+    counted : (x : Ref) (b : Bool) (o : Option ℕ) → (arguments_of k x == m.args) ≡ b → (if b then resolved.tried x o else Stops why.BadArgs) ≡ Plain method → arguments_of k method ≡ m.args
+    counted x true o e p = subst (λ y. arguments_of k y ≡ m.args) (plain x o p) (is_same (arguments_of k x) m.args e)
+    counted x false o e p = absurd (cc)
+
+    go : (b : Bool) (l : Sought) → (if b then resolve_found k m.args l else Stops why.StackUnder) ≡ Plain method → arguments_of k method ≡ m.args
+    go true (sought.Method x) e = counted x (arguments_of k x == m.args) (primitive_number (header_in (object_of k x)) (bytecodes_in (object_of k x))) refl e
+    go true sought.Missing e = absurd (cc)
+    go true sought.Loop e = absurd (cc)
+    go false l e = absurd (cc)
+
+lays_behind : (k v : Kept) (m : Message) (l n : Option Layout) (s : Store) → IsPlain (found k m) → Keeps v (send.sent k m).state → IsRunning k → IsRunning v → LaidBy (entered k k.rest.next) l n → Lays k l s v n
+lays_behind k v m l n s plain keeps runs running laid =
+    let p = plain_in (found k m) plain in
+    entered_lays k v p.0 m.args false (subst (λ (o : Out). Keeps v o.state) (send-plain k m.selector m.args m.above p.0 p.1) keeps) runs running (few_arguments k p.0 m.args (arguments_found k m p.0 p.1)) l n s laid
+
+pub entered_gives : (k v : Kept) (m : Message) (l n : Option Layout) (told : Option (List ℕ)) (old s : Store) (e : StepEnd) → IsRunning k → IsPlain (found k m) → Enters old s l n k v (send.sent k m) → EndsBy v e
     → TurnGives (sending k m) k l told told s v n e
-entered_gives k v m l n told old s e plain h by =
-    ends_quietly (sending k m) k v l n told s e done h.ready (entered_frames k v k.rest.next l n (active_behind k v m plain h.state) h.laid) by
+entered_gives k v m l n told old s e runs plain h by =
+    ends_quietly (sending k m) k v l n told s e done h.ready (lays_behind k v m l n s plain h.state runs h.ready.running h.laid) by
   where
     done : DoneIn (sending k m) v []
     done output steps =
         let is = does_send (run_at output steps) k m (ap primitive_in h.end) in
         record {
-          built = built_found k m ∙ built_plain (found k m) plain;
+          built = built_found k m ∙ built_plain k m.args (found k m) plain;
           over = subst (λ (p : Result). IsOver p.out.end) (sym is) (subst IsOver (sym h.end) tt);
           state = subst (λ (p : Result). Keeps v p.out.state) (sym is) h.state;
           run = ap (λ (p : Result). p.run) is ∙ ap (λ o. run_at o steps) (sym (append-nil output));
@@ -108,18 +128,18 @@ refused_gives k v m l n told s why plain h = (
   refl,
   λ output steps.
       let is = does_send (run_at output steps) k m (ap primitive_in h.end) in
-      (built_found k m ∙ built_plain (found k m) plain, subst (λ (p : Result). Overfills s l k p.out why) (sym is) (refused s l k (send.sent k m) why h)),
+      (built_found k m ∙ built_plain k m.args (found k m) plain, subst (λ (p : Result). Overfills s l k p.out why) (sym is) (refused s l k (send.sent k m) why h)),
 )
 
 -- ---- it stops
 
 pub halted_gives : (k v : Kept) (m : Message) (l n : Option Layout) (told : Option (List ℕ)) (s : Store) (reason : Reason) → Halts k m reason → TurnGives (sending k m) k l told told s v n (Stop reason)
-halted_gives k v m l n told s reason (send.unbuilt missing is) = (refl, λ output steps. unbuilt (built_found k m ∙ ap is_built_resolved missing) is)
+halted_gives k v m l n told s reason (send.unbuilt missing is) = (refl, λ output steps. unbuilt (built_found k m ∙ ap (is_built_resolved k m.args) missing) is)
 halted_gives k v m l n told s reason (send.stopped stops is) = (
   refl,
   λ output steps.
       let end : (send.sent k m).end ≡ ends.Stopped reason = ap (λ (o : Out). o.end) is in
-      stopped (built_found k m ∙ ap is_built_resolved stops) (ap (λ (p : Result). p.out.end) (does_send (run_at output steps) k m (ap primitive_in end)) ∙ end),
+      stopped (built_found k m ∙ ap (is_built_resolved k m.args) stops) (ap (λ (p : Result). p.out.end) (does_send (run_at output steps) k m (ap primitive_in end)) ∙ end),
 )
 
 -- ---- a primitive is offered
@@ -131,6 +151,9 @@ offered r k m x number is = ap (sent r) is
 abbrev IsNoLess : Result → Result → Type 0
 IsNoLess a b = words_in a.out.state ≤ words_in b.out.state
 
+abbrev MakesNoLess : Result → Result → Type 0
+MakesNoLess a b = a.out.count.objects ≤ b.out.count.objects
+
 none_less : (a : Result) → IsNoLess a (counting ends.no_count a)
 none_less a = omega arith
 
@@ -139,10 +162,11 @@ offered_same s k m o number h output steps =
     let x = name_of s o in
     let is = offered (run_at output steps) k m x number h.is in
     record {
-      built = built_found k m ∙ ap is_built_resolved h.found;
+      built = built_found k m ∙ ap (is_built_resolved k m.args) h.found ∙ ap (λ n. is_built_number k n (Some number)) (sym h.enters.count);
       end = ap (λ (p : Result). p.out.end) is;
       state = λ v keeps. subst (λ (p : Result). Keeps v p.out.state) (sym is) keeps;
       shape = ap (λ (p : Result). shape_fault p.out.state) is;
       words = subst (λ (p : Result). IsNoLess (try_primitive (state_at k output steps) x number) p) (sym is) (none_less (try_primitive (state_at k output steps) x number));
+      made = subst (λ (p : Result). MakesNoLess (try_primitive (state_at k output steps) x number) p) (sym is) (omega arith);
       run = ap (λ (p : Result). p.run) is;
     }

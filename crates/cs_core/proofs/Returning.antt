@@ -6,11 +6,10 @@ use Rattle.std.proofs.lemmas.Bool.{eqb-false}
 use Rattle.cs_model.specs.declared.stop.Stop.TheVariants as why
 use Rattle.cs_model.specs.Ref.{Ref, birth_of}
 use Rattle.cs_model.specs.Obj.{Context, context_in}
-use Rattle.cs_model.specs.State as state
-use Rattle.cs_model.specs.State.{Kept, Rest, Run, object_at}
+use Rattle.cs_model.specs.State.{Kept, Run, object_at}
 use Rattle.cs_model.specs.Keeps.{Keeps}
 use Rattle.cs_model.specs.Read.{IsRunning, active_birth, active_context}
-use Rattle.cs_model.specs.Operation.{cut_to_of, kill_all, leave_of, push_of, resume_of}
+use Rattle.cs_model.specs.Operation.{cut_to_of, kill_all, leave_of}
 use Rattle.cs_model.specs.End.{done, stop}
 use Rattle.cs_model.specs.PrimRun.{Result, result}
 use Rattle.cs_model.specs.Return.{back, context_at, context_birth, has_room, local_out, sender_birth}
@@ -23,10 +22,10 @@ use Rattle.cs_acts.specs.Layout.{LaidBy, Layout, left}
 use Rattle.cs_acts.specs.Names.{Store}
 use Rattle.cs_acts.specs.Ready.{IsReady}
 use Rattle.cs_acts.specs.Targets.{CanArrive}
-use Rattle.cs_core.specs.Stepped.{DoneIn, EndsBy, FramesFrom, IsOver, IsTarget, Overfills, TurnGives, TurnStops, unbuilt, stopped, returning, run_at}
+use Rattle.cs_core.specs.Stepped.{DoneIn, EndsBy, IsOver, IsTarget, Lays, Overfills, TurnGives, TurnStops, unbuilt, stopped, returning, run_at}
 use Rattle.cs_core.specs.declared.step.StepEnd.{StepEnd}
 use Rattle.cs_core.specs.declared.step.StepEnd.TheVariants.{Stopped as Stop, Full}
-use Rattle.cs_core.proofs.Laying.{left_frames}
+use Rattle.cs_core.proofs.Stacking.{left_lays}
 use Rattle.cs_core.proofs.Turning.{ends_quietly}
 
 -- ---- it isn't built
@@ -67,10 +66,6 @@ module _ (k : Kept) (o : Option ℕ) (h : IsTarget k o) where
   unfolding leave_of cut_to_of kill_all
   leaves running x = rw (sent_by running)
 
-  is_active : (x : Ref) → (cut_to_of k (active_birth k ∷ []) h.birth x).rest.active ≡ Some h.birth
-  unfolding cut_to_of push_of resume_of state.put
-  is_active x = refl
-
   pub can_arrive : (full : Bool) → IfSome o (λ birth. not full ≡ has_room (context_in (object_at k birth))) → full ≡ false → IsSomeAnd (sender_birth k (active_birth k)) (CanArrive k)
   can_arrive full room is =
       let there : not full ≡ has_room (context_in (object_at k h.birth)) = subst (λ o. IfSome o (λ birth. not full ≡ has_room (context_in (object_at k birth)))) h.is room in
@@ -89,7 +84,7 @@ module _ (k : Kept) (o : Option ℕ) (h : IsTarget k o) where
   pub leave_gives : (v : Kept) (x : Ref) (local : Bool) (l n : Option Layout) (told : Option (List ℕ)) (s : Store) (e : StepEnd) → IsRunning k → local ≡ true → IsSomeAnd (sender_birth k (active_birth k)) (CanArrive k)
       → Keeps v (leave_of k x) → IsReady s v → IfSome (sender_birth k (active_birth k)) (λ target. LaidBy (left target) l n) → EndsBy v e → TurnGives (returning k x local) k l told told s v n e
   leave_gives v x local l n told s e running is target keeps ready laid by =
-      subst (λ b. TurnGives (returning k x b) k l told told s v n e) (sym is) (ends_quietly (returning k x true) k v l n told s e done ready frames by)
+      subst (λ b. TurnGives (returning k x b) k l told told s v n e) (sym is) (ends_quietly (returning k x true) k v l n told s e done ready lays by)
     where
       there : CanArrive k h.birth
       there = subst (λ o. IsSomeAnd o (CanArrive k)) h.sender target
@@ -97,8 +92,8 @@ module _ (k : Kept) (o : Option ℕ) (h : IsTarget k o) where
       cut : Keeps v (cut_to_of k (active_birth k ∷ []) h.birth x)
       cut = subst (Keeps v) (leaves running x) keeps
 
-      frames : FramesFrom l n v
-      frames = left_frames v h.birth l n (ap (λ (r : Rest). r.active) cut.rest ∙ is_active x) (subst (λ o. IfSome o (λ target. LaidBy (left target) l n)) h.sender laid)
+      lays : Lays k l s v n
+      lays = left_lays k v h.birth x cut running h.sender (eqb-false h.birth (active_birth k) h.other) ready.running l n s (subst (λ o. IfSome o (λ target. LaidBy (left target) l n)) h.sender laid)
 
       done : DoneIn (returning k x true) v []
       done output steps =

@@ -1,5 +1,5 @@
 -- A run of the model, one step behind another.
-use Rattle.std.proofs.Common.{◌≡◌, ℕ, zero, suc, ◌+◌, ◌<◌, ◌≤◌, ◌==◌, Bool, true, false, refl, sym, ap, subst, ◌∙◌, IfSome, ◌*◌, Option, Some, None, List, [], ◌++◌, nat_lt, arith, length, take, drop, ◌-◌}
+use Rattle.std.proofs.Common.{◌≡◌, ℕ, zero, suc, ◌+◌, ◌<◌, ◌≤◌, ◌==◌, Bool, true, false, refl, sym, ap, subst, ◌∙◌, IfSome, IsSomeAnd, ◌*◌, Option, Some, None, List, [], ◌++◌, nat_lt, arith, length, take, drop, ◌-◌}
 use Rattle.std.specs.Prelude.{if◌then◌else◌, ◌||◌}
 use Rattle.std.proofs.lemmas.Bool.{eqb-true, eqb-false}
 use Rattle.std.proofs.Math.Seq.{take-add}
@@ -12,7 +12,7 @@ use Rattle.cs_model.specs.State.{Kept, Rest, Run, State}
 use Rattle.cs_model.specs.Read.{IsRunning}
 use Rattle.cs_model.specs.Keeps.{Keeps}
 use Rattle.cs_model.specs.Alike.{AlikeResult, AlikeStep}
-use Rattle.cs_model.specs.End.{End, given, no_count}
+use Rattle.cs_model.specs.End.{Count, End, given, no_count}
 use Rattle.cs_model.specs.End as ends
 use Rattle.cs_model.specs.PrimRun.{Result}
 use Rattle.cs_model.specs.Due.{Happened, due, due_of, happened, is_idle}
@@ -35,10 +35,12 @@ use Rattle.cs_core.specs.declared.run.Ran.{Ran as Report}
 use Rattle.cs_core.specs.Stepped.{IsNext, IsOver, Overfills, StepGives, run_at, state_at, step_at}
 use Rattle.cs_core.proofs.Growing.{part_of_more, run_writes}
 use Rattle.cs_core.specs.declared.run.RunError.TheVariants.{Full, WriteFault}
-use Rattle.cs_core.specs.Deep.{AllBegun, most_of, run_of}
+use Rattle.cs_core.specs.Deep.{AllBegun, IsDeep, most_of, run_of}
+use Rattle.cs_core.specs.Stacked.{IsStacked}
 use Rattle.cs_core.specs.Running.{HasNoRoom, RunGives, RunFails, ending_of, ending_at_rest, place_by}
 use Rattle.cs_core.proofs.Deepening.{begun_at_start, begun_on, is_deep}
 use Rattle.cs_core.proofs.Laying.{state_words_kept}
+use Rattle.cs_core.proofs.Stacking.{fresh_stacked}
 use Rattle.cs_core.proofs.Nexting.{next_kept}
 use Rattle.cs_core.proofs.Places.{idle_place}
 
@@ -209,6 +211,7 @@ pub record Stands (k : Kept) (old now : Option (List ℕ)) (i : ℕ) (s : Store)
   pub ready : IsReady s v
   pub active : is_idle v ≡ false
   pub begun : AllBegun k i l
+  pub stacked : IsLaidOut s v l → IsStacked v l
 
 pub begins : (k : Kept) (old : Option (List ℕ)) (s : Store) (l : Option Layout) → IsSound s k → (is_idle k ≡ false → IsRunning k) → is_idle k ≡ false → IsFresh k l → Stands k old old 0 s k l
 begins k old s l sound running active fresh = record {
@@ -220,6 +223,7 @@ begins k old s l sound running active fresh = record {
   ready = record { sound = sound; running = running active };
   active = active;
   begun = begun_at_start k l fresh;
+  stacked = λ laid. fresh_stacked s k l (running active) fresh laid;
 }
 
 pub begins_idle : (k : Kept) (old : Option (List ℕ)) (n : ℕ) (r : Report) → is_idle k ≡ true → r.steps ≡ 0 → place_by r.place ≡ no_place → ending_of r.ending ≡ ending_at_rest k.rest.next 0 n
@@ -251,8 +255,8 @@ follows {i = i} {v = v} h =
       keeps = subst (λ (r : Ran). Keeps (step_at v h.output i).state.kept r.state.kept) (sym m) a.state.kept;
     }
 
-pub goes_on : {k : Kept} {old now new : Option (List ℕ)} {i : ℕ} {s t : Store} {v w : Kept} {l n : Option Layout} → Stands k old now i s v l → StepGives v l now new t w n how.Active → Stands k old new (i + 1) t w n
-goes_on {k = k} {old = old} {now = now} {new = new} {i = i} {w = w} {l = l} {n = n} h g =
+pub goes_on : {k : Kept} {old now new : Option (List ℕ)} {i : ℕ} {s t : Store} {v w : Kept} {l n : Option Layout} → Stands k old now i s v l → IsLaidOut s v l → StepGives v l now new t w n how.Active → Stands k old new (i + 1) t w n
+goes_on {k = k} {old = old} {now = now} {new = new} {i = i} {w = w} {l = l} {n = n} h laid g =
     let f = follows h in
     let done = g.2 h.output i in
     record {
@@ -263,7 +267,8 @@ goes_on {k = k} {old = old} {now = now} {new = new} {i = i} {w = w} {l = l} {n =
       keeps = Keeps-trans (g.3 h.output i) f.keeps;
       ready = g.4;
       active = g.5;
-      begun = begun_on k w i l n (ap (λ (r : Rest). r.active) (sym (Keeps-trans (g.3 h.output i) f.keeps).rest)) h.begun g.6;
+      begun = begun_on k w i l n (ap (λ (r : Rest). r.active) (sym (Keeps-trans (g.3 h.output i) f.keeps).rest)) h.begun g.6.frames;
+      stacked = λ there. g.6.stacked (h.stacked laid) there;
     }
 
 pub goes_idle : {k : Kept} {old now new : Option (List ℕ)} {i : ℕ} {s t : Store} {v w : Kept} {l : Option Layout} (b : Option Layout) (n : ℕ) (r : Report) → i < n → Stands k old now i s v l → StepGives v l now new t w b how.Idle
@@ -325,13 +330,18 @@ finishes {k = k} {old = old} {now = now} {i = i} {v = v} n r all h steps place e
 -- ---- no room
 
 -- the rule of room speaks of the pages alone that there may be
-most_room : (t : Store) (l : Option Layout) → IfSome l (λ laid. t.memory.limit < used t.memory.objects + 0 + 26304 * laid.most) → IfSome (most_of l) (λ n. t.memory.limit < used t.memory.objects + 26304 * n)
-most_room t None h = tt
-most_room t (Some l) h = omega (arith, h)
+most_room : (t : Store) (l : Option Layout) (made : ℕ) → IfSome l (λ laid. t.memory.limit < used t.memory.objects + made + 26304 * laid.most) → IfSome (most_of l) (λ n. t.memory.limit < used t.memory.objects + made + 26304 * n)
+most_room t None made h = tt
+most_room t (Some l) made h = h
 
-by_most : (t : Store) (l : Option Layout) → IfSome (most_of l) (λ n. t.memory.limit < used t.memory.objects + 26304 * n) → IfSome l (λ laid. t.memory.limit < used t.memory.objects + 26304 * laid.most)
-by_most t None h = tt
-by_most t (Some l) h = h
+by_most : (t : Store) (l : Option Layout) (made : ℕ) → IfSome (most_of l) (λ n. t.memory.limit < used t.memory.objects + made + 26304 * n) → IfSome l (λ laid. t.memory.limit < used t.memory.objects + made + 26304 * laid.most)
+by_most t None made h = tt
+by_most t (Some l) made h = h
+
+-- and so does the depth of a run
+deep_by_most : (k : Kept) (n : ℕ) (l : Option Layout) → IsSomeAnd (most_of l) (λ most. IsDeep most k n) → IsSomeAnd l (λ laid. IsDeep laid.most k n)
+deep_by_most k n None h = h
+deep_by_most k n (Some l) h = h
 
 pub fills : {k : Kept} {old now new : Option (List ℕ)} {i : ℕ} {s : Store} {v : Kept} {l : Option Layout} (t : Store) (w : Kept) (b first : Option Layout) (n : ℕ) (why : Why) → most_of l ≡ most_of first → i < n → Stands k old now i s v l → IsLaidOut s v l → StepGives v l now new t w b (how.Full why)
     → RunFails k t first old new n (Full why)
@@ -355,6 +365,9 @@ fills {k = k} {old = old} {now = now} {i = i} {s = s} {v = v} {l = l} t w b firs
     end : (bytecode m).out.end ≡ (bytecode (state_at v h.output i)).out.end
     end = ap (λ (r : Run). (bytecode (with_kept m.kept r)).out.end) h.run ∙ sym a.out.end
 
+    made : (bytecode m).out.count.objects ≡ (bytecode (state_at v h.output i)).out.count.objects
+    made = ap (λ (r : Run). (bytecode (with_kept m.kept r)).out.count.objects) h.run ∙ sym (ap (λ (c : Count). c.objects) a.out.count)
+
     room : (why : Why) → Overfills t l v (bytecode (state_at v h.output i)).out why → HasNoRoom k t first i why
     room Heap c =
         let more : words_in (bytecode (state_at v h.output i)).out.state ≤ words_in (bytecode (with_kept m.kept (run_at h.output i))).out.state = state_words_kept _ _ a.out.keeps in
@@ -362,9 +375,14 @@ fills {k = k} {old = old} {now = now} {i = i} {s = s} {v = v} {l = l} t w b firs
           next = next;
           over = subst IsOver (sym end) c.end;
           words = subst (λ (r : Run). t.memory.limit < words_in (bytecode (with_kept m.kept r)).out.state) (sym h.run) (omega (arith, c.cause.words, more));
-          room = by_most t first (subst (λ o. IfSome o (λ n. t.memory.limit < used t.memory.objects + 26304 * n)) most (most_room t l c.cause.room));
+          room = subst (λ made. IfSome first (λ laid. t.memory.limit < used t.memory.objects + made + 26304 * laid.most)) (sym made)
+              (by_most t first _ (subst (λ o. IfSome o (λ n. t.memory.limit < used t.memory.objects + (bytecode (state_at v h.output i)).out.count.objects + 26304 * n)) most (most_room t l _ c.cause.room)));
         }
-    room Stack c = record { next = next; entered = end ∙ c.end; deep = is_deep k s v i l h.keeps h.ready laid h.begun c.cause }
+    room Stack c = record {
+      next = next;
+      entered = end ∙ c.end;
+      deep = deep_by_most k i first (subst (λ o. IsSomeAnd o (λ most. IsDeep most k i)) most (is_deep k s v i l h.keeps h.ready (h.stacked laid) h.begun c.cause));
+    }
 
 -- ---- faults
 

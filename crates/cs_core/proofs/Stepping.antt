@@ -1,25 +1,30 @@
 -- From what the instruction did to the whole step.
-use Rattle.std.proofs.Common.{◌≡◌, ℕ, ◌≤◌, Bool, sym, ap, subst, ◌∙◌, arith, Option, List}
+use Rattle.std.proofs.Common.{◌≡◌, ℕ, ◌+◌, ◌≤◌, Bool, true, sym, ap, subst, ◌∙◌, arith, Option, List}
 use Rattle.cs_model.specs.declared.stop.Stop.{Stop as Reason}
 use Rattle.cs_model.specs.declared.stop.Stop.TheVariants as why
 use Rattle.cs_model.specs.declared.instruction.Instr.{Instr}
 use Rattle.cs_model.specs.Ref.{Ref}
 use Rattle.cs_model.specs.State.{IsHeld, Kept}
-use Rattle.cs_model.specs.Read.{IsRunning}
+use Rattle.cs_model.specs.Obj.{context_in}
+use Rattle.cs_model.specs.Read.{IsRunning, pc_of}
+use Rattle.cs_model.specs.Built.{is_built_op}
 use Rattle.cs_model.specs.End as ends
 use Rattle.cs_model.specs.End.{End}
 use Rattle.cs_model.specs.Step.{Message}
 use Rattle.cs_model.proofs.Stepping.{MessageHeld}
+use Rattle.cs_acts.specs.declared.act.Full.{Full as Why}
 use Rattle.cs_acts.specs.Layout.{Layout}
 use Rattle.cs_acts.specs.Names.{Store}
 use Rattle.cs_acts.specs.Ready.{IsReady}
-use Rattle.cs_core.specs.Stepped.{EndsBy, FramesFrom, StepGives, TurnGives, returning, sending}
+use Rattle.cs_core.specs.Stepped.{EndsBy, StepGives, TurnGives, returning, sending}
 use Rattle.cs_core.specs.declared.step.StepEnd.{StepEnd}
-use Rattle.cs_core.specs.declared.step.StepEnd.TheVariants.{Stopped as Stop}
+use Rattle.cs_core.specs.declared.step.StepEnd.TheVariants.{Stopped as Stop, Full}
 use Rattle.cs_core.proofs.Asking.{behind_return, behind_send}
-use Rattle.cs_core.proofs.Beginning.{Executed, did, did_not}
-use Rattle.cs_core.proofs.Carrying.{carried, done_turn, returns_same, sends_same, stop_turn, unbuilt_turn}
-use Rattle.cs_core.proofs.Turning.{Begins, model_turn, turn_gives}
+use Rattle.cs_core.proofs.Beginning.{Executed, Refused, did, did_not}
+use Rattle.cs_core.proofs.Carrying.{carried, done_turn, full_turn, returns_same, sends_same, stop_turn, unbuilt_turn}
+use Rattle.cs_core.proofs.Settling.{Runs, Stays, exec_settles, runs_on, set_pc_stays, stays_on}
+use Rattle.cs_core.proofs.Stacking.{settled_stacked, stays_lays}
+use Rattle.cs_core.proofs.Turning.{Begins, effect, model_turn, past, turn_gives}
 
 reason_in : Reason → End → Reason
 reason_in other (ends.Stopped reason) = reason
@@ -38,31 +43,44 @@ same_reason : (a b : Reason) → ends.Stopped a ≡ ends.Stopped b → a ≡ b
 unfolding reason_in
 same_reason a b e = ap (reason_in a) e
 
+-- the instruction leaves senders and other stacks as they are
+effect_stays : (k : Kept) (i : Instr) → IsRunning k → is_built_op i.op (past k i) ≡ true → Stays k (effect k i).state
+effect_stays k i running op =
+    let runs : Runs k = ap context_in running.found in
+    let moved : Stays k (past k i) = set_pc_stays k (pc_of k + i.len) runs in
+    stays_on k (past k i) (effect k i).state moved ((exec_settles i.op (past k i) op).stays (runs_on k (past k i) moved runs))
+
 module _ (k : Kept) (i : Instr) (l n : Option Layout) (s : Store) (v : Kept) (h : Begins k i) where
-  pub done_gives : (told : Option (List ℕ)) (e : StepEnd) → Executed k i v ends.Done → IsReady s v → FramesFrom l n v → EndsBy v e → StepGives k l told told s v n e
-  done_gives told e (did op end keeps) ready frames by = turn_gives k i l n told told s v e h (done_turn k i l n told s v e op end keeps ready frames by)
-  done_gives told e (did_not op is) ready frames by = absurd (cc)
+  pub done_gives : (told : Option (List ℕ)) (e : StepEnd) → IsRunning k → Executed k i v ends.Done → IsReady s v → n ≡ l → EndsBy v e → StepGives k l told told s v n e
+  done_gives told e running (did op end keeps) ready same by =
+      turn_gives k i l n told told s v e h (done_turn k i l n told s v e op end keeps ready (stays_lays k (effect k i).state v (effect_stays k i running op) keeps ready.running l n same s) by)
+  done_gives told e running (did_not op is) ready same by = absurd (cc)
+
+  pub full_gives : (told : Option (List ℕ)) (why : Why) → Refused s l k i why → StepGives k l told told s v n (Full why)
+  full_gives told why r = turn_gives k i l n told told s v (Full why) h (full_turn k i l n told s v why r.op r.end r.heap r.cause)
 
   pub stop_gives : (told : Option (List ℕ)) (reason : Reason) → Executed k i v (ends.Stopped reason) → StepGives k l told told s v n (Stop reason)
   stop_gives told reason (did op end keeps) = turn_gives k i l n told told s v (Stop reason) h (stop_turn k i l n told s v reason op end)
   stop_gives told reason (did_not op is) =
       subst (λ r. StepGives k l told told s v n (Stop r)) (sym (same_reason reason why.NotBuilt is)) (turn_gives k i l n told told s v (Stop why.NotBuilt) h (unbuilt_turn k i l n told s v op))
 
-  pub send_gives : (u : Kept) (m : Message) (b : Option Layout) (old new : Option (List ℕ)) (e : StepEnd) → IsRunning k → Executed k i u (ends.Send m.selector m.args m.above) → MessageHeld u m → b ≡ l
+  pub send_gives : (u : Kept) (m : Message) (b : Option Layout) (old new : Option (List ℕ)) (e : StepEnd) → IsRunning k → IsRunning u → Executed k i u (ends.Send m.selector m.args m.above) → MessageHeld u m → b ≡ l
       → TurnGives (sending u m) u b old new s v n e → StepGives k l old new s v n e
-  send_gives u m b old new e running (did op end keeps) held same gives =
+  send_gives u m b old new e running on (did op end keeps) held same gives =
       turn_gives k i l n old new s v e h
       (carried (sending u m) (model_turn k i) u k l n old new s v e (sends_same k i u m op end keeps held) (behind_send k u i m.selector m.args m.above running op end keeps).words
+      (settled_stacked k (effect k i).state u l (effect_stays k i running op) keeps on)
       (subst (λ b. TurnGives (sending u m) u b old new s v n e) same gives))
-  send_gives u m b old new e running (did_not op is) held same gives = absurd (cc)
+  send_gives u m b old new e running on (did_not op is) held same gives = absurd (cc)
 
-  pub return_gives : (u : Kept) (x : Ref) (local : Bool) (b : Option Layout) (told : Option (List ℕ)) (e : StepEnd) → IsRunning k → Executed k i u (ends.Return x local) → IsHeld u x → b ≡ l
+  pub return_gives : (u : Kept) (x : Ref) (local : Bool) (b : Option Layout) (told : Option (List ℕ)) (e : StepEnd) → IsRunning k → IsRunning u → Executed k i u (ends.Return x local) → IsHeld u x → b ≡ l
       → TurnGives (returning u x local) u b told told s v n e → StepGives k l told told s v n e
-  return_gives u x local b told e running (did op end keeps) held same gives =
+  return_gives u x local b told e running on (did op end keeps) held same gives =
       turn_gives k i l n told told s v e h
       (carried (returning u x local) (model_turn k i) u k l n told told s v e (returns_same k i u x local op end keeps held) (behind_return k u i x local running op end keeps).words
+      (settled_stacked k (effect k i).state u l (effect_stays k i running op) keeps on)
       (subst (λ b. TurnGives (returning u x local) u b told told s v n e) same gives))
-  return_gives u x local b told e running (did_not op is) held same gives = absurd (cc)
+  return_gives u x local b told e running on (did_not op is) held same gives = absurd (cc)
 
 -- a send doesn't change the next birth
 pub births_few : (s : Store) (k u : Kept) (i : Instr) (n : ℕ) (selector : Ref) (args : ℕ) (above : Option Ref) → IsReady s k → n ≡ k.rest.next → n ≤ 4611686018427387840 → Executed k i u (ends.Send selector args above) → u.rest.next ≤ 4611686018427387840

@@ -5,11 +5,10 @@ use Rattle.std.proofs.lemmas.Bool.Decides.{nat_tests}
 use Rattle.std.proofs.lemmas.List.{append-nil}
 use Rattle.cs_shelf.specs.Outside.{Appends, AppendsPart}
 use Rattle.cs_model.specs.declared.stop.Stop.{Stop as Reason}
-use Rattle.cs_model.specs.declared.stop.Stop.TheVariants as why
 use Rattle.cs_model.specs.Ref.{Ref}
 use Rattle.cs_model.specs.State.{Kept, Run, State}
 use Rattle.cs_model.specs.Keeps.{Keeps}
-use Rattle.cs_model.specs.Read.{depth_of, stack_of}
+use Rattle.cs_model.specs.Read.{IsRunning, depth_of, stack_of}
 use Rattle.cs_model.specs.Operation.{drop_of, nil_of, push_of}
 use Rattle.cs_model.specs.Exec.{small_operands}
 use Rattle.cs_model.specs.Number.{number_result}
@@ -27,10 +26,11 @@ use Rattle.cs_acts.specs.Layout.{Layout}
 use Rattle.cs_acts.specs.Names.{Store}
 use Rattle.cs_acts.specs.Ready.{IsReady}
 use Rattle.cs_send.specs.Sent.{Enters, Refuses}
-use Rattle.cs_core.specs.Stepped.{CausedByFault, DoneIn, EndsBy, Fails, FramesFrom, IsOver, Overfills, unbuilt, lost, TurnGives, run_at, state_at, trying}
+use Rattle.cs_core.specs.Stepped.{CausedByFault, DoneIn, EndsBy, Fails, IsOver, Lays, Overfills, lost, TurnGives, run_at, state_at, trying}
 use Rattle.cs_core.specs.declared.step.StepEnd.{StepEnd}
 use Rattle.cs_core.specs.declared.step.StepEnd.TheVariants.{Active, Idle, Stopped as Stop, Full, WriteFault}
-use Rattle.cs_core.proofs.Laying.{entered_active, entered_frames, refused}
+use Rattle.cs_core.proofs.Laying.{refused}
+use Rattle.cs_core.proofs.Stacking.{entered_lays, few_arguments}
 use Rattle.cs_core.proofs.Turning.{ends_by, ends_quietly, shape_kept}
 
 -- ---- what trying comes to
@@ -43,7 +43,7 @@ tried_answer s x p h = rw h
 tried_fail : (s : State) (x : Ref) (p : Result) → p.out.end ≡ ends.Fail → tried s x p ≡ result (enter_out s.kept x (arguments_of s.kept x) true) s.run
 tried_fail s x p h = rw h
 
-answered : (k : Kept) (x : Ref) (number args : ℕ) (output : List ℕ) (steps : ℕ) → arguments_of k x ≡ args → (prim number args (state_at k output steps)).out.end ≡ ends.Answer
+pub answered : (k : Kept) (x : Ref) (number args : ℕ) (output : List ℕ) (steps : ℕ) → arguments_of k x ≡ args → (prim number args (state_at k output steps)).out.end ≡ ends.Answer
     → try_primitive (state_at k output steps) x number ≡ prim number args (state_at k output steps)
 unfolding try_primitive
 answered k x number args output steps count h =
@@ -57,10 +57,10 @@ failed k x number args output steps count h =
 
 -- ---- the method is entered
 
-pub enters_behind : (k v : Kept) (x : Ref) (args number : ℕ) (l n : Option Layout) (told : Option (List ℕ)) (old s : Store) (e : StepEnd) → arguments_of k x ≡ args → Fails k x number → Enters old s l n k v (enter_out k x args true) → EndsBy v e
+pub enters_behind : (k v : Kept) (x : Ref) (args number : ℕ) (l n : Option Layout) (told : Option (List ℕ)) (old s : Store) (e : StepEnd) → IsRunning k → arguments_of k x ≡ args → Fails k x number → Enters old s l n k v (enter_out k x args true) → EndsBy v e
     → TurnGives (trying k x number) k l told told s v n e
-enters_behind k v x args number l n told old s e count f h by =
-    ends_quietly (trying k x number) k v l n told s e done h.ready (entered_frames k v k.rest.next l n (entered_active k v x args true h.state) h.laid) by
+enters_behind k v x args number l n told old s e running count f h by =
+    ends_quietly (trying k x number) k v l n told s e done h.ready (entered_lays k v x args true h.state running h.ready.running (few_arguments k x args count) l n s h.laid) by
   where
     done : DoneIn (trying k x number) v []
     done output steps =
@@ -106,7 +106,7 @@ pub no_sum_fails : (k : Kept) (x : Ref) (args : ℕ) → arguments_of k x ≡ ar
 no_sum_fails k x args count one h = record { built = refl; end = λ r. ap (λ n. (prim 1 n (with_kept k r)).out.end) (count ∙ one) ∙ ap (λ (p : Result). p.out.end) (prim_no_sum k r h) }
 
 -- a primitive of one argument that answers
-answers_prim : (number : ℕ) (k v : Kept) (method x : Ref) (bytes : List ℕ) → arguments_of k method ≡ 1 → is_built_number (Some number) ≡ true
+answers_prim : (number : ℕ) (k v : Kept) (method x : Ref) (bytes : List ℕ) → arguments_of k method ≡ 1 → is_built_number k (arguments_of k method) (Some number) ≡ true
     → ((output : List ℕ) (steps : ℕ) → prim number 1 (state_at k output steps) ≡ result (answer k 1 x) (run_at (output ++ bytes) steps))
     → Keeps v (push_of (drop_of k 2) x) → DoneIn (trying k method number) v bytes
 unfolding answer
@@ -121,7 +121,7 @@ answers_prim number k v method x bytes count built is keeps output steps =
     }
 
 pub sum_gives : (k v : Kept) (method x : Ref) (args : ℕ) (l n : Option Layout) (told : Option (List ℕ)) (s : Store) (e : StepEnd) → arguments_of k method ≡ args → args ≡ 1
-    → option_and_then (λ p. number_result k 1 p.0 p.1) (small_operands k) ≡ Some x → Keeps v (push_of (drop_of k 2) x) → IsReady s v → FramesFrom l n v → EndsBy v e → TurnGives (trying k method 1) k l told told s v n e
+    → option_and_then (λ p. number_result k 1 p.0 p.1) (small_operands k) ≡ Some x → Keeps v (push_of (drop_of k 2) x) → IsReady s v → Lays k l s v n → EndsBy v e → TurnGives (trying k method 1) k l told told s v n e
 sum_gives k v method x args l n told s e count one h keeps ready frames by =
     ends_quietly (trying k method 1) k v l n told s e
     (answers_prim 1 k v method x [] (count ∙ one) refl (λ output steps. prim_sum k (run_at output steps) x h ∙ ap (λ o. result (answer k 1 x) (run_at o steps)) (sym (append-nil output))) keeps)
@@ -169,7 +169,7 @@ write_answers k method args x y bytes v count one p q h keeps = answers_prim 900
 
 module _ (k v : Kept) (method : Ref) (l n : Option Layout) (bytes : List ℕ) (old : Option (List ℕ)) (s : Store) (a : DoneIn (trying k method 900) v bytes) where
   -- it is written, or a first part of it is
-  pub write_gives : (new : Option (List ℕ)) (e : StepEnd) → IsReady s v → FramesFrom l n v → EndsBy v e → ((reason : Reason) → e ≡ Stop reason → ⊥) → Appends old new bytes → TurnGives (trying k method 900) k l old new s v n e
+  pub write_gives : (new : Option (List ℕ)) (e : StepEnd) → IsReady s v → Lays k l s v n → EndsBy v e → ((reason : Reason) → e ≡ Stop reason → ⊥) → Appends old new bytes → TurnGives (trying k method 900) k l old new s v n e
   write_gives new e ready frames by goes told = ends_by (trying k method 900) k v l n bytes old new s e a ready frames told (λ reason is. absurd (goes reason is)) by
 
   pub write_fails : (new : Option (List ℕ)) (e : StepEnd) → EndsBy v e → ((reason : Reason) → e ≡ Stop reason → ⊥) → AppendsPart old new bytes → TurnGives (trying k method 900) k l old new s v n WriteFault
@@ -187,10 +187,6 @@ module _ (k v : Kept) (method : Ref) (l n : Option Layout) (bytes : List ℕ) (o
         let t = a output steps in
         lost t.built t.over (shape_kept v (trying k method 900 output steps).result.out.state t.state ∙ by),
   )
-
--- no other primitive is built
-pub no_number : (k : Kept) (method : Ref) (number : ℕ) (l n : Option Layout) (s : Store) (v : Kept) (old : Option (List ℕ)) → is_built_number (Some number) ≡ false → TurnGives (trying k method number) k l old old s v n (Stop why.NotBuilt)
-no_number k method number l n s v old h = (refl, λ output steps. unbuilt h refl)
 
 -- a step that ends by the scheduler needs no fault
 pub no_cause : (v : Kept) (e : StepEnd) (old new : ℕ) → EndsBy v e → CausedByFault old new e

@@ -24,7 +24,7 @@ use Rattle.cs_model.specs.Built.{built_step, is_built, is_built_bytecode, is_bui
 use Rattle.cs_acts.specs.Layout.{Layout}
 use Rattle.cs_acts.specs.Names.{Store}
 use Rattle.cs_acts.specs.Ready.{IsReady}
-use Rattle.cs_core.specs.Stepped.{Completes, DoneIn, EndsBy, FramesFrom, IsDone, IsOver, Overfills, LeadsTo, LeadsToNone, StepGives, Turn, TurnStops, unbuilt, stopped, lost, Turns, TurnGives, run_at, state_at, step_at}
+use Rattle.cs_core.specs.Stepped.{Completes, DoneIn, EndsBy, IsDone, Lays, IsOver, Overfills, LeadsTo, LeadsToNone, StepGives, Turn, TurnStops, unbuilt, stopped, lost, Turns, TurnGives, run_at, state_at, step_at}
 use Rattle.cs_core.specs.declared.step.StepEnd.{StepEnd}
 use Rattle.cs_core.specs.declared.step.StepEnd.TheVariants.{Active, Idle, Stopped as Stop, Full, WriteFault}
 
@@ -198,7 +198,7 @@ pub nothing_told : (old : Option (List ℕ)) → Appends old old []
 nothing_told None = refl
 nothing_told (Some told) = ap Some (sym (append-nil told))
 
-pub ends_by : (f : Turns) (k v : Kept) (l n : Option Layout) (bytes : List ℕ) (old new : Option (List ℕ)) (s : Store) (e : StepEnd) → DoneIn f v bytes → IsReady s v → FramesFrom l n v → Appends old new bytes
+pub ends_by : (f : Turns) (k v : Kept) (l n : Option Layout) (bytes : List ℕ) (old new : Option (List ℕ)) (s : Store) (e : StepEnd) → DoneIn f v bytes → IsReady s v → Lays k l s v n → Appends old new bytes
     → ((reason : Reason) → e ≡ Stop reason → new ≡ old) → EndsBy v e → TurnGives f k l old new s v n e
 ends_by f k v l n bytes old new s Active d ready frames told same b = (bytes, told, d, ready, b.0, b.1, frames)
 ends_by f k v l n bytes old new s Idle d ready frames told same b = (bytes, told, d, ready.sound, b.0, b.1)
@@ -212,5 +212,5 @@ ends_by f k v l n bytes old new s (Full why) d ready frames told same b = absurd
 ends_by f k v l n bytes old new s WriteFault d ready frames told same b = absurd b
 
 -- nothing is written
-pub ends_quietly : (f : Turns) (k v : Kept) (l n : Option Layout) (told : Option (List ℕ)) (s : Store) (e : StepEnd) → DoneIn f v [] → IsReady s v → FramesFrom l n v → EndsBy v e → TurnGives f k l told told s v n e
+pub ends_quietly : (f : Turns) (k v : Kept) (l n : Option Layout) (told : Option (List ℕ)) (s : Store) (e : StepEnd) → DoneIn f v [] → IsReady s v → Lays k l s v n → EndsBy v e → TurnGives f k l told told s v n e
 ends_quietly f k v l n told s e d ready frames by = ends_by f k v l n [] told told s e d ready frames (nothing_told told) (λ reason _. refl) by

@@ -1,5 +1,5 @@
 -- Which activations stand on the stack in a run of the model.
-use Rattle.std.specs.Prelude.{◌≡◌, ℕ, ◌<◌, ◌≤◌, true, List, [], option_map, Option, Some, None}
+use Rattle.std.specs.Prelude.{◌≡◌, ℕ, ◌*◌, ◌<◌, ◌≤◌, true, List, [], option_map, Option, Some, None}
 use Rattle.std.specs.List.{AllByRecursion}
 use Rattle.cs_model.specs.State.{Kept}
 use Rattle.cs_model.specs.Step.{Ran}
@@ -22,14 +22,15 @@ pub record WasActive (k : Kept) (n : ℕ) (birth : ℕ) : Type 0 where
   pub active : (state_of k step).rest.active ≡ Some birth
 
 -- Behind n steps there are contexts of which the first is active and each other one is the sender of the one before. No context is
--- there twice, and all have begun. They count more than 3,900 words: 10 for each, and one for each value of its stack.
-pub record IsDeep (k : Kept) (n : ℕ) : Type 0 where
+-- there twice, and all have begun. They count more than 3,900 words for each of so many pages: 10 for each, and one for each value of
+-- its stack.
+pub record IsDeep (most : ℕ) (k : Kept) (n : ℕ) : Type 0 where
   pub contexts : List ℕ
   pub active : last_frame contexts ≡ (state_of k n).rest.active
   pub called : IsCalled (state_of k n) contexts
   pub apart : IsApart contexts
   pub begun : AllByRecursion (WasActive k n) contexts
-  pub words : 3900 < page_words (state_of k n) contexts
+  pub words : 3900 * most < page_words (state_of k n) contexts
 
 -- ---- where a world has its frames
 

@@ -1,5 +1,5 @@
 -- What a run gives, beside the run of the model.
-use Rattle.std.specs.Prelude.{◌≡◌, ℕ, ◌+◌, ◌*◌, ◌<◌, ◌==◌, nat_lt, if◌then◌else◌, List, Option, IfSome}
+use Rattle.std.specs.Prelude.{◌≡◌, ℕ, ◌+◌, ◌*◌, ◌<◌, ◌==◌, nat_lt, if◌then◌else◌, List, Option, IfSome, IsSomeAnd}
 use Rattle.cs_shelf.specs.Outside.{Appends, AppendsPart, Rose}
 use Rattle.cs_model.specs.declared.stop.Stop.TheVariants as why
 use Rattle.cs_model.specs.State.{Kept}
@@ -43,23 +43,24 @@ pub record RunGives (k : Kept) (old new : Option (List ℕ)) (n : ℕ) (r : Ran)
   pub written : Appends old new (run_of k n).state.run.output
 
 -- The next bytecode is built and doesn't stop, and the words of the state that it leads to exceed the limit of the heap. In a world
--- with pages the heap has besides no room for a context of each frame that they may hold: 409 to a page and two more, of 64 words each.
+-- with pages the heap has besides no room for the objects that the bytecode makes and for a context of each frame that the pages may
+-- hold: 409 to a page and two more, of 64 words each.
 pub record IsHeavy (k : Kept) (s : Store) (l : Option Layout) (done : ℕ) : Type 0 where
   pub next : IsNext (state_of k done)
   pub over : IsOver (bytecode (run_of k done).state).out.end
   pub words : s.memory.limit < words_in (bytecode (run_of k done).state).out.state
-  pub room : IfSome l (λ laid. s.memory.limit < used s.memory.objects + 26304 * laid.most)
+  pub room : IfSome l (λ laid. s.memory.limit < used s.memory.objects + (bytecode (run_of k done).state).out.count.objects + 26304 * laid.most)
 
--- the next bytecode is built and enters a method, and the contexts that await a return are many
-pub record IsTooDeep (k : Kept) (done : ℕ) : Type 0 where
+-- the next bytecode is built and enters a method, and the contexts that await a return are many for the pages that there may be
+pub record IsTooDeep (k : Kept) (l : Option Layout) (done : ℕ) : Type 0 where
   pub next : IsNext (state_of k done)
   pub entered : (bytecode (run_of k done).state).out.end ≡ ends.Entered
-  pub deep : IsDeep k done
+  pub deep : IsSomeAnd l (λ laid. IsDeep laid.most k done)
 
 -- why a run finds no room behind so many steps, in a world that began with this layout
 abbrev pub HasNoRoom : Kept → Store → Option Layout → ℕ → Why → Type 0
 HasNoRoom k s l done Heap = IsHeavy k s l done
-HasNoRoom k s l done Stack = IsTooDeep k done
+HasNoRoom k s l done Stack = IsTooDeep k l done
 
 -- so many steps of n are done, all that they write is written, and then there is no room
 pub record RunFills (k : Kept) (s : Store) (l : Option Layout) (old new : Option (List ℕ)) (n : ℕ) (why : Why) : Type 0 where

@@ -19,9 +19,10 @@ use Rattle.cs_model.specs.Built.{built_step, is_built_bytecode, is_built_number,
 use Rattle.cs_acts.specs.declared.act.Full.{Full as Why}
 use Rattle.cs_acts.specs.declared.act.Full.TheVariants.{Heap, Stack}
 use Rattle.cs_acts.specs.Full.{CausesFull}
-use Rattle.cs_acts.specs.Layout.{Layout, is_frame}
+use Rattle.cs_acts.specs.Layout.{IsLaidOut, Layout, is_frame}
 use Rattle.cs_acts.specs.Names.{Store}
 use Rattle.cs_acts.specs.Ready.{IsReady, IsSound}
+use Rattle.cs_core.specs.Stacked.{IsStacked}
 use Rattle.cs_core.specs.declared.step.StepEnd.{StepEnd}
 use Rattle.cs_core.specs.declared.step.StepEnd.TheVariants.{Active, Idle, Stopped as Stop, Full, WriteFault}
 
@@ -62,6 +63,11 @@ FramesFrom None new v = new ≡ None
 FramesFrom (Some l) None v = ⊥
 FramesFrom (Some l) (Some n) v = (n.most ≡ l.most) × ((i : ℕ) → is_frame i n.pages ≡ true → (is_frame i l.pages ≡ true) ⊎ (v.rest.active ≡ Some i))
 
+-- besides, where the pages were one stack they are one again, as far as the world keeps to the rules of its layout
+pub record Lays (k : Kept) (l : Option Layout) (s : Store) (v : Kept) (n : Option Layout) : Type 0 where
+  pub frames : FramesFrom l n v
+  pub stacked : IsStacked k l → IsLaidOut s v n → IsStacked v n
+
 -- ---- no room
 
 -- an instruction or a return is done, a primitive answered, or a method is entered
@@ -86,7 +92,7 @@ EndsWithout Stack end = end ≡ ends.Entered
 -- there is no room for what a bytecode, or a part of one, comes to in the model from the state k
 pub record Overfills (s : Store) (l : Option Layout) (k : Kept) (o : Out) (why : Why) : Type 0 where
   pub end : EndsWithout why o.end
-  pub cause : CausesFull s l k 0 o.state why
+  pub cause : CausesFull s l k o.count.objects o.state why
 
 -- births are left and a process is active, so that a bytecode is next, and it is built
 pub record IsNext (k : Kept) : Type 0 where
@@ -100,7 +106,7 @@ pub record IsNext (k : Kept) : Type 0 where
 -- is written is what the model writes; where the sink fails, it is a first part of that. A step that stops or finds no room writes
 -- nothing. There is no room for what the bytecode leads to, which is built and doesn't stop.
 abbrev pub StepGives : Kept → Option Layout → Option (List ℕ) → Option (List ℕ) → Store → Kept → Option Layout → StepEnd → Type 0
-StepGives k l old new s v n Active = (bytes : List ℕ) × Appends old new bytes × Completes k bytes × LeadsTo k v × IsReady s v × (is_idle v ≡ false) × FramesFrom l n v
+StepGives k l old new s v n Active = (bytes : List ℕ) × Appends old new bytes × Completes k bytes × LeadsTo k v × IsReady s v × (is_idle v ≡ false) × Lays k l s v n
 StepGives k l old new s v n Idle = (bytes : List ℕ) × Appends old new bytes × Completes k bytes × LeadsToNone k v × IsSound s v
 StepGives k l old new s v n (Stop reason) = (new ≡ old) × ((output : List ℕ) (steps : ℕ) → (step_at k output steps).ending ≡ Stopped reason)
 StepGives k l old new s v n (Full why) = (new ≡ old) × IsNext k × ((output : List ℕ) (steps : ℕ) → Overfills s l k (bytecode (state_at k output steps)).out why)
@@ -130,11 +136,11 @@ sending k m output steps = record { built = is_built_send k m; result = do_send 
 
 -- the primitive of a method is tried
 abbrev pub trying : Kept → Ref → ℕ → Turns
-trying k method number output steps = record { built = is_built_number (Some number); result = try_primitive (state_at k output steps) method number }
+trying k method number output steps = record { built = is_built_number k (arguments_of k method) (Some number); result = try_primitive (state_at k output steps) method number }
 
 -- a primitive that is built refuses
 pub record Fails (k : Kept) (method : Ref) (number : ℕ) : Type 0 where
-  pub built : is_built_number (Some number) ≡ true
+  pub built : is_built_number k (arguments_of k method) (Some number) ≡ true
   pub end : (r : Run) → (prim number (arguments_of k method) (with_kept k r)).out.end ≡ ends.Fail
 
 -- a value is returned
@@ -167,7 +173,7 @@ pub data TurnStops (t : Turn) (reason : Reason) : Type 0 where
 
 -- what a part of a step gives from the state k on, with what the sink tells before and behind it and with the world behind it
 abbrev pub TurnGives : Turns → Kept → Option Layout → Option (List ℕ) → Option (List ℕ) → Store → Kept → Option Layout → StepEnd → Type 0
-TurnGives f k l old new s v n Active = (bytes : List ℕ) × Appends old new bytes × DoneIn f v bytes × IsReady s v × (shape_fault v ≡ None) × (is_idle v ≡ false) × FramesFrom l n v
+TurnGives f k l old new s v n Active = (bytes : List ℕ) × Appends old new bytes × DoneIn f v bytes × IsReady s v × (shape_fault v ≡ None) × (is_idle v ≡ false) × Lays k l s v n
 TurnGives f k l old new s v n Idle = (bytes : List ℕ) × Appends old new bytes × DoneIn f v bytes × IsSound s v × (shape_fault v ≡ None) × (is_idle v ≡ true)
 TurnGives f k l old new s v n (Stop reason) = (new ≡ old) × ((output : List ℕ) (steps : ℕ) → TurnStops (f output steps) reason)
 TurnGives f k l old new s v n (Full why) = (new ≡ old) × ((output : List ℕ) (steps : ℕ) → ((f output steps).built ≡ true) × Overfills s l k (f output steps).result.out why)

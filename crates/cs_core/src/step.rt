@@ -1,18 +1,19 @@
 //! One step: one bytecode and all that it leads to.
-ghost use Rattle.std.specs.Prelude.{◌≡◌, ◌≤◌, ℕ, false, true, IfSome, List, None, Option};
+ghost use Rattle.std.specs.Prelude.{◌≡◌, ◌<◌, ◌≤◌, ℕ, false, true, IfSome, List, None, Option};
 ghost use Rattle.cs_model.specs.Due.{is_idle};
 ghost use Rattle.cs_model.specs.Built.{is_built_target};
-ghost use Rattle.cs_model.specs.Read.{active_birth};
+ghost use Rattle.cs_model.specs.Read.{active_birth, depth_of};
 ghost use Rattle.cs_model.specs.Return.{sender_birth};
 ghost use Rattle.cs_acts.specs.Names.{IsNamed, name_of};
 ghost use Rattle.cs_acts.specs.Ready.{IsReady, IsSound};
 ghost use Rattle.cs_acts.specs.Targets.{CanEnter};
+ghost use Rattle.cs_prim_ctx.specs.Numbers.{reads_context};
 ghost use Rattle.cs_send.specs.Sent.{message_of};
 ghost use Rattle.cs_core.specs.Stepped.{CausedByFault, EndsBy, Fails, IsTarget, StepGives, TurnGives, returning, sending, trying};
 
 use crate::primitive::{answer, piece_of, sum, write};
-use cs_acts::read::instruction;
-use cs_acts::{Act, Full, Shape, World, shape_of};
+use cs_acts::read::{instruction, is_context};
+use cs_acts::{Act, Full, PrimEnd, Shape, World, shape_of};
 use cs_code::{CodeEnd, exec};
 use cs_model::Stop;
 use cs_send::{SendEnd, Sender, enter};
@@ -62,6 +63,7 @@ pub fn step<W: World, K: Sink>(w: &mut W, sender: &mut Sender, out: &mut K) -> S
         } => send(w, sender, out, selector, args, above),
         CodeEnd::Return { value, local } => give_back(w, value, local),
         CodeEnd::Stop(reason) => StepEnd::Stopped(reason),
+        CodeEnd::Full(why) => StepEnd::Full(why),
     }
 }
 
@@ -110,6 +112,7 @@ fn try_primitive<W: World, K: Sink>(
     match number {
         1 => add_or_enter(w, method, args),
         900 => write_or_enter(w, out, method, args),
+        _ if reads_context(w, number, args) => read_or_enter(w, method, args, number),
         _ => StepEnd::Stopped(Stop::NotBuilt),
     }
 }
@@ -166,7 +169,39 @@ fn write_or_enter<W: World, K: Sink>(w: &mut W, out: &mut K, method: Oop, args: 
     }
 }
 
-/// Enters a method whose primitive, of one of the two numbers that are built, has failed.
+/// A primitive that reads a context; where it fails its method is entered.
+fn read_or_enter<W: World>(w: &mut W, method: Oop, args: u32, number: u32) -> StepEnd
+    requires ready { IsReady (W.stored w.old) (W.view w.old) }
+    requires named { IsNamed (W.stored w.old) method }
+    requires enters { CanEnter (W.view w.old) (name_of (W.stored w.old) method) args true }
+    requires reads { reads_context (W.view w.old) number args ≡ true }
+    ensures gives { (told : Option (List ℕ)) → TurnGives (trying (W.view w.old) (name_of (W.stored w.old) method) number) (W.view w.old) (W.layout w.old) told told (W.stored w.new) (W.view w.new) (W.layout w.new) result }
+    ensures limit { (W.stored w.new).memory.limit ≡ (W.stored w.old).memory.limit }
+    ensures cause { (faults : ℕ) → CausedByFault faults faults result }
+{
+    match cs_prim_ctx::primitive(w, number, args) {
+        PrimEnd::Answer | PrimEnd::Entered => finish(w),
+        PrimEnd::Fail => enter_behind(w, method, args),
+        PrimEnd::Stop(reason) => StepEnd::Stopped(reason),
+        PrimEnd::Full(why) => StepEnd::Full(why),
+    }
+}
+
+/// Whether the primitive of this number, with so many arguments, is one that reads a context: 210 or 212, or 73 where its
+/// receiver is a context.
+fn reads_context<W: World>(w: &W, number: u32, args: u32) -> bool
+    requires ready { IsReady (W.stored w.now) (W.view w.now) }
+    requires there { args < depth_of (W.view w.now) }
+    ensures { result ≡ reads_context (W.view w.now) number args }
+{
+    match number {
+        210 | 212 => true,
+        73 => is_context(w, w.stack_at(w.depth() - (args + 1))),
+        _ => false,
+    }
+}
+
+/// Enters a method whose primitive, of a number that is built, has failed.
 fn enter_behind<W: World>(w: &mut W, method: Oop, args: u32) -> StepEnd
     requires ready { IsReady (W.stored w.old) (W.view w.old) }
     requires named { IsNamed (W.stored w.old) method }

@@ -1,10 +1,10 @@
 -- The senders of an image that loads: each context's is nil or a context.
-use Rattle.std.proofs.Common.{◌≡◌, ℕ, ◌%◌, ◌==◌, ◌||◌, Bool, true, false, List, Option, Some, None, refl, ap, sym, subst, ◌∙◌}
+use Rattle.std.proofs.Common.{◌≡◌, ℕ, ◌%◌, ◌==◌, ◌||◌, Bool, true, false, List, Some, None, refl, ap, sym, subst, ◌∙◌}
 use Rattle.std.specs.FinMap.{FinMap}
 use Rattle.std.specs.Ordering.{nat_cmp}
 use Rattle.cs_model.specs.Ref.{Ref}
-use Rattle.cs_model.specs.Obj.{Obj, Context, Ctx, is_context_at}
-use Rattle.cs_model.specs.State.{Kept, is_nil, object_at, object_of}
+use Rattle.cs_model.specs.Obj.{Ctx, is_context_at}
+use Rattle.cs_model.specs.State.{Kept, is_nil, object_of}
 use Rattle.cs_model.specs.Words.{context_by, obj_by, ref_by}
 use Rattle.cs_model.specs.ImageFile.{File, file_of, names, old_base, special_address, visible}
 use Rattle.cs_model.specs.ImageFile as file

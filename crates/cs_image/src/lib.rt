@@ -18,13 +18,15 @@ mod roots;
 mod shape;
 mod table;
 
-ghost use Rattle.std.specs.Prelude.{◌≡◌, ℕ, ◌≤◌, false, length, slice_get, take, Bool, List, Some, None, Ok, IfOk, OnOk, ⊤};
+ghost use Rattle.std.specs.Prelude.{◌≡◌, ℕ, ◌≤◌, true, false, is_some, length, slice_get, take, Bool, List, Some, None, Ok, IfOk, OnOk, ⊤};
 ghost use Rattle.cs_model.specs.ImageFile.{file_of, has_births, visible, words_in, cut_of, special_address, last_hash_in};
 ghost use Rattle.cs_model.specs.ImageFault as fault;
 ghost use Rattle.cs_model.specs.ImageFault.{bad_object, is_over, table_size};
 ghost use Rattle.cs_model.specs.Image.{at_word, fault_of, image_of};
 ghost use Rattle.cs_model.specs.Due.{is_idle};
-ghost use Rattle.cs_model.specs.Obj.{Context, Ctx};
+ghost use Rattle.std.specs.FinMap.{get};
+ghost use Rattle.cs_model.specs.Context.{closure_class};
+ghost use Rattle.cs_model.specs.Obj.{Context, Ctx, context_class};
 ghost use Rattle.cs_model.specs.Read.{IsRunning};
 ghost use Rattle.cs_model.specs.Settle.{open_kept, opened};
 ghost use Rattle.cs_model.specs.State.{IsValid, PcLies, object_at};
@@ -106,6 +108,7 @@ pub fn load(alloc: Global, bytes: &[u8], limit_words: u32) -> Result<Loaded, Ima
     ensures births { IfOk result (λ l. (k : ℕ) (x : Object) → slice_get l.heap.objects k ≡ Some x → x.birth ≡ k) }
     ensures next { IfOk result (λ l. l.roots.next_birth ≤ limit_words) }
     ensures pcs { IfOk result (λ l. (i : ℕ) (c : Context) → object_at (kept_of l.heap.objects l.classes l.roots None) i ≡ Some (Ctx c) → PcLies (kept_of l.heap.objects l.classes l.roots None) c) }
+    ensures kinds { IfOk result (λ l. (is_some (get l.classes context_class) ≡ true) × (is_some (get l.classes closure_class) ≡ true)) }
     ensures senders { IfOk result (λ l. SendersStand (kept_of l.heap.objects l.classes l.roots None)) }
     ensures valid { IfOk result (λ l. (events : List Event) (snapping : Bool) → IsValid (opened (kept_of l.heap.objects l.classes l.roots None) events snapping)) }
     ensures limit { IfOk result (λ l. l.heap.limit ≡ limit_words) }

@@ -14,3 +14,5 @@ mod Leaving
 mod Making
 mod Entering
 mod Entered
+mod Asking
+mod Allocating

@@ -360,6 +360,10 @@ impl World for PlainWorld {
         }
     }
 
+    fn act_of(&self, ctx: Oop) -> Act {
+        Act::Context(ctx)
+    }
+
     fn receiver(&self) -> Oop {
         self.heap.slot(self.active_context(), RECEIVER)
     }
@@ -411,6 +415,42 @@ impl World for PlainWorld {
         let value = self.stack_at(depth - 1);
         self.heap.set_slot(context, STACKP, count_word(depth - 1));
         value
+    }
+
+    fn this_context(&mut self) -> Result<Oop, Full> {
+        let Some(context) = self.active else {
+            unreachable!();
+        };
+        Ok(context)
+    }
+
+    fn act_context(&mut self, a: Act) -> Result<Oop, Full> {
+        match a {
+            Act::Context(context) => Ok(context),
+            _ => unreachable!(),
+        }
+    }
+
+    fn context_get(&mut self, ctx: Oop, i: u32) -> Result<Oop, Full> {
+        let value = self.heap.slot(ctx, i);
+        if i == STACKP {
+            Ok(count_word(count(value)))
+        } else {
+            Ok(value)
+        }
+    }
+
+    fn allocate(&mut self, class: u32, format: u8, slots: u32) -> Result<Oop, Full> {
+        // for what its clauses say: no class index from there on has an entry
+        let _entries = self.classes.len();
+        let Ok(object) = self
+            .heap
+            .allocate(class, format, slots, self.roots.next_birth)
+        else {
+            return Err(Full::Heap);
+        };
+        self.roots.next_birth += 1;
+        Ok(object)
     }
 
     fn enter(&mut self, method: Oop, args: u32, skip: bool) -> Result<(), Full> {

@@ -1,5 +1,5 @@
 -- The last frame of the most recent page of a good world is its active context.
-use Rattle.std.proofs.Common.{◌≡◌, ◌≢◌, ℕ, ◌<◌, refl, sym, ap, ap₂, subst, ◌∙◌, Some, List, [], ◌∷◌, length, unwrap_or, arith, inl, inr}
+use Rattle.std.proofs.Common.{◌≡◌, ◌≢◌, ℕ, ◌<◌, refl, sym, ap, ap₂, subst, ◌∙◌, Some, List, [], ◌∷◌, length, unwrap_or, arith, inl, inr, is_some}
 use Rattle.std.specs.Prelude.{◌↔◌, Contains}
 use Rattle.std.specs.FinMap.{get, insert}
 use Rattle.std.proofs.lemmas.Bool.{cases_eq}
@@ -9,7 +9,7 @@ use Rattle.cs_frame.specs.Frame.{Frame}
 use Rattle.cs_frame.specs.Page.{frames_of, on_page}
 use Rattle.cs_frame.proofs.PageLaws.{frames_of-on_page, frames_of-on_page_other, length-on_page, on_page-on_page, page_in}
 use Rattle.cs_marriage.specs.Agree.{Agree}
-use Rattle.cs_model.specs.Obj.{Context, Ctx, context_in, lies_in}
+use Rattle.cs_model.specs.Obj.{Context, Ctx, context_in, lies_in, context_class}
 use Rattle.cs_model.specs.State.{Rest, object_at, object_of, put}
 use Rattle.cs_model.specs.Read.{active_birth, active_context, blank, method_of, pc_of}
 use Rattle.cs_model.specs.Operation.{edit_active}
@@ -80,6 +80,10 @@ opened_at w i good known = go w.pages.recent refl (active_page w) refl known
 
 pub opened : (w : Parts) → IsGood w → IsReady (stored_of w) (view_of w) → Opened w
 opened w good ready = opened_at w _ good ready.running.known
+
+-- where a context is active, contexts have a class
+pub contexts_known : (w : Parts) → IsGood w → Opened w → is_some (get w.classes context_class) ≡ true
+contexts_known w good o = good.entry (subst (λ ns. 0 < length ns) (sym o.recent) (omega arith))
 
 pub good_ready : (w : Parts) → IsGood w → Opened w → IsReady (stored_of w) (view_of w)
 unfolding method_of frame_context frames_onto

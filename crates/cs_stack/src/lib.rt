@@ -53,17 +53,17 @@ impl Model for StackWorld {
 const PROCESS_SLOTS: u32 = 4;
 
 impl StackWorld {
-    ghost use Rattle.std.specs.Prelude.{◌≤◌, ◌<◌, length, ℕ, IfOk, false, None, Some, []};
+    ghost use Rattle.std.specs.Prelude.{◌≤◌, ◌<◌, length, ℕ, IfOk, false, None, Some, [], option_map};
     ghost use Rattle.cs_classes.specs.Sound.{IsWhole};
     ghost use Rattle.cs_classes.specs.Senders.{SendersStand};
     ghost use Rattle.cs_model.specs.Due.{is_idle};
-    ghost use Rattle.cs_model.specs.Obj.{Context, Ctx};
+    ghost use Rattle.cs_model.specs.Obj.{Context, Ctx, is_context_at};
     ghost use Rattle.cs_model.specs.Operation.{nil_of};
     ghost use Rattle.cs_model.specs.Read.{IsRunning};
     ghost use Rattle.cs_model.specs.Settle.{open_kept};
     ghost use Rattle.cs_model.specs.State.{PcLies, object_at};
     ghost use Rattle.cs_model.specs.Step.{shape_fault};
-    ghost use Rattle.cs_acts.specs.Layout.{IsFresh};
+    ghost use Rattle.cs_acts.specs.Layout.{IsFresh, Layout};
     ghost use Rattle.cs_acts.specs.Names.{IsNamed, Names, name_of};
     ghost use Rattle.cs_acts.specs.Ready.{IsReady, IsSound};
     ghost use Rattle.cs_stack.specs.Moved.{taken_of};
@@ -72,18 +72,20 @@ impl StackWorld {
     /// Opens a loaded image on so many stack pages, 2 to 64 of 4,096 words each: the active process gives its context to the machine.
     /// With no active process none is active. The only error is that memory is refused.
     ///
-    /// Births are below 2^62, the pc of each context is nil or lies in its method, and its sender is nil or a context. Where a process
-    /// is active, the context that it gives must be live.
+    /// Births are below 2^62, nil is no context, the pc of each context is nil or lies in its method, and its sender is nil or a context.
+    /// Where a process is active, the context that it gives must be live.
     pub fn new(alloc: Global, loaded: Loaded, pages: u32) -> Result<StackWorld, AllocError>
         requires few { (2 ≤ pages) × (pages ≤ 64) }
         requires whole { IsWhole loaded.heap.objects loaded.classes loaded.roots }
         requires births { loaded.roots.next_birth ≤ 4611686018427387904 }
         requires pcs { (i : ℕ) (c : Context) → object_at (loaded_kept loaded) i ≡ Some (Ctx c) → PcLies (loaded_kept loaded) c }
         requires senders { SendersStand (loaded_kept loaded) }
+        requires nil { is_context_at (object_at (loaded_kept loaded) (loaded_kept loaded).rest.nil) ≡ false }
         requires running { is_idle (loaded_kept loaded) ≡ false → IsRunning (open_kept (loaded_kept loaded)) }
         ensures view { IfOk result (λ w. view_of w ≡ open_kept (loaded_kept loaded)) }
         ensures sound { IfOk result (λ w. IsSound (stored_of w) (view_of w)) }
         ensures fresh { IfOk result (λ w. IsFresh (view_of w) (layout_of w)) }
+        ensures most { IfOk result (λ w. option_map (λ (l : Layout). l.most) (layout_of w) ≡ Some pages) }
         ensures limit { IfOk result (λ w. (stored_of w).memory.limit ≡ loaded.heap.limit) }
         ensures idle { IfOk result (λ w. is_idle (view_of w) ≡ is_idle (loaded_kept loaded)) }
         ensures shape { IfOk result (λ w. shape_fault (view_of w) ≡ None) }
@@ -123,6 +125,7 @@ impl StackWorld {
         ensures sound { IsSound (stored_of self.new) (view_of self.new) }
         ensures one { length (active_page self.new) ≤ 1 }
         ensures alone { length self.new.pages.recent ≤ 1 }
+        ensures total { self.new.pages.total ≡ self.old.pages.total }
         ensures limit { self.new.heap.limit ≡ self.old.heap.limit }
     {
         let nil = nil(self);
@@ -144,6 +147,7 @@ impl StackWorld {
         ensures sound { IsSound (stored_of self.new) (view_of self.new) }
         ensures one { length (active_page self.new) ≤ 1 }
         ensures alone { length self.new.pages.recent ≤ 1 }
+        ensures total { self.new.pages.total ≡ self.old.pages.total }
         ensures limit { self.new.heap.limit ≡ self.old.heap.limit }
     {
         if let Some(context) = slot(self, process, PROCESS_SLOTS, parts::SUSPENDED_CONTEXT) {

@@ -47,6 +47,7 @@ impl Parts {
         ensures view { view_of self.new ≡ taken_of (view_of self.old) (name_of (stored_of self.old) process) }
         ensures one { length (active_page self.new) ≤ 1 }
         ensures alone { length self.new.pages.recent ≤ 1 }
+        ensures total { self.new.pages.total ≡ self.old.pages.total }
         ensures limit { self.new.heap.limit ≡ self.old.heap.limit }
     {
         self.store(process, SUSPENDED_CONTEXT, nil);

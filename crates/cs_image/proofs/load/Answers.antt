@@ -14,6 +14,7 @@ use Rattle.cs_image.proofs.Describing.{built_is}
 use Rattle.cs_image.proofs.Wholeness.{built_whole, built_births}
 use Rattle.cs_image.proofs.Opening.{built_opens}
 use Rattle.cs_image.proofs.Pcs.{built_pcs, few_births}
+use Rattle.cs_image.proofs.Entries.{known_kinds}
 use Rattle.cs_image.proofs.Senders.{built_senders}
 use Rattle.cs_image.proofs.Validity.{built_valid}
 use Rattle.cs_image.proofs.load.Goals as goal
@@ -166,6 +167,14 @@ returns-clause-senders c =
       next = c.in_ok-loaded.ensures.next;
       header = c.in_ok-loaded.ensures.header;
     }) (header_is c.args.bytes.now c.in_ok-check_header.ensures.0).base (sound_file c.args.bytes.now c.in_ok-file.ensures.0 fine)
+
+pub returns-clause-kinds : goal.returns-clause-kinds
+returns-clause-kinds c =
+    let same : c.in_ok-file.file ≡ file_of c.args.bytes.now = c.in_ok-file.ensures.1 in
+    let fine : objects_fault (file_of c.args.bytes.now) (special_address c.args.bytes.now) ≡ None =
+    ap (λ (f : File). objects_fault f (special_address c.args.bytes.now)) (sym same)
+    ∙ ap (λ (special : ℕ). objects_fault c.in_ok-file.file special) (sym c.u32_at.ensures) ∙ c.in_ok-check_objects.ensures.0 in
+    known_kinds c.args.bytes.now c.in_ok-file.file c.in_ok-loaded.loaded.classes same c.in_ok-loaded.ensures.classes (sound_file c.args.bytes.now c.in_ok-file.ensures.0 fine)
 
 pub returns-clause-valid : goal.returns-clause-valid
 returns-clause-valid c =

@@ -19,6 +19,7 @@ returns-in-Ok-new-clause-opens g c =
       sound = c.in-Ok-new.ensures.sound;
       running = λ active. (c.in-Ok-new.ensures.ready active).running;
       fresh = c.in-Ok-new.ensures.fresh;
+      pages = c.in-Ok-new.ensures.most;
       limit = c.in-Ok-new.ensures.limit ∙ c.in-Ok-load.ensures.limit;
     }
 

@@ -27,5 +27,5 @@ pub returns-in-Err-Full-Stack : goal.returns-in-Err-Full-Stack
 returns-in-Err-Full-Stack g c =
     stack_reported (g.W.World.view c.args.world) (g.W.World.stored c.run.new.w) (g.W.World.layout c.args.world) (g.K.Sink.taken c.args.out.now) (g.K.Sink.taken c.run.new.out) (g.K.Sink.taken c.print-in-Err-Full-Stack.new.out)
     (g.K.Sink.fault_count c.args.out.now) (g.K.Sink.fault_count c.run.new.out) (g.K.Sink.fault_count c.print-in-Err-Full-Stack.new.out) c.args.steps
-    c.in-Err-Full-Stack.field-0 c.in-Err-Full-Stack.field-0-0 c.print-in-Err-Full-Stack.result c.in-Err-Full-Stack.field-0-is c.in-Err-Full-Stack.field-0-0-is
+    c.in-Err-Full-Stack.field-0 c.in-Err-Full-Stack.field-0-0 c.print-in-Err-Full-Stack.result c.in-Err-Full-Stack.field-0-is c.in-Err-Full-Stack.field-0-0-is c.requires.pages
     c.in-Err-Full-Stack.ensures.failed c.run.ensures.never_falls c.print-in-Err-Full-Stack.ensures.printed

@@ -17,6 +17,6 @@ pub returns-in-Some-clause-gives : goal.returns-in-Some-clause-gives
 returns-in-Some-clause-gives g c =
     let old = g.W.World.view c.args.w.now in
     let plain = ap (is_context_ref old) (sym c.receiver-receiver.ensures.is) ∙ sym c.is_context.ensures ∙ c.if-is_context.false in
-    subst (λ o. Gives (g.W.World.stored c.args.w.now) (g.W.World.stored c.store_field.new.w) (g.W.World.view c.store_field.new.w) c.store_field.result o) (sym (receiver-popped old c.args.i plain))
-    (popped (g.W.World.stored c.args.w.now) (g.W.World.stored c.pop.new.self) _ old (g.W.World.view c.pop.new.self) _ c.in-Some.x _ (λ t x. store_receiver_out t c.args.i x) (λ t u y k s. store_receiver_alike k c.args.i s)
-    c.pop.ensures.ready (c.pop.ensures.state old c.requires.sound.closed) c.pop.ensures.names c.in-Some.ensures.value c.store_field.ensures.gives)
+    subst (λ o. Gives (g.W.World.stored c.args.w.now) (g.W.World.stored c.store_field.new.w) (g.W.World.layout c.args.w.now) (g.W.World.view c.store_field.new.w) c.store_field.result o) (sym (receiver-popped old c.args.i plain))
+    (popped (g.W.World.stored c.args.w.now) (g.W.World.stored c.pop.new.self) _ (g.W.World.layout c.args.w.now) (g.W.World.layout c.pop.new.self) old (g.W.World.view c.pop.new.self) _ c.in-Some.x _ (λ t x. store_receiver_out t c.args.i x) (λ t u y k s. store_receiver_alike k c.args.i s)
+    c.pop.ensures.ready (c.pop.ensures.state old c.requires.sound.closed) c.pop.ensures.exact c.pop.ensures.layout c.pop.ensures.names c.in-Some.ensures.value c.store_field.ensures.gives)

@@ -12,5 +12,5 @@ pub returns-in-Some-slot-clause-gives : goal.returns-in-Some-slot-clause-gives
 returns-in-Some-slot-clause-gives g c =
     let k = g.W.World.view c.args.w.now in
     let s = g.W.World.stored c.args.w.now in
-    gives_done s (g.W.World.stored c.store.new.self) _ _ _ (variable-stored k c.args.i (name_of s c.args.x) (name_of s c.in-Some.variable) (name_of s c.in-Some-slot.field-0) (c.in-Some.ensures.is ∙ ap (literal_at k) c.from.ensures) c.in-Some-slot.ensures.is)
-    (c.store.ensures.state k c.requires.ready.sound.closed) c.store.ensures.ready c.store.ensures.names
+    gives_done s (g.W.World.stored c.store.new.self) (g.W.World.layout c.args.w.now) _ _ _ (variable-stored k c.args.i (name_of s c.args.x) (name_of s c.in-Some.variable) (name_of s c.in-Some-slot.field-0) (c.in-Some.ensures.is ∙ ap (literal_at k) c.from.ensures) c.in-Some-slot.ensures.is)
+    (c.store.ensures.state k c.requires.ready.sound.closed) c.store.ensures.exact c.store.ensures.ready c.store.ensures.names

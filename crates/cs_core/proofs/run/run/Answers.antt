@@ -64,10 +64,10 @@ returns-in-WriteFault-clause-cause g c = rose_before _ _ _ c.loop-steps.invarian
 pub loop-steps-preserved : goal.loop-steps-preserved
 loop-steps-preserved g c =
     record {
-      stands = goes_on c.loop-steps.invariant.stands c.in-Active.ensures.gives;
+      stands = goes_on c.loop-steps.invariant.stands c.place_of-before.ensures.laid c.in-Active.ensures.gives;
       never_falls = omega (arith, c.loop-steps.invariant.never_falls, c.step.ensures.never_falls);
       limit = c.step.ensures.limit ∙ c.loop-steps.invariant.limit;
-      most = most_stays (g.W.World.layout c.loop-steps.w) (g.W.World.layout c.step.new.w) (g.W.World.view c.step.new.w) c.in-Active.ensures.gives.6 ∙ c.loop-steps.invariant.most;
+      most = most_stays (g.W.World.layout c.loop-steps.w) (g.W.World.layout c.step.new.w) (g.W.World.view c.step.new.w) c.in-Active.ensures.gives.6.frames ∙ c.loop-steps.invariant.most;
     }
 
 pub place_of-requires-clause-sound : goal.place_of-requires-clause-sound

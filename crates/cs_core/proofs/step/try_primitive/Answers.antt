@@ -12,3 +12,9 @@ returns-in-1-clause-gives g c =
 
 pub returns-in-1-clause-cause : goal.returns-in-1-clause-cause
 returns-in-1-clause-cause g c = c.add_or_enter.ensures.cause (g.K.Sink.fault_count c.args.out.now)
+
+pub returns-in_default-clause-gives : goal.returns-in_default-clause-gives
+returns-in_default-clause-gives g c = c.read_or_enter.ensures.gives (g.K.Sink.taken c.args.out.now)
+
+pub returns-in_default-clause-cause : goal.returns-in_default-clause-cause
+returns-in_default-clause-cause g c = c.read_or_enter.ensures.cause (g.K.Sink.fault_count c.args.out.now)

@@ -1,11 +1,13 @@
 use Rattle.std.proofs.Common.{◌<◌, ◌-◌, ap, arith, subst, sym, ◌∙◌}
 use Rattle.cs_shelf.specs.Outside.{Appends, AppendsPart}
+use Rattle.cs_model.specs.Obj.{context_in}
 use Rattle.cs_model.specs.Read.{depth_of}
 use Rattle.cs_acts.specs.Names.{name_of}
 use Rattle.cs_core.specs.Stepped.{EndsBy, TurnGives, trying}
 use Rattle.cs_core.specs.Pieces.{bytes_of_piece, is_piece}
 use Rattle.cs_core.proofs.Lasting.{piece_lasts}
-use Rattle.cs_core.proofs.Laying.{frames_stay}
+use Rattle.cs_core.proofs.Settling.{answer_stays}
+use Rattle.cs_core.proofs.Stacking.{stays_lays}
 use Rattle.cs_core.proofs.Trying.{argument_named, no_cause, no_write_fails, receiver_named, write_answers, write_fails, write_fails_else, write_gives, write_lost}
 use Rattle.cs_core.proofs.step.write_or_enter.Goals as goal
 
@@ -56,7 +58,7 @@ returns-in-Ok g c =
     let l = piece_lasts (g.W.World.stored c.args.w.now) (g.W.World.stored c.answer.new.w) (g.W.World.view c.args.w.now) (g.W.World.view c.answer.new.w) _ c.stack_at-argument.result c.in-Some.piece c.requires.ready c.answer.ensures.ready.sound c.stack_at-argument.ensures.sound c.answer.ensures.names c.answer.ensures.state c.in-Some.ensures.piece c.in-Some.ensures.own in
     let told = subst (λ b. Appends (g.K.Sink.taken c.args.out.now) (g.K.Sink.taken c.write.new.out) b) (ap (λ m. bytes_of_piece m.objects c.in-Some.piece) c.heap.ensures ∙ l.bytes) c.in-Ok.ensures.ok in
     record {
-      gives = write_gives (g.W.World.view c.args.w.now) (g.W.World.view c.answer.new.w) (name_of (g.W.World.stored c.args.w.now) c.args.method) (g.W.World.layout c.args.w.now) (g.W.World.layout c.answer.new.w) _ (g.K.Sink.taken c.args.out.now) (g.W.World.stored c.answer.new.w) a _ c.finish-end.result c.answer.ensures.ready (frames_stay (g.W.World.layout c.args.w.now) (g.W.World.layout c.answer.new.w) (g.W.World.view c.answer.new.w) c.answer.ensures.layout) c.finish-end.ensures c.in_default-end.not-Stopped told;
+      gives = write_gives (g.W.World.view c.args.w.now) (g.W.World.view c.answer.new.w) (name_of (g.W.World.stored c.args.w.now) c.args.method) (g.W.World.layout c.args.w.now) (g.W.World.layout c.answer.new.w) _ (g.K.Sink.taken c.args.out.now) (g.W.World.stored c.answer.new.w) a _ c.finish-end.result c.answer.ensures.ready (stays_lays (g.W.World.view c.args.w.now) _ (g.W.World.view c.answer.new.w) (answer_stays (g.W.World.view c.args.w.now) 2 _ (ap context_in c.requires.ready.running.found)) c.answer.ensures.state c.answer.ensures.ready.running (g.W.World.layout c.args.w.now) (g.W.World.layout c.answer.new.w) c.answer.ensures.layout (g.W.World.stored c.answer.new.w)) c.finish-end.ensures c.in_default-end.not-Stopped told;
       limit = c.answer.ensures.limit;
       never_falls = c.write.ensures.never_falls;
       cause = no_cause (g.W.World.view c.answer.new.w) c.finish-end.result _ _ c.finish-end.ensures;

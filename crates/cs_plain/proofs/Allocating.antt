@@ -1,0 +1,205 @@
+-- An object is made: the heap has one more, and so has the state.
+use Rattle.std.proofs.Common.{◌≡◌, ◌∙◌, inl, inr, ℕ, ◌+◌, ◌*◌, ◌-◌, ◌<◌, ◌≤◌, ◌^◌, Bool, true, false, refl, sym, ap, subst, Option, Some, None, is_some, option_map, List, [], ◌∷◌, ◌++◌, replicate, arith}
+use Rattle.std.specs.Prelude.{◌==◌, ◌||◌, if◌then◌else◌, nat_lt, option_and_then, slice_get}
+use Rattle.std.proofs.lemmas.Bool.Decides.{nat_tests}
+use Rattle.std.specs.FinMap.{get}
+use Rattle.std.proofs.lemmas.Bool.{false≢true}
+use Rattle.cs_word.specs.declared.Oop.{Oop}
+use Rattle.cs_heap.specs.Format.{is_method, is_pointers}
+use Rattle.cs_heap.specs.Object.{Memory, Object, is_object, new_object, next_address, object_at, index_of, size, used}
+use Rattle.cs_heap.proofs.Laws.{is_object-new, is_object-pushed, length-new_words, next_address-new, object_at-new, object_at-old, used-pushed}
+use Rattle.cs_classes.specs.Meaning.{kept_of, unused_bytes}
+use Rattle.cs_classes.proofs.Heaps.{birth_of-object_at}
+use Rattle.cs_classes.proofs.Makings.{Makes, makes-bytes, makes-pointers}
+use Rattle.cs_classes.proofs.Objects.{get-objects_of-fresh}
+use Rattle.cs_classes.proofs.Refs.{is_reference-object, is_reference-push, ref_of-object, ref_of-push}
+use Rattle.cs_classes.proofs.Wholes.{after_birth, get-classes_of, next_is_fresh}
+use Rattle.cs_model.specs.Ref as ref
+use Rattle.cs_model.specs.Obj.{Context, Ctx, Obj, Raw, lies_in}
+use Rattle.cs_model.specs.State as state
+use Rattle.cs_model.specs.State.{Kept, NamesHeld, PcLies, put}
+use Rattle.cs_model.specs.Keeps.{Keeps}
+use Rattle.cs_model.specs.Demand.{words_in}
+use Rattle.cs_model.specs.Read.{IsRunning, active_birth, active_context, pc_of}
+use Rattle.cs_model.specs.Operation.{add_of, new_pointers, next_ref}
+use Rattle.cs_model.proofs.Objects.{object_at-put_other}
+use Rattle.cs_model.proofs.Operating.{add_moved, new_pointers_same}
+use Rattle.cs_model.proofs.Same.{Same, same}
+use Rattle.cs_acts.specs.Full.{IsFullHeap}
+use Rattle.cs_acts.specs.Made.{CanAllocate, blank_of}
+use Rattle.cs_acts.specs.Names.{KeepsNames, Names}
+use Rattle.cs_acts.specs.Ready.{IsReady, IsSound}
+use Rattle.cs_plain.specs.declared.PlainWorld.{PlainWorld}
+use Rattle.cs_plain.specs.View.{active_in, birth_at, birth_in, stored_of, view_of}
+use Rattle.cs_plain.proofs.Active.{sound_world}
+use Rattle.cs_plain.proofs.Pcs.{KeepsPcs, pcs-put, pcs-rest, running}
+use Rattle.cs_plain.proofs.Words.{words_of-kept}
+
+-- the world with an object more
+abbrev pub with_made : PlainWorld → List Object → PlainWorld
+with_made w us = record w { heap = record w.heap { objects = us }; roots = after_birth w.roots }
+
+last_apart : (a b c d : Bool) → (a || b || c || d) ≡ false → d ≡ false
+last_apart a b c false h = refl
+last_apart true b c true h = absurd (cc)
+last_apart false true c true h = absurd (cc)
+last_apart false false true true h = absurd (cc)
+last_apart false false false true h = absurd (cc)
+
+last_otherwise : (a b c : Bool) → (a || b || c) ≡ false → c ≡ false
+last_otherwise a b false h = refl
+last_otherwise true b true h = absurd (cc)
+last_otherwise false true true h = absurd (cc)
+last_otherwise false false true h = absurd (cc)
+
+mapped : (f : ℕ → ℕ) (o : Option ℕ) → is_some (option_map f o) ≡ true → is_some o ≡ true
+mapped f None e = e
+mapped f (Some n) e = refl
+
+module _ (w : PlainWorld) (class format slots : ℕ) (sound : IsSound (stored_of w) (view_of w)) (fits : CanAllocate (view_of w) class format slots) where
+  abbrev os : List Object
+  os = w.heap.objects
+
+  abbrev new : Object
+  new = new_object class format slots w.roots.next_birth
+
+  abbrev all : List Object
+  all = os ++ new ∷ []
+
+  abbrev k : Kept
+  k = view_of w
+
+  abbrev made : Kept
+  made = add_of k (blank_of k class format slots)
+
+  entry : is_some (get w.classes class) ≡ true
+  entry = mapped _ (get w.classes class) (ap is_some (sym (get-classes_of os w.classes class)) ∙ fits.entry)
+
+  -- no class index from the table's length on has an entry
+  pub class_below : ((index : ℕ) → 16384 ≤ index → get w.classes index ≡ None) → class < 2 ^ 22
+  class_below beyond = go (nat_lt class 16384) refl
+    where
+      go : (b : Bool) → nat_lt class 16384 ≡ b → class < 2 ^ 22
+      go true e = let less : class < 16384 = grind (arith, nat_tests, e) in omega (arith, less)
+      go false e = absurd (false≢true (sym (ap is_some (beyond class (grind (arith, nat_tests, e)))) ∙ entry))
+
+  other : (class == 36) ≡ false
+  other = last_apart (class == 1) (class == 2) (class == 3) (class == 36) fits.common
+
+  no_method : is_method format ≡ false
+  no_method = last_otherwise (format == 4) (format == 5) (is_method format) fits.plain
+
+  abbrev blank_by : Bool → Kept → Obj
+  blank_by b m = if b then new_pointers m class format slots else Raw class format 0 (replicate (4 * slots - unused_bytes format) 0)
+
+  makes : Makes os new w.classes w.roots (λ m. blank_of m class format slots)
+  makes = go (is_pointers format) refl
+    where
+      go : (b : Bool) → is_pointers format ≡ b → Makes os new w.classes w.roots (λ m. blank_of m class format slots)
+      go true e = subst (λ b. Makes os new w.classes w.roots (blank_by b)) (sym e) (makes-pointers sound.holds.whole class format slots other e fits.shape entry)
+      go false e = subst (λ b. Makes os new w.classes w.roots (blank_by b)) (sym e) (makes-bytes sound.holds.whole class format slots other e no_method fits.shape entry)
+
+  -- ---- the active context is the same
+
+  no_birth : birth_in (Some new) ≡ None
+  no_birth = ap (λ c. if c then Some w.roots.next_birth else None) other
+
+  nothing : (us : List Object) (a : ℕ) → is_object us a ≡ false → object_at us a ≡ None
+  nothing us a h = go (index_of us a) h
+    where
+      go : (o : Option ℕ) → is_some o ≡ false → option_and_then (slice_get us) o ≡ None
+      go None e = refl
+      go (Some i) e = absurd (cc)
+
+  births : (a : Oop) → birth_at all a ≡ birth_at os a
+  births a = go (is_object os a.0) refl
+    where
+      fresh : (b : Bool) → is_object all a.0 ≡ b → is_object os a.0 ≡ false → birth_at all a ≡ None
+      fresh false e none = ap birth_in (nothing all a.0 e)
+      fresh true e none = elim (is_object-pushed os new a.0 e) [
+        | inl there ↦ absurd (false≢true (sym none ∙ there))
+        | inr next ↦ ap birth_in (object_at-new os new a.0 next) ∙ no_birth
+      ]
+
+      go : (b : Bool) → is_object os a.0 ≡ b → birth_at all a ≡ birth_at os a
+      go true e = ap birth_in (object_at-old os new a.0 e)
+      go false e = fresh (is_object all a.0) refl e ∙ sym (ap birth_in (nothing os a.0 e))
+
+  active_same : (o : Option Oop) → active_in all o ≡ active_in os o
+  active_same None = refl
+  active_same (Some a) = births a
+
+  pub made_view : view_of (with_made w all) ≡ made
+  made_view = ap (kept_of all w.classes (after_birth w.roots)) (active_same w.active) ∙ makes.kept (active_in os w.active)
+
+  -- ---- pcs
+
+  fresh : state.object_at k k.rest.next ≡ None
+  fresh = get-objects_of-fresh os w.roots.next_birth (next_is_fresh os w.classes w.roots sound.holds.whole)
+
+  no_blank : (c : Context) → blank_of k class format slots ≡ Ctx c → ⊥
+  no_blank c = go (is_pointers format)
+    where
+      go : (b : Bool) → blank_by b k ≡ Ctx c → ⊥
+      go true e = absurd (cc)
+      go false e = absurd (cc)
+
+  made_pcs : KeepsPcs made
+  unfolding add_of
+  made_pcs = pcs-rest made.rest (put k k.rest.next (blank_of k class format slots)) (pcs-put k k.rest.next (blank_of k class format slots) sound.pcs
+      (λ pc l. absurd (let no : lies_in None pc ≡ true = ap (λ o. lies_in o pc) (sym fresh) ∙ l in cc)) (λ c e. absurd (no_blank c e)))
+
+  runs : IsRunning k → IsRunning made
+  unfolding add_of
+  runs r = running made (active_birth k) (active_context k) (pc_of k) r.known
+      (object_at-put_other k k.rest.next (active_birth k) (blank_of k class format slots)
+      (λ e. let no : ◌≡◌ {A = Option Obj} None (Some (Ctx (active_context k))) = sym fresh ∙ ap (state.object_at k) (sym e) ∙ r.found in absurd (cc)) ∙ r.found)
+      r.live made_pcs
+
+  -- ---- words
+
+  made_words : words_in made ≡ used os + size slots
+  made_words =
+      ap words_in (sym (makes.kept (active_in os w.active))) ∙ words_of-kept all w (after_birth w.roots) (active_in os w.active) makes.whole
+      ∙ used-pushed os new ∙ ap (λ n. used os + size n) (length-new_words class format slots w.roots.next_birth)
+
+  pub full_made : (h : Memory) → h ≡ w.heap → w.heap.limit < used os + size slots → IsFullHeap (stored_of (record w { heap = h })) None (size slots) made
+  full_made h unchanged over = record { words = omega (arith, ap (λ (g : Memory). g.limit) unchanged, over, made_words); room = tt }
+
+  -- ---- what a call of it does
+
+  blank_same : (m : Kept) → Keeps k m → Same (NamesHeld k) (blank_of k class format slots) (blank_of m class format slots)
+  blank_same m keeps = go (is_pointers format)
+    where
+      go : (b : Bool) → Same (NamesHeld k) (blank_by b k) (blank_by b m)
+      go true = new_pointers_same keeps class format slots
+      go false = same (blank_by false k) tt
+
+  pub made_state : (m : Kept) → Keeps k m → Keeps (view_of (with_made w all)) (add_of m (blank_of m class format slots))
+  made_state m keeps = subst (λ v. Keeps v (add_of m (blank_of m class format slots))) (sym made_view) (add_moved keeps (blank_same m keeps)).keeps
+
+  pub made_sound : used os + size slots ≤ w.heap.limit → IsSound (stored_of (with_made w all)) (view_of (with_made w all))
+  made_sound room =
+      sound_world (with_made w all) makes.whole (omega (arith, room, used-pushed os new, ap size (length-new_words class format slots w.roots.next_birth))) sound.holds.most (subst KeepsPcs (sym made_view) made_pcs)
+
+  pub made_ready : used os + size slots ≤ w.heap.limit → IsReady (stored_of w) (view_of w) → IsReady (stored_of (with_made w all)) (view_of (with_made w all))
+  made_ready room ready = record { sound = made_sound room; running = subst IsRunning (sym made_view) (runs ready.running) }
+
+  pub made_names : KeepsNames (stored_of w) (stored_of (with_made w all))
+  made_names = λ o h. record { sound = is_reference-push os new o.0 h; is = ref_of-push os new o.0 h }
+
+  pub made_value : (o : Oop) → o.0 ≡ next_address os slots → Names (stored_of (with_made w all)) o (next_ref k)
+  made_value o e =
+      let next = next_address-new os o.0 class format slots w.roots.next_birth e in
+      let there = is_object-new os new o.0 next in
+      record {
+        sound = is_reference-object all o.0 there;
+        is = ref_of-object all o.0 there ∙ ap (λ n. ref.Obj n) (birth_of-object_at all o.0 new (object_at-new os new o.0 next));
+      }
+
+pub within : (limit words : ℕ) → (limit < words → ⊥) → words ≤ limit
+within limit words not_over = go (nat_lt limit words) refl
+  where
+    go : (b : Bool) → nat_lt limit words ≡ b → words ≤ limit
+    go true e = absurd (not_over (grind (arith, nat_tests, e)))
+    go false e = grind (arith, nat_tests, e)

@@ -1,0 +1,5 @@
+mod Fields
+mod Dropping
+mod Leading
+mod Performing
+mod Rows

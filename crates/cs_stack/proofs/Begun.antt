@@ -1,0 +1,295 @@
+-- A method is entered on a page of its own: its frame is the base frame, and the married context of its caller is its sender.
+use Rattle.std.proofs.Common.{◌≡◌, ◌≢◌, ℕ, pos, ◌+◌, ◌-◌, ◌<◌, ◌≤◌, Bool, true, false, refl, sym, ap, ap₂, subst, ◌∙◌, arith, Some, List, [], ◌∷◌, ◌++◌, length, length-drop, zero, suc, drop, replicate, inl, inr, take}
+use Rattle.std.specs.Prelude.{◌↔◌, Contains, nat_eq, slice_index, nat_le, if◌then◌else◌}
+use Rattle.std.proofs.lemmas.Bool.Decides.{nat_tests}
+use Rattle.std.proofs.lemmas.List.Elements.{All-cons, All-get_or}
+use Rattle.std.proofs.lemmas.Map.Keys.{IsDistinct-cons}
+use Rattle.cs_word.specs.declared.Oop.{Oop}
+use Rattle.cs_word.specs.Word.{small_word}
+use Rattle.cs_heap.specs.Object.{Object, birth_of, is_object}
+use Rattle.cs_classes.specs.Meaning.{ref_of}
+use Rattle.cs_classes.specs.Sound.{is_reference}
+use Rattle.cs_classes.proofs.Refs.{is_reference-object, ref_of-object}
+use Rattle.cs_frame.specs.declared.FrameRef.{FrameRef}
+use Rattle.cs_frame.specs.declared.NewFrame.{NewFrame}
+use Rattle.cs_frame.specs.Frame.{Frame, IsValue, cut, nil, with_caller, with_saved_pc, with_stack}
+use Rattle.cs_frame.specs.Page.{IsBase, IsFrame, IsTop, called, fresh, frame, frames_of, index_of, nth, on_frame, on_page, on_top, top, used}
+use Rattle.cs_frame.specs.Page as page
+use Rattle.cs_frame.proofs.PageLaws.{frames_of-on_page, frames_of-on_page_other, length-on_page, on_page-on_page_other}
+use Rattle.cs_marriage.specs.Agree as marriage
+use Rattle.cs_marriage.specs.Agree.{AreMarried, header_at}
+use Rattle.cs_marriage.proofs.Based.{alone, alone_base, alone_frames, alone_on_frame, alone_on_top, alone_top}
+use Rattle.cs_marriage.proofs.Laws.{PageFits, fits_top, page_fits}
+use Rattle.cs_marriage.proofs.Objects.{context_there}
+use Rattle.cs_model.specs.Ref as ref
+use Rattle.cs_model.specs.Obj.{temporary_count}
+use Rattle.cs_model.specs.Read.{active_birth}
+use Rattle.cs_model.specs.Operation.{enter_of}
+use Rattle.cs_acts.specs.Layout.{LaidBy, entered, page_words}
+use Rattle.cs_acts.specs.Names.{IsNamed, name_of}
+use Rattle.cs_acts.specs.Ready.{IsReady}
+use Rattle.cs_acts.specs.Targets.{CanEnter}
+use Rattle.cs_pages.specs.Order.{IsFree, IsSound, Order}
+use Rattle.cs_pages.proofs.Lists.{lacks_from_not}
+use Rattle.cs_stack.specs.declared.parts.Parts.{Parts}
+use Rattle.cs_stack.specs.View.{active_page, births_of, frame_sender, laid_pages, layout_of, stored_of, view_of}
+use Rattle.cs_stack.specs.Good.{FrameFits, IsChain, IsGood, base_of}
+use Rattle.cs_stack.specs.Moved.{active_number, begun_parts, callee, entry_of, given_birth}
+use Rattle.cs_stack.proofs.Tops.{Opened, contexts_known}
+use Rattle.cs_stack.proofs.Adding.{CanAdd, Stay, added_good, added_layout, added_parts, behind, chain_first, chain_stay, laid_stay}
+use Rattle.cs_stack.proofs.Entering.{cut_edited, cut_parts, entered_state, new_fits, new_married, pages_are, stacked, words_used}
+use Rattle.cs_stack.proofs.Called.{number_is, top_frame, top_is_frame, top_ref}
+use Rattle.cs_stack.proofs.Stacking.{longer, shorter, shorter_page}
+
+-- ---- a page that is free
+
+pub at_least : (a b : ℕ) → b < a → nat_le a b ≡ false
+at_least a b h = grind (arith, nat_tests, h)
+
+no_frames : (fs : List Frame) → ¬ (0 < length fs) → fs ≡ []
+no_frames [] h = refl
+no_frames (f ∷ fs) h = absurd (h (omega arith))
+
+pub free_empty : (w : Parts) → IsGood w → (p : ℕ) → IsFree w.pages p → frames_of w.frames p ≡ []
+free_empty w good p free = no_frames (frames_of w.frames p) (λ h. free.1 ((good.used_pages p).1 h))
+
+pub free_other : {w : Parts} (o : Opened w) (p : ℕ) → IsFree w.pages p → p ≢ o.p
+free_other o p free e = free.1 (subst (λ ps. Contains ps p) (sym o.recent) (0, omega arith, sym e))
+
+abbrev pub taken_order : Order → ℕ → Order
+taken_order order p = record order { recent = p ∷ order.recent }
+
+taken_sound : (order : Order) (p : ℕ) → IsSound order → IsFree order p → IsSound (taken_order order p)
+taken_sound order p sound free = record {
+  distinct = IsDistinct-cons nat_eq p order.recent (lacks_from_not p order.recent free.1) sound.distinct;
+  in_range = All-cons (λ q. q < order.total) p order.recent free.0 sound.in_range;
+}
+
+taken_others : (order : Order) (p q : ℕ) → q ≢ p → Contains (p ∷ order.recent) q ↔ Contains order.recent q
+taken_others order p q other = (back, λ h. (suc h.0, omega (arith, h.1), h.2))
+  where
+    back : Contains (p ∷ order.recent) q → Contains order.recent q
+    back (zero, within, is) = absurd (other (sym is))
+    back (suc n, within, is) = (n, omega (arith, within), is)
+
+-- ---- a caller that is married
+
+module _ (w : Parts) (good : IsGood w) (o : Opened w) (stand : page.IsStacked (o.f ∷ o.fs)) (some : o.f.context ≢ nil) where
+  married : AreMarried w.heap.objects (record { page = o.p; at = o.f.at }) o.f
+  married = (fits_top w.heap.objects o.p o.f o.fs (subst (PageFits w.heap.objects o.p) o.is (page_fits w.heap.objects w.frames o.p good.agree))).married some
+
+  pub spouse_there : is_object w.heap.objects o.f.context ≡ true
+  spouse_there = context_there w.heap.objects o.f.context married.context
+
+  pub spouse_name : ref_of w.heap.objects o.f.context ≡ ref.Obj (active_birth (view_of w))
+  spouse_name = ref_of-object w.heap.objects o.f.context spouse_there ∙ ap (λ b. ref.Obj b) (married.birth ∙ sym o.birth)
+
+-- ---- the world
+
+module _ {w : Parts} (good : IsGood w) (ready : IsReady (stored_of w) (view_of w)) (o : Opened w) (method : Oop) (args : ℕ) (skip : Bool)
+    (named : IsNamed (stored_of w) method) (can : CanEnter (view_of w) (name_of (stored_of w) method) args skip) (p : ℕ) (free : IsFree w.pages p) (sender : ℕ)
+    (same : (top (active_page w)).context ≡ sender) (some : sender ≢ nil) where
+  abbrev os : List Object
+  os = w.heap.objects
+
+  abbrev next : ℕ
+  next = w.roots.next_birth
+
+  abbrev caller : Frame
+  caller = cut args o.f
+
+  abbrev new : Frame
+  new = callee os method.0 args skip next 0 sender o.f
+
+  abbrev w1 : Parts
+  w1 = cut_parts w o args
+
+  abbrev order : Order
+  order = taken_order w.pages p
+
+  stand : page.IsStacked (o.f ∷ o.fs)
+  stand = stacked os next (o.f ∷ o.fs) (o.fits, o.rest)
+
+  context_is : o.f.context ≡ sender
+  context_is = sym (ap (λ (fs : List Frame). (top fs).context) o.page_is) ∙ same
+
+  has : o.f.context ≢ nil
+  has e = some (sym context_is ∙ e)
+
+  pub sender_named : is_reference os sender ≡ true
+  sender_named = subst (λ a. is_reference os a ≡ true) context_is (is_reference-object os o.f.context (spouse_there w good o stand has))
+
+  sender_name : ref_of os sender ≡ ref.Obj (active_birth (view_of w))
+  sender_name = subst (λ a. ref_of os a ≡ ref.Obj (active_birth (view_of w))) context_is (spouse_name w good o stand has)
+
+  other : p ≢ o.p
+  other = free_other o p free
+
+  empty : frames_of w.frames p ≡ []
+  empty = free_empty w good p free
+
+  still_empty : frames_of w1.frames p ≡ []
+  still_empty = frames_of-on_page_other w.frames o.p p (λ _. caller ∷ o.fs) other ∙ empty
+
+  below : frames_of w1.frames o.p ≡ caller ∷ o.fs
+  below = frames_of-on_page w.frames o.p (λ _. caller ∷ o.fs) o.within
+
+  begun_is : begun_parts p sender method.0 args skip w ≡ added_parts w1 p new order
+  begun_is =
+      let word : ℕ → Frame → Frame = λ a f. callee os method.0 args skip next 0 a f in
+      ap (λ ss. record (given_birth w) { pages = order; frames = ss })
+      (ap (λ n. on_page (on_page w.frames n (on_top (cut args))) p (λ _. word sender (top (frames_of w.frames n)) ∷ [])) (number_is o)
+      ∙ ap (λ (fs : List Frame). on_page (on_page w.frames o.p (λ _. on_top (cut args) fs)) p (λ _. word sender (top fs) ∷ [])) o.is
+      ∙ ap (λ (fs : List Frame). on_page w1.frames p (λ _. new ∷ fs)) (sym still_empty))
+
+  inside : p < length w1.frames
+  inside = omega (arith, free.0, good.total, length-on_page w.frames o.p (λ _. caller ∷ o.fs))
+
+  abbrev ss : List (List Frame)
+  ss = on_page w1.frames p (λ gs. new ∷ gs)
+
+  alone_there : frames_of ss p ≡ new ∷ []
+  alone_there = frames_of-on_page w1.frames p (λ gs. new ∷ gs) inside ∙ ap (λ (fs : List Frame). new ∷ fs) still_empty
+
+  behind_there : frames_of ss o.p ≡ caller ∷ o.fs
+  behind_there = frames_of-on_page_other w1.frames p o.p (λ gs. new ∷ gs) (λ e. other (sym e)) ∙ below
+
+  stays : Stay w1.frames ss w.pages.recent
+  stays q h = frames_of-on_page_other w1.frames p q (λ gs. new ∷ gs) (λ e. free.1 (subst (Contains w.pages.recent) e h))
+
+  -- its sender is the context of the last frame of the page behind it
+  chain : IsChain ss (p ∷ w.pages.recent)
+  chain = subst (λ rs. IsChain ss (p ∷ rs)) (sym o.recent) (
+    ap (λ (fs : List Frame). (base_of fs).caller) alone_there ∙ sym context_is ∙ sym (ap (λ (fs : List Frame). (top fs).context) behind_there),
+    λ e. has (sym (ap (λ (fs : List Frame). (top fs).context) behind_there) ∙ e),
+    subst (IsChain ss) o.recent (chain_stay w1.frames ss w.pages.recent stays (cut_edited w good o args).good.chain),
+  )
+
+  can_add : CanAdd w1 p new order
+  can_add = record {
+    entry = contexts_known w good o;
+    within = inside;
+    births = can.births;
+    fresh = refl;
+    fits = subst (FrameFits os (next + 1) new) (sym still_empty) (new_fits good ready o method args skip named can 0 sender [] refl (omega arith) tt sender_named);
+    married = new_married good ready o method args skip named can p 0 sender (omega arith);
+    total = refl;
+    sound = taken_sound w.pages p good.order free;
+    rest = w.pages.recent;
+    recent = refl;
+    others = taken_others w.pages p;
+    chain = chain;
+  }
+
+  pub begun_good : IsGood (begun_parts p sender method.0 args skip w)
+  begun_good = subst IsGood (sym begun_is) (added_good w1 (cut_edited w good o args).good p new order can_add)
+
+  pub begun_view : view_of (begun_parts p sender method.0 args skip w) ≡ enter_of (view_of w) (name_of (stored_of w) method) args skip
+  begun_view =
+      ap view_of begun_is
+      ∙ entered_state good ready o method args skip named can p 0 sender order can_add (ap (frame_sender os new) still_empty ∙ sender_name)
+
+  cut_stay : Stay w.frames w1.frames o.qs
+  cut_stay q h = frames_of-on_page_other w.frames o.p q (λ _. caller ∷ o.fs) (behind w.pages o.p o.qs good.order o.recent q h)
+
+  pub begun_layout : 4096 < used (active_page w) + 66 → LaidBy (entered (view_of w) next) (layout_of w) (layout_of (begun_parts p sender method.0 args skip w))
+  unfolding can_add
+  begun_layout full =
+      let tight : nat_le (page_words (view_of w) (births_of (o.f ∷ o.fs)) + 66) 4096 ≡ false = ap (λ n. nat_le (n + 66) 4096) (words_used w good o ∙ ap used (sym o.page_is)) ∙ at_least _ _ full in
+      let most : ℕ = w.pages.total in
+      ap layout_of begun_is
+      ∙ added_layout w1 (cut_edited w good o args).good p new order can_add
+      ∙ ap (λ (fs : List Frame). Some (record { most = most; pages = (next ∷ births_of fs) ∷ laid_pages w1.frames w.pages.recent })) still_empty
+      ∙ ap (λ rs. Some (record { most = most; pages = (next ∷ []) ∷ laid_pages w1.frames rs })) o.recent
+      ∙ ap₂ (λ (fs : List Frame) bs. Some (record { most = most; pages = (next ∷ []) ∷ births_of fs ∷ bs })) below (laid_stay w.frames w1.frames o.qs cut_stay)
+      ∙ ap (λ b. Some (record { most = most; pages = if b then (next ∷ births_of (o.f ∷ o.fs)) ∷ laid_pages w.frames o.qs else (next ∷ []) ∷ births_of (o.f ∷ o.fs) ∷ laid_pages w.frames o.qs })) (sym tight)
+      ∙ ap (λ ps. Some (record { most = most; pages = entered (view_of w) next ps })) (sym (pages_are w o))
+
+-- ---- how the frame is made
+
+-- the frame g stands alone on page p
+pub record Stage (ps : List (List Frame)) (p : ℕ) (ss : List (List Frame)) (r : FrameRef) (g : Frame) : Type 0 where
+  pub within : p < length ps
+  pub is : ss ≡ alone ps p g
+  pub ref : r ≡ record { page = p; at = 0 }
+  pub at : g.at ≡ 0
+
+module _ {ps : List (List Frame)} {p : ℕ} {ss : List (List Frame)} {r : FrameRef} {g : Frame} (s : Stage ps p ss r g) where
+  ref_is : r ≡ page.ref_of p g
+  ref_is = s.ref ∙ ap (λ n. record { page = p; at = n }) (sym s.at)
+
+  page_is : r.page ≡ p
+  page_is = ap (λ (q : FrameRef). q.page) s.ref
+
+  frames_are : frames_of ss r.page ≡ g ∷ []
+  frames_are = ap₂ frames_of s.is page_is ∙ alone_frames ps p s.within g
+
+  pub stage_base : IsBase ss r
+  stage_base = subst (λ qs. IsBase qs r) (sym s.is) (subst (IsBase (alone ps p g)) (sym ref_is) (alone_base ps p s.within g))
+
+  pub stage_top : IsTop ss r
+  stage_top = subst (λ qs. IsTop qs r) (sym s.is) (subst (IsTop (alone ps p g)) (sym ref_is) (alone_top ps p s.within g))
+
+  pub stage_used : used (frames_of ss r.page) ≡ 10 + length g.stack
+  stage_used = omega (arith, ap used frames_are)
+
+  pub stage_other : (q : ℕ) → q ≢ p → frames_of ss q ≡ frames_of ps q
+  stage_other q other = ap (λ qs. frames_of qs q) s.is ∙ frames_of-on_page_other ps p q (λ _. g ∷ []) other
+
+  pub stage_on_frame : (qs : List (List Frame)) (h : Frame → Frame) → (h g).at ≡ g.at → qs ≡ on_frame ss r h → Stage ps p qs r (h g)
+  stage_on_frame qs h keeps made = record {
+    within = s.within;
+    is = made ∙ ap₂ (λ ts q. on_frame ts q h) s.is ref_is ∙ alone_on_frame ps p s.within g h;
+    ref = s.ref;
+    at = keeps ∙ s.at;
+  }
+
+  -- so many values more on its stack
+  pub stage_longer : (qs : List (List Frame)) (ys : List ℕ) → qs ≡ longer ss r.page ys → Stage ps p qs r (with_stack (g.stack ++ ys) g)
+  stage_longer qs ys made = record {
+    within = s.within;
+    is = made
+        ∙ ap (λ (fs : List Frame). on_page ss r.page (on_top (with_stack ((top fs).stack ++ ys)))) frames_are
+        ∙ ap₂ (λ ts n. on_page ts n (on_top (with_stack (g.stack ++ ys)))) s.is page_is
+        ∙ alone_on_top ps p s.within g (with_stack (g.stack ++ ys));
+    ref = s.ref;
+    at = s.at;
+  }
+
+pub stage_built : (ps : List (List Frame)) (p : ℕ) (ss : List (List Frame)) (r : FrameRef) (new : NewFrame) → p < length ps → frames_of ps p ≡ [] → ss ≡ on_page ps p (called new)
+    → r ≡ page.ref_of p (top (frames_of ss p)) → Stage ps p ss r (fresh new 0 new.receiver.0 [])
+stage_built ps p ss r new within empty made at =
+    let whole : ss ≡ alone ps p (fresh new 0 new.receiver.0 []) = made ∙ ap (λ (fs : List Frame). on_page ps p (λ _. called new fs)) empty in
+    record {
+      within = within;
+      is = whole;
+      ref = at ∙ ap (λ (fs : List Frame). page.ref_of p (top fs)) (ap (λ qs. frames_of qs p) whole ∙ alone_frames ps p within (fresh new 0 new.receiver.0 []));
+      at = refl;
+    }
+
+module _ {w : Parts} (o : Opened w) (p : ℕ) (other : p ≢ o.p) {ss : List (List Frame)} {r : FrameRef} {g : Frame} (s : Stage w.frames p ss r g)
+    (c : FrameRef) (place : c ≡ page.ref_of (active_number w) (top (active_page w))) where
+  caller_page : c.page ≡ o.p
+  caller_page = ap (λ (q : FrameRef). q.page) (top_ref o c place)
+
+  pub caller_frames : frames_of ss c.page ≡ o.f ∷ o.fs
+  caller_frames = ap (frames_of ss) caller_page ∙ stage_other s o.p (λ e. other (sym e)) ∙ o.is
+
+  pub caller_same : frame ss c ≡ o.f
+  caller_same = ap (λ (fs : List Frame). nth fs (index_of fs c.at)) (caller_frames ∙ sym (ap (frames_of w.frames) caller_page ∙ o.is)) ∙ top_frame o c place
+
+  pub caller_stands : IsFrame ss c
+  caller_stands = subst (λ (fs : List Frame). index_of fs c.at < length fs) (sym (caller_frames ∙ sym (ap (frames_of w.frames) caller_page ∙ o.is))) (top_is_frame o c place)
+
+  pub caller_top : IsTop ss c
+  caller_top = (omega (arith, ap length caller_frames), ap (λ (q : FrameRef). q.at) (top_ref o c place) ∙ sym (ap (λ (fs : List Frame). (top fs).at) caller_frames))
+
+  -- receiver and arguments leave it
+  pub stage_cut : (qs : List (List Frame)) (args : ℕ) → qs ≡ shorter ss c.page (args + 1) → qs ≡ on_page (on_page w.frames (active_number w) (on_top (cut args))) p (λ _. g ∷ [])
+  stage_cut qs args made =
+      made
+      ∙ ap (λ (fs : List Frame). on_page ss c.page (λ _. shorter_page (args + 1) fs)) caller_frames
+      ∙ ap₂ (λ ts n. on_page ts n (λ _. cut args o.f ∷ o.fs)) s.is caller_page
+      ∙ on_page-on_page_other w.frames p o.p (λ _. g ∷ []) (λ _. cut args o.f ∷ o.fs) other
+      ∙ ap (λ (fs : List Frame). on_page (on_page w.frames o.p (λ _. on_top (cut args) fs)) p (λ _. g ∷ [])) (sym o.is)
+      ∙ ap (λ n. on_page (on_page w.frames n (on_top (cut args))) p (λ _. g ∷ [])) (sym (number_is o))

@@ -1,0 +1,153 @@
+-- The method that is entered, as it lies in the heap, and the pc at which it is.
+use Rattle.std.proofs.Common.{◌≡◌, ◌≢◌, ℕ, ◌+◌, ◌*◌, ◌/◌, ◌%◌, ◌<◌, ◌≤◌, ◌^◌, Bool, true, false, refl, sym, ap, ◌∙◌, arith, Option, Some, None, List, [], ◌∷◌, length, map, option_map}
+use Rattle.std.specs.Prelude.{◌==◌, ◌&&◌, if◌then◌else◌, nat_le, unwrap_or}
+use Rattle.std.proofs.lemmas.Bool.Decides.{nat_tests}
+use Rattle.std.proofs.lemmas.List.{length-map}
+use Rattle.cs_word.specs.declared.Oop.{Oop}
+use Rattle.std.specs.Option.{option_map_or}
+use Rattle.cs_heap.specs.Format.{is_method}
+use Rattle.cs_heap.specs.Object.{Object, format_of, object_at, slot_count_of, slot_of}
+use Rattle.cs_classes.specs.Meaning.{code_in, count_of, header_in, literals_in, meaning_at, obj_of, ref_of, used_bytes}
+use Rattle.cs_classes.proofs.Sorts.{AContext, AMethod, Bytes, Pointers, Sort, obj_of-bytes, obj_of-method, not_pointers, obj_of-pointers, sort_of}
+use Rattle.cs_classes.proofs.Sounds.{method_other, sound_at}
+use Rattle.cs_model.specs.Obj.{Ctx, Method, Obj, Ptr, Raw, argument_count, bytecodes_in, context_size, first_pc, has_primitive, is_context_at, is_header, lies_in, literal_count, number_in, primitive_number, temporary_count}
+use Rattle.cs_model.specs.Obj as obj
+use Rattle.cs_model.specs.State.{Kept, object_of}
+use Rattle.cs_model.specs.Operation.{entry_pc}
+use Rattle.cs_acts.specs.Names.{IsNamed, Store, name_of}
+use Rattle.cs_acts.specs.Ready.{Holds}
+use Rattle.cs_acts.specs.Reading.{object_named}
+use Rattle.cs_acts.specs.Targets.{CanEnter}
+use Rattle.cs_acts.proofs.Held.{Says, says}
+use Rattle.cs_acts.proofs.Methods.{IsMethodAt, at_word, header_is, length-literals, slots_fit}
+use Rattle.cs_marriage.specs.Agree as marriage
+use Rattle.cs_marriage.specs.Agree.{header_at}
+use Rattle.cs_stack.specs.Moved.{entry_of}
+
+context_no_method : (o : Option Obj) → is_context_at o ≡ true → obj.is_method o ≡ true → ⊥
+context_no_method None h m = absurd (cc)
+context_no_method (Some (Ptr class format hash slots)) h m = absurd (cc)
+context_no_method (Some (Raw class format hash bytes)) h m = absurd (cc)
+context_no_method (Some (Method class format hash header literals bytecodes)) h m = absurd (cc)
+context_no_method (Some (Ctx c)) h m = absurd (cc)
+
+-- a reference to a method of the state is the address of a method
+pub method_named : (s : Store) (k : Kept) (o : Oop) → Holds s k → IsNamed s o → obj.is_method (object_of k (name_of s o)) ≡ true → IsMethodAt s.memory.objects (object_of k (name_of s o)) o.0
+method_named s k o holds named is = go (object_named s.memory.objects o.0) refl (says s k o holds named)
+  where
+    os : List Object
+    os = s.memory.objects
+
+    found : Option Obj
+    found = object_of k (name_of s o)
+
+    no_pointers : (class format hash : ℕ) (slots : List _) → found ≡ Some (Ptr class format hash slots) → ⊥
+    no_pointers class format hash slots e = let no : false ≡ true = sym (ap obj.is_method e) ∙ is in absurd (cc)
+
+    no_bytes : (class format hash : ℕ) (bytes : List ℕ) → found ≡ Some (Raw class format hash bytes) → ⊥
+    no_bytes class format hash bytes e = let no : false ≡ true = sym (ap obj.is_method e) ∙ is in absurd (cc)
+
+    by_sort : (x : Object) → object_at os o.0 ≡ Some x → Says (ref_of os) (Some x) found → Sort x → IsMethodAt os found o.0
+    by_sort x there said (AContext c) = absurd (context_no_method found (said.1 c) is)
+    by_sort x there said (Pointers other p) = absurd (no_pointers x.class x.format x.hash (map (ref_of os) x.words) (said.0 other ∙ ap (λ y. Some y) (obj_of-pointers (ref_of os) x other p)))
+    by_sort x there said (Bytes other b m) = absurd (no_bytes x.class x.format x.hash (used_bytes x.format x.words) (said.0 other ∙ ap (λ y. Some y) (obj_of-bytes (ref_of os) x other b m)))
+    by_sort x there said (AMethod other b m) = record {
+      object = x;
+      there = there;
+      sound = sound_at os o.0 x holds.whole.heap there;
+      format = m;
+      means = said.0 other ∙ ap (λ y. Some y) (obj_of-method (ref_of os) x other b m);
+    }
+
+    go : (p : Option Object) → object_named os o.0 ≡ p → Says (ref_of os) p found → IsMethodAt os found o.0
+    go None e said = absurd (let no : false ≡ true = sym (ap obj.is_method said) ∙ is in cc)
+    go (Some x) e said = let there = at_word os o.0 (Some x) x e refl in by_sort x there said (sort_of x)
+
+-- ---- its bytecodes
+
+three_bytes : (bs : List ℕ) → number_in bs ≢ None → 3 ≤ length bs
+three_bytes [] some = absurd (some refl)
+three_bytes (a ∷ []) some = absurd (some refl)
+three_bytes (a ∷ b ∷ []) some = absurd (some refl)
+three_bytes (a ∷ b ∷ c ∷ bs) some = omega arith
+
+marked_bytes : (header : ℕ) (bs : List ℕ) → primitive_number header bs ≢ None → 3 ≤ length bs
+marked_bytes header bs some = go (has_primitive header) some
+  where
+    go : (b : Bool) → (if b then number_in bs else None) ≢ None → 3 ≤ length bs
+    go true some = three_bytes bs some
+    go false some = absurd (some refl)
+
+entry_lies : (n count : ℕ) (skip : Bool) → (skip ≡ true → 3 ≤ count) → (nat_le (4 * (n + 1) + 1) (4 * (n + 1) + 1 + (if skip then 3 else 0)) && nat_le (4 * (n + 1) + 1 + (if skip then 3 else 0)) (4 * (n + 1) + 1 + count)) ≡ true
+entry_lies n count true enough = let e = enough refl in grind (arith, nat_tests, e)
+entry_lies n count false enough = grind (arith, nat_tests)
+
+-- ---- what is entered
+
+-- what the code and the model read of the method at the address m
+pub record Entry (os : List Object) (o : Option Obj) (m args : ℕ) (skip : Bool) : Type 0 where
+  pub header : ℕ
+  pub header_is : header_at os m ≡ header
+  pub model_header : obj.header_in o ≡ header
+  pub method : marriage.IsMethodAt os m
+  pub takes : argument_count header ≡ args
+  pub few : args ≤ temporary_count header
+  pub fits : temporary_count header ≤ context_size header
+  pub most : temporary_count header ≤ 56
+  pub pc : entry_pc o skip ≡ entry_of header skip
+  pub lies : lies_in o (entry_of header skip) ≡ true
+  pub means : meaning_at os m ≡ o
+
+less : (a b : ℕ) → nat_le a b ≡ true → a ≤ b
+less a b h = grind (arith, nat_tests, h)
+
+and_three : (a b c : Bool) → (a && b && c) ≡ true → (b ≡ true) × (c ≡ true)
+and_three true true true h = (refl, refl)
+and_three true true false h = absurd (cc)
+and_three true false c h = absurd (cc)
+and_three false b c h = absurd (cc)
+
+most_size : (header : ℕ) → temporary_count header ≤ context_size header → temporary_count header ≤ 56
+most_size header fits = omega (arith, fits, size header)
+  where
+    size : (h : ℕ) → context_size h ≤ 56
+    size h = by_flag (h / 2 ^ 17 % 2 == 1)
+      where
+        by_flag : (b : Bool) → (if b then 56 else 16) ≤ 56
+        by_flag true = omega arith
+        by_flag false = omega arith
+
+pub entry : (s : Store) (k : Kept) (o : Oop) (args : ℕ) (skip : Bool) → Holds s k → IsNamed s o → CanEnter k (name_of s o) args skip
+    → Entry s.memory.objects (object_of k (name_of s o)) o.0 args skip
+entry s k o args skip holds named can =
+    let os = s.memory.objects in
+    let found = object_of k (name_of s o) in
+    let m = method_named s k o holds named can.method in
+    let words = m.object.words in
+    let header = header_in words in
+    let valid : (nat_le (argument_count header) (temporary_count header) ≡ true) × (nat_le (temporary_count header) (context_size header) ≡ true) = and_three _ _ _ (m.sound.method m.format).valid in
+    let model : obj.header_in found ≡ header = ap obj.header_in m.means in
+    let literals : length (obj.literals_in found) ≡ literal_count header =
+    ap (λ p. length (obj.literals_in p)) m.means ∙ length-map (literals_in words) (ref_of os) ∙ length-literals os found o.0 m in
+    let takes : argument_count header ≡ args = sym (ap argument_count model) ∙ can.count in
+    let bytes : List ℕ = used_bytes m.object.format (code_in words) in
+    let enough : skip ≡ true → 3 ≤ length bytes = λ e. marked_bytes header bytes
+    (λ none. can.marked e (ap (λ p. primitive_number (obj.header_in p) (bytecodes_in p)) m.means ∙ none)) in
+    record {
+      header = header;
+      header_is = header_is os found o.0 m;
+      model_header = model;
+      method = record {
+        format = ap (λ p. is_method (option_map_or (λ (x : Object). x.format) p 0)) m.there ∙ m.format;
+        header = omega (arith, slots_fit os found o.0 m);
+      };
+      takes = takes;
+      few = omega (arith, less (argument_count header) (temporary_count header) valid.0, takes);
+      fits = less (temporary_count header) (context_size header) valid.1;
+      most = most_size header (less (temporary_count header) (context_size header) valid.1);
+      pc = ap (λ n. 4 * (n + 1) + 1 + (if skip then 3 else 0)) literals;
+      lies = ap (λ p. lies_in p (entry_of header skip)) m.means
+          ∙ ap (λ n. nat_le (4 * (n + 1) + 1) (entry_of header skip) && nat_le (entry_of header skip) (4 * (n + 1) + 1 + length bytes)) (length-map (literals_in words) (ref_of os) ∙ length-literals os found o.0 m)
+          ∙ entry_lies (literal_count header) (length bytes) skip enough;
+      means = ap (option_map (obj_of (ref_of os))) m.there ∙ ap (λ y. Some y) (obj_of-method (ref_of os) m.object (method_other os m.object m.sound m.format) (not_pointers m.object.format m.format) m.format) ∙ sym m.means;
+    }

@@ -1,0 +1,92 @@
+-- The writes of a world, each as its operation on every state that the world keeps.
+use Rattle.std.proofs.Common.{◌≡◌, ℕ, refl, sym, ap, subst, ◌∙◌, Option, Some, None}
+use Rattle.cs_word.specs.declared.Oop.{Oop}
+use Rattle.cs_model.specs.Ref.{Ref}
+use Rattle.cs_model.specs.Obj.{Obj}
+use Rattle.cs_model.specs.Operation.{drop_of, edit_at, edit_found, edit_object, push_of, set_pc_of, set_stack_of, store_of}
+use Rattle.cs_model.specs.State.{IsHeld, Kept, object_at, put}
+use Rattle.cs_model.specs.Keeps.{Keeps}
+use Rattle.cs_model.proofs.Same.{Same, is, same}
+use Rattle.cs_model.proofs.Operating.{drop_moved, push_moved, set_pc_moved, set_stack_moved, store_moved}
+use Rattle.cs_model.specs.Operation as operation
+use Rattle.cs_acts.specs.Names.{IsNamed, name_of}
+use Rattle.cs_acts.specs.Ready.{IsReady}
+use Rattle.cs_acts.proofs.Held.{named_held}
+use Rattle.cs_stack.specs.declared.parts.Parts.{Parts}
+use Rattle.cs_stack.specs.View.{stored_of, view_of}
+use Rattle.cs_stack.specs.Good.{IsGood}
+use Rattle.cs_stack.proofs.Tops.{ready_again}
+
+-- the operation on every state that is kept; then the world is ready
+pub record Writes (w v : Parts) (op : Kept → Kept) : Type 0 where
+  pub state : (m : Kept) → Keeps (view_of w) m → Keeps (view_of v) (op m)
+  pub ready : IsReady (stored_of v) (view_of v)
+
+pub held_by : (w : Parts) (o : Oop) → IsReady (stored_of w) (view_of w) → IsNamed (stored_of w) o → Same (IsHeld (view_of w)) (name_of (stored_of w) o) (name_of (stored_of w) o)
+held_by w o ready named = same (name_of (stored_of w) o) (named_held (stored_of w) (view_of w) o ready.sound.holds named)
+
+-- an edit of an object leaves the rest
+rest-found : (f : Obj → Obj) (i : ℕ) (o : Option Obj) (k : Kept) → (edit_found f i o k).rest ≡ k.rest
+unfolding put
+rest-found f i None k = refl
+rest-found f i (Some x) k = refl
+
+rest-edit : (f : Obj → Obj) (o : Option ℕ) (k : Kept) → (edit_at f o k).rest ≡ k.rest
+rest-edit f None k = refl
+rest-edit f (Some i) k = rest-found f i (object_at k i) k
+
+pub rest-store : (k : Kept) (o : Ref) (i : ℕ) (x : Ref) → (store_of k o i x).rest ≡ k.rest
+unfolding store_of
+rest-store k o i x = rest-edit (operation.with_slot i x) _ k
+
+module _ (w v : Parts) (good : IsGood v) (ready : IsReady (stored_of w) (view_of w)) where
+  along : (op : Kept → Kept) → view_of v ≡ op (view_of w) → (op (view_of w)).rest.active ≡ (view_of w).rest.active
+      → ((m : Kept) → Keeps (view_of w) m → Keeps (op (view_of w)) (op m)) → Writes w v op
+  along op view active moved = record {
+    state = λ m k. subst (λ u. Keeps u (op m)) (sym view) (moved m k);
+    ready = ready_again w v good ready (ap (λ (k : Kept). k.rest.active) view ∙ active);
+  }
+
+  pub writes-set_pc : (pc : ℕ) → view_of v ≡ set_pc_of (view_of w) pc → Writes w v (λ m. set_pc_of m pc)
+  unfolding set_pc_of put
+  writes-set_pc pc view = along (λ m. set_pc_of m pc) view refl (λ m k. (set_pc_moved k (is pc)).keeps)
+
+  pub writes-set_stack : (i : ℕ) (x : Oop) → IsNamed (stored_of w) x → view_of v ≡ set_stack_of (view_of w) i (name_of (stored_of w) x)
+      → Writes w v (λ m. set_stack_of m i (name_of (stored_of w) x))
+  unfolding set_stack_of put
+  writes-set_stack i x named view = along (λ m. set_stack_of m i (name_of (stored_of w) x)) view refl (λ m k. (set_stack_moved k i (held_by w x ready named)).keeps)
+
+  pub writes-push : (x : Oop) → IsNamed (stored_of w) x → view_of v ≡ push_of (view_of w) (name_of (stored_of w) x) → Writes w v (λ m. push_of m (name_of (stored_of w) x))
+  unfolding push_of put
+  writes-push x named view = along (λ m. push_of m (name_of (stored_of w) x)) view refl (λ m k. (push_moved k (held_by w x ready named)).keeps)
+
+  pub writes-pop : view_of v ≡ drop_of (view_of w) 1 → Writes w v (λ m. drop_of m 1)
+  unfolding drop_of put
+  writes-pop view = along (λ m. drop_of m 1) view refl (λ m k. (drop_moved k 1).keeps)
+
+  pub writes-store : (o x : Oop) (i : ℕ) → IsNamed (stored_of w) o → IsNamed (stored_of w) x → view_of v ≡ store_of (view_of w) (name_of (stored_of w) o) i (name_of (stored_of w) x)
+      → Writes w v (λ m. store_of m (name_of (stored_of w) o) i (name_of (stored_of w) x))
+  writes-store o x i object named view = along (λ m. store_of m (name_of (stored_of w) o) i (name_of (stored_of w) x)) view
+      (ap (λ r. r.active) (rest-store (view_of w) (name_of (stored_of w) o) i (name_of (stored_of w) x)))
+      (λ m k. (store_moved k (held_by w o ready object) i (held_by w x ready named)).keeps)
+
+-- ---- behind a call, whose world u before it is w
+
+pub call-set_pc : (u w v : Parts) (pc : ℕ) → u ≡ w → IsGood v → IsReady (stored_of w) (view_of w) → view_of v ≡ set_pc_of (view_of u) pc → Writes w v (λ m. set_pc_of m pc)
+call-set_pc u w v pc e good ready view = writes-set_pc w v good ready pc (subst (λ u. view_of v ≡ set_pc_of (view_of u) pc) e view)
+
+pub call-set_stack : (u w v : Parts) (i : ℕ) (x : Oop) → u ≡ w → IsGood v → IsReady (stored_of w) (view_of w) → IsNamed (stored_of w) x
+    → view_of v ≡ set_stack_of (view_of u) i (name_of (stored_of u) x) → Writes w v (λ m. set_stack_of m i (name_of (stored_of w) x))
+call-set_stack u w v i x e good ready named view = writes-set_stack w v good ready i x named (subst (λ u. view_of v ≡ set_stack_of (view_of u) i (name_of (stored_of u) x)) e view)
+
+pub call-push : (u w v : Parts) (x : Oop) → u ≡ w → IsGood v → IsReady (stored_of w) (view_of w) → IsNamed (stored_of w) x
+    → view_of v ≡ push_of (view_of u) (name_of (stored_of u) x) → Writes w v (λ m. push_of m (name_of (stored_of w) x))
+call-push u w v x e good ready named view = writes-push w v good ready x named (subst (λ u. view_of v ≡ push_of (view_of u) (name_of (stored_of u) x)) e view)
+
+pub call-pop : (u w v : Parts) → u ≡ w → IsGood v → IsReady (stored_of w) (view_of w) → view_of v ≡ drop_of (view_of u) 1 → Writes w v (λ m. drop_of m 1)
+call-pop u w v e good ready view = writes-pop w v good ready (subst (λ u. view_of v ≡ drop_of (view_of u) 1) e view)
+
+pub call-store : (u w v : Parts) (o x : Oop) (i : ℕ) → u ≡ w → IsGood v → IsReady (stored_of w) (view_of w) → IsNamed (stored_of w) o → IsNamed (stored_of w) x
+    → view_of v ≡ store_of (view_of u) (name_of (stored_of u) o) i (name_of (stored_of u) x) → Writes w v (λ m. store_of m (name_of (stored_of w) o) i (name_of (stored_of w) x))
+call-store u w v o x i e good ready object named view =
+    writes-store w v good ready o x i object named (subst (λ u. view_of v ≡ store_of (view_of u) (name_of (stored_of u) o) i (name_of (stored_of u) x)) e view)
