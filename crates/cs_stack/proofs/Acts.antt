@@ -1,6 +1,6 @@
 -- Acts: frames by their places, and contexts of the heap that have none.
-use Rattle.std.proofs.Common.{◌≡◌, ◌≢◌, ℕ, zero, suc, ◌+◌, ◌-◌, ◌<◌, ◌≤◌, Bool, true, false, refl, sym, ap, subst, ◌∙◌, Option, Some, None, IsSome, IfSome, is_some, List, [], ◌∷◌, length, unwrap_or, option_and_then, arith, inl, inr}
-use Rattle.std.specs.Prelude.{◌==◌, ◌||◌, if◌then◌else◌, nat_lt, pos, slice_get, slice_index, slice_set}
+use Rattle.std.proofs.Common.{◌≡◌, ◌≢◌, ℕ, suc, ◌+◌, ◌-◌, ◌<◌, ◌≤◌, Bool, true, false, refl, sym, ap, subst, ◌∙◌, Option, Some, None, IsSome, IfSome, is_some, List, [], ◌∷◌, length, unwrap_or, option_and_then, arith, inl, inr}
+use Rattle.std.specs.Prelude.{◌==◌, ◌||◌, if◌then◌else◌, nat_lt, pos, slice_index, slice_set}
 use Rattle.std.specs.Option.{option_map_or}
 use Rattle.std.specs.FinMap.{get}
 use Rattle.std.proofs.lemmas.Bool.{cases_eq, eq-eqb}
@@ -12,7 +12,7 @@ use Rattle.cs_word.specs.Word.{small_word}
 use Rattle.cs_word.specs.declared.Oop.{Oop}
 use Rattle.cs_heap.specs.Object.{Object, birth_of, is_object, object_at, slot_count_of, slot_of}
 use Rattle.cs_classes.specs.Meaning.{context_of, count_of, depth_in, is_context, obj_of, objects_of, ref_of}
-use Rattle.cs_classes.specs.Sound.{IsSound, is_reference}
+use Rattle.cs_classes.specs.Sound.{is_reference}
 use Rattle.cs_classes.proofs.Heaps.{birth_of-object_at, is_object-object_at, stands}
 use Rattle.cs_classes.proofs.Objects.{get-objects_of-element}
 use Rattle.cs_classes.proofs.Contexts.{depth_is}
@@ -25,15 +25,13 @@ use Rattle.cs_frame.specs.Page.{IsBase, IsFrame, caller_of, frame, frames_of, in
 use Rattle.cs_frame.specs.Page as page
 use Rattle.cs_frame.proofs.PageLaws.{page_in, top-nth}
 use Rattle.cs_marriage.specs.Agree as agree
-use Rattle.cs_marriage.specs.Agree.{Agree, AreMarried, frame_size}
+use Rattle.cs_marriage.specs.Agree.{frame_size}
 use Rattle.cs_marriage.proofs.Objects.{context_there as spouse_there}
 use Rattle.cs_model.specs.Operation.{nil_of}
 use Rattle.cs_model.specs.Return.{closure_at, closure_in, context_birth, has_room, is_live, sender_birth}
-use Rattle.cs_model.specs.Ref.{Ref}
 use Rattle.cs_model.specs.Ref as ref
 use Rattle.cs_model.specs.Obj.{Context, Ctx, Obj, context_in}
 use Rattle.cs_model.specs.State as state
-use Rattle.cs_model.specs.State.{Kept}
 use Rattle.cs_acts.specs.Names.{Names}
 use Rattle.cs_acts.specs.Targets.{method_in}
 use Rattle.cs_acts.specs.declared.act.Act.TheVariants as act

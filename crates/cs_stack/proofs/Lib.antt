@@ -37,3 +37,4 @@ pub mod Spouses
 pub mod Marrying
 pub mod Grown
 pub mod Allocating
+pub mod Fields

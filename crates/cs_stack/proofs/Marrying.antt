@@ -1,5 +1,5 @@
 -- A frame gets a context: heap and frames say the same of everything, and stay good.
-use Rattle.std.proofs.Common.{◌≡◌, ◌≢◌, ◌⊎◌, ◌↔◌, ℕ, zero, suc, ◌+◌, ◌-◌, ◌<◌, ◌≤◌, Bool, true, false, cond, refl, sym, ap, ap₂, subst, ◌∙◌, Option, Some, None, IsSome, is_some, List, [], ◌∷◌, ◌++◌, length, map, option_and_then, replicate, arith, inl, inr, length-append}
+use Rattle.std.proofs.Common.{◌≡◌, ◌≢◌, ◌⊎◌, ◌↔◌, ℕ, zero, suc, ◌+◌, ◌-◌, ◌<◌, ◌≤◌, Bool, true, false, refl, sym, ap, ap₂, subst, ◌∙◌, Option, Some, None, is_some, List, [], ◌∷◌, ◌++◌, length, map, option_and_then, replicate, arith, inl, inr, length-append}
 use Rattle.std.specs.Prelude.{◌==◌, ◌||◌, ◌*◌, pos, ◌/◌, ◌%◌, ◌^◌, if◌then◌else◌, option_map, slice_get, slice_index, unwrap_or, Contains, IsTrue}
 use Rattle.std.specs.List.{AllPass}
 use Rattle.std.specs.Option.{option_map_or}
@@ -7,15 +7,14 @@ use Rattle.std.specs.Ordering.{nat_cmp}
 use Rattle.std.specs.FinMap.{FinMap, get, insert, nat_cmp-IsAntisymmetric, same_map}
 use Rattle.std.specs.Cmp.{nat_cmp_total}
 use Rattle.std.proofs.lemmas.Bool.{cases_eq, eq-eqb, ne_eqb}
-use Rattle.std.proofs.lemmas.Bool.Decides.{eqb_tells}
-use Rattle.std.proofs.lemmas.List.{length-map, length-replicate}
+use Rattle.std.proofs.lemmas.List.{length-replicate}
 use Rattle.std.proofs.lemmas.List.Elements.{All-cons, All-replicate}
 use Rattle.cs_heap.specs.Format.{format_allows}
 use Rattle.cs_classes.specs.declared.Roots.{Roots}
 use Rattle.cs_word.specs.declared.Oop.{Oop}
-use Rattle.cs_heap.specs.Object.{Memory, Object, birth_of, class_of, hash_of, index_of as place_of, is_object, next_address, object_at, size, slot_count_of, used}
-use Rattle.cs_heap.proofs.Laws.{field_of-new, field_of-old, is_object-new, is_object-old, is_object-pushed, no_object-next, object_at-new, object_at-old, used-pushed}
-use Rattle.cs_classes.specs.Meaning.{birth_at, classes_of, context_of, count_of, is_context, kept_of, meaning_at, obj_of, objects_of, ref_of}
+use Rattle.cs_heap.specs.Object.{Memory, Object, birth_of, class_of, hash_of, index_of as place_of, is_object, next_address, object_at, size, used}
+use Rattle.cs_heap.proofs.Laws.{field_of-new, field_of-old, is_object-new, is_object-old, is_object-pushed, no_object-next, object_at-old, used-pushed}
+use Rattle.cs_classes.specs.Meaning.{birth_at, classes_of, count_of, is_context, kept_of, meaning_at, obj_of, objects_of, ref_of}
 use Rattle.cs_classes.specs.Sound.{IsSound, IsSoundObject, IsWhole, is_reference, nil_of}
 use Rattle.cs_classes.proofs.Heaps.{birth_of-push, object_at-push, slice_get-push}
 use Rattle.cs_classes.proofs.Objects.{IsFresh, get-objects_of-element, objects_of-push}
@@ -26,17 +25,16 @@ use Rattle.cs_classes.proofs.Wholes.{get-classes_of, obj_of-push}
 use Rattle.cs_frame.specs.declared.FrameRef.{FrameRef}
 use Rattle.cs_frame.specs.Frame.{Frame, nil, with_context}
 use Rattle.cs_frame.specs.Page as page
-use Rattle.cs_frame.specs.Page.{IsFrame, frame, frames_of, index_in, index_of, nth, on_frame, on_nth, on_page, top}
+use Rattle.cs_frame.specs.Page.{IsFrame, frame, frames_of, index_in, on_frame, on_nth, top}
 use Rattle.cs_frame.proofs.PageLaws.{frames_of-on_page, frames_of-on_page_other, length-on_page, page-IsFrame}
-use Rattle.cs_marriage.specs.Agree as agree
 use Rattle.cs_marriage.specs.Agree.{Agree, frame_size, header_at}
 use Rattle.cs_marriage.specs.Marriage.{married_objects, new_size, new_spouse, spouse_address}
 use Rattle.cs_marriage.specs.Place.{link_word}
 use Rattle.cs_marriage.proofs.Agreeing.{agree_married, context_again, size_none, size_some}
 use Rattle.cs_marriage.proofs.Objects.{context_there as spouse_there, method_there as code_there}
 use Rattle.cs_model.specs.Ref as ref
-use Rattle.cs_model.specs.Obj.{Context, Ctx, Obj, context_class, context_size, lies_in}
-use Rattle.cs_model.specs.State.{Kept, Rest, object_at as object_of_state}
+use Rattle.cs_model.specs.Obj.{Ctx, Obj, context_class, context_size, lies_in}
+use Rattle.cs_model.specs.State.{Kept, Rest}
 use Rattle.cs_model.specs.Context.{lies_if_index, lies_if_live}
 use Rattle.cs_acts.specs.declared.act.Act.{Act}
 use Rattle.cs_acts.specs.declared.act.Act.TheVariants as act
@@ -46,14 +44,14 @@ use Rattle.cs_acts.specs.Names.{KeepsNames, Names}
 use Rattle.cs_stack.specs.declared.parts.Parts.{Parts}
 use Rattle.cs_stack.specs.View.{act_of, active_in, bare, birth_from, birth_in, births_of, first_of, laid_pages, layout_of, frame_context, frame_hash, frame_sender, frames_onto, has_context, is_linked, is_married, pages_onto, stored_of, unframed, view_of}
 use Rattle.cs_stack.specs.Good.{FrameFits, FramesFit, HasSender, IsChain, IsGood, Lacks, LinkFits, PcFits, base_of}
-use Rattle.cs_stack.proofs.Lives.{Lives, lives, lives_at}
+use Rattle.cs_stack.proofs.Lives.{lives_at}
 use Rattle.cs_stack.proofs.Maps.{Objects, get_apart}
-use Rattle.cs_stack.proofs.Framed.{AllFit, Bare, Framed, IsOn, Which, above, all_fit, apart_on, below_on, fits_on, here, lacks_on, one_birth, onto_bare, onto_frame, which}
+use Rattle.cs_stack.proofs.Framed.{Bare, Framed, IsOn, Which, above, all_fit, apart_on, fits_on, here, lacks_on, one_birth, onto_bare, onto_frame, which}
 use Rattle.cs_stack.proofs.Alike.{active_alike, apart_alike, length_alike, lacks_alike}
 use Rattle.cs_stack.proofs.Bare.{bare_none, bare_push, bare_rest, bare_whole, unframed_birth}
 use Rattle.cs_stack.proofs.Places.{agreed}
 use Rattle.cs_stack.proofs.Counting.{words_frame}
-use Rattle.cs_stack.proofs.Acts.{Begins, FrameAct, body_married, frame_at, nil_counts}
+use Rattle.cs_stack.proofs.Acts.{FrameAct, body_married, frame_at, nil_counts}
 
 -- ---- the frame of a birth gets a context
 

@@ -1,40 +1,44 @@
 -- What stands for the context that a word names, and the sizes of frames.
-use Rattle.std.proofs.Common.{◌≡◌, ◌≢◌, ◌⊎◌, ℕ, suc, ◌-◌, ◌<◌, ◌≤◌, Bool, true, false, refl, sym, ap, subst, ◌∙◌, Option, Some, None, is_some, List, [], ◌∷◌, length, unwrap_or, option_and_then, arith, inl, inr}
+use Rattle.std.proofs.Common.{◌≡◌, ◌≢◌, ◌⊎◌, ℕ, ◌≤◌, Bool, true, false, refl, sym, ap, ◌∙◌, Option, Some, None, IsSome, is_some, List, [], ◌∷◌, length, option_and_then, arith, inl, inr}
 use Rattle.std.specs.Prelude.{◌==◌, ◌&&◌, ◌||◌, ◌%◌, if◌then◌else◌, nat_lt, nat_le, not, slice_index}
 use Rattle.std.specs.Option.{option_map_or}
 use Rattle.std.proofs.lemmas.Bool.Decides.{eqb_tells, nat_tests}
 use Rattle.cs_word.specs.declared.Oop.{Oop}
 use Rattle.cs_heap.specs.Object.{Object, birth_of, class_of, is_object, object_at, slot_count_of, slot_of}
 use Rattle.cs_heap.proofs.Laws.{object_placed}
-use Rattle.cs_classes.specs.Meaning.{context_of, count_of, is_context, ref_of}
+use Rattle.cs_classes.specs.Meaning.{context_of, is_context, ref_of}
 use Rattle.cs_classes.proofs.Heaps.{birth_of-object_at, is_object-object_at, object_there}
-use Rattle.cs_classes.proofs.Refs.{is_reference-object, ref_of-object}
-use Rattle.cs_classes.proofs.Sounds.{sound_at, whole_context}
+use Rattle.cs_classes.proofs.Refs.{is_reference-object, ref_of-object, same_births}
+use Rattle.cs_classes.proofs.Sounds.{sound_at}
 use Rattle.cs_frame.specs.declared.FrameRef.{FrameRef}
 use Rattle.cs_frame.specs.Frame.{Frame, nil}
 use Rattle.cs_frame.specs.Page as page
-use Rattle.cs_frame.specs.Page.{IsFrame, frame, frames_of, index_of, used}
-use Rattle.cs_marriage.specs.Agree.{HasContext, IsContextAt, IsSpouse, frame_size, header_at}
+use Rattle.cs_frame.specs.Page.{frame}
+use Rattle.cs_marriage.specs.Agree.{HasContext, IsContextAt}
 use Rattle.cs_marriage.specs.Place.{names_place}
-use Rattle.cs_marriage.specs.declared.state.Spouse.TheVariants as spouse
 use Rattle.cs_model.specs.Ref.{Ref}
 use Rattle.cs_model.specs.Ref as ref
-use Rattle.cs_model.specs.Obj.{Context, Obj, context_class, context_in, context_size}
+use Rattle.cs_model.specs.Obj.{Context, Obj, context_class, context_in}
 use Rattle.cs_model.specs.State as state
 use Rattle.cs_model.specs.State.{object_of}
 use Rattle.cs_model.specs.Context.{is_context_ref}
 use Rattle.cs_model.specs.Return.{context_birth, sender_birth}
+use Rattle.cs_acts.specs.declared.act.Act.{Act}
 use Rattle.cs_acts.specs.declared.act.Act.TheVariants as act
 use Rattle.cs_acts.specs.Names.{IsNamed, name_of}
 use Rattle.cs_acts.specs.Targets.{is_gone}
 use Rattle.cs_acts.specs.Reading as reading
 use Rattle.cs_acts.proofs.Named.{context_read}
 use Rattle.cs_stack.specs.declared.parts.Parts.{Parts}
-use Rattle.cs_stack.specs.View.{act_of, dead_words, is_linked, is_married, stored_of, unframed, view_of}
+use Rattle.cs_model.specs.Read.{active_birth}
+use Rattle.cs_acts.specs.Ready.{IsReady}
+use Rattle.cs_stack.specs.Moved.{active_number}
+use Rattle.cs_stack.proofs.Tops.{good_ready, opened, opened_at}
+use Rattle.std.proofs.lemmas.Bool.{eq-eqb}
+use Rattle.cs_stack.specs.View.{act_of, active_page, birth_from, dead_words, is_linked, is_married, stored_of, unframed, view_of}
 use Rattle.cs_stack.specs.Good.{IsGood}
 use Rattle.cs_stack.proofs.Closed.{good_sound}
-use Rattle.cs_stack.proofs.Framed.{IsOn}
-use Rattle.cs_stack.proofs.Acts.{ContextAct, FrameAct, answers, context_reads, context_there, field_named, frame_at, married_body, placed_on, reads_sender, slot_is}
+use Rattle.cs_stack.proofs.Acts.{ContextAct, answers, context_act, context_reads, context_there, field_named, frame_at, married_body, placed_on, reads_sender, slot_is}
 
 -- ---- what stands for the context that a word names
 
@@ -146,6 +150,23 @@ module _ (w : Parts) (good : IsGood w) (o : Oop) (named : IsNamed (stored_of w) 
           absurd (none (record { page = b.p; at = b.f.at }) (placed.within, ap (λ (g : Frame). g.context) placed.is ∙ b.is))
       go false e = e
 
+-- what stands for it, and is no frame, is its address
+pub context_stands_for : (w : Parts) → IsGood w → (o : Oop) → IsNamed (stored_of w) o → is_context_ref (view_of w) (name_of (stored_of w) o) ≡ true → (r : Act) → act_of w r ≡ context_birth (view_of w) (name_of (stored_of w) o)
+    → is_gone r ≡ false → ((p at : ℕ) → r ≡ act.Frame p at → ⊥) → act_of w (act.Context o) ≡ context_birth (view_of w) (name_of (stored_of w) o)
+context_stands_for w good o named known (act.Frame p at) value here other = absurd (other p at refl)
+context_stands_for w good o named known act.Gone value here other = absurd (cc)
+context_stands_for w good o named known (act.Context v) value here other =
+    let is = sym (context_known w good o named) ∙ known in
+    let n = names_context w good o named is in
+    let some : IsSome (act_of w (act.Context v)) = ap is_some value ∙ names_some w good o named is in
+    let c = context_act w v good some in
+    let births : Some c.x.birth ≡ Some n.x.birth = sym (answers c v refl) ∙ value ∙ n.birth in
+    let birth : c.x.birth ≡ n.x.birth = cc in
+    let same : v.0 ≡ o.0 =
+    same_births w.heap.objects v.0 o.0 good.whole.heap (is_object-object_at w.heap.objects v.0 c.x c.there) (is_object-object_at w.heap.objects o.0 n.x n.there)
+    (birth_of-object_at w.heap.objects v.0 c.x c.there ∙ birth ∙ sym (birth_of-object_at w.heap.objects o.0 n.x n.there)) in
+    names_free w good o named is (ap (λ a. is_married a w.frames) (sym same) ∙ c.free)
+
 -- ---- the sender of a context that has no frame
 
 both_true : (a b : Bool) → (a && b) ≡ true → b ≡ true
@@ -170,7 +191,7 @@ nil_no_context w good = elim (eqb_tells (class_of w.heap.objects nil) context_cl
     and_false true = refl
     and_false false = refl
 
-sender_dead : (ws : List ℕ) → 6 ≤ length ws → slice_index (dead_words ws) 0 ≡ nil
+pub sender_dead : (ws : List ℕ) → 6 ≤ length ws → slice_index (dead_words ws) 0 ≡ nil
 sender_dead [] h = absurd (omega (arith, h))
 sender_dead (x ∷ []) h = absurd (omega (arith, h))
 sender_dead (x ∷ y ∷ []) h = absurd (omega (arith, h))
@@ -200,6 +221,25 @@ context_sender {w = w} {a = a} good c v e = go (is_linked c.x) refl
     go false l =
         let same : slice_index (unframed c.x).words 0 ≡ slice_index c.x.words 0 = ap (λ b. slice_index (if b then record c.x { words = dead_words c.x.words } else c.x).words 0) l in
         ap (λ n. context_birth (view_of w) (ref_of os n)) (word ∙ sym same) ∙ sym (reads_sender (context_reads c))
+
+-- ---- the active frame
+
+pub ready_active : (w : Parts) → IsGood w → IsSome (view_of w).rest.active → IsReady (stored_of w) (view_of w)
+ready_active w good some = go (view_of w).rest.active refl some
+  where
+    go : (o : Option ℕ) → (view_of w).rest.active ≡ o → IsSome o → IsReady (stored_of w) (view_of w)
+    go None e s = absurd (cc)
+    go (Some i) e s = good_ready w good (opened_at w i good e)
+
+pub top_act : (w : Parts) → IsGood w → IsSome (view_of w).rest.active → (r : FrameRef) → r ≡ page.ref_of (active_number w) (page.top (active_page w)) → act_of w (act.Frame r.page r.at) ≡ Some (active_birth (view_of w))
+top_act w good some r is =
+    let o = opened w good (ready_active w good some) in
+    let number : active_number w ≡ o.p = ap (λ (ns : List ℕ). slice_index ns 0) o.recent in
+    let ref_is : r ≡ page.ref_of o.p o.f = is ∙ ap (λ p. page.ref_of p (page.top (active_page w))) number ∙ ap (λ fs. page.ref_of o.p (page.top fs)) o.page_is in
+    ap (λ (q : FrameRef). act_of w (act.Frame q.page q.at)) ref_is
+    ∙ ap (λ fs. birth_from fs o.f.at) o.is
+    ∙ ap (λ b. if b then Some o.f.birth else birth_from o.fs o.f.at) (eq-eqb o.f.at o.f.at refl)
+    ∙ ap Some (sym o.birth)
 
 -- ---- small laws
 

@@ -1,4 +1,4 @@
-use Rattle.std.proofs.Common.{ap, is_some, not, refl, sym, ◌∙◌}
+use Rattle.std.proofs.Common.{ap, is_some, not, sym, ◌∙◌}
 use Rattle.cs_stack.proofs.Spouses.{context_known, names_none, names_some}
 use Rattle.cs_stack.proofs.parts.Parts.act_at.Goals as goal
 

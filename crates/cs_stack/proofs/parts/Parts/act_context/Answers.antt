@@ -1,23 +1,18 @@
-use Rattle.std.proofs.Common.{rules, ◌≡◌, IfErr, IfOk, IfSome, IsSome, OnOk, Some, ℕ, ◌+◌, ◌-◌, ◌*◌, ◌<◌, ◌≤◌, length, ◌/◌, ◌%◌, Bool, true, false, nat_eq, nat_lt, List, [], ◌∷◌, ◌++◌, slice_index_or, slice_set, bit_and, bit_or, Fits, w8, w32, w64, Bor, MutBor}
-use Rattle.cs_frame.specs.Page.{IsFrame}
-use Rattle.cs_model.specs.Read.{active_birth}
+use Rattle.std.proofs.Common.{IsSome, ap, refl, subst, ◌∙◌}
+use Rattle.cs_classes.proofs.Refs.{is_reference-object, ref_of-object}
 use Rattle.cs_model.specs.Ref as ref
-use Rattle.cs_acts.specs.declared.act.Act.{Act}
-use Rattle.cs_acts.specs.declared.act.Full.TheVariants as full
-use Rattle.cs_acts.specs.Full.{CausesFull}
-use Rattle.cs_acts.specs.Made.{MakesAtMost, made_by_reading}
-use Rattle.cs_acts.specs.Names.{IsNamed, KeepsNames, Names, NamesOption, name_of}
-use Rattle.cs_acts.specs.Ready.{IsReady}
-use Rattle.cs_acts.specs.Targets.{field_of}
-use Rattle.cs_stack.specs.Good.{IsGood}
-use Rattle.cs_stack.specs.Moved.{IsContextOf, field_at}
-use Rattle.cs_stack.specs.View.{act_of, layout_of, stored_of, view_of}
+use Rattle.cs_stack.specs.View.{act_of}
+use Rattle.cs_stack.proofs.Acts.{answers, birth_is, context_act, frame_act, if_some, object}
 use Rattle.cs_stack.proofs.parts.Parts.act_context.Goals as goal
 
--- src/looks.rt:78:40
 pub context_of-requires-clause-frame : goal.context_of-requires-clause-frame
-context_of-requires-clause-frame c = ?
+context_of-requires-clause-frame c = (frame_act c.args.self.now c.in-Frame.page c.in-Frame.at c.requires.good (subst (λ a. IsSome (act_of c.args.self.now a)) c.in-Frame.is c.requires.stands)).there
 
--- src/looks.rt:65:5
 pub returns-in-Context-clause-value : goal.returns-in-Context-clause-value
-returns-in-Context-clause-value c = ?
+returns-in-Context-clause-value c =
+    let w = c.args.self.now in
+    let x = context_act w c.in-Context.context c.requires.good (subst (λ a. IsSome (act_of w a)) c.in-Context.is c.requires.stands) in
+    if_some _ _ _ (ap (act_of w) c.in-Context.is ∙ answers x c.in-Context.context refl) (record {
+      sound = is_reference-object w.heap.objects c.in-Context.context.0 (object x);
+      is = ref_of-object w.heap.objects c.in-Context.context.0 (object x) ∙ ap ref.Obj (birth_is x);
+    })

@@ -1,4 +1,4 @@
-use Rattle.std.proofs.Common.{ap, refl, subst, sym, ◌≡◌, ◌∙◌, true, inl, inr}
+use Rattle.std.proofs.Common.{ap, refl, sym, ◌∙◌, inl, inr}
 use Rattle.cs_frame.specs.declared.FrameRef.{FrameRef}
 use Rattle.cs_marriage.specs.Agree.{HasContext}
 use Rattle.cs_stack.specs.View.{act_of}

@@ -1,4 +1,4 @@
-use Rattle.std.proofs.Common.{Some, ap, arith, inl, inr, refl, subst, sym, ◌≡◌, ◌∙◌, ◌+◌, ◌≤◌}
+use Rattle.std.proofs.Common.{Some, ap, inl, inr, refl, subst, sym, ◌≡◌, ◌∙◌, ◌+◌, ◌≤◌}
 use Rattle.std.proofs.lemmas.Bool.{cases_lt}
 use Rattle.cs_heap.specs.Object.{size, used}
 use Rattle.cs_frame.specs.Frame.{nil}

@@ -1,27 +1,20 @@
-use Rattle.std.proofs.Common.{rules, ◌≡◌, IfErr, IfOk, IfSome, IsSome, OnOk, Some, ℕ, ◌+◌, ◌-◌, ◌*◌, ◌<◌, ◌≤◌, length, ◌/◌, ◌%◌, Bool, true, false, nat_eq, nat_lt, List, [], ◌∷◌, ◌++◌, slice_index_or, slice_set, bit_and, bit_or, Fits, w8, w32, w64, Bor, MutBor}
-use Rattle.cs_frame.specs.Page.{IsFrame}
-use Rattle.cs_model.specs.Read.{active_birth}
-use Rattle.cs_model.specs.Ref as ref
-use Rattle.cs_acts.specs.declared.act.Act.{Act}
-use Rattle.cs_acts.specs.declared.act.Full.TheVariants as full
-use Rattle.cs_acts.specs.Full.{CausesFull}
-use Rattle.cs_acts.specs.Made.{MakesAtMost, made_by_reading}
-use Rattle.cs_acts.specs.Names.{IsNamed, KeepsNames, Names, NamesOption, name_of}
-use Rattle.cs_acts.specs.Ready.{IsReady}
-use Rattle.cs_acts.specs.Targets.{field_of}
-use Rattle.cs_stack.specs.Good.{IsGood}
-use Rattle.cs_stack.specs.Moved.{IsContextOf, field_at}
-use Rattle.cs_stack.specs.View.{act_of, layout_of, stored_of, view_of}
+use Rattle.std.proofs.Common.{refl}
+use Rattle.std.proofs.lemmas.Bool.{true≢false}
+use Rattle.cs_stack.proofs.Acts.{frame_at, frame_below}
+use Rattle.cs_stack.proofs.Fields.{frame_get_base, frame_get_below, ok_map, some_if}
 use Rattle.cs_stack.proofs.parts.Parts.sender_of.Goals as goal
 
--- src/looks.rt:143:29
 pub context_of-requires-clause-frame : goal.context_of-requires-clause-frame
-context_of-requires-clause-frame c = ?
+context_of-requires-clause-frame c =
+    let a = frame_at c.args.self.now c.args.f c.requires.good c.requires.frame in
+    (frame_below c.requires.good a (λ base. true≢false (c.in-Some.ensures.none.1 base)) c.in-Some.caller c.in-Some.ensures.caller).there
 
--- src/looks.rt:130:5
 pub returns-in-Some-clause-value : goal.returns-in-Some-clause-value
-returns-in-Some-clause-value c = ?
+returns-in-Some-clause-value c =
+    let a = frame_at c.args.self.now c.args.f c.requires.good c.requires.frame in
+    let b = frame_below c.requires.good a (λ base. true≢false (c.in-Some.ensures.none.1 base)) c.in-Some.caller c.in-Some.ensures.caller in
+    ok_map _ _ c.context_of.result (λ o n. frame_get_below c.requires.good a c.context_of.new.self o b (some_if _ _ _ b.stands n)) c.context_of.ensures.value
 
--- src/looks.rt:130:5
 pub returns-in-None-clause-value : goal.returns-in-None-clause-value
-returns-in-None-clause-value c = ?
+returns-in-None-clause-value c =
+    frame_get_base c.requires.good (frame_at c.args.self.now c.args.f c.requires.good c.requires.frame) (c.in-None.ensures.none.0 refl) c.sender.result c.sender.ensures.sender

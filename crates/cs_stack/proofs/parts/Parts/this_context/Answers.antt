@@ -1,23 +1,12 @@
-use Rattle.std.proofs.Common.{rules, ◌≡◌, IfErr, IfOk, IfSome, IsSome, OnOk, Some, ℕ, ◌+◌, ◌-◌, ◌*◌, ◌<◌, ◌≤◌, length, ◌/◌, ◌%◌, Bool, true, false, nat_eq, nat_lt, List, [], ◌∷◌, ◌++◌, slice_index_or, slice_set, bit_and, bit_or, Fits, w8, w32, w64, Bor, MutBor}
-use Rattle.cs_frame.specs.Page.{IsFrame}
-use Rattle.cs_model.specs.Read.{active_birth}
-use Rattle.cs_model.specs.Ref as ref
-use Rattle.cs_acts.specs.declared.act.Act.{Act}
-use Rattle.cs_acts.specs.declared.act.Full.TheVariants as full
-use Rattle.cs_acts.specs.Full.{CausesFull}
-use Rattle.cs_acts.specs.Made.{MakesAtMost, made_by_reading}
-use Rattle.cs_acts.specs.Names.{IsNamed, KeepsNames, Names, NamesOption, name_of}
-use Rattle.cs_acts.specs.Ready.{IsReady}
-use Rattle.cs_acts.specs.Targets.{field_of}
-use Rattle.cs_stack.specs.Good.{IsGood}
-use Rattle.cs_stack.specs.Moved.{IsContextOf, field_at}
-use Rattle.cs_stack.specs.View.{act_of, layout_of, stored_of, view_of}
+use Rattle.cs_stack.proofs.Fields.{ok_map, some_if}
+use Rattle.cs_stack.proofs.Spouses.{ready_active, top_act}
 use Rattle.cs_stack.proofs.parts.Parts.this_context.Goals as goal
 
--- src/looks.rt:60:13
 pub top-top-requires-clause-ready : goal.top-top-requires-clause-ready
-top-top-requires-clause-ready c = ?
+top-top-requires-clause-ready c = ready_active c.args.self.now c.requires.good c.requires.active
 
--- src/looks.rt:48:5
 pub returns-clause-value : goal.returns-clause-value
-returns-clause-value c = ?
+returns-clause-value c =
+    let w = c.args.self.now in
+    ok_map _ _ c.context_of.result
+    (λ o n. some_if _ _ _ (top_act w c.requires.good c.requires.active c.top-top.result c.top-top.ensures.is) n) c.context_of.ensures.value

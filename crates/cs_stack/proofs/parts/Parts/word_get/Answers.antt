@@ -1,39 +1,50 @@
-use Rattle.std.proofs.Common.{rules, ◌≡◌, IfErr, IfOk, IfSome, IsSome, OnOk, Some, ℕ, ◌+◌, ◌-◌, ◌*◌, ◌<◌, ◌≤◌, length, ◌/◌, ◌%◌, Bool, true, false, nat_eq, nat_lt, List, [], ◌∷◌, ◌++◌, slice_index_or, slice_set, bit_and, bit_or, Fits, w8, w32, w64, Bor, MutBor}
-use Rattle.cs_frame.specs.Page.{IsFrame}
-use Rattle.cs_model.specs.Read.{active_birth}
-use Rattle.cs_model.specs.Ref as ref
-use Rattle.cs_acts.specs.declared.act.Act.{Act}
-use Rattle.cs_acts.specs.declared.act.Full.TheVariants as full
-use Rattle.cs_acts.specs.Full.{CausesFull}
-use Rattle.cs_acts.specs.Made.{MakesAtMost, made_by_reading}
-use Rattle.cs_acts.specs.Names.{IsNamed, KeepsNames, Names, NamesOption, name_of}
-use Rattle.cs_acts.specs.Ready.{IsReady}
-use Rattle.cs_acts.specs.Targets.{field_of}
-use Rattle.cs_stack.specs.Good.{IsGood}
-use Rattle.cs_stack.specs.Moved.{IsContextOf, field_at}
-use Rattle.cs_stack.specs.View.{act_of, layout_of, stored_of, view_of}
+use Rattle.std.proofs.Common.{Some, ap, arith, refl, subst, sym, ◌∙◌, ℕ}
+use Rattle.std.specs.Prelude.{pos}
+use Rattle.cs_word.specs.Word.{small_word}
+use Rattle.cs_heap.specs.Object.{slot_of}
+use Rattle.cs_acts.specs.declared.act.Act.TheVariants as act
+use Rattle.cs_acts.specs.Names.{NamesOption}
+use Rattle.cs_stack.specs.Moved.{field_at}
+use Rattle.cs_stack.specs.View.{act_of, stored_of, view_of}
+use Rattle.cs_stack.proofs.Acts.{context_act, slots_are}
+use Rattle.cs_stack.proofs.Fields.{depth_few, word_get_depth, word_get_other, word_get_place, word_get_sender, word_within}
 use Rattle.cs_stack.proofs.parts.Parts.word_get.Goals as goal
 
--- src/looks.rt:155:13
 pub slot-word-requires : goal.slot-word-requires
-slot-word-requires c = ?
+slot-word-requires c =
+    let x = context_act c.args.self.now c.args.ctx c.requires.good c.requires.stands in
+    omega (arith, slots_are x, word_within c.requires.good x c.args.ctx refl c.args.i c.requires.there)
 
--- src/looks.rt:158:23
 pub count_word-requires : goal.count_word-requires
-count_word-requires c = ?
+count_word-requires c =
+    let w = c.args.self.now in
+    let x = context_act w c.args.ctx c.requires.good c.requires.stands in
+    omega (arith, c.count.ensures, depth_few c.requires.good x c.args.ctx refl c.slot-word.result.0 (c.slot-word.ensures ∙ ap (λ (i : ℕ). slot_of w.heap.objects c.args.ctx.0 i) c.in-2.is))
 
--- src/looks.rt:149:5
 pub returns-in-0 : goal.returns-in-0
-returns-in-0 c = ?
+returns-in-0 c =
+    let w = c.args.self.now in
+    let x = context_act w c.args.ctx c.requires.good c.requires.stands in
+    subst (λ i. NamesOption (stored_of w) (Some (record { 0 = 65536 })) (field_at (view_of w) (act_of w (act.Context c.args.ctx)) i)) (sym c.in-0.is)
+    (word_get_place c.requires.good x c.args.ctx refl (record { 0 = 65536 }) c.slot-word.result.0 refl (c.slot-word.ensures ∙ ap (λ (i : ℕ). slot_of w.heap.objects c.args.ctx.0 i) c.in-0.is) (sym c.names_place.ensures ∙ c.if-names_place.true))
 
--- src/looks.rt:149:5
 pub returns-in-2 : goal.returns-in-2
-returns-in-2 c = ?
+returns-in-2 c =
+    let w = c.args.self.now in
+    let x = context_act w c.args.ctx c.requires.good c.requires.stands in
+    subst (λ i. NamesOption (stored_of w) (Some c.count_word.result) (field_at (view_of w) (act_of w (act.Context c.args.ctx)) i)) (sym c.in-2.is)
+    (word_get_depth c.requires.good x c.args.ctx refl c.count_word.result c.slot-word.result.0 (c.slot-word.ensures ∙ ap (λ (i : ℕ). slot_of w.heap.objects c.args.ctx.0 i) c.in-2.is)
+    (c.count_word.ensures ∙ ap (λ (n : ℕ). small_word (pos n)) c.count.ensures))
 
--- src/looks.rt:149:5
 pub returns-in_default : goal.returns-in_default
-returns-in_default c = ?
+returns-in_default c =
+    let w = c.args.self.now in
+    let x = context_act w c.args.ctx c.requires.good c.requires.stands in
+    subst (λ i. NamesOption (stored_of w) (Some c.slot-word.result) (field_at (view_of w) (act_of w (act.Context c.args.ctx)) i)) (sym c.in-0.is)
+    (word_get_sender c.requires.good x c.args.ctx refl c.slot-word.result (c.slot-word.ensures ∙ ap (λ (i : ℕ). slot_of w.heap.objects c.args.ctx.0 i) c.in-0.is) (sym c.names_place.ensures ∙ c.if-names_place.false))
 
--- src/looks.rt:149:5
 pub returns-in_default-2 : goal.returns-in_default-2
-returns-in_default-2 c = ?
+returns-in_default-2 c =
+    let w = c.args.self.now in
+    let x = context_act w c.args.ctx c.requires.good c.requires.stands in
+    word_get_other c.requires.good x c.args.ctx refl c.slot-word.result c.args.i (λ e. omega (arith, e)) (λ e. omega (arith, e)) c.requires.there c.slot-word.ensures
