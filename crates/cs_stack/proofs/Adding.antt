@@ -91,8 +91,7 @@ chain_stay ps ss [] stay c = tt
 chain_stay ps ss (p ∷ []) stay c = tt
 chain_stay ps ss (p ∷ q ∷ rs) stay c =
     let first = stay p (0, omega arith, refl) in
-    let second = stay q (1, omega arith, refl) in
-    (
+    let second = stay q (1, omega arith, refl) in (
       ap (λ (f : List Frame). (base_of f).caller) first ∙ c.0 ∙ sym (ap (λ (f : List Frame). (top f).context) second),
       λ e. c.1 (sym (ap (λ (f : List Frame). (top f).context) second) ∙ e),
       chain_stay ps ss (q ∷ rs) (λ n h. stay n (later p (q ∷ rs) n h)) c.2,
@@ -103,8 +102,7 @@ pub chain_first : (ps ss : List (List Frame)) (p : ℕ) (rs : List ℕ) → (bas
     → IsChain ps (p ∷ rs) → IsChain ss (p ∷ rs)
 chain_first ps ss p [] caller stay c = tt
 chain_first ps ss p (q ∷ rs) caller stay c =
-    let second = stay q (0, omega arith, refl) in
-    (
+    let second = stay q (0, omega arith, refl) in (
       caller ∙ c.0 ∙ sym (ap (λ (f : List Frame). (top f).context) second),
       λ e. c.1 (sym (ap (λ (f : List Frame). (top f).context) second) ∙ e),
       chain_stay ps ss (q ∷ rs) stay c.2,
@@ -179,13 +177,13 @@ module _ (w : Parts) (good : IsGood w) (m : ℕ) (new : Frame) (order : Order) (
   used_pages : (q : ℕ) → Contains order.recent q ↔ (0 < length (frames_of ss q))
   used_pages q = elim (cases_eq q m) [
     | inl e ↦ (
-        λ _. omega (arith, ap length (ap (frames_of ss) e ∙ added_here)),
-        λ _. subst (λ qs. Contains qs q) (sym can.recent) (0, omega arith, sym e),
-      )
+      λ _. omega (arith, ap length (ap (frames_of ss) e ∙ added_here)),
+      λ _. subst (λ qs. Contains qs q) (sym can.recent) (0, omega arith, sym e),
+    )
     | inr other ↦ (
-        λ h. omega (arith, ap length (added_there q other), (good.used_pages q).0 ((can.others q other).0 h)),
-        λ h. (can.others q other).1 ((good.used_pages q).1 (omega (arith, h, ap length (added_there q other)))),
-      )
+      λ h. omega (arith, ap length (added_there q other), (good.used_pages q).0 ((can.others q other).0 h)),
+      λ h. (can.others q other).1 ((good.used_pages q).1 (omega (arith, h, ap length (added_there q other)))),
+    )
   ]
 
   pub added_good : IsGood (added_parts w m new order)
