@@ -26,7 +26,7 @@ ghost use Rattle.cs_model.specs.Image.{at_word, fault_of, image_of};
 ghost use Rattle.cs_model.specs.Due.{is_idle};
 ghost use Rattle.std.specs.FinMap.{get};
 ghost use Rattle.cs_model.specs.Context.{closure_class};
-ghost use Rattle.cs_model.specs.Obj.{Context, Ctx, context_class};
+ghost use Rattle.cs_model.specs.Obj.{Context, Ctx, context_class, is_context_at};
 ghost use Rattle.cs_model.specs.Read.{IsRunning};
 ghost use Rattle.cs_model.specs.Settle.{open_kept, opened};
 ghost use Rattle.cs_model.specs.State.{IsValid, PcLies, object_at};
@@ -109,6 +109,7 @@ pub fn load(alloc: Global, bytes: &[u8], limit_words: u32) -> Result<Loaded, Ima
     ensures next { IfOk result (λ l. l.roots.next_birth ≤ limit_words) }
     ensures pcs { IfOk result (λ l. (i : ℕ) (c : Context) → object_at (kept_of l.heap.objects l.classes l.roots None) i ≡ Some (Ctx c) → PcLies (kept_of l.heap.objects l.classes l.roots None) c) }
     ensures kinds { IfOk result (λ l. (is_some (get l.classes context_class) ≡ true) × (is_some (get l.classes closure_class) ≡ true)) }
+    ensures nil { IfOk result (λ l. is_context_at (object_at (kept_of l.heap.objects l.classes l.roots None) (kept_of l.heap.objects l.classes l.roots None).rest.nil) ≡ false) }
     ensures senders { IfOk result (λ l. SendersStand (kept_of l.heap.objects l.classes l.roots None)) }
     ensures valid { IfOk result (λ l. (events : List Event) (snapping : Bool) → IsValid (opened (kept_of l.heap.objects l.classes l.roots None) events snapping)) }
     ensures limit { IfOk result (λ l. l.heap.limit ≡ limit_words) }

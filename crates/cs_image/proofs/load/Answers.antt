@@ -1,4 +1,4 @@
-use Rattle.std.proofs.Common.{◌≡◌, ℕ, Bool, true, false, None, Vec, Global, length, ap, subst, sym, ◌∙◌, ◌≤◌, refl}
+use Rattle.std.proofs.Common.{◌≡◌, ℕ, Bool, true, false, None, [], Vec, Global, length, ap, subst, sym, ◌∙◌, ◌≤◌, refl}
 use Rattle.std.specs.Prelude.{⊤}
 use Rattle.std.specs.Option.{option_or}
 use Rattle.cs_image.specs.Loading.{addresses_of}
@@ -15,6 +15,8 @@ use Rattle.cs_image.proofs.Wholeness.{built_whole, built_births}
 use Rattle.cs_image.proofs.Opening.{built_opens}
 use Rattle.cs_image.proofs.Pcs.{built_pcs, few_births}
 use Rattle.cs_image.proofs.Entries.{known_kinds}
+use Rattle.cs_classes.specs.Meaning.{kept_of}
+use Rattle.cs_image.proofs.Nil.{nil_is_plain}
 use Rattle.cs_image.proofs.Senders.{built_senders}
 use Rattle.cs_image.proofs.Validity.{built_valid}
 use Rattle.cs_image.proofs.load.Goals as goal
@@ -202,3 +204,8 @@ not_over f limit h = go (is_over f limit) h
 pub returns-clause-next : goal.returns-clause-next
 returns-clause-next c =
     subst (λ (n : ℕ). n ≤ c.args.limit_words) (sym c.in_ok-loaded.ensures.next) (few_births c.in_ok-file.file c.args.limit_words (not_over c.in_ok-file.file c.args.limit_words c.in_ok-addresses.ensures.0))
+
+pub returns-clause-nil : goal.returns-clause-nil
+returns-clause-nil c =
+    let l = c.in_ok-loaded.loaded in
+    nil_is_plain (kept_of l.heap.objects l.classes l.roots None) [] false (returns-clause-valid c [] false)
