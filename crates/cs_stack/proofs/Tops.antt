@@ -1,5 +1,5 @@
 -- The last frame of the most recent page of a good world is its active context.
-use Rattle.std.proofs.Common.{◌≡◌, ◌≢◌, ℕ, ◌<◌, refl, sym, ap, ap₂, subst, ◌∙◌, Some, List, [], ◌∷◌, length, unwrap_or, arith, inl, inr, is_some}
+use Rattle.std.proofs.Common.{◌≡◌, ◌≢◌, ℕ, ◌<◌, true, refl, sym, ap, ap₂, subst, ◌∙◌, Some, List, [], ◌∷◌, length, unwrap_or, arith, inl, inr, is_some}
 use Rattle.std.specs.Prelude.{◌↔◌, Contains}
 use Rattle.std.specs.FinMap.{get, insert}
 use Rattle.std.proofs.lemmas.Bool.{cases_eq}
