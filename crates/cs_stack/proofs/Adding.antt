@@ -1,5 +1,5 @@
 -- A new frame on a page of a good world: above the last frame of the most recent page, or alone on one that was free.
-use Rattle.std.proofs.Common.{◌≡◌, ◌≢◌, ℕ, ◌+◌, ◌<◌, ◌≤◌, true, refl, sym, ap, ap₂, subst, ◌∙◌, arith, Some, None, List, [], ◌∷◌, length, inl, inr, suc, zero}
+use Rattle.std.proofs.Common.{◌≡◌, ◌≢◌, ℕ, ◌+◌, ◌<◌, refl, sym, ap, ap₂, subst, ◌∙◌, arith, Some, List, [], ◌∷◌, length, inl, inr, suc}
 use Rattle.std.specs.Prelude.{◌↔◌, Contains, nat_eq}
 use Rattle.std.specs.List.{IsDistinct}
 use Rattle.std.specs.Ordering.{nat_cmp}
@@ -11,13 +11,12 @@ use Rattle.cs_classes.specs.declared.Roots.{Roots}
 use Rattle.cs_classes.specs.Meaning.{kept_of, objects_of}
 use Rattle.cs_classes.specs.Sound.{IsWhole}
 use Rattle.cs_frame.specs.Frame.{Frame}
-use Rattle.cs_frame.specs.Page.{IsStacked, frames_of, on_page, top}
+use Rattle.cs_frame.specs.Page.{frames_of, on_page, top}
 use Rattle.cs_frame.proofs.PageLaws.{frames_of-on_page, frames_of-on_page_other, length-on_page, on_page-on_page}
 use Rattle.cs_marriage.specs.Agree as marriage
-use Rattle.cs_marriage.specs.Agree.{Agree}
 use Rattle.cs_marriage.proofs.Laws.{agree_on_page, fits_above, page_fits}
-use Rattle.cs_model.specs.Obj.{Context, Ctx, Obj}
-use Rattle.cs_model.specs.State.{Kept, Rest, put, with_rest}
+use Rattle.cs_model.specs.Obj.{Context, Ctx}
+use Rattle.cs_model.specs.State.{Kept, put, with_rest}
 use Rattle.cs_model.specs.Operation.{activate, with_next}
 use Rattle.cs_pages.specs.Order.{IsSound, Order}
 use Rattle.cs_pages.proofs.Lists.{lacks_not}
@@ -91,8 +90,7 @@ chain_stay ps ss [] stay c = tt
 chain_stay ps ss (p ∷ []) stay c = tt
 chain_stay ps ss (p ∷ q ∷ rs) stay c =
     let first = stay p (0, omega arith, refl) in
-    let second = stay q (1, omega arith, refl) in
-    (
+    let second = stay q (1, omega arith, refl) in (
       ap (λ (f : List Frame). (base_of f).caller) first ∙ c.0 ∙ sym (ap (λ (f : List Frame). (top f).context) second),
       λ e. c.1 (sym (ap (λ (f : List Frame). (top f).context) second) ∙ e),
       chain_stay ps ss (q ∷ rs) (λ n h. stay n (later p (q ∷ rs) n h)) c.2,
@@ -103,8 +101,7 @@ pub chain_first : (ps ss : List (List Frame)) (p : ℕ) (rs : List ℕ) → (bas
     → IsChain ps (p ∷ rs) → IsChain ss (p ∷ rs)
 chain_first ps ss p [] caller stay c = tt
 chain_first ps ss p (q ∷ rs) caller stay c =
-    let second = stay q (0, omega arith, refl) in
-    (
+    let second = stay q (0, omega arith, refl) in (
       caller ∙ c.0 ∙ sym (ap (λ (f : List Frame). (top f).context) second),
       λ e. c.1 (sym (ap (λ (f : List Frame). (top f).context) second) ∙ e),
       chain_stay ps ss (q ∷ rs) stay c.2,
@@ -178,13 +175,13 @@ module _ (w : Parts) (good : IsGood w) (m : ℕ) (new : Frame) (order : Order) (
   used_pages : (q : ℕ) → Contains order.recent q ↔ (0 < length (frames_of ss q))
   used_pages q = elim (cases_eq q m) [
     | inl e ↦ (
-        λ _. omega (arith, ap length (ap (frames_of ss) e ∙ added_here)),
-        λ _. subst (λ qs. Contains qs q) (sym can.recent) (0, omega arith, sym e),
-      )
+      λ _. omega (arith, ap length (ap (frames_of ss) e ∙ added_here)),
+      λ _. subst (λ qs. Contains qs q) (sym can.recent) (0, omega arith, sym e),
+    )
     | inr other ↦ (
-        λ h. omega (arith, ap length (added_there q other), (good.used_pages q).0 ((can.others q other).0 h)),
-        λ h. (can.others q other).1 ((good.used_pages q).1 (omega (arith, h, ap length (added_there q other)))),
-      )
+      λ h. omega (arith, ap length (added_there q other), (good.used_pages q).0 ((can.others q other).0 h)),
+      λ h. (can.others q other).1 ((good.used_pages q).1 (omega (arith, h, ap length (added_there q other)))),
+    )
   ]
 
   pub added_good : IsGood (added_parts w m new order)

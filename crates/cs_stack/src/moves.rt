@@ -141,7 +141,6 @@ impl Parts {
             unreachable!();
         };
         let head = header(&self.heap, method);
-        let birth = self.roots.next_birth;
         let receiver = self
             .frames
             .slot(caller, self.frames.depth(caller) - args - 1);
@@ -149,7 +148,7 @@ impl Parts {
             method,
             closure: NIL,
             receiver,
-            birth,
+            birth: self.roots.next_birth,
             args: 0,
             fill: 0,
         };
@@ -160,7 +159,7 @@ impl Parts {
         copy_arguments(&mut self.frames, caller, frame, args);
         push_nils(&mut self.frames, frame, temporary_count(head) - args);
         drop_values(&mut self.frames, caller, args + 1);
-        self.roots.next_birth = birth + 1;
+        self.roots.next_birth += 1;
     }
 
     /// The active context dies, its sender is active, and the value is pushed there.
