@@ -1,5 +1,5 @@
 -- A method is entered where its frame fits above the active one.
-use Rattle.std.proofs.Common.{◌≡◌, ◌≢◌, ℕ, pos, ◌+◌, ◌-◌, ◌<◌, ◌≤◌, Bool, true, refl, sym, ap, ap₂, subst, ◌∙◌, arith, Some, List, [], ◌∷◌, ◌++◌, length, length-take, suc, drop, replicate, inl, inr}
+use Rattle.std.proofs.Common.{◌≡◌, ℕ, pos, ◌+◌, ◌-◌, ◌<◌, ◌≤◌, Bool, true, refl, sym, ap, ap₂, subst, ◌∙◌, arith, Some, List, [], ◌∷◌, ◌++◌, length, length-take, suc, drop, replicate, inl, inr}
 use Rattle.std.specs.Prelude.{slice_index, nat_le, if◌then◌else◌}
 use Rattle.std.proofs.lemmas.Bool.Decides.{eqb_tells, nat_tests}
 use Rattle.cs_word.specs.declared.Oop.{Oop}
@@ -14,7 +14,6 @@ use Rattle.cs_frame.proofs.PageLaws.{frames_of-on_page, frames_of-on_page_other,
 use Rattle.cs_marriage.specs.Agree.{header_at}
 use Rattle.cs_model.specs.Ref as ref
 use Rattle.cs_model.specs.Obj.{temporary_count}
-use Rattle.cs_model.specs.Read.{active_birth}
 use Rattle.cs_model.specs.Operation.{enter_of}
 use Rattle.cs_acts.specs.Layout.{LaidBy, entered, page_words}
 use Rattle.cs_acts.specs.Names.{IsNamed, name_of}
@@ -26,7 +25,7 @@ use Rattle.cs_stack.specs.Good.{FrameFits, IsChain, IsGood, base_of}
 use Rattle.cs_stack.specs.Moved.{active_number, called_page, called_parts, callee, entry_of, given_birth}
 use Rattle.cs_stack.proofs.Tops.{Opened, contexts_known}
 use Rattle.cs_stack.proofs.Adding.{CanAdd, Stay, added_good, added_layout, added_parts, behind, chain_first, lacks_next, laid_stay}
-use Rattle.cs_stack.proofs.Entering.{cut_edited, cut_fits, cut_frames, cut_parts, e, entered_state, new_fits, new_married, nil_named, pages_are, reference_value, there, value_named, words_used}
+use Rattle.cs_stack.proofs.Entering.{cut_edited, cut_fits, cut_parts, e, entered_state, new_fits, new_married, nil_named, pages_are, reference_value, there, value_named, words_used}
 
 pub at_most : (a b : ℕ) → a ≤ b → nat_le a b ≡ true
 at_most a b h = grind (arith, nat_tests, h)

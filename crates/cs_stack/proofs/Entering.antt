@@ -1,9 +1,7 @@
 -- A method is entered: its receiver and arguments leave the active frame, and its own frame has the context of the model.
-use Rattle.std.proofs.Common.{◌≡◌, ◌≢◌, ℕ, pos, ◌+◌, ◌-◌, ◌<◌, ◌≤◌, ◌^◌, Bool, true, false, refl, sym, ap, ap₂, subst, ◌∙◌, arith, Some, None, List, [], ◌∷◌, ◌++◌, length, length-take, length-drop, map, take, drop, zero, suc, replicate, unwrap_or, option_map, inl, inr}
-use Rattle.std.specs.Prelude.{slice_get, slice_index, nat_le, if◌then◌else◌}
+use Rattle.std.proofs.Common.{◌≡◌, ℕ, pos, ◌+◌, ◌-◌, ◌<◌, ◌≤◌, ◌^◌, Bool, true, false, refl, sym, ap, ap₂, subst, ◌∙◌, arith, Some, List, [], ◌∷◌, ◌++◌, length, length-take, length-drop, map, take, drop, zero, suc, replicate, unwrap_or, option_map}
+use Rattle.std.specs.Prelude.{slice_get, slice_index}
 use Rattle.std.specs.List.{take-map}
-use Rattle.std.specs.FinMap.{get}
-use Rattle.std.proofs.lemmas.Bool.Decides.{eqb_tells, nat_tests}
 use Rattle.std.proofs.lemmas.List.{drop-map, length-append, length-map, length-replicate, map-append}
 use Rattle.std.proofs.lemmas.List.Elements.{All-append, All-drop, All-get_or, All-replicate, All-take}
 use Rattle.std.proofs.lemmas.Option.{slice_get-get_or, slice_get-map}
@@ -11,26 +9,25 @@ use Rattle.cs_word.specs.declared.Oop.{Oop}
 use Rattle.cs_word.specs.Word.{kind_of, small_word}
 use Rattle.cs_word.proofs.Words.{kind_of-link}
 use Rattle.cs_heap.specs.Object.{Object}
-use Rattle.cs_classes.specs.Meaning.{count_of, meaning_at, objects_of, ref_of}
+use Rattle.cs_classes.specs.Meaning.{count_of, meaning_at, ref_of}
 use Rattle.cs_classes.specs.Sound.{is_reference, is_reference_kind}
 use Rattle.cs_classes.proofs.Objects.{get-objects_of-fresh}
 use Rattle.cs_classes.proofs.Refs.{count_of-small}
 use Rattle.cs_classes.proofs.Wholes.{next_is_fresh}
-use Rattle.cs_frame.specs.declared.FrameRef.{FrameRef}
 use Rattle.cs_frame.specs.Frame.{Frame, IsValue, cut, nil, with_stack}
 use Rattle.cs_frame.specs.Page.{IsStacked, frames_of, on_page, used}
 use Rattle.cs_marriage.specs.Agree as marriage
-use Rattle.cs_marriage.specs.Agree.{Agree, frame_size, header_at}
+use Rattle.cs_marriage.specs.Agree.{header_at}
 use Rattle.cs_marriage.proofs.Laws.{PageFits, agree_on_page, fits_above, fits_below, fits_stack, fits_top, page_fits}
 use Rattle.cs_model.specs.Ref.{Ref}
 use Rattle.cs_model.specs.Ref as ref
-use Rattle.cs_model.specs.Obj.{Context, Ctx, context_in, context_size, lies_in, temporary_count}
+use Rattle.cs_model.specs.Obj.{Context, context_size, lies_in, temporary_count}
 use Rattle.cs_model.specs.Obj as obj
 use Rattle.cs_model.specs.Context.{lies_if_index}
 use Rattle.cs_model.specs.State.{Kept, object_of, put}
 use Rattle.cs_model.specs.Read.{active_birth, active_context, depth_of, stack_of}
-use Rattle.cs_model.specs.Operation.{drop_of, edit_active, enter_of, enter_with, last_values, method_context, nil_of, receiver_below}
-use Rattle.cs_acts.specs.Layout.{depth_in, frame_words, page_words}
+use Rattle.cs_model.specs.Operation.{drop_of, enter_of, enter_with, last_values, method_context, nil_of, receiver_below}
+use Rattle.cs_acts.specs.Layout.{page_words}
 use Rattle.cs_acts.specs.Names.{IsNamed, name_of}
 use Rattle.cs_acts.specs.Ready.{IsReady}
 use Rattle.cs_acts.specs.Targets.{CanEnter}
@@ -38,10 +35,9 @@ use Rattle.cs_acts.proofs.Firsts.{nil_names}
 use Rattle.cs_acts.proofs.Sizes.{pc_small}
 use Rattle.cs_pages.specs.Order.{Order}
 use Rattle.cs_stack.specs.declared.parts.Parts.{Parts}
-use Rattle.cs_stack.specs.View.{bare, births_of, frame_context, frame_sender, laid_pages, stored_of, view_of}
-use Rattle.cs_stack.specs.Good.{FrameFits, FramesFit, HasSender, IsGood, Lacks}
+use Rattle.cs_stack.specs.View.{births_of, frame_context, frame_sender, laid_pages, stored_of, view_of}
+use Rattle.cs_stack.specs.Good.{FrameFits, HasSender, IsGood, Lacks}
 use Rattle.cs_stack.specs.Moved.{callee, entry_of}
-use Rattle.cs_stack.proofs.Framed.{IsOn, all_fit, below_on, here, onto_frame}
 use Rattle.cs_stack.proofs.Tops.{Edited, Opened, edited, with_frames}
 use Rattle.cs_stack.proofs.Laid as laid
 use Rattle.cs_stack.proofs.Places.{stacked}

@@ -1,16 +1,16 @@
 -- The method that is entered, as it lies in the heap, and the pc at which it is.
-use Rattle.std.proofs.Common.{◌≡◌, ◌≢◌, ℕ, ◌+◌, ◌*◌, ◌/◌, ◌%◌, ◌<◌, ◌≤◌, ◌^◌, Bool, true, false, refl, sym, ap, ◌∙◌, arith, Option, Some, None, List, [], ◌∷◌, length, map, option_map}
-use Rattle.std.specs.Prelude.{◌==◌, ◌&&◌, if◌then◌else◌, nat_le, unwrap_or}
+use Rattle.std.proofs.Common.{◌≡◌, ◌≢◌, ℕ, ◌+◌, ◌*◌, ◌/◌, ◌%◌, ◌≤◌, ◌^◌, Bool, true, false, refl, sym, ap, ◌∙◌, arith, Option, Some, None, List, [], ◌∷◌, length, map, option_map}
+use Rattle.std.specs.Prelude.{◌==◌, ◌&&◌, if◌then◌else◌, nat_le, nat_lt}
 use Rattle.std.proofs.lemmas.Bool.Decides.{nat_tests}
 use Rattle.std.proofs.lemmas.List.{length-map}
 use Rattle.cs_word.specs.declared.Oop.{Oop}
 use Rattle.std.specs.Option.{option_map_or}
 use Rattle.cs_heap.specs.Format.{is_method}
-use Rattle.cs_heap.specs.Object.{Object, format_of, object_at, slot_count_of, slot_of}
-use Rattle.cs_classes.specs.Meaning.{code_in, count_of, header_in, literals_in, meaning_at, obj_of, ref_of, used_bytes}
+use Rattle.cs_heap.specs.Object.{Object, object_at}
+use Rattle.cs_classes.specs.Meaning.{code_in, header_in, literals_in, meaning_at, obj_of, ref_of, used_bytes}
 use Rattle.cs_classes.proofs.Sorts.{AContext, AMethod, Bytes, Pointers, Sort, obj_of-bytes, obj_of-method, not_pointers, obj_of-pointers, sort_of}
 use Rattle.cs_classes.proofs.Sounds.{method_other, sound_at}
-use Rattle.cs_model.specs.Obj.{Ctx, Method, Obj, Ptr, Raw, argument_count, bytecodes_in, context_size, first_pc, has_primitive, is_context_at, is_header, lies_in, literal_count, number_in, primitive_number, temporary_count}
+use Rattle.cs_model.specs.Obj.{Ctx, Method, Obj, Ptr, Raw, argument_count, bytecodes_in, context_size, has_primitive, is_context_at, lies_in, literal_count, number_in, primitive_number, temporary_count}
 use Rattle.cs_model.specs.Obj as obj
 use Rattle.cs_model.specs.State.{Kept, object_of}
 use Rattle.cs_model.specs.Operation.{entry_pc}
@@ -125,7 +125,8 @@ entry s k o args skip holds named can =
     let m = method_named s k o holds named can.method in
     let words = m.object.words in
     let header = header_in words in
-    let valid : (nat_le (argument_count header) (temporary_count header) ≡ true) × (nat_le (temporary_count header) (context_size header) ≡ true) = and_three _ _ _ (m.sound.method m.format).valid in
+    let valid : (nat_le (argument_count header) (temporary_count header) ≡ true) × (nat_le (temporary_count header) (context_size header) ≡ true) =
+    and_three (nat_lt header (2 ^ 30)) (nat_le (argument_count header) (temporary_count header)) (nat_le (temporary_count header) (context_size header)) (m.sound.method m.format).valid in
     let model : obj.header_in found ≡ header = ap obj.header_in m.means in
     let literals : length (obj.literals_in found) ≡ literal_count header =
     ap (λ p. length (obj.literals_in p)) m.means ∙ length-map (literals_in words) (ref_of os) ∙ length-literals os found o.0 m in

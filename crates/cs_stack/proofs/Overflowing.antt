@@ -1,14 +1,14 @@
 -- A method is entered where no room is left on the page: the caller is married first, and a call that is refused has its cause.
-use Rattle.std.proofs.Common.{◌≡◌, ◌≢◌, ℕ, ◌+◌, ◌<◌, ◌≤◌, Bool, true, false, refl, sym, ap, ap₂, subst, ◌∙◌, arith, Option, Some, None, List, [], ◌∷◌, length, zero, suc, inl, inr, cond}
+use Rattle.std.proofs.Common.{◌≡◌, ◌≢◌, ℕ, ◌+◌, ◌<◌, ◌≤◌, Bool, true, false, refl, sym, ap, ap₂, subst, ◌∙◌, arith, Option, Some, None, List, [], ◌∷◌, length, zero, suc, inl, inr}
 use Rattle.std.specs.Prelude.{◌==◌, nat_le, if◌then◌else◌}
 use Rattle.std.specs.FinMap.{get, insert}
 use Rattle.std.proofs.lemmas.Bool.Decides.{eqb_tells}
 use Rattle.cs_word.specs.declared.Oop.{Oop}
 use Rattle.cs_frame.specs.declared.FrameRef.{FrameRef}
-use Rattle.cs_frame.specs.Frame.{Frame, nil}
-use Rattle.cs_frame.specs.Page.{frame, frames_of, ref_of, top, used}
+use Rattle.cs_frame.specs.Frame.{Frame}
+use Rattle.cs_frame.specs.Page.{frames_of, ref_of, top, used}
 use Rattle.cs_model.specs.Ref.{Ref}
-use Rattle.cs_model.specs.Obj.{Context, Ctx, popped}
+use Rattle.cs_model.specs.Obj.{Ctx, popped}
 use Rattle.cs_model.specs.State.{Kept, object_at, put}
 use Rattle.cs_model.specs.Read.{IsRunning, active_birth, active_context}
 use Rattle.cs_model.specs.Operation.{drop_of, enter_of, enter_with, method_context}
@@ -28,7 +28,7 @@ use Rattle.cs_acts.specs.Names.{IsNamed, KeepsNames, Store, name_of}
 use Rattle.cs_acts.specs.Ready.{IsReady}
 use Rattle.cs_acts.specs.Targets.{CanEnter}
 use Rattle.cs_stack.specs.declared.parts.Parts.{Parts}
-use Rattle.cs_stack.specs.View.{act_of, active_page, birth_from, births_of, laid_pages, layout_of, stored_of, view_of}
+use Rattle.cs_stack.specs.View.{act_of, active_page, birth_from, laid_pages, layout_of, stored_of, view_of}
 use Rattle.cs_stack.specs.Good.{IsGood, Lacks}
 use Rattle.cs_stack.specs.Moved.{IsContextOf, Takes, active_number, begun_parts}
 use Rattle.cs_stack.proofs.Maps.{Objects, get_apart, get_here}

@@ -1,8 +1,8 @@
 -- Values that are pushed onto the last frame of a page, or popped off it, one by one.
-use Rattle.std.proofs.Common.{◌≡◌, ◌≢◌, ℕ, zero, suc, ◌+◌, ◌-◌, ◌<◌, ◌≤◌, refl, sym, ap, ◌∙◌, arith, List, [], ◌∷◌, ◌++◌, length, length-append, length-take, length-drop, take, drop, get_or, replicate, subst}
-use Rattle.std.proofs.lemmas.List.{append-nil, append_assoc, get_or-drop, replicate_more, take-take, take_all, take_more}
+use Rattle.std.proofs.Common.{◌≡◌, ◌≢◌, ℕ, ◌+◌, ◌-◌, ◌<◌, ◌≤◌, refl, ap, ◌∙◌, arith, List, [], ◌∷◌, ◌++◌, length, length-append, length-take, length-drop, take, drop, get_or}
+use Rattle.std.proofs.lemmas.List.{append-nil, append_assoc, get_or-drop, take-take, take_all, take_more}
 use Rattle.cs_frame.specs.declared.FrameRef.{FrameRef}
-use Rattle.cs_frame.specs.Frame.{Frame, nil, popped, pushed, with_stack}
+use Rattle.cs_frame.specs.Frame.{Frame, popped, pushed, with_stack}
 use Rattle.cs_frame.specs.Page.{IsTop, frames_of, on_page, on_top, top, used}
 use Rattle.cs_frame.proofs.PageLaws.{IsTop-on_top, frames_of-on_page, frames_of-on_page_other, on_page-on_page, on_page-same}
 

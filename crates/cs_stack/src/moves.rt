@@ -68,7 +68,8 @@ impl Parts {
         ensures names { OnOk result (KeepsNames (stored_of self.old) (stored_of self.new)) }
         ensures full { IfErr result (CausesFull (stored_of self.new) (layout_of self.old) (view_of self.old) 0 (enter_of (view_of self.old) (name_of (stored_of self.old) method) args skip)) }
     {
-        if self.frames.room(self.pages.order(0)) < FRAME_ROOM {
+        let room = self.frames.room(self.pages.order(0));
+        if room < FRAME_ROOM {
             return self.overflow(method, args, skip);
         }
         self.call(method, args, skip);
@@ -142,7 +143,6 @@ impl Parts {
             unreachable!();
         };
         let head = header(&self.heap, method);
-        let birth = self.roots.next_birth;
         let receiver = self
             .frames
             .slot(caller, self.frames.depth(caller) - args - 1);
@@ -150,7 +150,7 @@ impl Parts {
             method,
             closure: NIL,
             receiver,
-            birth,
+            birth: self.roots.next_birth,
             args: 0,
             fill: 0,
         };
@@ -161,7 +161,7 @@ impl Parts {
         copy_arguments(&mut self.frames, caller, frame, args);
         push_nils(&mut self.frames, frame, temporary_count(head) - args);
         drop_values(&mut self.frames, caller, args + 1);
-        self.roots.next_birth = birth + 1;
+        self.roots.next_birth += 1;
     }
 
     /// The active context dies, its sender is active, and the value is pushed there.

@@ -1,10 +1,10 @@
-use Rattle.std.proofs.Common.{◌≡◌, ◌≤◌, ◌+◌, ap, sym, subst, ◌∙◌, arith}
+use Rattle.std.proofs.Common.{ap, sym, subst, ◌∙◌, arith}
 use Rattle.std.specs.Prelude.{OnOk}
 use Rattle.cs_frame.specs.Page.{frames_of, used}
 use Rattle.cs_acts.specs.Made.{MakesAtMost}
 use Rattle.cs_stack.specs.declared.parts.Parts.{Parts}
 use Rattle.cs_stack.specs.Good.{IsGood}
-use Rattle.cs_stack.specs.View.{active_page, layout_of, stored_of, view_of}
+use Rattle.cs_stack.specs.View.{layout_of, stored_of, view_of}
 use Rattle.cs_stack.proofs.Tops.{opened}
 use Rattle.cs_stack.proofs.Called.{active_used, called_good, called_layout, called_view}
 use Rattle.cs_stack.proofs.Overflowing.{made_one}

@@ -1,8 +1,6 @@
-use Rattle.std.proofs.Common.{◌≡◌, ◌∷◌, ap, sym, subst, refl, ◌∙◌, arith}
+use Rattle.std.proofs.Common.{ap, sym, ◌∙◌}
 use Rattle.std.proofs.lemmas.Result.{err_from_is_err_and}
-use Rattle.std.specs.Prelude.{IfErr, Err}
 use Rattle.cs_model.specs.Operation.{enter_of}
-use Rattle.cs_acts.specs.Full.{CausesFull}
 use Rattle.cs_acts.specs.Names.{name_of}
 use Rattle.cs_stack.specs.declared.parts.Parts.{Parts}
 use Rattle.cs_stack.specs.View.{layout_of, stored_of, view_of}
