@@ -15,7 +15,7 @@ returns-then-room-lt-FRAME_ROOM-clause-contexts c =
     let w : Parts = c.args.self.now in
     let o = opened w c.requires.good c.requires.ready in
     let words = ap (λ n. used (frames_of w.frames n)) c.order.ensures.page ∙ active_used o in
-    subst (λ n. OnOk c.overflow.result (MakesAtMost n (layout_of w) (stored_of w) (stored_of c.overflow.new.self))) (sym (made_one w c.requires.good o (omega (arith, words, c.room.ensures.room, c.if-room-lt-FRAME_ROOM.true))))
+    subst (λ n. OnOk c.overflow.result (MakesAtMost n (layout_of w) (stored_of w) (stored_of c.overflow.new.self))) (sym (made_one w c.requires.good o (omega (arith, words, c.room-room.ensures.room, c.if-room-lt-FRAME_ROOM.true))))
     c.overflow.ensures.contexts
 
 pub returns-clause-good : goal.returns-clause-good
@@ -24,7 +24,7 @@ returns-clause-good c =
     let o = opened w c.requires.good c.requires.ready in
     let words = ap (λ n. used (frames_of w.frames n)) c.order.ensures.page ∙ active_used o in
     subst IsGood (sym c.call.ensures.made)
-    (called_good c.requires.good c.requires.ready o c.args.method c.args.args c.args.skip c.requires.named c.requires.fits (omega (arith, words, c.room.ensures.room, c.if-room-lt-FRAME_ROOM.false)))
+    (called_good c.requires.good c.requires.ready o c.args.method c.args.args c.args.skip c.requires.named c.requires.fits (omega (arith, words, c.room-room.ensures.room, c.if-room-lt-FRAME_ROOM.false)))
 
 pub returns-clause-view : goal.returns-clause-view
 returns-clause-view c =
@@ -32,7 +32,7 @@ returns-clause-view c =
     let o = opened w c.requires.good c.requires.ready in
     let words = ap (λ n. used (frames_of w.frames n)) c.order.ensures.page ∙ active_used o in
     ap view_of c.call.ensures.made
-    ∙ called_view c.requires.good c.requires.ready o c.args.method c.args.args c.args.skip c.requires.named c.requires.fits (omega (arith, words, c.room.ensures.room, c.if-room-lt-FRAME_ROOM.false))
+    ∙ called_view c.requires.good c.requires.ready o c.args.method c.args.args c.args.skip c.requires.named c.requires.fits (omega (arith, words, c.room-room.ensures.room, c.if-room-lt-FRAME_ROOM.false))
 
 pub returns-clause-layout : goal.returns-clause-layout
 returns-clause-layout c =
@@ -40,4 +40,4 @@ returns-clause-layout c =
     let o = opened w c.requires.good c.requires.ready in
     let words = ap (λ n. used (frames_of w.frames n)) c.order.ensures.page ∙ active_used o in
     ap layout_of c.call.ensures.made
-    ∙ called_layout c.requires.good c.requires.ready o c.args.method c.args.args c.args.skip c.requires.named c.requires.fits (omega (arith, words, c.room.ensures.room, c.if-room-lt-FRAME_ROOM.false))
+    ∙ called_layout c.requires.good c.requires.ready o c.args.method c.args.args c.args.skip c.requires.named c.requires.fits (omega (arith, words, c.room-room.ensures.room, c.if-room-lt-FRAME_ROOM.false))
