@@ -1,5 +1,5 @@
 -- A new frame on a page of a good world: above the last frame of the most recent page, or alone on one that was free.
-use Rattle.std.proofs.Common.{◌≡◌, ◌≢◌, ℕ, ◌+◌, ◌<◌, ◌≤◌, true, refl, sym, ap, ap₂, subst, ◌∙◌, arith, Some, None, List, [], ◌∷◌, length, inl, inr, suc, zero, is_some}
+use Rattle.std.proofs.Common.{◌≡◌, ◌≢◌, ℕ, ◌+◌, ◌<◌, true, refl, sym, ap, ap₂, subst, ◌∙◌, arith, Some, List, [], ◌∷◌, length, inl, inr, suc, is_some}
 use Rattle.std.specs.Prelude.{◌↔◌, Contains, nat_eq}
 use Rattle.std.specs.List.{IsDistinct}
 use Rattle.std.specs.Ordering.{nat_cmp}
@@ -11,13 +11,13 @@ use Rattle.cs_classes.specs.declared.Roots.{Roots}
 use Rattle.cs_classes.specs.Meaning.{kept_of, objects_of}
 use Rattle.cs_classes.specs.Sound.{IsWhole}
 use Rattle.cs_frame.specs.Frame.{Frame}
-use Rattle.cs_frame.specs.Page.{IsStacked, frames_of, on_page, top}
+use Rattle.cs_frame.specs.Page.{frames_of, on_page, top}
 use Rattle.cs_frame.proofs.PageLaws.{frames_of-on_page, frames_of-on_page_other, length-on_page, on_page-on_page}
 use Rattle.cs_marriage.specs.Agree as marriage
 use Rattle.cs_marriage.specs.Agree.{Agree}
 use Rattle.cs_marriage.proofs.Laws.{agree_on_page, fits_above, page_fits}
-use Rattle.cs_model.specs.Obj.{Context, Ctx, Obj, context_class}
-use Rattle.cs_model.specs.State.{Kept, Rest, put, with_rest}
+use Rattle.cs_model.specs.Obj.{Context, Ctx, context_class}
+use Rattle.cs_model.specs.State.{Kept, put, with_rest}
 use Rattle.cs_model.specs.Operation.{activate, with_next}
 use Rattle.cs_pages.specs.Order.{IsSound, Order}
 use Rattle.cs_pages.proofs.Lists.{lacks_not}

@@ -1,7 +1,7 @@
 -- An object is made: the heap has one more, and so has the state.
-use Rattle.std.proofs.Common.{◌≡◌, ◌∙◌, inl, inr, ℕ, zero, suc, ◌+◌, ◌*◌, ◌-◌, ◌<◌, ◌≤◌, ◌^◌, Bool, true, false, refl, sym, ap, ap₂, subst, Option, Some, None, is_some, option_map, List, [], ◌∷◌, ◌++◌, replicate, length, arith}
-use Rattle.std.specs.Prelude.{◌==◌, ◌||◌, if◌then◌else◌, nat_lt, slice_get}
-use Rattle.std.specs.FinMap.{FinMap, get, insert}
+use Rattle.std.proofs.Common.{◌≡◌, ◌∙◌, inr, ℕ, zero, suc, ◌+◌, ◌*◌, ◌-◌, ◌<◌, ◌≤◌, ◌^◌, Bool, true, false, refl, sym, ap, ap₂, subst, Option, Some, None, is_some, option_map, List, [], ◌∷◌, ◌++◌, replicate, arith}
+use Rattle.std.specs.Prelude.{◌==◌, ◌||◌, if◌then◌else◌, nat_lt}
+use Rattle.std.specs.FinMap.{get}
 use Rattle.std.proofs.lemmas.Bool.{false≢true}
 use Rattle.std.proofs.lemmas.Bool.Decides.{nat_tests}
 use Rattle.std.proofs.lemmas.List.{length-replicate}
@@ -9,13 +9,12 @@ use Rattle.cs_word.specs.declared.Oop.{Oop}
 use Rattle.cs_heap.specs.Format.{is_method, is_pointers}
 use Rattle.cs_heap.specs.Object.{Memory, Object, new_object, next_address, size, used}
 use Rattle.cs_heap.proofs.Laws.{is_object-new, length-new_words, next_address-new, object_at-new, used-pushed}
-use Rattle.cs_classes.specs.Meaning.{is_context, kept_of, obj_of, objects_of, ref_of, unused_bytes}
+use Rattle.cs_classes.specs.Meaning.{is_context, kept_of, objects_of, unused_bytes}
 use Rattle.cs_classes.specs.Sound.{IsWhole}
 use Rattle.cs_classes.proofs.Heaps.{birth_of-object_at}
 use Rattle.cs_classes.proofs.Makings.{Makes, makes-bytes, makes-pointers}
 use Rattle.cs_classes.proofs.Refs.{is_reference-object, is_reference-push, ref_of-object, ref_of-push}
 use Rattle.cs_classes.proofs.Wholes.{after_birth, get-classes_of}
-use Rattle.cs_frame.specs.Frame.{Frame}
 use Rattle.cs_frame.specs.Page.{frames_of}
 use Rattle.cs_marriage.proofs.Laws.{agree_grown}
 use Rattle.cs_model.specs.Ref as ref
@@ -32,8 +31,8 @@ use Rattle.cs_acts.specs.Made.{CanAllocate, blank_of, contexts_in}
 use Rattle.cs_acts.specs.Names.{KeepsNames, Names}
 use Rattle.cs_acts.specs.Ready.{IsReady, IsSound}
 use Rattle.cs_stack.specs.declared.parts.Parts.{Parts}
-use Rattle.cs_stack.specs.View.{active_in, active_page, bare, layout_of, over, pages_onto, stored_of, view_of}
-use Rattle.cs_stack.specs.Good.{FramesFit, IsGood, Lacks}
+use Rattle.cs_stack.specs.View.{active_in, active_page, bare, layout_of, over, stored_of, view_of}
+use Rattle.cs_stack.specs.Good.{IsGood}
 use Rattle.cs_stack.proofs.Maps.{Objects}
 use Rattle.cs_stack.proofs.Bare.{bare_push, bare_whole, plain_unlinked, unlinked}
 use Rattle.cs_stack.proofs.Counting.{few_unused, raw_slots, some_slot, words_heap}

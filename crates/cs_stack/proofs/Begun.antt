@@ -1,27 +1,24 @@
 -- A method is entered on a page of its own: its frame is the base frame, and the married context of its caller is its sender.
-use Rattle.std.proofs.Common.{◌≡◌, ◌≢◌, ℕ, pos, ◌+◌, ◌-◌, ◌<◌, ◌≤◌, Bool, true, false, refl, sym, ap, ap₂, subst, ◌∙◌, arith, Some, List, [], ◌∷◌, ◌++◌, length, length-drop, zero, suc, drop, replicate, inl, inr, take}
-use Rattle.std.specs.Prelude.{◌↔◌, Contains, nat_eq, slice_index, nat_le, if◌then◌else◌}
+use Rattle.std.proofs.Common.{◌≡◌, ◌≢◌, ℕ, ◌+◌, ◌<◌, Bool, true, false, refl, sym, ap, ap₂, subst, ◌∙◌, arith, Some, List, [], ◌∷◌, ◌++◌, length, zero, suc}
+use Rattle.std.specs.Prelude.{◌↔◌, Contains, nat_eq, nat_le, if◌then◌else◌}
 use Rattle.std.proofs.lemmas.Bool.Decides.{nat_tests}
-use Rattle.std.proofs.lemmas.List.Elements.{All-cons, All-get_or}
+use Rattle.std.proofs.lemmas.List.Elements.{All-cons}
 use Rattle.std.proofs.lemmas.Map.Keys.{IsDistinct-cons}
 use Rattle.cs_word.specs.declared.Oop.{Oop}
-use Rattle.cs_word.specs.Word.{small_word}
-use Rattle.cs_heap.specs.Object.{Object, birth_of, is_object}
+use Rattle.cs_heap.specs.Object.{Object, is_object}
 use Rattle.cs_classes.specs.Meaning.{ref_of}
 use Rattle.cs_classes.specs.Sound.{is_reference}
 use Rattle.cs_classes.proofs.Refs.{is_reference-object, ref_of-object}
 use Rattle.cs_frame.specs.declared.FrameRef.{FrameRef}
 use Rattle.cs_frame.specs.declared.NewFrame.{NewFrame}
-use Rattle.cs_frame.specs.Frame.{Frame, IsValue, cut, nil, with_caller, with_saved_pc, with_stack}
+use Rattle.cs_frame.specs.Frame.{Frame, cut, nil, with_stack}
 use Rattle.cs_frame.specs.Page.{IsBase, IsFrame, IsTop, called, fresh, frame, frames_of, index_of, nth, on_frame, on_page, on_top, top, used}
 use Rattle.cs_frame.specs.Page as page
 use Rattle.cs_frame.proofs.PageLaws.{frames_of-on_page, frames_of-on_page_other, length-on_page, on_page-on_page_other}
-use Rattle.cs_marriage.specs.Agree as marriage
-use Rattle.cs_marriage.specs.Agree.{AreMarried, header_at}
+use Rattle.cs_marriage.specs.Agree.{AreMarried}
 use Rattle.cs_marriage.proofs.Based.{alone, alone_base, alone_frames, alone_on_frame, alone_on_top, alone_top}
 use Rattle.cs_marriage.proofs.Objects.{context_there}
 use Rattle.cs_model.specs.Ref as ref
-use Rattle.cs_model.specs.Obj.{temporary_count}
 use Rattle.cs_model.specs.Read.{active_birth}
 use Rattle.cs_model.specs.Operation.{enter_of}
 use Rattle.cs_acts.specs.Layout.{LaidBy, entered, page_words}
@@ -33,11 +30,11 @@ use Rattle.cs_pages.proofs.Lists.{lacks_from_not}
 use Rattle.cs_stack.specs.declared.parts.Parts.{Parts}
 use Rattle.cs_stack.specs.View.{active_page, births_of, frame_sender, laid_pages, layout_of, stored_of, view_of}
 use Rattle.cs_stack.specs.Good.{FrameFits, IsChain, IsGood, base_of}
-use Rattle.cs_stack.specs.Moved.{active_number, begun_parts, callee, entry_of, given_birth}
+use Rattle.cs_stack.specs.Moved.{active_number, begun_parts, callee, given_birth}
 use Rattle.cs_stack.proofs.Tops.{Opened, contexts_known}
 use Rattle.cs_stack.proofs.Framed.{IsOn, here}
 use Rattle.cs_stack.proofs.Places.{married_on}
-use Rattle.cs_stack.proofs.Adding.{CanAdd, Stay, added_good, added_layout, added_parts, behind, chain_first, chain_stay, laid_stay}
+use Rattle.cs_stack.proofs.Adding.{CanAdd, Stay, added_good, added_layout, added_parts, behind, chain_stay, laid_stay}
 use Rattle.cs_stack.proofs.Entering.{cut_edited, cut_parts, entered_state, new_fits, new_married, pages_are, words_used}
 use Rattle.cs_stack.proofs.Called.{number_is, top_frame, top_is_frame, top_ref}
 use Rattle.cs_stack.proofs.Stacking.{longer, shorter, shorter_page}

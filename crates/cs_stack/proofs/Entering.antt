@@ -14,7 +14,7 @@ use Rattle.cs_classes.specs.Sound.{is_reference, is_reference_kind}
 use Rattle.cs_classes.proofs.Objects.{get-objects_of-fresh}
 use Rattle.cs_classes.proofs.Refs.{count_of-small}
 use Rattle.cs_classes.proofs.Wholes.{next_is_fresh}
-use Rattle.cs_frame.specs.Frame.{Frame, IsValue, cut, nil, with_stack}
+use Rattle.cs_frame.specs.Frame.{Frame, IsValue, cut, nil}
 use Rattle.cs_frame.specs.Page.{IsStacked, frames_of, on_page, used}
 use Rattle.cs_marriage.specs.Agree as marriage
 use Rattle.cs_marriage.specs.Agree.{header_at}

@@ -1,5 +1,5 @@
 -- One object more stands in the heap: what frames and contexts say of it stays.
-use Rattle.std.proofs.Common.{◌≡◌, ◌≢◌, ℕ, zero, suc, ◌+◌, ◌*◌, ◌-◌, ◌<◌, ◌≤◌, ◌⊎◌, Bool, true, false, refl, sym, ap, subst, ◌∙◌, Option, Some, None, option_map, List, [], ◌∷◌, ◌++◌, length, map, arith, inl, inr, get_or}
+use Rattle.std.proofs.Common.{◌≡◌, ◌≢◌, ℕ, suc, ◌+◌, ◌*◌, ◌-◌, ◌<◌, ◌⊎◌, true, false, refl, sym, ap, subst, ◌∙◌, Option, Some, None, option_map, List, [], ◌∷◌, ◌++◌, length, arith, inl, inr, get_or}
 use Rattle.std.specs.Prelude.{◌==◌, if◌then◌else◌, slice_get, slice_index}
 use Rattle.std.specs.List.{AllPass}
 use Rattle.std.specs.FinMap.{get, insert}
@@ -7,7 +7,7 @@ use Rattle.std.proofs.lemmas.Bool.{cases_eq, eq-eqb}
 use Rattle.std.proofs.lemmas.List.{length-map}
 use Rattle.cs_heap.specs.Object.{Object, object_at, hash_of}
 use Rattle.cs_heap.proofs.Laws.{field_of-old, object_at-old}
-use Rattle.cs_classes.specs.Meaning.{code_in, count_of, is_context, literals_in, meaning_at, method_of, obj_of, objects_of, ref_of, used_bytes}
+use Rattle.cs_classes.specs.Meaning.{code_in, count_of, is_context, literals_in, meaning_at, obj_of, objects_of, ref_of, used_bytes}
 use Rattle.cs_classes.specs.Sound.{is_reference}
 use Rattle.cs_classes.proofs.Heaps.{is_object-object_at, object_at-push, slice_get-push}
 use Rattle.cs_classes.proofs.Objects.{objects_of-push}
@@ -16,19 +16,17 @@ use Rattle.cs_classes.proofs.Sorts.{AContext, AMethod, Bytes, Pointers, Sort, ma
 use Rattle.cs_classes.proofs.Wholes.{next_is_fresh, obj_of-push}
 use Rattle.cs_frame.specs.Frame.{Frame, nil}
 use Rattle.cs_frame.specs.Page.{frames_of}
-use Rattle.cs_marriage.specs.Agree as agree
 use Rattle.cs_marriage.specs.Agree.{frame_size}
 use Rattle.cs_marriage.proofs.Agreeing.{size_none, size_some}
 use Rattle.cs_marriage.proofs.Objects.{context_like, context_there, header_same, method_like, method_there}
 use Rattle.cs_model.specs.Ref.{Ref}
-use Rattle.cs_model.specs.Obj.{Context, Ctx, Obj, context_size, lies_between, lies_in}
+use Rattle.cs_model.specs.Obj.{Ctx, context_size, lies_between, lies_in}
 use Rattle.cs_model.specs.Context.{lies_if_index, lies_if_live}
 use Rattle.cs_stack.specs.declared.parts.Parts.{Parts}
 use Rattle.cs_stack.specs.View.{frame_context, frame_hash, frame_sender, frames_onto, is_linked, pages_onto}
 use Rattle.cs_stack.specs.Good.{FrameFits, FramesFit, HasSender, IsGood, Lacks, LinkFits, PcFits}
 use Rattle.cs_stack.proofs.Maps.{Objects, get_apart}
 use Rattle.cs_stack.proofs.Lives.{Lives, lives, lives_if_live}
-use Rattle.cs_stack.proofs.Bare.{plain_unlinked}
 use Rattle.cs_stack.proofs.Framed.{IsOn, above, fits_on, here}
 use Rattle.cs_stack.proofs.Places.{agreed}
 

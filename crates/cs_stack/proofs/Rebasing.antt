@@ -1,5 +1,5 @@
 -- A live single context of the heap becomes the base frame of a page, where no other page is used.
-use Rattle.std.proofs.Common.{◌≡◌, ◌⊎◌, ℕ, ◌-◌, ◌<◌, ◌≤◌, Bool, true, false, refl, sym, ap, ap₂, subst, ◌∙◌, arith, Option, Some, None, IsSome, is_some, List, [], ◌∷◌, length, unwrap_or, inl, inr}
+use Rattle.std.proofs.Common.{◌≡◌, ◌⊎◌, ℕ, ◌<◌, ◌≤◌, Bool, true, false, refl, sym, ap, ap₂, subst, ◌∙◌, arith, Option, Some, None, IsSome, is_some, List, [], ◌∷◌, length, unwrap_or, inl, inr}
 use Rattle.std.specs.Prelude.{Contains, slice_get, slice_index, ◌==◌, ◌&&◌, ◌||◌}
 use Rattle.std.specs.Option.{option_map_or}
 use Rattle.std.specs.Ordering.{nat_cmp}

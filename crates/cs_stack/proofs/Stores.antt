@@ -4,14 +4,14 @@ use Rattle.std.specs.Prelude.{◌&&◌, ◌==◌, if◌then◌else◌, nat_lt, n
 use Rattle.std.specs.List.{AllPass}
 use Rattle.std.specs.Option.{option_map_or}
 use Rattle.std.specs.FinMap.{get, insert}
-use Rattle.std.proofs.lemmas.List.{get_or-set_other, length-map}
+use Rattle.std.proofs.lemmas.List.{length-map}
 use Rattle.std.proofs.lemmas.Bool.Decides.{eqb_tells, nat_tests}
 use Rattle.cs_word.specs.declared.Oop.{Oop}
 use Rattle.cs_word.specs.declared.Kind.{Kind}
 use Rattle.cs_word.specs.declared.Kind.TheVariants as kind
 use Rattle.cs_word.specs.Word.{kind_of, small_value}
 use Rattle.cs_heap.specs.Format.{is_method}
-use Rattle.cs_heap.specs.Object.{Memory, Object, at_index, birth_of, class_of, format_of, hash_of, index_of, is_object, object_at, set_word, slot_count_of, slot_of, with_slot}
+use Rattle.cs_heap.specs.Object.{Memory, Object, at_index, birth_of, class_of, format_of, index_of, is_object, object_at, set_word, slot_count_of, with_slot}
 use Rattle.cs_heap.proofs.Laws.{hash_of-with_slot, object_at-with_object_other, object_at-with_object_same, slot_count_of-with_slot, slot_of-with_slot_other_object, slot_of-with_slot_other_slot, used-with_slot}
 use Rattle.cs_classes.specs.Meaning.{code_in, count_of, header_in, is_context, kept_of, literals_in, meaning_at, method_of, obj_of, objects_of, ref_of, ref_of_kind, used_bytes}
 use Rattle.cs_classes.specs.Sound.{IsWhole, is_reference, is_reference_kind}

@@ -15,12 +15,12 @@ use Rattle.cs_frame.specs.Frame.{Frame, nil}
 use Rattle.cs_frame.specs.Page.{frames_of, on_page, rest_of, top}
 use Rattle.cs_frame.specs.Page.{ref_of as ref_of_frame}
 use Rattle.cs_frame.proofs.PageLaws.{length-on_page}
-use Rattle.cs_marriage.specs.Agree.{AreMarried, FrameFits}
+use Rattle.cs_marriage.specs.Agree.{AreMarried}
 use Rattle.cs_marriage.proofs.Laws.{agree_dropped, top_fits}
 use Rattle.cs_pages.specs.Order.{IsFree, IsSound, Order, without}
 use Rattle.cs_pages.proofs.Lists.{Lacks as Off, without-lacking}
 use Rattle.cs_model.specs.Ref as ref
-use Rattle.cs_model.specs.Obj.{Ctx, Obj, dead}
+use Rattle.cs_model.specs.Obj.{Ctx, dead}
 use Rattle.cs_model.specs.State as state
 use Rattle.cs_model.specs.State.{Kept}
 use Rattle.cs_model.specs.Read.{active_birth, active_context}
@@ -34,7 +34,7 @@ use Rattle.cs_stack.specs.Good as good_specs
 use Rattle.cs_stack.specs.Moved.{Unwinds, Unwound}
 use Rattle.cs_stack.proofs.Bare.{bare_none}
 use Rattle.cs_stack.proofs.Dying.{widow}
-use Rattle.cs_stack.proofs.Dropping.{chain_apart, chain_first, chain_rest, gone_fit, gone_here, gone_other, laid_apart, onto_gone, onto_kept, touched_first, within}
+use Rattle.cs_stack.proofs.Dropping.{chain_apart, chain_first, chain_rest, gone_fit, gone_here, gone_other, laid_apart, onto_gone, onto_kept, touched_first}
 use Rattle.cs_stack.proofs.Framed.{AllFit, IsOn, all_fit, here}
 use Rattle.cs_stack.proofs.Laid.{off_births}
 use Rattle.cs_stack.proofs.Leaving.{Target}

@@ -1,5 +1,5 @@
 -- What entering and leaving make of the parts.
-use Rattle.std.specs.Prelude.{◌≡◌, ◌≢◌, ◌⊎◌, ℕ, pos, ◌+◌, ◌-◌, ◌*◌, ◌<◌, Bool, true, if◌then◌else◌, List, [], ◌∷◌, ◌++◌, length, drop, replicate, slice_index, Option, Some, None, option_and_then, unwrap_or}
+use Rattle.std.specs.Prelude.{◌≡◌, ◌≢◌, ◌⊎◌, ℕ, pos, ◌+◌, ◌-◌, ◌*◌, Bool, if◌then◌else◌, List, [], ◌∷◌, ◌++◌, length, drop, replicate, slice_index, Option, Some, None, option_and_then}
 use Rattle.cs_word.specs.Word.{small_word}
 use Rattle.cs_heap.specs.Object.{Object, with_object}
 use Rattle.cs_frame.specs.declared.FrameRef.{FrameRef}

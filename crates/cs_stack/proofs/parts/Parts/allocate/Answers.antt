@@ -1,4 +1,4 @@
-use Rattle.std.proofs.Common.{subst, sym, ◌+◌, ◌≡◌, ◌≤◌, refl, ap, arith}
+use Rattle.std.proofs.Common.{subst, sym, ◌+◌, ◌≡◌, refl, ap, arith}
 use Rattle.std.proofs.lemmas.Bool.{false≢true}
 use Rattle.cs_heap.specs.Object.{Memory, size, used}
 use Rattle.cs_classes.proofs.Wholes.{after_birth}

@@ -1,4 +1,4 @@
-use Rattle.std.proofs.Common.{◌≡◌, ◌≤◌, ◌+◌, ap, arith}
+use Rattle.std.proofs.Common.{arith}
 use Rattle.cs_stack.proofs.Stores.{store_fits, stored_by}
 use Rattle.cs_stack.proofs.parts.Parts.store.Goals as goal
 
