@@ -10,19 +10,20 @@ use Rattle.cs_model.specs.Context.{is_context_ref}
 use Rattle.cs_model.specs.Read.{receiver_of}
 use Rattle.cs_model.specs.Lookup.{Sought, Missing, Loop}
 use Rattle.cs_model.specs.Lookup as sought
-use Rattle.cs_model.specs.Step.{Message, birth_limit}
+use Rattle.cs_model.specs.Step.{Message, call_in, birth_limit}
 use Rattle.cs_model.specs.End.{Out, no_count}
-use Rattle.cs_model.specs.Built.{is_built_op, is_built_for_all, is_built_number, is_built_method, is_built_found, is_built_send, is_built_target, is_built_return, is_built_out, is_built_from, is_built_bytecode, is_built, built_step, built_run}
+use Rattle.cs_model.specs.Built.{is_built_op, is_built_for_all, is_built_number, is_built_method, is_built_found, is_built_send, is_built_call, is_built_back, is_built_return, is_built_out, is_built_from, is_built_bytecode, is_built, built_step, built_run}
 use Rattle.cs_model.specs.Keeps.{Keeps, KeepsState}
 use Rattle.cs_model.specs.Alike.{SoughtHeld, Alike, AlikeStep, AlikeRan}
-use Rattle.cs_model.proofs.Same.{Same, SameOption, none, some, same, Any, is, of_option, value, if_same}
-use Rattle.cs_model.proofs.Reading.{Has, held_if, object_of_same, depth_same, pc_same, rest_same, receiver_same, active_birth_same}
+use Rattle.cs_model.proofs.Same.{Same, same, Any, is, of_option, value, plain, if_same}
+use Rattle.cs_model.proofs.Reading.{held_if, special_at_same, object_of_same, depth_same, pc_same, rest_same, receiver_same}
 use Rattle.cs_model.proofs.Operating.{set_pc_moved}
 use Rattle.cs_model.proofs.Fields.{and_same, or_else_same, is_context_ref_same}
 use Rattle.cs_model.proofs.Combining.{end_same}
 use Rattle.cs_model.proofs.Answering.{prim_receiver_same}
 use Rattle.cs_model.proofs.Executing.{exec_alike}
-use Rattle.cs_model.proofs.Searching.{given_same, sender_birth_same, is_live_same}
+use Rattle.cs_model.proofs.Returning.{back_alike}
+use Rattle.cs_model.proofs.Searching.{given_same}
 use Rattle.cs_model.proofs.Sending.{begins_at_same, look_from_same}
 use Rattle.cs_model.proofs.Happening.{is_idle_same}
 use Rattle.cs_model.proofs.Stepping.{MessageHeld, message_in_same, return_in_same, instruction_at_same, stops_alike, if_step, step_alike, run_by_alike}
@@ -65,7 +66,7 @@ is_built_op_same k (op.Prim i j) = is true
 is_built_op_same k (op.PushVec i j) = is true
 is_built_op_same k (op.StoreVec i j) = is true
 is_built_op_same k (op.PopVec i j) = is true
-is_built_op_same k (op.Closure copied args size) = is false
+is_built_op_same k (op.Closure copied args size) = is true
 is_built_op_same k (op.Jump offset) = is true
 is_built_op_same k (op.JumpTrue offset) = is true
 is_built_op_same k (op.JumpFalse offset) = is true
@@ -94,19 +95,22 @@ is_built_send_same k p h =
 
 -- ---- returns
 
-is_built_target_same : {v m : Kept} {o p : Option ℕ} → Keeps v m → SameOption (Has v) o p → Same Any (is_built_target v o) (is_built_target m p)
-is_built_target_same k none = is false
-is_built_target_same k (some target h) = and_same (is_live_same k (same target h)) (value (λ i. not (target == i)) (active_birth_same k))
+is_built_call_same : {v m : Kept} → Keeps v m → (special args : ℕ) → Same Any (is_built_call v special args) (is_built_call m special args)
+is_built_call_same k special args =
+    given_same _ _ (special_at_same k special) (is true) (λ selector h. is_built_send_same k (record { selector = selector; args = args; above = None }) (h, tt))
 
-pub is_built_return_same : {v m : Kept} → Keeps v m → (local : Bool) → Same Any (is_built_return v local) (is_built_return m local)
-is_built_return_same k local = and_same (is local) (is_built_target_same k (sender_birth_same k (active_birth_same k)))
+is_built_back_same : {v : Kept} {a b : Out} → Alike v a b → Same Any (is_built_back a) (is_built_back b)
+is_built_back_same h = given_same _ _ (plain (value call_in (end_same h))) (is true) (λ c g. is_built_call_same h.keeps c.0 c.1)
+
+pub is_built_return_same : {v m : Kept} {x y : Ref} → Keeps v m → Same (IsHeld v) x y → (local : Bool) → Same Any (is_built_return v x local) (is_built_return m y local)
+is_built_return_same k s local = is_built_back_same (back_alike k s local)
 
 -- ---- a step
 
 is_built_out_same : {v : Kept} {a b : Out} → Alike v a b → Same Any (is_built_out a) (is_built_out b)
 is_built_out_same {a = a} h =
     given_same _ _ (message_in_same a.state (end_same h))
-    (given_same _ _ (return_in_same a.state (end_same h)) (is true) (λ p g. is_built_return_same h.keeps p.1))
+    (given_same _ _ (return_in_same a.state (end_same h)) (is true) (λ p g. is_built_return_same h.keeps (same p.0 g) p.1))
     (λ p g. is_built_send_same h.keeps p g)
 
 is_built_from_same : {v m : Kept} → Keeps v m → (o : Op) → Same Any (is_built_from v o) (is_built_from m o)

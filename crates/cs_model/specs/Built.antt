@@ -1,25 +1,25 @@
 -- Which steps are built so far. A step that isn't built stops with NotBuilt; any other one is the step of the model.
-use Rattle.std.specs.Prelude.{ℕ, ◌+◌, ◌==◌, ◌&&◌, ◌||◌, not, Bool, true, false, nat_lt, if◌then◌else◌, Option, Some, None}
+use Rattle.std.specs.Prelude.{ℕ, ◌+◌, ◌==◌, ◌&&◌, ◌||◌, not, Bool, true, false, nat_lt, nat_le, if◌then◌else◌, Option, Some, None}
 use Rattle.cs_model.specs.declared.stop.Stop.TheVariants as why
 use Rattle.cs_model.specs.declared.instruction.Op.{Op}
 use Rattle.cs_model.specs.declared.instruction.Op.TheVariants.{PushRcvr, PushTemp, PushLit, PushLitVar, PopRcvr, PopTemp, PopLitVar, StoreRcvr, StoreTemp, StoreLitVar, PushSelf, PushTrue, PushFalse, PushNil, PushInt, ReturnSelf, ReturnTrue, ReturnFalse, ReturnNil, ReturnTop, BlockReturn, Send, SendSuper, Pop, Dup, ThisContext, NewArray, PopArray, Prim, PushVec, StoreVec, PopVec, Closure, Jump, JumpTrue, JumpFalse, Special, Common}
 use Rattle.cs_model.specs.Ref.{Ref}
 use Rattle.cs_model.specs.Obj.{header_in, bytecodes_in, argument_count, primitive_number}
-use Rattle.cs_model.specs.State.{Kept, State, object_of}
+use Rattle.cs_model.specs.State.{Kept, State, object_of, special_at}
 use Rattle.cs_model.specs.Context.{is_context_ref}
-use Rattle.cs_model.specs.Read.{active_birth, pc_of, depth_of, receiver_of}
+use Rattle.cs_model.specs.Read.{pc_of, depth_of, receiver_of}
 use Rattle.cs_model.specs.Operation.{set_pc_of}
 use Rattle.cs_model.specs.Exec.{exec}
 use Rattle.cs_model.specs.Lookup.{Sought}
 use Rattle.cs_model.specs.Lookup as sought
 use Rattle.cs_model.specs.Send.{begins_at, look_from}
-use Rattle.cs_model.specs.Return.{is_live, sender_birth}
+use Rattle.cs_model.specs.Return.{back}
 use Rattle.cs_model.specs.Due.{is_idle}
 use Rattle.cs_model.specs.PrimAnswer.{receiver}
 use Rattle.cs_model.specs.End.{Out, no_count, given}
-use Rattle.cs_model.specs.Step.{Message, message_in, return_in, instruction_at, birth_limit, Step, step, stops, Ran, run_by}
+use Rattle.cs_model.specs.Step.{Message, call_in, message_in, return_in, instruction_at, birth_limit, Step, step, stops, Ran, run_by}
 
--- ---- instructions: all but those that make an object, and writes to the fields of a receiver that is a context
+-- ---- instructions: all but those that make an Array, and writes to the fields of a receiver that is a context
 
 abbrev pub is_built_op : Op → Kept → Bool
 is_built_op (PushRcvr i) k = true
@@ -54,18 +54,26 @@ is_built_op (Prim i j) k = true
 is_built_op (PushVec i j) k = true
 is_built_op (StoreVec i j) k = true
 is_built_op (PopVec i j) k = true
-is_built_op (Closure copied args size) k = false
+is_built_op (Closure copied args size) k = true
 is_built_op (Jump offset) k = true
 is_built_op (JumpTrue offset) k = true
 is_built_op (JumpFalse offset) k = true
 is_built_op (Special i) k = true
 is_built_op (Common i) k = true
 
--- ---- sends: a method that is found, of the right number of arguments, has no primitive, or one of 1, 210, 212 and 900, or 73 where
--- the receiver is a context; where the send stops, that is built too
+-- ---- sends: a method that is found, of the right number of arguments, has no primitive, or one that is built, or 73 where the
+-- receiver is a context; where the send stops, that is built too
 
+-- the primitives that evaluate closures, and those that look for marks
+abbrev pub evaluates : ℕ → Bool
+evaluates number = (nat_le 201 number && nat_le number 206) || number == 221 || number == 222
+
+abbrev pub is_about_marks : ℕ → Bool
+is_about_marks number = number == 195 || (nat_le 197 number && nat_le number 199)
+
+-- and besides those that add, that look at a context, and that write
 abbrev pub is_built_for_all : ℕ → Bool
-is_built_for_all number = number == 1 || number == 210 || number == 212 || number == 900
+is_built_for_all number = number == 1 || is_about_marks number || evaluates number || number == 210 || number == 212 || number == 900
 
 abbrev pub is_built_number : Kept → ℕ → Option ℕ → Bool
 is_built_number k args None = true
@@ -84,20 +92,22 @@ is_built_found k args sought.Loop = true
 abbrev pub is_built_send : Kept → Message → Bool
 is_built_send k m = if nat_lt m.args (depth_of k) then is_built_found k m.args (look_from k m.selector (begins_at k m.args m.above)) else true
 
--- ---- returns: a local one, into a sender that is live and isn't the active context itself
+-- ---- returns: all of them, where the message that one leads to is built
 
-abbrev pub is_built_target : Kept → Option ℕ → Bool
-is_built_target k None = false
-is_built_target k (Some target) = is_live k target && not (target == active_birth k)
+abbrev pub is_built_call : Kept → ℕ → ℕ → Bool
+is_built_call k special args = given (special_at k special) true (λ selector. is_built_send k (record { selector = selector; args = args; above = None }))
 
-abbrev pub is_built_return : Kept → Bool → Bool
-is_built_return k local = local && is_built_target k (sender_birth k (active_birth k))
+abbrev pub is_built_back : Out → Bool
+is_built_back o = given (call_in o.end) true (λ c. is_built_call o.state c.0 c.1)
+
+abbrev pub is_built_return : Kept → Ref → Bool → Bool
+is_built_return k value local = is_built_back (back k value local)
 
 -- ---- a step
 
 -- what an instruction leads to
 abbrev pub is_built_out : Out → Bool
-is_built_out o = given (message_in o.end) (given (return_in o.end) true (λ p. is_built_return o.state p.1)) (λ m. is_built_send o.state m)
+is_built_out o = given (message_in o.end) (given (return_in o.end) true (λ p. is_built_return o.state p.0 p.1)) (λ m. is_built_send o.state m)
 
 -- an instruction, with the pc moved past it
 abbrev pub is_built_from : Kept → Op → Bool
