@@ -1,12 +1,12 @@
 -- Where a world keeps its activations: those that are frames on stack pages, and the rules that hold of them.
-use Rattle.std.specs.Prelude.{◌≡◌, ℕ, ◌+◌, ◌<◌, ◌≤◌, ◌==◌, ◌||◌, Bool, true, false, nat_le, not, if◌then◌else◌, List, [], ◌∷◌, ◌++◌, length, Option, Some, None, is_some}
+use Rattle.std.specs.Prelude.{◌≡◌, ℕ, ◌+◌, ◌<◌, ◌≤◌, ◌==◌, ◌||◌, Bool, true, false, nat_le, not, if◌then◌else◌, List, [], ◌∷◌, ◌++◌, length, Option, Some, None, is_some, map}
 use Rattle.std.specs.List.{AllByRecursion, concat, filter, list_any}
 use Rattle.std.specs.FinMap.{get}
 use Rattle.cs_heap.specs.Object.{used}
 use Rattle.cs_classes.specs.Meaning.{objects_of}
 use Rattle.cs_model.specs.Obj.{Obj, Context, Ctx, context_in, is_context_at}
 use Rattle.cs_model.specs.State.{Kept, object_at}
-use Rattle.cs_model.specs.Return.{sender_birth}
+use Rattle.cs_model.specs.Return.{is_among, sender_birth}
 use Rattle.cs_model.specs.Demand.{words_in}
 use Rattle.cs_acts.specs.Names.{Store}
 
@@ -89,7 +89,7 @@ abbrev pub IsLaidOut : Store → Kept → Option Layout → Type 0
 IsLaidOut s k None = IsPlain s k
 IsLaidOut s k (Some l) = IsLaid s k l
 
--- ---- entering and leaving
+-- ---- entering, leaving, and cutting the chain of senders
 
 -- A new context stands above the active one where its frame fits there, else alone on a page that is taken.
 abbrev pub entered : Kept → ℕ → List (List ℕ) → List (List ℕ)
@@ -106,6 +106,23 @@ left target [] = touched target []
 left target ([] ∷ pages) = touched target pages
 left target ((i ∷ []) ∷ pages) = touched target pages
 left target ((i ∷ j ∷ is) ∷ pages) = (j ∷ is) ∷ pages
+
+-- What is left of a page where these contexts die: the frames below those that do. Where one dies below a frame that stays, the page is
+-- given up.
+abbrev pub none_dies : List ℕ → List ℕ → Bool
+none_dies dying page = not (list_any (λ i. is_among i dying) page)
+
+unfoldable pub left_of : List ℕ → List ℕ → List ℕ
+left_of dying [] = []
+left_of dying (i ∷ is) = if is_among i dying then left_of dying is else (if none_dies dying is then i ∷ is else [])
+
+abbrev pub has_frame : List ℕ → Bool
+has_frame [] = false
+has_frame (i ∷ is) = true
+
+-- these contexts have died, and then the target is active
+abbrev pub cut : List ℕ → ℕ → List (List ℕ) → List (List ℕ)
+cut dying target pages = touched target (filter has_frame (map (left_of dying) pages))
 
 -- the layout behind a call, where the world tells one
 abbrev pub LaidBy : (List (List ℕ) → List (List ℕ)) → Option Layout → Option Layout → Type 0

@@ -3,8 +3,9 @@ ghost use Rattle.std.specs.Prelude.{◌≡◌, ◌<◌, ◌≤◌, ◌-◌, ℕ,
 ghost use Rattle.cs_model.specs.Obj.{context_in, lies_in};
 ghost use Rattle.cs_model.specs.State.{Kept, object_at, object_of};
 ghost use Rattle.cs_model.specs.Keeps.{Keeps, SameKept};
+ghost use Rattle.cs_model.specs.Enter.{enter_block_of};
 ghost use Rattle.cs_model.specs.Read.{active_birth, active_context, depth_of, method_of, pc_of, receiver_of, size_of, stack_of};
-ghost use Rattle.cs_model.specs.Operation.{add_of, enter_of, leave_of, next_ref, nil_of, pop_of, push_of, set_pc_of, set_stack_of, store_of};
+ghost use Rattle.cs_model.specs.Operation.{add_of, cut_to_of, enter_of, leave_of, next_ref, nil_of, pop_of, push_of, set_pc_of, set_stack_of, store_of};
 ghost use Rattle.cs_model.specs.Return.{closure_at, context_birth, has_room, is_live, sender_birth};
 ghost use Rattle.cs_model.specs.Context.{is_context_ref};
 ghost use Rattle.cs_model.specs.Ref as ref;
@@ -12,11 +13,11 @@ ghost use Rattle.cs_heap.specs.Object.{size};
 ghost use Rattle.cs_acts.specs.declared.act.Act.{Act};
 ghost use Rattle.cs_acts.specs.declared.act.Full.TheVariants as full;
 ghost use Rattle.cs_acts.specs.Full.{CausesFull};
-ghost use Rattle.cs_acts.specs.Layout.{IsLaidOut, LaidBy, Layout, entered, left};
+ghost use Rattle.cs_acts.specs.Layout.{IsLaidOut, LaidBy, Layout, cut, entered, left};
 ghost use Rattle.cs_acts.specs.Made.{CanAllocate, MakesAtMost, blank_of, made_by_entering, made_by_reading};
 ghost use Rattle.cs_acts.specs.Names.{IsNamed, KeepsNames, Names, NamesOption, Store, name_of};
 ghost use Rattle.cs_acts.specs.Ready.{IsReady, IsSound, is_storable};
-ghost use Rattle.cs_acts.specs.Targets.{CanArrive, CanEnter, field_of, is_gone, method_in};
+ghost use Rattle.cs_acts.specs.Targets.{CanArrive, CanCut, CanEnter, CanEnterBlock, dying_to, field_of, is_gone, method_in};
 
 use crate::{Act, Full};
 use cs_classes::{Classes, Roots};
@@ -289,6 +290,23 @@ pub trait World {
         ensures names { OnOk result (KeepsNames (stored self.old) (stored self.new)) }
         ensures full { IfErr result (CausesFull (stored self.new) (layout self.old) (view self.old) 0 (enter_of (view self.old) (name_of (stored self.old) method) args skip)) };
 
+    /// Enters the block of a closure: closure and arguments leave the active stack, and a new context is active, with the old one as its
+    /// sender. Its method and receiver are those of the closure's outer context.
+    ///
+    /// A refusal ends the run, so nothing is said of the world behind it.
+    fn enter_block(&mut self, closure: Oop, args: u32) -> Result<(), Full>
+        requires ready { IsReady (stored self.old) (view self.old) }
+        requires named { IsNamed (stored self.old) closure }
+        requires fits { CanEnterBlock (view self.old) (name_of (stored self.old) closure) args }
+        ensures state { OnOk result ((m : Kept) → Keeps (view self.old) m → Keeps (view self.new) (enter_block_of m (name_of (stored self.old) closure) args)) }
+        ensures exact { OnOk result (layout self.old ≡ None → SameKept (view self.new) (enter_block_of (view self.old) (name_of (stored self.old) closure) args)) }
+        ensures layout { OnOk result (LaidBy (entered (view self.old) (view self.old).rest.next) (layout self.old) (layout self.new)) }
+        ensures limit { (stored self.new).memory.limit ≡ (stored self.old).memory.limit }
+        ensures contexts { OnOk result (MakesAtMost (made_by_entering (view self.old) (layout self.old)) (layout self.old) (stored self.old) (stored self.new)) }
+        ensures ready { OnOk result (IsReady (stored self.new) (view self.new)) }
+        ensures names { OnOk result (KeepsNames (stored self.old) (stored self.new)) }
+        ensures full { IfErr result (CausesFull (stored self.new) (layout self.old) (view self.old) 0 (enter_block_of (view self.old) (name_of (stored self.old) closure) args)) };
+
     /// Returns a value: the active context dies, its sender is active, and the value is pushed there.
     ///
     /// A refusal ends the run, so nothing is said of the world behind it.
@@ -305,4 +323,22 @@ pub trait World {
         ensures names { OnOk result (KeepsNames (stored self.old) (stored self.new)) }
         ensures heap_alone { IfErr result (λ why. why ≡ full.Heap) }
         ensures full { IfErr result (CausesFull (stored self.new) (layout self.old) (view self.old) 0 (leave_of (view self.old) (name_of (stored self.old) v))) };
+
+    /// Returns a value past a home that is met among the senders of the active context: all contexts from the active one to the home die,
+    /// the home's sender is active, and the value is pushed there.
+    ///
+    /// A refusal ends the run, so nothing is said of the world behind it.
+    fn cut_to(&mut self, home: Act, v: Oop) -> Result<(), Full>
+        requires ready { IsReady (stored self.old) (view self.old) }
+        requires named { IsNamed (stored self.old) v }
+        requires target { IsSomeAnd (act self.old home) (λ birth. IsSomeAnd (sender_birth (view self.old) birth) (CanCut (view self.old) birth)) }
+        ensures state { OnOk result (IfSome (act self.old home) (λ birth. IfSome (sender_birth (view self.old) birth) (λ target. (m : Kept) → Keeps (view self.old) m → Keeps (view self.new) (cut_to_of m (dying_to (view self.old) birth) target (name_of (stored self.old) v))))) }
+        ensures exact { OnOk result (layout self.old ≡ None → IfSome (act self.old home) (λ birth. IfSome (sender_birth (view self.old) birth) (λ target. SameKept (view self.new) (cut_to_of (view self.old) (dying_to (view self.old) birth) target (name_of (stored self.old) v))))) }
+        ensures layout { OnOk result (IfSome (act self.old home) (λ birth. IfSome (sender_birth (view self.old) birth) (λ target. LaidBy (cut (dying_to (view self.old) birth) target) (layout self.old) (layout self.new)))) }
+        ensures limit { (stored self.new).memory.limit ≡ (stored self.old).memory.limit }
+        ensures contexts { OnOk result (MakesAtMost 0 (layout self.old) (stored self.old) (stored self.new)) }
+        ensures ready { OnOk result (IsReady (stored self.new) (view self.new)) }
+        ensures names { OnOk result (KeepsNames (stored self.old) (stored self.new)) }
+        ensures heap_alone { IfErr result (λ why. why ≡ full.Heap) }
+        ensures full { IfErr result (λ why. IfSome (act self.old home) (λ birth. IfSome (sender_birth (view self.old) birth) (λ target. CausesFull (stored self.new) (layout self.old) (view self.old) 0 (cut_to_of (view self.old) (dying_to (view self.old) birth) target (name_of (stored self.old) v)) why))) };
 }
