@@ -1,5 +1,5 @@
 -- What a primitive gives, beside what the model gives.
-use Rattle.std.specs.Prelude.{◌≡◌, ◌⊎◌, Option}
+use Rattle.std.specs.Prelude.{◌≡◌, ◌⊎◌, ℕ, Option}
 use Rattle.cs_model.specs.State.{Kept}
 use Rattle.cs_model.specs.Keeps.{Keeps}
 use Rattle.cs_model.specs.End.{End, Out}
@@ -9,7 +9,8 @@ use Rattle.cs_acts.specs.declared.act.Full.TheVariants.{Heap, Stack}
 use Rattle.cs_acts.specs.declared.prim.PrimEnd.{PrimEnd}
 use Rattle.cs_acts.specs.declared.prim.PrimEnd.TheVariants.{Answer, Entered, Fail, Stop, Full}
 use Rattle.cs_acts.specs.Full.{CausesFull}
-use Rattle.cs_acts.specs.Layout.{Layout}
+use Rattle.cs_acts.specs.Layout.{LaidBy, Layout, entered}
+use Rattle.cs_acts.specs.Made.{MakesAtMost, made_by_entering}
 use Rattle.cs_acts.specs.Names.{Store, KeepsNames}
 use Rattle.cs_acts.specs.Ready.{IsReady}
 
@@ -29,10 +30,35 @@ EndsWithout Heap end = IsSuccess end
 EndsWithout Stack end = end ≡ ends.Entered
 
 -- A primitive called in a world of the view k and of this layout, with the view v and the store behind it, ends as in the model. It
--- finds no room only where the model succeeds, for what that makes.
-abbrev pub PrimGives : Store → Store → Option Layout → Kept → Kept → PrimEnd → Out → Type 0
-PrimGives old new l k v Answer o = (o.end ≡ ends.Answer) × GoesOn old new v o
-PrimGives old new l k v Entered o = (o.end ≡ ends.Entered) × GoesOn old new v o
-PrimGives old new l k v Fail o = (o.end ≡ ends.Fail) × (v ≡ k) × GoesOn old new v o
-PrimGives old new l k v (Stop reason) o = o.end ≡ ends.Stopped reason
-PrimGives old new l k v (Full why) o = EndsWithout why o.end × CausesFull new l k o.count.objects o.state why
+-- finds no room only where the model succeeds, for what that makes; a context is entered from the state `from`, which is k but for
+-- arguments that are on the stack one by one by then.
+abbrev pub PrimGives : Store → Store → Option Layout → Kept → Kept → Kept → PrimEnd → Out → Type 0
+PrimGives old new l k from v Answer o = (o.end ≡ ends.Answer) × GoesOn old new v o
+PrimGives old new l k from v Entered o = (o.end ≡ ends.Entered) × GoesOn old new v o
+PrimGives old new l k from v Fail o = (o.end ≡ ends.Fail) × (v ≡ k) × GoesOn old new v o
+PrimGives old new l k from v (Stop reason) o = o.end ≡ ends.Stopped reason
+PrimGives old new l k from v (Full why) o = EndsWithout why o.end × CausesFull new l from o.count.objects o.state why
+
+-- where there was room
+abbrev pub UnlessFull : PrimEnd → Type 0 → Type 0
+UnlessFull Answer P = P
+UnlessFull Entered P = P
+UnlessFull Fail P = P
+UnlessFull (Stop reason) P = P
+UnlessFull (Full why) P = Unit {0}
+
+-- where the frames are behind a primitive: one more where a context was entered
+abbrev pub PrimLaid : Kept → PrimEnd → Option Layout → Option Layout → Type 0
+PrimLaid from Answer before after = after ≡ before
+PrimLaid from Entered before after = LaidBy (entered from from.rest.next) before after
+PrimLaid from Fail before after = after ≡ before
+PrimLaid from (Stop reason) before after = after ≡ before
+PrimLaid from (Full why) before after = Unit {0}
+
+-- and how many contexts it made in the heap at most: one for a look, or that of the context from which another one was entered
+abbrev pub PrimMakes : Kept → PrimEnd → ℕ → Option Layout → Store → Store → Type 0
+PrimMakes from Answer looks l old new = MakesAtMost looks l old new
+PrimMakes from Entered looks l old new = MakesAtMost (made_by_entering from l) l old new
+PrimMakes from Fail looks l old new = MakesAtMost 0 l old new
+PrimMakes from (Stop reason) looks l old new = MakesAtMost 0 l old new
+PrimMakes from (Full why) looks l old new = Unit {0}

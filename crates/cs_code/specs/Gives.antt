@@ -1,5 +1,6 @@
 -- What a call of this crate gives, beside what the model gives.
-use Rattle.std.specs.Prelude.{◌≡◌, Bool, true, false, IfSome, Option, None, option_map}
+use Rattle.std.specs.Prelude.{◌≡◌, ◌⊎◌, ◌<◌, Bool, true, false, IfSome, Option, None, option_map}
+use Rattle.cs_model.specs.declared.stop.Stop.TheVariants as stops
 use Rattle.cs_model.specs.State.{Kept}
 use Rattle.cs_model.specs.Keeps.{Keeps, SameKept}
 use Rattle.cs_model.specs.End.{End, Out}
@@ -13,7 +14,7 @@ use Rattle.cs_acts.specs.Ready.{IsReady}
 use Rattle.cs_code.specs.declared.end.CodeEnd.{CodeEnd}
 use Rattle.cs_code.specs.declared.end.CodeEnd.TheVariants.{Done, Send, Return, Stop, Full}
 
--- the world has no room for what an instruction looks at
+-- the world has no room for what an instruction makes or looks at
 abbrev pub is_refused : CodeEnd → Bool
 is_refused Done = false
 is_refused (Send selector args above) = false
@@ -48,8 +49,12 @@ pub record Gives (old new : Store) (before : Option Layout) (k : Kept) (found : 
   pub ready : IsReady new k
   pub names : KeepsNames old new
 
--- the model does all of it, and the heap of the world has no room for what it looks at
+-- the model does all of it, or what it makes finds no room on the stack behind its making
+abbrev pub IsMade : Out → Type 0
+IsMade o = (o.end ≡ ends.Done) ⊎ ((o.end ≡ ends.Stopped stops.StackOver) × (0 < o.count.objects))
+
+-- and the heap of the world has no room for what it makes, or looks at
 pub record Refuses (new : Store) (before : Option Layout) (k : Kept) (o : Out) (why : Why) : Type 0 where
-  pub end : o.end ≡ ends.Done
+  pub end : IsMade o
   pub heap_alone : why ≡ Heap
   pub cause : CausesFull new before k o.count.objects o.state why

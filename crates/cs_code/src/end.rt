@@ -22,6 +22,6 @@ pub enum CodeEnd {
     },
     /// The step stops.
     Stop(Stop),
-    /// There is no room for a context that the instruction looks at.
+    /// There is no room for what the instruction makes, or for a context that it looks at.
     Full(Full),
 }

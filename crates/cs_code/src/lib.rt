@@ -3,7 +3,7 @@
 //! The pc has been moved past the instruction when it is done. Where it sends or returns, that is left to who asked for it.
 #![tactic(auto)]
 
-ghost use Rattle.std.specs.Prelude.{◌≡◌, false};
+ghost use Rattle.std.specs.Prelude.{◌≡◌, ◌<◌, false};
 ghost use Rattle.cs_acts.specs.declared.act.Full.{Full};
 ghost use Rattle.cs_acts.specs.Ready.{IsReady};
 ghost use Rattle.cs_code.specs.Built.{built_exec};
@@ -24,10 +24,13 @@ use cs_acts::World;
 use cs_model::{Instr, Op, Stop};
 pub use end::CodeEnd;
 
-/// Does one instruction. `Full` comes only from a look at a context, where all else would be done.
+/// Does one instruction. `Full` comes only for what it makes, or from a look at a context.
+///
+/// A birth must be left for what it makes.
 #[tactic(auto, unfolding(crate::specs::Built::built_exec, cs_model::specs::Exec::exec))]
 pub fn exec<W: World>(i: &Instr, w: &mut W) -> CodeEnd
-    requires { IsReady (W.stored w.old) (W.view w.old) }
+    requires ready { IsReady (W.stored w.old) (W.view w.old) }
+    requires births { (W.view w.old).rest.next < 4611686018427387904 }
     ensures gives { is_refused result ≡ false → Gives (W.stored w.old) (W.stored w.new) (W.layout w.old) (W.view w.new) result (built_exec i.now.op (W.view w.old)) }
     ensures full { (why : Full) → result ≡ ends.Full why → Refuses (W.stored w.new) (W.layout w.old) (W.view w.old) (built_exec i.now.op (W.view w.old)) why }
     ensures layout { is_refused result ≡ false → W.layout w.new ≡ W.layout w.old }

@@ -21,9 +21,8 @@ use Rattle.cs_acts.specs.declared.act.Full.TheVariants.{Heap, Stack}
 use Rattle.cs_acts.specs.declared.prim.PrimEnd.TheVariants as prims
 use Rattle.cs_acts.specs.Layout.{Layout}
 use Rattle.cs_acts.specs.Names.{Store}
-use Rattle.cs_acts.specs.Primed.{GoesOn, IsSuccess, PrimGives}
+use Rattle.cs_acts.specs.Primed.{GoesOn, IsSuccess, PrimGives, UnlessFull}
 use Rattle.cs_acts.specs.declared.prim.PrimEnd.{PrimEnd}
-use Rattle.cs_prim_ctx.specs.Answered.{UnlessFull}
 use Rattle.cs_prim_ctx.specs.Numbers.{reads_context}
 use Rattle.cs_core.specs.Stepped.{DoneIn, EndsBy, Fails, IsOver, Overfills, TurnGives, run_at, state_at, trying}
 use Rattle.cs_core.specs.declared.step.StepEnd.{StepEnd}
@@ -113,13 +112,13 @@ module _ (k : Kept) (x : Ref) (number args : ℕ) (count : arguments_of k x ≡ 
       go (answers n y e s) = let no : ends.Answer ≡ ends.Stopped reason = sym e ∙ h in cc
       go (fails e s) = let no : ends.Fail ≡ ends.Stopped reason = sym e ∙ h in cc
 
-  pub read_over : (v : Kept) (l n : Option Layout) (told : Option (List ℕ)) (old s : Store) (e : StepEnd) (r : PrimEnd) → IsRunning k → (r ≡ prims.Answer) ⊎ (r ≡ prims.Entered) → PrimGives old s l k v r made → UnlessFull r (n ≡ l) → EndsBy v e
+  pub read_over : (v : Kept) (l n : Option Layout) (told : Option (List ℕ)) (old s : Store) (e : StepEnd) (r : PrimEnd) → IsRunning k → (r ≡ prims.Answer) ⊎ (r ≡ prims.Entered) → PrimGives old s l k k v r made → UnlessFull r (n ≡ l) → EndsBy v e
       → TurnGives (trying k x number) k l told told s v n e
   read_over v l n told old s e r running (inl is) gives still by =
-      let g = subst (λ r. PrimGives old s l k v r made) is gives in
+      let g = subst (λ r. PrimGives old s l k k v r made) is gives in
       read_gives v l n told old s e running (subst (λ r. UnlessFull r (n ≡ l)) is still) g.0 g.1 by
   read_over v l n told old s e r running (inr is) gives still by =
-      let g = subst (λ r. PrimGives old s l k v r made) is gives in
+      let g = subst (λ r. PrimGives old s l k k v r made) is gives in
       absurd (not_entered g.0)
 
   pub read_fails : made.end ≡ ends.Fail → Fails k x number
@@ -128,14 +127,14 @@ module _ (k : Kept) (x : Ref) (number args : ℕ) (count : arguments_of k x ≡ 
     end = λ r. ap (λ n. (prim number n (with_kept k r)).out.end) count ∙ ap (λ (p : Result). p.out.end) (reads_by (with_kept k r) number args reads).is ∙ end;
   }
 
-  pub read_full : (v : Kept) (l n : Option Layout) (told : Option (List ℕ)) (old s : Store) (why : Why) → PrimGives old s l k v (prims.Full why) made → TurnGives (trying k x number) k l told told s v n (Full why)
+  pub read_full : (v : Kept) (l n : Option Layout) (told : Option (List ℕ)) (old s : Store) (why : Why) → PrimGives old s l k k v (prims.Full why) made → TurnGives (trying k x number) k l told told s v n (Full why)
   read_full v l n told old s why h = (refl, λ output steps. (is_built, overfills why h output steps))
     where
       ends_by : IsSuccess made.end → made.end ≡ ends.Answer
       ends_by (inl e) = e
       ends_by (inr e) = absurd (not_entered e)
 
-      overfills : (why : Why) → PrimGives old s l k v (prims.Full why) made → (output : List ℕ) (steps : ℕ) → Overfills s l k (trying k x number output steps).result.out why
+      overfills : (why : Why) → PrimGives old s l k k v (prims.Full why) made → (output : List ℕ) (steps : ℕ) → Overfills s l k (trying k x number output steps).result.out why
       overfills Heap (end, cause) output steps =
           subst (λ (p : Result). Overfills s l k p.out Heap) (sym (tried output steps (ends_by end))) (record { end = subst IsOver (sym (ends_by end)) tt; cause = cause })
       overfills Stack (end, cause) output steps = absurd (not_entered end)

@@ -18,10 +18,10 @@ ghost use Rattle.cs_acts.specs.declared.act.Full.TheVariants as full;
 ghost use Rattle.cs_acts.specs.Full.{CausesFull};
 ghost use Rattle.cs_acts.specs.Made.{MakesAtMost, made_by_reading};
 ghost use Rattle.cs_acts.specs.Names.{IsNamed, Names, NamesOption, Store, name_of};
-ghost use Rattle.cs_acts.specs.Primed.{PrimGives};
+ghost use Rattle.cs_acts.specs.Primed.{PrimGives, UnlessFull};
 ghost use Rattle.cs_acts.specs.Ready.{IsReady};
 ghost use Rattle.cs_acts.specs.Targets.{field_of};
-ghost use Rattle.cs_prim_ctx.specs.Answered.{Leads, Performs, UnlessFull};
+ghost use Rattle.cs_prim_ctx.specs.Answered.{Leads, Performs};
 ghost use Rattle.cs_prim_ctx.specs.Numbers.{reads_context};
 
 use cs_acts::read::is_context;
@@ -47,7 +47,7 @@ pub fn primitive<W: World>(w: &mut W, number: u32, args: u32) -> PrimEnd
     requires ready { IsReady (W.stored w.old) (W.view w.old) }
     requires number { reads_context (W.view w.old) number args ≡ true }
     requires there { args < depth_of (W.view w.old) }
-    ensures gives { PrimGives (W.stored w.old) (W.stored w.new) (W.layout w.old) (W.view w.old) (W.view w.new) result (kept_prim number args (W.view w.old)) }
+    ensures gives { PrimGives (W.stored w.old) (W.stored w.new) (W.layout w.old) (W.view w.old) (W.view w.old) (W.view w.new) result (kept_prim number args (W.view w.old)) }
     ensures exact { UnlessFull result (W.layout w.old ≡ None → SameKept (W.view w.new) (kept_prim number args (W.view w.old)).state) }
     ensures layout { UnlessFull result (W.layout w.new ≡ W.layout w.old) }
     ensures limit { (W.stored w.new).memory.limit ≡ (W.stored w.old).memory.limit }

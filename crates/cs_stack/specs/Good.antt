@@ -10,7 +10,7 @@ use Rattle.cs_frame.specs.Page as page
 use Rattle.cs_frame.specs.Page.{frames_of, top}
 use Rattle.cs_marriage.specs.Agree.{Agree, frame_size}
 use Rattle.cs_model.specs.Obj.{context_class}
-use Rattle.cs_model.specs.Context.{lies_if_index, lies_if_live}
+use Rattle.cs_model.specs.Context.{closure_class, lies_if_index, lies_if_live}
 use Rattle.cs_pages.specs.Order.{IsSound}
 use Rattle.cs_stack.specs.declared.parts.Parts.{Parts}
 use Rattle.cs_stack.specs.View.{is_linked}
@@ -91,3 +91,4 @@ pub record IsGood (w : Parts) : Type 0 where
   pub chain : IsChain w.frames w.pages.recent
   -- a frame may become an object: contexts have a class
   pub entry : 0 < length w.pages.recent → is_some (get w.classes context_class) ≡ true
+  pub closures : is_some (get w.classes closure_class) ≡ true
