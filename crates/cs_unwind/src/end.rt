@@ -1,0 +1,17 @@
+//! What a return leads to.
+use cs_acts::Full;
+use cs_model::Stop;
+
+/// What a return leads to.
+#[derive(Clone, Copy, Debug, PartialEq, Eq)]
+pub enum BackEnd {
+    /// The value has arrived.
+    Done,
+    /// It can't arrive yet, or at all: this special selector is to be sent to the active context, with so many arguments. Both are
+    /// pushed.
+    Call { special: u32, args: u32 },
+    /// The step stops.
+    Stop(Stop),
+    /// There is no room for a context that is to be told.
+    Full(Full),
+}
