@@ -1,5 +1,5 @@
 -- What the program answers to the words behind its name, and what it prints.
-use Rattle.std.specs.Prelude.{◌≡◌, ◌⊎◌, ℕ, ◌<◌, false, List, ◌++◌, length, codes, Option, Some, None, Ok, IfSome, IsErr}
+use Rattle.std.specs.Prelude.{◌≡◌, ◌⊎◌, ℕ, ◌<◌, true, false, List, ◌++◌, length, codes, Option, Some, None, Ok, IfSome, IsErr}
 use Rattle.cs_shelf.specs.Outside.{Appends, AppendsPart, Fault, Rose, read_fault}
 use Rattle.cs_model.specs.State.{Kept}
 use Rattle.cs_model.specs.Image.{image_of}
@@ -8,13 +8,15 @@ use Rattle.cs_model.specs.Settle.{open_kept}
 use Rattle.cs_model.specs.Line.{Said}
 use Rattle.cs_model.specs.Demand.{words_in}
 use Rattle.cs_model.specs.End as ends
-use Rattle.cs_model.specs.End.{End}
+use Rattle.cs_model.specs.End.{Out}
+use Rattle.cs_model.specs.Built.{is_built_bytecode}
 use Rattle.cs_model.specs.Step as model
 use Rattle.cs_model.specs.Step.{bytecode}
 use Rattle.cs_model.specs.Report.{report_of}
 use Rattle.cs_image.specs.Answer.{HasBirthSection}
 use Rattle.cs_core.specs.Deep.{IsDeep, run_of, state_of}
-use Rattle.cs_core.specs.Stepped.{IsNext, IsOver}
+use Rattle.cs_core.specs.Stepped.{IsNext, Needs, next_turn}
+use Rattle.cs_acts.specs.declared.act.Full.TheVariants.{Heap}
 
 -- the words of 4 bytes that the heap of the machine may have
 abbrev pub heap_limit : ℕ
@@ -98,15 +100,11 @@ Printed a out status =
 
 -- ---- a run
 
--- so many of n bytecodes from k are done, and another one is to be done, which is built
+-- so many of n bytecodes from k are done, and another one is to be done
 pub record IsUnderWay (k : Kept) (n done : ℕ) : Type 0 where
   pub fewer : done < n
   pub ending : (run_of k done).ending ≡ model.Steps
   pub next : IsNext (state_of k done)
-
--- how that one ends
-abbrev pub next_end : Kept → ℕ → End
-next_end k done = (bytecode (run_of k done).state).out.end
 
 -- the answers of a run that finds no room then: what it wrote, and for a full stack a line right behind that
 abbrev pub full_heap : Kept → ℕ → Answer
@@ -115,13 +113,13 @@ full_heap k done = answering 5 (run_of k done).state.run.output
 abbrev pub full_stack : Kept → ℕ → Answer
 full_stack k done = answering 10 ((run_of k done).state.run.output ++ codes "cogstack: stack\n")
 
--- n bytecodes from k are run and reported; or the next one doesn't stop, and the state that it leads to has more words than the heap's
--- limit; or it enters a method, and the contexts that have begun in the run and await a return need more than 3,900 words for each of
--- the stack pages
+-- n bytecodes from k are run and reported; or the state to which the next one leads has more words than the heap's limit, or one on its
+-- way has; or it enters a method or block, and the contexts that have begun in the run and await a return need more than 3,900 words for
+-- each of the stack pages
 pub data Reported (k : Kept) (n : ℕ) (out : Writing) (status : ℕ) : Type 0 where
   ended : Printed (run_answer (run_of k n)) out status → Reported k n out status
-  heap : (done : ℕ) → IsUnderWay k n done → IsOver (next_end k done) → heap_limit < words_in (bytecode (run_of k done).state).out.state → Printed (full_heap k done) out status → Reported k n out status
-  stack : (done : ℕ) → IsUnderWay k n done → next_end k done ≡ ends.Entered → IsDeep stack_pages k done → Printed (full_stack k done) out status → Reported k n out status
+  heap : (done : ℕ) (o : Out) → IsUnderWay k n done → Needs (next_turn (run_of k done).state) Heap o → heap_limit < words_in o.state → Printed (full_heap k done) out status → Reported k n out status
+  stack : (done : ℕ) → IsUnderWay k n done → is_built_bytecode (state_of k done) ≡ true → (bytecode (run_of k done).state).out.end ≡ ends.Entered → IsDeep stack_pages k done → Printed (full_stack k done) out status → Reported k n out status
 
 -- or memory is wanted before the run begins
 abbrev pub Begun : Kept → ℕ → Writing → ℕ → Type 0

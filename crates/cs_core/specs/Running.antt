@@ -1,9 +1,11 @@
 -- What a run gives, beside the run of the model.
-use Rattle.std.specs.Prelude.{◌≡◌, ℕ, ◌+◌, ◌*◌, ◌<◌, ◌==◌, nat_lt, if◌then◌else◌, List, Option, IfSome, IsSomeAnd}
+use Rattle.std.specs.Prelude.{◌≡◌, ℕ, ◌+◌, ◌*◌, ◌<◌, ◌==◌, nat_lt, true, if◌then◌else◌, List, Option, IfSome, IsSomeAnd}
 use Rattle.cs_shelf.specs.Outside.{Appends, AppendsPart, Rose}
 use Rattle.cs_model.specs.declared.stop.Stop.TheVariants as why
 use Rattle.cs_model.specs.State.{Kept}
 use Rattle.cs_model.specs.End as ends
+use Rattle.cs_model.specs.End.{Out}
+use Rattle.cs_model.specs.Built.{is_built_bytecode}
 use Rattle.cs_model.specs.Report.{Place as ModelPlace, place_of}
 use Rattle.cs_model.specs.Step as model
 use Rattle.cs_model.specs.Step.{birth_limit, bytecode}
@@ -20,7 +22,7 @@ use Rattle.cs_core.specs.declared.run.Ran.{Ran}
 use Rattle.cs_core.specs.declared.run.RunError.{RunError}
 use Rattle.cs_core.specs.declared.run.RunError.TheVariants.{Full, WriteFault}
 use Rattle.cs_core.specs.Deep.{IsDeep, run_of, state_of}
-use Rattle.cs_core.specs.Stepped.{IsNext, IsOver}
+use Rattle.cs_core.specs.Stepped.{IsNext, Needs, next_turn}
 
 -- what an ending and a place of the code mean in the model
 abbrev pub ending_of : Ending → model.Ending
@@ -42,18 +44,21 @@ pub record RunGives (k : Kept) (old new : Option (List ℕ)) (n : ℕ) (r : Ran)
   pub place : place_of (run_of k n).state.kept ≡ place_by r.place
   pub written : Appends old new (run_of k n).state.run.output
 
--- The next bytecode is built and doesn't stop, and the words of the state that it leads to exceed the limit of the heap. In a world
--- with pages the heap has besides no room for the objects that the bytecode makes and for a context of each frame that the pages may
--- hold: 409 to a page and two more, of 64 words each.
+-- The words of the state to which the next bytecode leads exceed the limit of the heap; or those of a state on its way there, where it
+-- stops behind an object that it made, or where its return doesn't arrive and is to be told. In a world with pages the heap has besides
+-- no room for the objects that are made and for a context of each frame that the pages may hold: 409 to a page and two more, of 64 words
+-- each.
 pub record IsHeavy (k : Kept) (s : Store) (l : Option Layout) (done : ℕ) : Type 0 where
   pub next : IsNext (state_of k done)
-  pub over : IsOver (bytecode (run_of k done).state).out.end
-  pub words : s.memory.limit < words_in (bytecode (run_of k done).state).out.state
-  pub room : IfSome l (λ laid. s.memory.limit < used s.memory.objects + (bytecode (run_of k done).state).out.count.objects + 26304 * laid.most)
+  pub out : Out
+  pub needs : Needs (next_turn (run_of k done).state) Heap out
+  pub words : s.memory.limit < words_in out.state
+  pub room : IfSome l (λ laid. s.memory.limit < used s.memory.objects + out.count.objects + 26304 * laid.most)
 
--- the next bytecode is built and enters a method, and the contexts that await a return are many for the pages that there may be
+-- the next bytecode is built and enters a method or block, and the contexts that await a return are many for the pages that there may be
 pub record IsTooDeep (k : Kept) (l : Option Layout) (done : ℕ) : Type 0 where
   pub next : IsNext (state_of k done)
+  pub built : is_built_bytecode (state_of k done) ≡ true
   pub entered : (bytecode (run_of k done).state).out.end ≡ ends.Entered
   pub deep : IsSomeAnd l (λ laid. IsDeep laid.most k done)
 

@@ -1,27 +1,30 @@
 -- What a step gives, beside the step of the model.
-use Rattle.std.specs.Prelude.{◌≡◌, ◌⊎◌, ℕ, ◌+◌, ◌==◌, nat_lt, Bool, true, false, List, ◌++◌, [], Option, Some, None}
+use Rattle.std.specs.Prelude.{◌≡◌, ◌⊎◌, ℕ, ◌+◌, ◌<◌, nat_lt, Bool, true, false, List, ◌++◌, [], length, Option, Some, None, option_map}
 use Rattle.cs_shelf.specs.Outside.{Appends, AppendsPart, Rose}
 use Rattle.cs_model.specs.declared.stop.Stop.{Stop as Reason}
 use Rattle.cs_model.specs.declared.stop.Stop.TheVariants as why
 use Rattle.cs_model.specs.Ref.{Ref}
 use Rattle.cs_model.specs.State.{Kept, Run, State}
 use Rattle.cs_model.specs.Keeps.{Keeps}
-use Rattle.cs_model.specs.Read.{active_birth}
-use Rattle.cs_model.specs.Return.{is_live, sender_birth}
+use Rattle.cs_model.specs.Read.{pc_of}
+use Rattle.cs_model.specs.Operation.{set_pc_of}
+use Rattle.cs_model.specs.Exec.{exec}
+use Rattle.cs_model.specs.Return.{back}
 use Rattle.cs_model.specs.Settle.{new_run}
 use Rattle.cs_model.specs.Due.{is_idle, without_context}
-use Rattle.cs_model.specs.End.{End, Out}
+use Rattle.cs_model.specs.End.{End, Out, given}
 use Rattle.cs_model.specs.End as ends
 use Rattle.cs_model.specs.PrimRun.{Result}
 use Rattle.cs_model.specs.PrimTable.{prim}
-use Rattle.cs_model.specs.Step.{arguments_of, Message, Step, Steps, Stopped, birth_limit, bytecode, do_return, do_send, shape_fault, try_primitive, with_kept}
-use Rattle.cs_model.specs.Built.{built_step, is_built_bytecode, is_built_number, is_built_return, is_built_send}
+use Rattle.cs_model.specs.Step.{arguments_of, Message, Step, Steps, Stopped, birth_limit, bytecode, do_call, do_return, do_send, instruction_at, return_in, shape_fault, try_primitive, with_kept}
+use Rattle.cs_model.specs.Built.{built_step, is_built_bytecode, is_built_call, is_built_number, is_built_return, is_built_send}
 use Rattle.cs_acts.specs.declared.act.Full.{Full as Why}
 use Rattle.cs_acts.specs.declared.act.Full.TheVariants.{Heap, Stack}
-use Rattle.cs_acts.specs.Full.{CausesFull}
-use Rattle.cs_acts.specs.Layout.{IsLaidOut, Layout, is_frame}
+use Rattle.cs_acts.specs.Full.{IsFullHeap}
+use Rattle.cs_acts.specs.Layout.{IsLaidOut, Layout, first_page, is_frame, page_words}
 use Rattle.cs_acts.specs.Names.{Store}
 use Rattle.cs_acts.specs.Ready.{IsReady, IsSound}
+use Rattle.cs_unwind.specs.Back.{Asks}
 use Rattle.cs_core.specs.Stacked.{IsStacked}
 use Rattle.cs_core.specs.declared.step.StepEnd.{StepEnd}
 use Rattle.cs_core.specs.declared.step.StepEnd.TheVariants.{Active, Idle, Stopped as Stop, Full, WriteFault}
@@ -68,9 +71,43 @@ pub record Lays (k : Kept) (l : Option Layout) (s : Store) (v : Kept) (n : Optio
   pub frames : FramesFrom l n v
   pub stacked : IsStacked k l → IsLaidOut s v n → IsStacked v n
 
+-- ---- parts of a step
+
+-- What a part of a step comes to: whether it is built, and what it gives, after so much output and so many steps; the return that it
+-- makes, if any, up to the message by which that is told; and how many words the first page has at least where a context that it enters
+-- finds no room there. A context needs 66 words, and up to 56 values may be pushed for its block before.
+pub record Turn : Type 0 where
+  pub built : Bool
+  pub result : Result
+  pub told : Option Out
+  pub least : ℕ
+
+abbrev pub Turns : Type 0
+Turns = List ℕ → ℕ → Turn
+
+abbrev pub least_of_send : ℕ
+least_of_send = 3974
+
+-- a message that tells of a return has up to three values more
+abbrev pub least_of_return : ℕ
+least_of_return = 3971
+
+-- the return that an instruction leads to
+abbrev pub told_by : Out → Option Out
+told_by o = option_map (λ p. back o.state p.0 p.1) (return_in o.end)
+
+-- the bytecode that is next
+abbrev pub next_turn : State → Turn
+next_turn s = record {
+  built = is_built_bytecode s.kept;
+  result = bytecode s;
+  told = given (instruction_at s.kept) None (λ i. told_by (exec i.op (set_pc_of s.kept (pc_of s.kept + i.len))));
+  least = least_of_return;
+}
+
 -- ---- no room
 
--- an instruction or a return is done, a primitive answered, or a method is entered
+-- an instruction or a return is done, a primitive answered, or a method or block is entered
 abbrev pub IsOver : End → Type 0
 IsOver ends.Done = Unit {0}
 IsOver (ends.Send selector args above) = ⊥
@@ -84,32 +121,52 @@ IsOver ends.Quit = ⊥
 IsOver ends.Snapshot = ⊥
 IsOver (ends.Stopped reason) = ⊥
 
--- how a bytecode ends in the model for which there is no room: the stack is full for a method that is entered alone
+-- how a bytecode ends in the model for which there is no room: the stack is full for a context that is entered alone
 abbrev pub EndsWithout : Why → End → Type 0
 EndsWithout Heap end = IsOver end
 EndsWithout Stack end = end ≡ ends.Entered
 
--- there is no room for what a bytecode, or a part of one, comes to in the model from the state k
-pub record Overfills (s : Store) (l : Option Layout) (k : Kept) (o : Out) (why : Why) : Type 0 where
-  pub end : EndsWithout why o.end
-  pub cause : CausesFull s l k o.count.objects o.state why
+-- it stops where the stack has no room for the object that it made
+abbrev pub IsUnheld : Out → Type 0
+IsUnheld o = (o.end ≡ ends.Stopped why.StackOver) × (0 < o.count.objects)
 
--- births are left and a process is active, so that a bytecode is next, and it is built
+-- What a bytecode, or a part of one, needs room for: all that it comes to, where it is built; what it makes before it stops; or a return
+-- that doesn't arrive, up to the message that tells of it.
+pub data Needs (t : Turn) (full : Why) : Out → Type 0 where
+  whole : t.built ≡ true → EndsWithout full t.result.out.end → Needs t full t.result.out
+  unheld : t.built ≡ true → full ≡ Heap → IsUnheld t.result.out → Needs t full t.result.out
+  untold : (o : Out) → t.told ≡ Some o → Asks o.end → full ≡ Heap → Needs t full o
+
+-- every page is used, and the active one has more words than these
+abbrev pub IsFilled : Kept → Option Layout → ℕ → Type 0
+IsFilled k None least = ⊥
+IsFilled k (Some l) least = (length l.pages ≡ l.most) × (least < page_words k (first_page l.pages))
+
+abbrev pub CausesNoRoom : Store → Option Layout → Kept → ℕ → Out → Why → Type 0
+CausesNoRoom s l k least o Heap = IsFullHeap s l o.count.objects o.state
+CausesNoRoom s l k least o Stack = IsFilled k l least
+
+-- there is no room for what a bytecode, or a part of one, comes to in the model from the state k
+pub record Overfills (s : Store) (l : Option Layout) (k : Kept) (t : Turn) (full : Why) : Type 0 where
+  pub out : Out
+  pub needs : Needs t full out
+  pub cause : CausesNoRoom s l k t.least out full
+
+-- births are left and a process is active, so that a bytecode is next
 pub record IsNext (k : Kept) : Type 0 where
   pub births : nat_lt birth_limit k.rest.next ≡ false
   pub active : is_idle k ≡ false
-  pub built : is_built_bytecode k ≡ true
 
 -- ---- a step
 
 -- A step from the state k in a world of this layout, with what the sink tells before and behind it and with the world behind it. What
 -- is written is what the model writes; where the sink fails, it is a first part of that. A step that stops or finds no room writes
--- nothing. There is no room for what the bytecode leads to, which is built and doesn't stop.
+-- nothing.
 abbrev pub StepGives : Kept → Option Layout → Option (List ℕ) → Option (List ℕ) → Store → Kept → Option Layout → StepEnd → Type 0
 StepGives k l old new s v n Active = (bytes : List ℕ) × Appends old new bytes × Completes k bytes × LeadsTo k v × IsReady s v × (is_idle v ≡ false) × Lays k l s v n
 StepGives k l old new s v n Idle = (bytes : List ℕ) × Appends old new bytes × Completes k bytes × LeadsToNone k v × IsSound s v
 StepGives k l old new s v n (Stop reason) = (new ≡ old) × ((output : List ℕ) (steps : ℕ) → (step_at k output steps).ending ≡ Stopped reason)
-StepGives k l old new s v n (Full why) = (new ≡ old) × IsNext k × ((output : List ℕ) (steps : ℕ) → Overfills s l k (bytecode (state_at k output steps)).out why)
+StepGives k l old new s v n (Full why) = (new ≡ old) × IsNext k × ((output : List ℕ) (steps : ℕ) → Overfills s l k (next_turn (state_at k output steps)) why)
 StepGives k l old new s v n WriteFault = (bytes : List ℕ) × AppendsPart old new bytes × Completes k bytes
 
 -- a fault of the sink has been counted
@@ -120,23 +177,19 @@ CausedByFault old new (Stop reason) = Unit {0}
 CausedByFault old new (Full why) = Unit {0}
 CausedByFault old new WriteFault = Rose old new
 
--- ---- the parts of a step
-
--- what a part of a step comes to: whether it is built, and what it gives, after so much output and so many steps
-pub record Turn : Type 0 where
-  pub built : Bool
-  pub result : Result
-
-abbrev pub Turns : Type 0
-Turns = List ℕ → ℕ → Turn
+-- ---- what the parts of a step come to
 
 -- a message is sent
 abbrev pub sending : Kept → Message → Turns
-sending k m output steps = record { built = is_built_send k m; result = do_send (run_at output steps) k m.selector m.args m.above }
+sending k m output steps = record { built = is_built_send k m; result = do_send (run_at output steps) k m.selector m.args m.above; told = None; least = least_of_send }
+
+-- a special selector is sent, with so many arguments that are on the stack
+abbrev pub calling : Kept → ℕ → ℕ → Turns
+calling k special args output steps = record { built = is_built_call k special args; result = do_call (run_at output steps) k special args; told = None; least = least_of_send }
 
 -- the primitive of a method is tried
 abbrev pub trying : Kept → Ref → ℕ → Turns
-trying k method number output steps = record { built = is_built_number k (arguments_of k method) (Some number); result = try_primitive (state_at k output steps) method number }
+trying k method number output steps = record { built = is_built_number k (arguments_of k method) (Some number); result = try_primitive (state_at k output steps) method number; told = None; least = least_of_send }
 
 -- a primitive that is built refuses
 pub record Fails (k : Kept) (method : Ref) (number : ℕ) : Type 0 where
@@ -145,15 +198,7 @@ pub record Fails (k : Kept) (method : Ref) (number : ℕ) : Type 0 where
 
 -- a value is returned
 abbrev pub returning : Kept → Ref → Bool → Turns
-returning k value local output steps = record { built = is_built_return k local; result = do_return (run_at output steps) k value local }
-
--- this is the sender of the active context; it is live, and another context
-pub record IsTarget (k : Kept) (found : Option ℕ) : Type 0 where
-  pub birth : ℕ
-  pub is : found ≡ Some birth
-  pub sender : sender_birth k (active_birth k) ≡ Some birth
-  pub live : is_live k birth ≡ true
-  pub other : (birth == active_birth k) ≡ false
+returning k value local output steps = record { built = is_built_return k value local; result = do_return (run_at output steps) k value local; told = Some (back k value local); least = least_of_return }
 
 -- it is over, in this run and in a state that v keeps
 pub record IsDone (t : Turn) (v : Kept) (r : Run) : Type 0 where
@@ -176,7 +221,7 @@ abbrev pub TurnGives : Turns → Kept → Option Layout → Option (List ℕ) �
 TurnGives f k l old new s v n Active = (bytes : List ℕ) × Appends old new bytes × DoneIn f v bytes × IsReady s v × (shape_fault v ≡ None) × (is_idle v ≡ false) × Lays k l s v n
 TurnGives f k l old new s v n Idle = (bytes : List ℕ) × Appends old new bytes × DoneIn f v bytes × IsSound s v × (shape_fault v ≡ None) × (is_idle v ≡ true)
 TurnGives f k l old new s v n (Stop reason) = (new ≡ old) × ((output : List ℕ) (steps : ℕ) → TurnStops (f output steps) reason)
-TurnGives f k l old new s v n (Full why) = (new ≡ old) × ((output : List ℕ) (steps : ℕ) → ((f output steps).built ≡ true) × Overfills s l k (f output steps).result.out why)
+TurnGives f k l old new s v n (Full why) = (new ≡ old) × ((output : List ℕ) (steps : ℕ) → Overfills s l k (f output steps) why)
 TurnGives f k l old new s v n WriteFault = (bytes : List ℕ) × AppendsPart old new bytes × DoneIn f v bytes × (shape_fault v ≡ None)
 
 -- how a step that did its bytecode ends, by the scheduler behind it

@@ -1,23 +1,23 @@
 //! One step: one bytecode and all that it leads to.
-ghost use Rattle.std.specs.Prelude.{◌≡◌, ◌<◌, ◌≤◌, ℕ, false, true, IfSome, List, None, Option};
+ghost use Rattle.std.specs.Prelude.{◌≡◌, ◌<◌, ◌≤◌, ℕ, false, true, IfSome, List, Option};
 ghost use Rattle.cs_model.specs.Due.{is_idle};
-ghost use Rattle.cs_model.specs.Built.{is_built_target};
-ghost use Rattle.cs_model.specs.Read.{active_birth, depth_of};
-ghost use Rattle.cs_model.specs.Return.{sender_birth};
+ghost use Rattle.cs_model.specs.Read.{depth_of};
 ghost use Rattle.cs_acts.specs.Names.{IsNamed, name_of};
 ghost use Rattle.cs_acts.specs.Ready.{IsReady, IsSound};
 ghost use Rattle.cs_acts.specs.Targets.{CanEnter};
 ghost use Rattle.cs_prim_ctx.specs.Numbers.{reads_context};
 ghost use Rattle.cs_send.specs.Sent.{message_of};
-ghost use Rattle.cs_core.specs.Stepped.{CausedByFault, EndsBy, Fails, IsTarget, StepGives, TurnGives, returning, sending, trying};
+ghost use Rattle.cs_unwind.specs.Primitive.{unwinds};
+ghost use Rattle.cs_core.specs.Stepped.{CausedByFault, EndsBy, Fails, StepGives, TurnGives, calling, returning, sending, trying};
 
 use crate::primitive::{answer, piece_of, sum, write};
-use cs_acts::read::{instruction, is_context};
-use cs_acts::{Act, Full, PrimEnd, Shape, World, shape_of};
+use cs_acts::read::{instruction, is_context, special};
+use cs_acts::{Full, PrimEnd, Shape, World, shape_of};
 use cs_code::{CodeEnd, exec};
 use cs_model::Stop;
 use cs_send::{SendEnd, Sender, enter};
 use cs_shelf::Sink;
+use cs_unwind::BackEnd;
 use cs_word::Oop;
 
 /// Births end so far below 2^62 that a step can't pass it.
@@ -61,7 +61,7 @@ pub fn step<W: World, K: Sink>(w: &mut W, sender: &mut Sender, out: &mut K) -> S
             args,
             above,
         } => send(w, sender, out, selector, args, above),
-        CodeEnd::Return { value, local } => give_back(w, value, local),
+        CodeEnd::Return { value, local } => give_back(w, sender, out, value, local),
         CodeEnd::Stop(reason) => StepEnd::Stopped(reason),
         CodeEnd::Full(why) => StepEnd::Full(why),
     }
@@ -112,6 +112,7 @@ fn try_primitive<W: World, K: Sink>(
     match number {
         1 => add_or_enter(w, method, args),
         900 => write_or_enter(w, out, method, args),
+        _ if unwinds(number) => unwind_or_enter(w, method, args, number),
         _ if reads_context(w, number, args) => read_or_enter(w, method, args, number),
         _ => StepEnd::Stopped(Stop::NotBuilt),
     }
@@ -187,6 +188,34 @@ fn read_or_enter<W: World>(w: &mut W, method: Oop, args: u32, number: u32) -> St
     }
 }
 
+/// A primitive that evaluates a closure or looks for a mark, or that is a mark; where it fails its method is entered.
+fn unwind_or_enter<W: World>(w: &mut W, method: Oop, args: u32, number: u32) -> StepEnd
+    requires ready { IsReady (W.stored w.old) (W.view w.old) }
+    requires named { IsNamed (W.stored w.old) method }
+    requires enters { CanEnter (W.view w.old) (name_of (W.stored w.old) method) args true }
+    requires unwinds { unwinds number ≡ true }
+    ensures gives { (told : Option (List ℕ)) → TurnGives (trying (W.view w.old) (name_of (W.stored w.old) method) number) (W.view w.old) (W.layout w.old) told told (W.stored w.new) (W.view w.new) (W.layout w.new) result }
+    ensures limit { (W.stored w.new).memory.limit ≡ (W.stored w.old).memory.limit }
+    ensures cause { (faults : ℕ) → CausedByFault faults faults result }
+{
+    match cs_unwind::primitive(w, number, args) {
+        PrimEnd::Answer | PrimEnd::Entered => finish(w),
+        PrimEnd::Fail => enter_behind(w, method, args),
+        PrimEnd::Stop(reason) => StepEnd::Stopped(reason),
+        PrimEnd::Full(why) => StepEnd::Full(why),
+    }
+}
+
+/// Whether a primitive evaluates a closure or looks for a mark, or is a mark.
+fn unwinds(number: u32) -> bool
+    ensures { result ≡ unwinds number }
+{
+    match number {
+        195 | 197..=199 | 201..=206 | 221 | 222 => true,
+        _ => false,
+    }
+}
+
 /// Whether the primitive of this number, with so many arguments, is one that reads a context: 210 or 212, or 73 where its
 /// receiver is a context.
 fn reads_context<W: World>(w: &W, number: u32, args: u32) -> bool
@@ -216,44 +245,49 @@ fn enter_behind<W: World>(w: &mut W, method: Oop, args: u32) -> StepEnd
     }
 }
 
-/// Returns a value to the sender of the active context, where that is live and another context.
-fn give_back<W: World>(w: &mut W, value: Oop, local: bool) -> StepEnd
+/// Returns a value; where it doesn't arrive, the active context is told by a message.
+fn give_back<W: World, K: Sink>(
+    w: &mut W,
+    sender: &mut Sender,
+    out: &mut K,
+    value: Oop,
+    local: bool,
+) -> StepEnd
     requires ready { IsReady (W.stored w.old) (W.view w.old) }
+    requires births { (W.view w.old).rest.next ≤ 4611686018427387840 }
     requires named { IsNamed (W.stored w.old) value }
-    ensures gives { (told : Option (List ℕ)) → TurnGives (returning (W.view w.old) (name_of (W.stored w.old) value) local) (W.view w.old) (W.layout w.old) told told (W.stored w.new) (W.view w.new) (W.layout w.new) result }
+    ensures gives { TurnGives (returning (W.view w.old) (name_of (W.stored w.old) value) local) (W.view w.old) (W.layout w.old) (K.taken out.old) (K.taken out.new) (W.stored w.new) (W.view w.new) (W.layout w.new) result }
     ensures limit { (W.stored w.new).memory.limit ≡ (W.stored w.old).memory.limit }
-    ensures cause { (faults : ℕ) → CausedByFault faults faults result }
+    ensures never_falls { K.fault_count out.old ≤ K.fault_count out.new }
+    ensures cause { CausedByFault (K.fault_count out.old) (K.fault_count out.new) result }
 {
-    if !local {
-        return StepEnd::Stopped(Stop::NotBuilt);
-    }
-    let Some(target) = target(w) else {
-        return StepEnd::Stopped(Stop::NotBuilt);
-    };
-    if w.act_full(target) {
-        return StepEnd::Stopped(Stop::StackOver);
-    }
-    match w.leave(value) {
-        Ok(()) => finish(w),
-        Err(why) => StepEnd::Full(why),
+    match cs_unwind::give_back(w, value, local) {
+        BackEnd::Done => finish(w),
+        BackEnd::Call { special, args } => call(w, sender, out, special, args),
+        BackEnd::Stop(reason) => StepEnd::Stopped(reason),
+        BackEnd::Full(why) => StepEnd::Full(why),
     }
 }
 
-/// The sender of the active context, where it is live and another context.
-fn target<W: World>(w: &W) -> Option<Act>
-    requires { IsReady (W.stored w.now) (W.view w.now) }
-    ensures some { IfSome result (λ a. IsTarget (W.view w.now) (W.act w.now a)) }
-    ensures none { result ≡ None → is_built_target (W.view w.now) (sender_birth (W.view w.now) (active_birth (W.view w.now))) ≡ false }
+/// Sends a special selector, whose receiver and arguments are on the stack.
+fn call<W: World, K: Sink>(
+    w: &mut W,
+    sender: &mut Sender,
+    out: &mut K,
+    number: u32,
+    args: u32,
+) -> StepEnd
+    requires ready { IsReady (W.stored w.old) (W.view w.old) }
+    requires births { (W.view w.old).rest.next ≤ 4611686018427387840 }
+    ensures gives { TurnGives (calling (W.view w.old) number args) (W.view w.old) (W.layout w.old) (K.taken out.old) (K.taken out.new) (W.stored w.new) (W.view w.new) (W.layout w.new) result }
+    ensures limit { (W.stored w.new).memory.limit ≡ (W.stored w.old).memory.limit }
+    ensures never_falls { K.fault_count out.old ≤ K.fault_count out.new }
+    ensures cause { CausedByFault (K.fault_count out.old) (K.fault_count out.new) result }
 {
-    let active = w.active();
-    let sender = w.sender_act(active);
-    if let Act::Gone = sender {
-        return None;
+    match special(w, number) {
+        Some(selector) => send(w, sender, out, selector, args, None),
+        None => StepEnd::Stopped(Stop::BadSpecial),
     }
-    if !w.act_live(sender) || w.act_birth(sender) == w.act_birth(active) {
-        return None;
-    }
-    Some(sender)
 }
 
 /// The end of a step that did its bytecode.
