@@ -2,6 +2,8 @@
 #![tactic(auto)]
 
 #[cfg(test)]
+mod block_images;
+#[cfg(test)]
 mod context_images;
 #[cfg(test)]
 mod entering_images;
