@@ -11,9 +11,11 @@ use Rattle.cs_model.specs.Obj.{Obj, Context, Ptr, Ctx, context_in, lies_in, word
 use Rattle.cs_model.specs.State.{Kept, object_at, object_of, put}
 use Rattle.cs_model.specs.Keeps.{Keeps}
 use Rattle.cs_model.specs.Demand.{words_at, words_below, words_in}
-use Rattle.cs_model.specs.Read.{IsRunning, active_birth, active_context, blank, method_of, pc_of, size_of}
+use Rattle.cs_model.specs.Read.{IsRunning, active_birth, active_context, blank, method_of, depth_of, pc_of, size_of, stack_of}
 use Rattle.cs_model.specs.Operation.{add_of, edit_active, edit_found, next_ref, store_of, with_next, with_slot}
 use Rattle.cs_model.proofs.LeadOperation.{add_below, add_there}
+use Rattle.cs_model.proofs.Reading.{stack_same}
+use Rattle.cs_model.proofs.Same.{equal}
 use Rattle.cs_model.proofs.Objects.{object_at-put_same, object_at-put_other}
 use Rattle.cs_acts.specs.declared.act.Full.{Full}
 use Rattle.cs_acts.specs.declared.act.Full.TheVariants.{Heap, Stack}
@@ -50,6 +52,13 @@ AreBelow k = (i : ℕ) (o : Obj) → object_at k i ≡ Some o → i < k.rest.nex
 pub active-added : (k : Kept) (o : Obj) → IsRunning k → AreBelow k → active_context (add_of k o) ≡ active_context k
 unfolding active_context add_of put
 active-added k o running below = ap (λ (q : Option Obj). unwrap_or (context_in q) blank) (add_below k o (active_birth k) (below (active_birth k) (Ctx (active_context k)) running.found))
+
+-- as a world sees it
+pub stack-over : (v k : Kept) (o : Obj) → IsRunning k → AreBelow k → Keeps v (add_of k o) → stack_of v ≡ stack_of k
+stack-over v k o running below keeps = sym (equal (stack_same keeps)) ∙ ap (λ (c : Context). c.stack) (active-added k o running below)
+
+pub depth-over : (v k : Kept) (o : Obj) → IsRunning k → AreBelow k → Keeps v (add_of k o) → depth_of v ≡ depth_of k
+depth-over v k o running below keeps = ap (λ (xs : List Ref). length xs) (stack-over v k o running below keeps)
 
 lies-added : (k : Kept) (o : Obj) (r : Ref) (pc : ℕ) → AreBelow k → lies_in (object_of k r) pc ≡ true → lies_in (object_of (add_of k o) r) pc ≡ true
 lies-added k o (Small z) pc below lies = lies

@@ -1,5 +1,5 @@
 -- A closure as it is made: added with nil, and written slot by slot.
-use Rattle.std.proofs.Common.{◌≡◌, ◌∙◌, ◌+◌, ◌-◌, ◌*◌, ◌<◌, ◌≤◌, ◌^◌, ℕ, zero, suc, true, false, refl, sym, ap, ap₂, subst, arith, inl, inr, Option, Some, None, unwrap_or, List, [], ◌∷◌, ◌++◌, length, take, drop, replicate, nat_lt, nat_le, pos, length-append, length-take, length-drop}
+use Rattle.std.proofs.Common.{◌≡◌, ◌∙◌, ◌+◌, ◌-◌, ◌*◌, ◌<◌, ◌≤◌, ◌^◌, ℕ, zero, suc, true, false, refl, sym, ap, ap₂, subst, arith, inl, inr, Option, Some, None, unwrap_or, List, [], ◌∷◌, ◌++◌, length, take, drop, replicate, nat_lt, nat_le, pos, is_some, option_map, length-append, length-take, length-drop}
 use Rattle.std.specs.Prelude.{slice_get, slice_set, if◌then◌else◌}
 use Rattle.std.specs.FinMap.{get}
 use Rattle.std.proofs.lemmas.List.{length-replicate, take-take, take_all}
@@ -9,7 +9,11 @@ use Rattle.cs_model.specs.declared.stop.Stop.TheVariants as why
 use Rattle.cs_model.specs.Ref.{Ref, Small}
 use Rattle.cs_model.specs.Ref as ref
 use Rattle.cs_model.specs.Obj.{Obj, Context, Ptr, Ctx, lies_in, popped, pushed, with_pc, with_stack, words_of, words_of_slots}
-use Rattle.cs_model.specs.State.{Kept, object_at, object_of, put}
+use Rattle.cs_heap.specs.Object.{birth_of, size}
+use Rattle.cs_classes.proofs.Wholes.{get-classes_of}
+use Rattle.cs_model.specs.Context.{closure_class}
+use Rattle.cs_acts.specs.Made.{CanAllocate, blank_of}
+use Rattle.cs_model.specs.State.{Rest, Kept, object_at, object_of, put}
 use Rattle.cs_model.specs.Keeps.{Keeps, SameKept}
 use Rattle.cs_model.specs.Read.{IsRunning, active_birth, active_context, depth_of, method_of, pc_of, size_of, stack_of}
 use Rattle.cs_model.specs.Operation.{add_of, drop_of, edit_active, last_values, next_ref, nil_of, pop_of, push_of, put_active, set_pc_of, store_of}
@@ -19,6 +23,7 @@ use Rattle.cs_model.specs.End as ends
 use Rattle.cs_model.specs.Exec.{closure_out, new_closure, pc_after, push_out}
 use Rattle.cs_model.proofs.Editing.{edit_twice}
 use Rattle.cs_model.proofs.Objects.{object_at-put_same, object_at-put_other, rest-put}
+use Rattle.cs_model.proofs.Keeping.{Keeps-trans}
 use Rattle.cs_model.proofs.Operating.{drop_moved}
 use Rattle.cs_model.proofs.Reading.{depth_same, method_same, size_same, stack_same}
 use Rattle.cs_model.proofs.Same.{equal, option_equal}
@@ -27,10 +32,10 @@ use Rattle.cs_acts.specs.declared.act.Full.TheVariants.{Heap, Stack}
 use Rattle.cs_acts.specs.Full.{CausesFull}
 use Rattle.cs_acts.specs.Layout.{Layout}
 use Rattle.cs_acts.specs.Names.{Store, KeepsNames, Names, name_of}
-use Rattle.cs_acts.specs.Ready.{IsReady}
+use Rattle.cs_acts.specs.Ready.{IsReady, IsSound}
 use Rattle.cs_acts.proofs.Running.{active_context-put_active}
 use Rattle.cs_acts.proofs.Sizes.{pc_small}
-use Rattle.cs_code.specs.Closures.{Leads, bare_closure, closure_with, copied_so_far}
+use Rattle.cs_code.specs.Closures.{Leads, bare_closure, closure_slots, closure_with, copied_so_far}
 use Rattle.cs_code.specs.declared.end.CodeEnd.TheVariants as code
 use Rattle.cs_code.specs.Gives.{Gives, Refuses}
 use Rattle.cs_code.proofs.Adding.{AreBelow, active-added, cause-weighed, pc-added, pc-edited, running-added, stored-added, words-added, words-edited}
@@ -113,6 +118,11 @@ copied-more k copied i j x z enough few place is =
     let next : suc i ≡ i + 1 = omega arith in
     one-more (last_values copied xs) copied i x (nil_of k) value few ∙ ap (λ (n : ℕ). copied_so_far k copied n) next
 
+pub set-copied : (k : Kept) (args i : ℕ) (x : Ref) (values more : List Ref) → slice_set values i x ≡ more → Ptr closure_class 3 0 (slice_set (closure_slots k args values) (3 + i) x) ≡ closure_with k args more
+set-copied k args i x values more e =
+    let place : 3 + i ≡ suc (suc (suc i)) = omega arith in
+    ap (λ (j : ℕ). Ptr closure_class 3 0 (slice_set (closure_slots k args values) j x)) place ∙ ap (λ (ws : List Ref). closure_with k args ws) e
+
 pub none-copied : (k : Kept) (copied : ℕ) → copied_so_far k copied 0 ≡ replicate copied (nil_of k)
 none-copied k copied = let all : copied - 0 ≡ copied = omega arith in ap (λ (n : ℕ). replicate n (nil_of k)) all
 
@@ -164,3 +174,75 @@ unfolding drop_of
 depth-dropped v k n keeps =
     sym (equal (depth_same keeps)) ∙ ap (λ (c : Context). length c.stack) (active_context-put_active k (popped n (active_context k)))
     ∙ omega (arith, length-take (depth_of k - n) (stack_of k))
+
+pub dropped : (a b c : Store) (l m n : Option Layout) (v w t : Kept) (count : ℕ) → Leads a b l m v t → Leads b c m n w (drop_of v count) → Leads a c l n w (drop_of t count)
+dropped a b c l m n v w t count first led = record {
+  state = Keeps-trans led.state (drop_moved first.state count).keeps;
+  exact = λ none. subst (λ (u : Kept). SameKept w (drop_of u count)) (equal_kept v t (first.exact none)) (led.exact (first.layout ∙ none));
+  layout = led.layout ∙ first.layout;
+  limit = led.limit ∙ first.limit;
+  ready = led.ready;
+  names = names-trans a b c first.names led.names;
+}
+
+-- ---- the object that is made
+
+-- a closure has a class
+pub can-make : (s : Store) (k : Kept) (slots : ℕ) → IsSound s k → k.rest.next < 4611686018427387904 → CanAllocate k 37 3 slots
+can-make s k slots sound births = record {
+  shape = refl;
+  plain = refl;
+  entry = ap (λ (r : Rest). is_some (get r.classes closure_class)) (sym sound.holds.rest) ∙ ap is_some (get-classes_of s.memory.objects s.table closure_class)
+      ∙ there (get s.table closure_class) sound.closures;
+  common = refl;
+  births = births;
+}
+  where
+    there : (o : Option ℕ) → is_some o ≡ true → is_some (option_map (birth_of s.memory.objects) o) ≡ true
+    there None h = absurd (cc)
+    there (Some a) h = refl
+
+-- it is made with nil behind a look at the active context
+pub made-bare : (a b c : Store) (l m n : Option Layout) (k v w : Kept) (copied slots : ℕ) → slots ≡ copied → IsReady a k → v ≡ k → m ≡ l → b.memory.limit ≡ a.memory.limit → IsSound b v → KeepsNames a b
+    → ((u : Kept) → Keeps v u → Keeps w (add_of u (blank_of u 37 3 (3 + slots)))) → (m ≡ None → SameKept w (add_of v (blank_of v 37 3 (3 + slots)))) → n ≡ m → c.memory.limit ≡ b.memory.limit
+    → (IsReady b v → IsReady c w) → KeepsNames b c → Leads a c l n w (add_of k (Ptr 37 3 0 (replicate (suc (suc (suc copied))) (nil_of k))))
+made-bare a b c l m n k v w copied slots size ready same laid limit sound names state exact layout limit_after after names_after =
+    let ready_there : IsReady b v = record { sound = sound; running = subst IsRunning (sym same) ready.running } in
+    let looked_at : Leads a b l m v k = record {
+      state = subst (Keeps v) same sound.closed;
+      exact = λ _. subst (SameKept v) same (same_itself v);
+      layout = laid;
+      limit = limit;
+      ready = ready_there;
+      names = names;
+    } in
+    let count : 3 + slots ≡ suc (suc (suc copied)) = omega (arith, size) in
+    subst (λ (i : ℕ). Leads a c l n w (add_of k (Ptr 37 3 0 (replicate i (nil_of k))))) count
+    (followed a b c l m n v w k (λ (u : Kept). add_of u (blank_of u 37 3 (3 + slots))) looked_at state exact layout limit_after (after ready_there) names_after)
+
+-- ---- words
+
+words-closure : (k : Kept) (copied args : ℕ) (values : List Ref) → length values ≡ copied → words_of (closure_with k args values) ≡ words_of_slots (3 + copied)
+words-closure k copied args values size = let slots : suc (suc (suc (length values))) ≡ 3 + copied = omega (arith, size) in ap (λ (n : ℕ). words_of_slots n) slots
+
+pub words-alike : (k : Kept) (copied args : ℕ) → copied ≤ depth_of k → words_in (add_of k (new_closure k copied args)) ≡ words_in (add_of k (bare_closure k copied args))
+words-alike k copied args enough =
+    words-added k (new_closure k copied args)
+    ∙ ap (λ (n : ℕ). words_in k + n) (words-closure k copied args (last_values copied (stack_of k)) (length-last (stack_of k) copied enough)
+    ∙ sym (words-closure k copied args (replicate copied (nil_of k)) (length-replicate copied (nil_of k))))
+    ∙ sym (words-added k (bare_closure k copied args))
+
+-- a closure for which the heap has no room
+pub bare-refused : (s : Store) (l : Option Layout) (k v : Kept) (copied args slots : ℕ) (why : Full) → slots ≡ copied → v ≡ k → CausesFull s l v (size (3 + slots)) (add_of v (blank_of v 37 3 (3 + slots))) why
+    → CausesFull s l k (words_of_slots (3 + copied)) (add_of k (bare_closure k copied args)) why
+bare-refused s l k v copied args slots why equal_slots same cause =
+    let count : 3 + slots ≡ suc (suc (suc copied)) = omega (arith, equal_slots) in
+    let there : CausesFull s l k (words_of_slots (3 + slots)) (add_of k (Ptr 37 3 0 (replicate (3 + slots) (nil_of k)))) why =
+        subst (λ (u : Kept). CausesFull s l u (words_of_slots (3 + slots)) (add_of u (Ptr 37 3 0 (replicate (3 + slots) (nil_of u)))) why) same cause in
+    let same_words : words_in (add_of k (bare_closure k copied args)) ≡ words_in (add_of k (Ptr 37 3 0 (replicate (3 + slots) (nil_of k)))) =
+        words-added k (bare_closure k copied args)
+        ∙ ap (λ (n : ℕ). words_in k + n) (words-closure k copied args (replicate copied (nil_of k)) (length-replicate copied (nil_of k))
+        ∙ ap (λ (n : ℕ). words_of_slots (3 + n)) (sym equal_slots) ∙ ap (λ (n : ℕ). words_of_slots n) (sym (length-replicate (3 + slots) (nil_of k))))
+        ∙ sym (words-added k (Ptr 37 3 0 (replicate (3 + slots) (nil_of k)))) in
+    subst (λ (n : ℕ). CausesFull s l k (words_of_slots (3 + n)) (add_of k (bare_closure k copied args)) why) equal_slots
+    (cause-weighed s l k (add_of k (Ptr 37 3 0 (replicate (3 + slots) (nil_of k)))) (add_of k (bare_closure k copied args)) (words_of_slots (3 + slots)) why same_words there)

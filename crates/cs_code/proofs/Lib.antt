@@ -6,3 +6,4 @@ pub mod Sending
 pub mod Looking
 pub mod Adding
 pub mod Closing
+pub mod Enclosing

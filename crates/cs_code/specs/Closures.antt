@@ -12,9 +12,12 @@ use Rattle.cs_acts.specs.Layout.{Layout}
 use Rattle.cs_acts.specs.Names.{Store, KeepsNames}
 use Rattle.cs_acts.specs.Ready.{IsReady}
 
--- a closure over the active context, with these copied values
+-- the slots of a closure over the active context, with these copied values
+abbrev pub closure_slots : Kept → ℕ → List Ref → List Ref
+closure_slots k args values = ref.Obj (active_birth k) ∷ Small (pos (pc_of k)) ∷ Small (pos args) ∷ values
+
 abbrev pub closure_with : Kept → ℕ → List Ref → Obj
-closure_with k args values = Ptr closure_class 3 0 (ref.Obj (active_birth k) ∷ Small (pos (pc_of k)) ∷ Small (pos args) ∷ values)
+closure_with k args values = Ptr closure_class 3 0 (closure_slots k args values)
 
 -- all of whose copied values are nil
 abbrev pub bare_closure : Kept → ℕ → ℕ → Obj

@@ -1,18 +1,11 @@
-use Rattle.std.proofs.Common.{◌≡◌, ◌+◌, ◌<◌, ◌≤◌, false, IfErr, IfOk, OnOk, pos, ℕ, ◌-◌, ◌*◌, length}
-use Rattle.cs_model.specs.Exec.{closure_out, new_closure}
-use Rattle.cs_model.specs.Obj.{words_of_slots}
-use Rattle.cs_model.specs.Operation.{add_of, drop_of, next_ref}
-use Rattle.cs_model.specs.Read.{depth_of, pc_of}
-use Rattle.cs_model.specs.Ref as ref
-use Rattle.cs_acts.specs.declared.act.Full.{Full}
-use Rattle.cs_acts.specs.declared.act.Full.TheVariants as full
-use Rattle.cs_acts.specs.Full.{CausesFull}
+use Rattle.cs_model.specs.Operation.{add_of, next_ref}
 use Rattle.cs_acts.specs.Names.{Names}
-use Rattle.cs_acts.specs.Ready.{IsReady}
-use Rattle.cs_code.specs.declared.end.CodeEnd.TheVariants as ends
-use Rattle.cs_code.specs.Closures.{Leads, bare_closure}
-use Rattle.cs_code.specs.Gives.{Gives, Refuses, is_refused}
+use Rattle.cs_code.specs.Closures.{Leads, closure_with, copied_so_far}
 use Rattle.cs_code.proofs.closures.make.Given as goal
 
+-- the closure is there, with so many of its copied values
 abbrev pub invariant-loop-i : goal.invariant-loop-i
-invariant-loop-i g l = ?
+invariant-loop-i g l =
+    Leads (g.W.World.stored l.fn.w) (g.W.World.stored l.w) (g.W.World.layout l.fn.w) (g.W.World.layout l.w) (g.W.World.view l.w)
+    (add_of (g.W.World.view l.fn.w) (closure_with (g.W.World.view l.fn.w) l.fn.args (copied_so_far (g.W.World.view l.fn.w) l.fn.copied l.i)))
+    × Names (g.W.World.stored l.w) l.closure (next_ref (g.W.World.view l.fn.w))
