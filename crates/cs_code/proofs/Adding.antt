@@ -1,5 +1,5 @@
 -- A state to which an object is added: what stands in it, what it weighs, and how its active context may be edited.
-use Rattle.std.proofs.Common.{◌≡◌, ◌∙◌, ◌+◌, ◌-◌, ◌*◌, ◌<◌, ◌≤◌, ℕ, zero, suc, true, false, refl, sym, ap, ap₂, subst, arith, inl, inr, Option, Some, None, unwrap_or, List, length, nat_lt}
+use Rattle.std.proofs.Common.{◌≡◌, ◌∙◌, ◌+◌, ◌*◌, ◌<◌, ◌≤◌, ℕ, zero, suc, true, refl, sym, ap, ap₂, subst, arith, inl, inr, Option, Some, None, unwrap_or, List, length, nat_lt}
 use Rattle.std.specs.Prelude.{slice_set, IfSome}
 use Rattle.std.specs.FinMap.{FinMap}
 use Rattle.std.specs.Ordering.{nat_cmp}
@@ -16,7 +16,7 @@ use Rattle.cs_model.specs.Operation.{add_of, edit_active, edit_found, next_ref, 
 use Rattle.cs_model.proofs.LeadOperation.{add_below, add_there}
 use Rattle.cs_model.proofs.Reading.{stack_same}
 use Rattle.cs_model.proofs.Same.{equal}
-use Rattle.cs_model.proofs.Objects.{object_at-put_same, object_at-put_other}
+use Rattle.cs_model.proofs.Objects.{object_at-put_other}
 use Rattle.cs_acts.specs.declared.act.Full.{Full}
 use Rattle.cs_acts.specs.declared.act.Full.TheVariants.{Heap, Stack}
 use Rattle.cs_acts.specs.Full.{CausesFull}

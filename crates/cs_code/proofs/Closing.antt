@@ -1,34 +1,29 @@
 -- A closure as it is made: added with nil, and written slot by slot.
-use Rattle.std.proofs.Common.{◌≡◌, ◌∙◌, ◌+◌, ◌-◌, ◌*◌, ◌<◌, ◌≤◌, ◌^◌, ℕ, zero, suc, true, false, refl, sym, ap, ap₂, subst, arith, inl, inr, Option, Some, None, unwrap_or, List, [], ◌∷◌, ◌++◌, length, take, drop, replicate, nat_lt, nat_le, pos, is_some, option_map, length-append, length-take, length-drop}
-use Rattle.std.specs.Prelude.{slice_get, slice_set, if◌then◌else◌}
+use Rattle.std.proofs.Common.{◌≡◌, ◌∙◌, ◌+◌, ◌-◌, ◌<◌, ◌≤◌, ◌^◌, ℕ, zero, suc, true, refl, sym, ap, ap₂, subst, arith, inl, inr, Option, Some, None, unwrap_or, List, [], ◌∷◌, ◌++◌, length, take, drop, replicate, is_some, option_map, length-append, length-take, length-drop}
+use Rattle.std.specs.Prelude.{slice_get, slice_set}
 use Rattle.std.specs.FinMap.{get}
 use Rattle.std.proofs.lemmas.List.{length-replicate, take-take, take_all}
-use Rattle.std.proofs.lemmas.Bool.Decides.{eqb_tells, nat_tests}
+use Rattle.std.proofs.lemmas.Bool.Decides.{eqb_tells}
 use Rattle.cs_word.specs.declared.Oop.{Oop}
-use Rattle.cs_model.specs.declared.stop.Stop.TheVariants as why
-use Rattle.cs_model.specs.Ref.{Ref, Small}
-use Rattle.cs_model.specs.Ref as ref
-use Rattle.cs_model.specs.Obj.{Obj, Context, Ptr, Ctx, lies_in, popped, pushed, with_pc, with_stack, words_of, words_of_slots}
+use Rattle.cs_model.specs.Ref.{Ref}
+use Rattle.cs_model.specs.Obj.{Obj, Context, Ptr, Ctx, lies_in, popped, with_stack, words_of, words_of_slots}
 use Rattle.cs_heap.specs.Object.{birth_of, size}
 use Rattle.cs_classes.proofs.Wholes.{get-classes_of}
 use Rattle.cs_model.specs.Context.{closure_class}
 use Rattle.cs_acts.specs.Made.{CanAllocate, blank_of}
 use Rattle.cs_model.specs.State.{Rest, Kept, object_at, object_of, put}
 use Rattle.cs_model.specs.Keeps.{Keeps, SameKept}
-use Rattle.cs_model.specs.Read.{IsRunning, active_birth, active_context, depth_of, method_of, pc_of, size_of, stack_of}
-use Rattle.cs_model.specs.Operation.{add_of, drop_of, edit_active, last_values, next_ref, nil_of, pop_of, push_of, put_active, set_pc_of, store_of}
+use Rattle.cs_model.specs.Read.{IsRunning, active_birth, active_context, depth_of, method_of, pc_of, stack_of}
+use Rattle.cs_model.specs.Operation.{add_of, drop_of, last_values, next_ref, nil_of, pop_of, put_active, store_of}
 use Rattle.cs_model.specs.Demand.{words_in}
-use Rattle.cs_model.specs.End.{End, Out, and_then, done, given, looked, made, out, stop}
-use Rattle.cs_model.specs.End as ends
-use Rattle.cs_model.specs.Exec.{closure_out, new_closure, pc_after, push_out}
+use Rattle.cs_model.specs.Exec.{new_closure}
 use Rattle.cs_model.proofs.Editing.{edit_twice}
 use Rattle.cs_model.proofs.Objects.{object_at-put_same, object_at-put_other, rest-put}
 use Rattle.cs_model.proofs.Keeping.{Keeps-trans}
 use Rattle.cs_model.proofs.Operating.{drop_moved}
-use Rattle.cs_model.proofs.Reading.{depth_same, method_same, size_same, stack_same}
-use Rattle.cs_model.proofs.Same.{equal, option_equal}
+use Rattle.cs_model.proofs.Reading.{depth_same}
+use Rattle.cs_model.proofs.Same.{equal}
 use Rattle.cs_acts.specs.declared.act.Full.{Full}
-use Rattle.cs_acts.specs.declared.act.Full.TheVariants.{Heap, Stack}
 use Rattle.cs_acts.specs.Full.{CausesFull}
 use Rattle.cs_acts.specs.Layout.{Layout}
 use Rattle.cs_acts.specs.Names.{Store, KeepsNames, Names, name_of}
@@ -36,9 +31,7 @@ use Rattle.cs_acts.specs.Ready.{IsReady, IsSound}
 use Rattle.cs_acts.proofs.Running.{active_context-put_active}
 use Rattle.cs_acts.proofs.Sizes.{pc_small}
 use Rattle.cs_code.specs.Closures.{Leads, bare_closure, closure_slots, closure_with, copied_so_far}
-use Rattle.cs_code.specs.declared.end.CodeEnd.TheVariants as code
-use Rattle.cs_code.specs.Gives.{Gives, Refuses}
-use Rattle.cs_code.proofs.Adding.{AreBelow, active-added, cause-weighed, pc-added, pc-edited, running-added, stored-added, words-added, words-edited}
+use Rattle.cs_code.proofs.Adding.{cause-weighed, stored-added, words-added}
 use Rattle.cs_code.proofs.Through.{equal_kept, names-trans, same_itself}
 
 -- ---- one call behind another
@@ -238,11 +231,11 @@ pub bare-refused : (s : Store) (l : Option Layout) (k v : Kept) (copied args slo
 bare-refused s l k v copied args slots why equal_slots same cause =
     let count : 3 + slots ≡ suc (suc (suc copied)) = omega (arith, equal_slots) in
     let there : CausesFull s l k (words_of_slots (3 + slots)) (add_of k (Ptr 37 3 0 (replicate (3 + slots) (nil_of k)))) why =
-        subst (λ (u : Kept). CausesFull s l u (words_of_slots (3 + slots)) (add_of u (Ptr 37 3 0 (replicate (3 + slots) (nil_of u)))) why) same cause in
+    subst (λ (u : Kept). CausesFull s l u (words_of_slots (3 + slots)) (add_of u (Ptr 37 3 0 (replicate (3 + slots) (nil_of u)))) why) same cause in
     let same_words : words_in (add_of k (bare_closure k copied args)) ≡ words_in (add_of k (Ptr 37 3 0 (replicate (3 + slots) (nil_of k)))) =
-        words-added k (bare_closure k copied args)
-        ∙ ap (λ (n : ℕ). words_in k + n) (words-closure k copied args (replicate copied (nil_of k)) (length-replicate copied (nil_of k))
-        ∙ ap (λ (n : ℕ). words_of_slots (3 + n)) (sym equal_slots) ∙ ap (λ (n : ℕ). words_of_slots n) (sym (length-replicate (3 + slots) (nil_of k))))
-        ∙ sym (words-added k (Ptr 37 3 0 (replicate (3 + slots) (nil_of k)))) in
+    words-added k (bare_closure k copied args)
+    ∙ ap (λ (n : ℕ). words_in k + n) (words-closure k copied args (replicate copied (nil_of k)) (length-replicate copied (nil_of k))
+    ∙ ap (λ (n : ℕ). words_of_slots (3 + n)) (sym equal_slots) ∙ ap (λ (n : ℕ). words_of_slots n) (sym (length-replicate (3 + slots) (nil_of k))))
+    ∙ sym (words-added k (Ptr 37 3 0 (replicate (3 + slots) (nil_of k)))) in
     subst (λ (n : ℕ). CausesFull s l k (words_of_slots (3 + n)) (add_of k (bare_closure k copied args)) why) equal_slots
     (cause-weighed s l k (add_of k (Ptr 37 3 0 (replicate (3 + slots) (nil_of k)))) (add_of k (bare_closure k copied args)) (words_of_slots (3 + slots)) why same_words there)

@@ -1,10 +1,10 @@
 -- How a closure that is made ends: pushed, and past its block, or without room on the stack.
-use Rattle.std.proofs.Common.{◌≡◌, ◌∙◌, ◌+◌, ◌<◌, ◌≤◌, ℕ, length, Bool, true, false, refl, sym, ap, ap₂, subst, arith, inl, inr, Option, Some, None, pos, nat_lt, nat_le}
+use Rattle.std.proofs.Common.{◌≡◌, ◌∙◌, ◌+◌, ◌<◌, ◌≤◌, ℕ, Bool, true, false, refl, sym, ap, ap₂, subst, arith, inl, inr, Option, Some, None, pos, nat_lt, nat_le}
 use Rattle.std.specs.Prelude.{if◌then◌else◌}
 use Rattle.std.proofs.lemmas.Bool.Decides.{nat_tests}
 use Rattle.cs_model.specs.declared.stop.Stop.TheVariants as why
 use Rattle.cs_model.specs.Ref.{Ref}
-use Rattle.cs_model.specs.Obj.{Context, lies_in, popped, pushed, with_pc, words_of_slots}
+use Rattle.cs_model.specs.Obj.{lies_in, popped, pushed, with_pc, words_of_slots}
 use Rattle.cs_model.specs.State.{Kept}
 use Rattle.cs_model.specs.Keeps.{Keeps, SameKept}
 use Rattle.cs_model.specs.Read.{IsRunning, depth_of, method_of, size_of}

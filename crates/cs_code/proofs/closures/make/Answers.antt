@@ -1,12 +1,11 @@
-use Rattle.std.proofs.Common.{◌≡◌, ◌∙◌, ◌+◌, ◌-◌, ◌<◌, ℕ, suc, refl, sym, ap, subst, arith, List, length, unwrap_or}
-use Rattle.std.specs.Prelude.{slice_get, slice_set}
+use Rattle.std.proofs.Common.{◌≡◌, ◌∙◌, ◌+◌, ◌-◌, ◌<◌, refl, sym, ap, subst, arith, List, length, unwrap_or}
+use Rattle.std.specs.Prelude.{slice_get}
 use Rattle.cs_model.specs.Ref.{Ref}
 use Rattle.cs_model.specs.Obj.{words_of_slots}
-use Rattle.cs_model.specs.State.{Kept}
 use Rattle.cs_model.specs.Exec.{new_closure}
-use Rattle.cs_model.specs.Read.{active_birth, depth_of, pc_of, stack_of}
-use Rattle.cs_model.specs.Operation.{add_of, next_ref, nil_of}
-use Rattle.cs_acts.specs.Names.{Names, name_of}
+use Rattle.cs_model.specs.Read.{depth_of, stack_of}
+use Rattle.cs_model.specs.Operation.{add_of, nil_of}
+use Rattle.cs_acts.specs.Names.{name_of}
 use Rattle.cs_code.specs.Closures.{Leads, bare_closure, closure_slots, closure_with, copied_so_far}
 use Rattle.cs_code.proofs.Adding.{cause-weighed, depth-over, stack-over, storable-added}
 use Rattle.cs_code.proofs.Closing.{all-copied, copied-more, length-so_far, none-copied, set-copied, words-alike, written}
@@ -73,14 +72,15 @@ loop-i-preserved g c =
     let x : Ref = name_of (g.W.World.stored c.loop-i.w) c.stack_at-value.result in
     let stack = stack-over (g.W.World.view c.loop-i.w) k (closure_with k c.args.args all) c.requires.ready.running c.requires.ready.sound.births led.state in
     let value : x ≡ unwrap_or (slice_get (stack_of k) (c.depth.result - c.from.result + c.loop-i.i)) (nil_of (g.W.World.view c.loop-i.w)) =
-        c.stack_at-value.ensures.is ∙ ap (λ (xs : List Ref). unwrap_or (slice_get xs (c.depth.result - c.from.result + c.loop-i.i)) (nil_of (g.W.World.view c.loop-i.w))) stack in
+    c.stack_at-value.ensures.is ∙ ap (λ (xs : List Ref). unwrap_or (slice_get xs (c.depth.result - c.from.result + c.loop-i.i)) (nil_of (g.W.World.view c.loop-i.w))) stack in
     let e = c.store.ensures in
     let named = e.names c.in-Ok.closure c.loop-i.invariant.1.sound in
     let more = copied-more k n c.loop-i.i (c.depth.result - c.from.result + c.loop-i.i) x (nil_of (g.W.World.view c.loop-i.w)) c.requires.there few place value in
     let next = written (g.W.World.stored c.args.w.now) (g.W.World.stored c.loop-i.w) (g.W.World.stored c.store.new.self) (g.W.World.layout c.args.w.now) (g.W.World.layout c.loop-i.w) (g.W.World.layout c.store.new.self) (g.W.World.view c.loop-i.w) (g.W.World.view c.store.new.self) k 37 3 0 (3 + c.loop-i.i) (closure_slots k c.args.args all) c.in-Ok.closure c.stack_at-value.result x led c.loop-i.invariant.1.is refl
-        e.state e.exact e.layout e.limit e.ready e.names in
-    (subst (λ (o : _). Leads (g.W.World.stored c.args.w.now) (g.W.World.stored c.store.new.self) (g.W.World.layout c.args.w.now) (g.W.World.layout c.store.new.self) (g.W.World.view c.store.new.self) (add_of k o)) (set-copied k c.args.args c.loop-i.i x all (copied_so_far k n (c.loop-i.i + 1)) more) next,
-    record { sound = named.sound; is = named.is ∙ c.loop-i.invariant.1.is })
+    e.state e.exact e.layout e.limit e.ready e.names in (
+      subst (λ (o : _). Leads (g.W.World.stored c.args.w.now) (g.W.World.stored c.store.new.self) (g.W.World.layout c.args.w.now) (g.W.World.layout c.store.new.self) (g.W.World.view c.store.new.self) (add_of k o)) (set-copied k c.args.args c.loop-i.i x all (copied_so_far k n (c.loop-i.i + 1)) more) next,
+      record { sound = named.sound; is = named.is ∙ c.loop-i.invariant.1.is },
+    )
 
 pub returns-clause-value : goal.returns-clause-value
 returns-clause-value g c = c.loop-i.invariant.1

@@ -1,4 +1,4 @@
-use Rattle.std.proofs.Common.{◌≡◌, ◌∙◌, ◌≤◌, true, false, refl, sym, ap, subst, arith, Some, None, pos, nat_lt, to_z, of_z, w32}
+use Rattle.std.proofs.Common.{◌≡◌, ◌∙◌, ◌≤◌, true, false, refl, sym, ap, subst, arith, Some, pos, nat_lt, to_z, of_z, w32}
 use Rattle.std.proofs.lemmas.Int.{ints}
 use Rattle.cs_model.specs.declared.stop.Stop.TheVariants as why
 use Rattle.cs_model.specs.Exec.{new_closure, pc_after}
@@ -67,7 +67,7 @@ set_pc-requires-clause-lies g c =
     let is : name_of (g.W.World.stored c.drop_values.new.w) c.in-Ok.closure ≡ next_ref k = named.is ∙ c.in-Ok.ensures.value.is in
     let e = c.push.ensures in
     let pushed_led = subst (λ x. Leads (g.W.World.stored c.args.w.now) (g.W.World.stored c.push.new.self) (g.W.World.layout c.args.w.now) (g.W.World.layout c.push.new.self) (g.W.World.view c.push.new.self) (push_of t x)) is
-        (followed (g.W.World.stored c.args.w.now) (g.W.World.stored c.drop_values.new.w) (g.W.World.stored c.push.new.self) (g.W.World.layout c.args.w.now) (g.W.World.layout c.drop_values.new.w) (g.W.World.layout c.push.new.self) (g.W.World.view c.drop_values.new.w) (g.W.World.view c.push.new.self) t (λ u. push_of u (name_of (g.W.World.stored c.drop_values.new.w) c.in-Ok.closure)) led e.state e.exact e.layout e.limit e.ready e.names) in
+    (followed (g.W.World.stored c.args.w.now) (g.W.World.stored c.drop_values.new.w) (g.W.World.stored c.push.new.self) (g.W.World.layout c.args.w.now) (g.W.World.layout c.drop_values.new.w) (g.W.World.layout c.push.new.self) (g.W.World.view c.drop_values.new.w) (g.W.World.view c.push.new.self) t (λ u. push_of u (name_of (g.W.World.stored c.drop_values.new.w) c.in-Ok.closure)) led e.state e.exact e.layout e.limit e.ready e.names) in
     pc-stands (g.W.World.view c.push.new.self) k c.args.copied c.args.args c.in-Some.pc (next_ref k) c.requires.ready.running c.requires.ready.sound.births pushed_led.state c.in-Some.ensures.lies
 
 pub returns-clause-gives : goal.returns-clause-gives
@@ -86,7 +86,7 @@ returns-clause-gives g c = λ _.
     let is : name_of (g.W.World.stored c.drop_values.new.w) c.in-Ok.closure ≡ next_ref k = named.is ∙ c.in-Ok.ensures.value.is in
     let e = c.push.ensures in
     let pushed_led = subst (λ x. Leads (g.W.World.stored c.args.w.now) (g.W.World.stored c.push.new.self) (g.W.World.layout c.args.w.now) (g.W.World.layout c.push.new.self) (g.W.World.view c.push.new.self) (push_of t x)) is
-        (followed (g.W.World.stored c.args.w.now) (g.W.World.stored c.drop_values.new.w) (g.W.World.stored c.push.new.self) (g.W.World.layout c.args.w.now) (g.W.World.layout c.drop_values.new.w) (g.W.World.layout c.push.new.self) (g.W.World.view c.drop_values.new.w) (g.W.World.view c.push.new.self) t (λ u. push_of u (name_of (g.W.World.stored c.drop_values.new.w) c.in-Ok.closure)) led e.state e.exact e.layout e.limit e.ready e.names) in
+    (followed (g.W.World.stored c.args.w.now) (g.W.World.stored c.drop_values.new.w) (g.W.World.stored c.push.new.self) (g.W.World.layout c.args.w.now) (g.W.World.layout c.drop_values.new.w) (g.W.World.layout c.push.new.self) (g.W.World.view c.drop_values.new.w) (g.W.World.view c.push.new.self) t (λ u. push_of u (name_of (g.W.World.stored c.drop_values.new.w) c.in-Ok.closure)) led e.state e.exact e.layout e.limit e.ready e.names) in
     let f = c.set_pc.ensures in
     let all = followed (g.W.World.stored c.args.w.now) (g.W.World.stored c.push.new.self) (g.W.World.stored c.set_pc.new.self) (g.W.World.layout c.args.w.now) (g.W.World.layout c.push.new.self) (g.W.World.layout c.set_pc.new.self) (g.W.World.view c.push.new.self) (g.W.World.view c.set_pc.new.self) (push_of t (next_ref k)) (λ u. set_pc_of u c.in-Some.pc) pushed_led f.state f.exact f.layout f.limit f.ready f.names in
     led-given (g.W.World.stored c.args.w.now) (g.W.World.stored c.set_pc.new.self) (g.W.World.layout c.args.w.now) (g.W.World.layout c.set_pc.new.self) (g.W.World.view c.set_pc.new.self) (set_pc_of (push_of t (next_ref k)) c.in-Some.pc) _ ends.Done _ refl tt (closure-pushed k c.args.copied c.args.args c.args.size c.in-Some.pc lies enough room) all
