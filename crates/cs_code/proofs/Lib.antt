@@ -4,3 +4,6 @@ pub mod Tops
 pub mod Bits
 pub mod Sending
 pub mod Looking
+pub mod Adding
+pub mod Closing
+pub mod Enclosing

@@ -32,7 +32,7 @@ use Rattle.cs_code.proofs.Through.{names-trans, same_itself}
 
 -- ---- words
 
-words-put : (k : Kept) (i : ℕ) (o p : Obj) → object_at k i ≡ Some o → words_of p ≡ words_of o → (n : ℕ) → words_below n (put k i p) ≡ words_below n k
+pub words-put : (k : Kept) (i : ℕ) (o p : Obj) → object_at k i ≡ Some o → words_of p ≡ words_of o → (n : ℕ) → words_below n (put k i p) ≡ words_below n k
 unfolding words_below
 words-put k i o p there size zero = refl
 words-put k i o p there size (suc n) = ap₂ (λ (a b : ℕ). a + b) (words-put k i o p there size n) (elim (eqb_tells n i) [
@@ -146,7 +146,7 @@ pub refused : (s : Store) (l : Option Layout) (k v : Kept) (o : Out) (x : Ref) (
 refused s l k v o x a b same_reason heap running ends_as same cause =
     let here : CausesFull s l k 0 k b = subst (λ w. CausesFull s l k 0 k w) (reason a b same_reason) (subst (λ u. CausesFull s l u 0 u a) same cause) in
     record {
-      end = ends_as.end;
+      end = inl ends_as.end;
       heap_alone = sym (reason a b same_reason) ∙ heap;
       cause = subst (λ n. CausesFull s l k n o.state b) (sym ends_as.objects) (subst (λ t. CausesFull s l k 0 t b) (sym ends_as.state) (cause-pushed s l k x b running here));
     }

@@ -19,7 +19,7 @@ use Rattle.cs_model.proofs.Same.{Any, Same, same}
 use Rattle.cs_acts.proofs.Running.{active_context-put_active}
 
 -- what is put twice at a birth is the last one
-insert-twice : (m : FinMap nat_cmp Obj) (i : ℕ) (o p : Obj) → insert (insert m i o) i p ≡ insert m i p
+pub insert-twice : (m : FinMap nat_cmp Obj) (i : ℕ) (o p : Obj) → insert (insert m i o) i p ≡ insert m i p
 insert-twice m i o p = same_map nat_cmp_total nat_cmp-IsAntisymmetric _ _ alike
   where
     once : (b : Bool) (q : Option Obj) → cond b (Some p) (cond b (Some o) q) ≡ cond b (Some p) q

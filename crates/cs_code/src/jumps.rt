@@ -34,7 +34,7 @@ pub fn jump<W: World>(w: &mut W, offset: i32) -> CodeEnd
 
 /// The pc so far from the active one; None exactly where it doesn't lie in the active method.
 #[tactic(auto, unfolding(cs_model::specs::Exec::pc_after))]
-fn pc_after<W: World>(w: &W, offset: i32) -> Option<u32>
+pub fn pc_after<W: World>(w: &W, offset: i32) -> Option<u32>
     requires { IsReady (W.stored w.now) (W.view w.now) }
     ensures value { result ≡ pc_after (W.view w.now) offset }
     ensures lies { IfSome result (λ pc. lies_in (method_of (W.view w.now)) pc ≡ true) }

@@ -11,6 +11,7 @@ ghost use Rattle.cs_code.specs.declared.end.CodeEnd.TheVariants as ends;
 ghost use Rattle.cs_code.specs.Gives.{Gives, Refuses, is_refused};
 
 mod arithmetic;
+mod closures;
 mod contexts;
 mod end;
 mod jumps;
@@ -67,6 +68,7 @@ pub fn exec<W: World>(i: &Instr, w: &mut W) -> CodeEnd
         Op::PushVec { k, j } => variables::push_vector(w, k, j),
         Op::StoreVec { k, j } => stores::keep_vector(w, k, j),
         Op::PopVec { k, j } => stores::pop_vector(w, k, j),
+        Op::Closure { copied, args, size } => closures::make_closure(w, copied, args, size),
         Op::Jump(offset) => jumps::jump(w, i32::from(offset)),
         Op::JumpTrue(offset) => jumps::jump_if(w, true, offset),
         Op::JumpFalse(offset) => jumps::jump_if(w, false, offset),
