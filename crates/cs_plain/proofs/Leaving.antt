@@ -188,7 +188,7 @@ module _ {w : PlainWorld} {a : Oop} {x : Object} (ready : IsReady (stored_of w) 
       record {
         leaves = λ v. ap (λ m. push_of m v) view ∙ ap (λ n. push_of (resume_of d n) v) (sym (ap (λ o. unwrap_or o k.rest.nil) (birth_of_context k (active_context k).sender target arrives)));
         ready = record {
-          sound = sound_world (with_left w a sender) does.whole (subst (λ n. n ≤ w.heap.limit) (sym edit.words) ready.sound.holds.within) ready.sound.holds.most (subst KeepsPcs (sym view) pcs);
+          sound = sound_world (with_left w a sender) does.whole (subst (λ n. n ≤ w.heap.limit) (sym edit.words) ready.sound.holds.within) ready.sound.holds.most ready.sound.closures (subst KeepsPcs (sym view) pcs);
           running = subst IsRunning (sym view) (running (resume_of d target) target t.context t.pc refl stays t.live pcs);
         };
         names = keeps_names w us edit;

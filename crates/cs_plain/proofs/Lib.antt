@@ -12,6 +12,8 @@ mod Words
 mod Acts
 mod Leaving
 mod Making
+mod Calling
+mod Called
 mod Entering
 mod Entered
 mod Asking
