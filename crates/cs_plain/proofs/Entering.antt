@@ -1,6 +1,6 @@
--- Entering: a new context is active, with the old one as its sender.
+-- Entering a method: its header, and what the new context is.
 use Rattle.std.proofs.Common.{◌≡◌, ◌≢◌, ℕ, pos, zero, suc, ◌+◌, ◌*◌, ◌/◌, ◌-◌, ◌%◌, ◌<◌, ◌≤◌, ◌^◌, Bool, true, false, refl, sym, ap, ap₂, subst, ◌∙◌, Option, Some, None, is_some, unwrap_or, List, [], ◌∷◌, ◌++◌, length, map, take, drop, replicate, get_or, length-take, length-drop, arith}
-use Rattle.std.specs.Prelude.{◌==◌, ◌||◌, ◌&&◌, if◌then◌else◌, nat_le, IsTrue}
+use Rattle.std.specs.Prelude.{slice_get, ◌==◌, ◌||◌, ◌&&◌, if◌then◌else◌, nat_le, IsTrue}
 use Rattle.std.specs.List.{AllPass}
 use Rattle.std.specs.FinMap.{get}
 use Rattle.std.proofs.lemmas.Bool.{eqb-true, false≢true, or_right}
@@ -12,7 +12,7 @@ use Rattle.cs_word.specs.declared.Oop.{Oop}
 use Rattle.cs_word.specs.declared.Kind.{Kind}
 use Rattle.cs_word.specs.declared.Kind.TheVariants as kind
 use Rattle.cs_word.specs.Word.{kind_of, small_word}
-use Rattle.cs_heap.specs.Object.{Object, base, birth_of, header_address, is_object, new_object, next_address, object_at, size, used, with_slot}
+use Rattle.cs_heap.specs.Object.{Object, slot_count_of, slot_of, base, birth_of, header_address, is_object, new_object, next_address, object_at, size, used, with_slot}
 use Rattle.cs_heap.proofs.Laws.{object_at-new, used-pushed}
 use Rattle.cs_classes.specs.Meaning.{context_of, count_of, depth_in, header_in, is_context, kept_of, literals_in, obj_of, objects_of, ref_of, ref_of_kind, used_bytes, code_in}
 use Rattle.cs_classes.specs.Meaning as meaning
@@ -39,12 +39,14 @@ use Rattle.cs_acts.specs.Names.{IsNamed, KeepsNames, Names, name_of}
 use Rattle.cs_acts.specs.Ready.{IsReady, IsSound}
 use Rattle.cs_model.specs.Demand.{words_in}
 use Rattle.cs_acts.specs.Targets.{CanEnter}
-use Rattle.cs_acts.proofs.Methods.{IsMethodAt, length-literals, parts}
+use Rattle.cs_acts.proofs.Methods.{IsMethodAt, header_is, length-literals, parts, slots_fit}
 use Rattle.cs_acts.proofs.Sizes.{pc_small}
 use Rattle.cs_plain.specs.declared.Fields.{Fields}
 use Rattle.cs_plain.specs.declared.PlainWorld.{PlainWorld}
+use Rattle.cs_plain.specs.Calling.{CanCall, called_context, called_of, called_stack, copied_words}
+use Rattle.cs_plain.specs.Calling as calling
 use Rattle.cs_plain.specs.View.{birth_at, birth_in, stored_of, view_of}
-use Rattle.cs_plain.proofs.Active.{Active, meaning_there, sound_world}
+use Rattle.cs_plain.proofs.Active.{Active, active_is, meaning_there}
 use Rattle.cs_plain.proofs.Edits.{Edited, edited}
 use Rattle.cs_plain.proofs.Making.{drop-drop, context_words}
 use Rattle.cs_plain.proofs.Pcs.{KeepsPcs, lies_still, no_place, pcs-put, pcs-rest, running}
@@ -156,3 +158,109 @@ header_at os k x m header at e =
     either true = refl
     either false = refl
 
+-- ---- the new context
+
+module _ (w : PlainWorld) (m b : Oop) (args : ℕ) (skip : Bool) (ready : IsReady (stored_of w) (view_of w)) (named : IsNamed (stored_of w) m)
+    (fits : CanEnter (view_of w) (name_of (stored_of w) m) args skip) (known : w.active ≡ Some b) (word header : ℕ) (read : word ≡ slot_of w.heap.objects m.0 0)
+    (counted : header ≡ unwrap_or (count_of word) 0) where
+  method : IsMethodAt w.heap.objects (object_of (view_of w) (name_of (stored_of w) m)) m.0
+  method = method_at w m ready.sound named fits.method
+
+  head : Header (view_of w) (name_of (stored_of w) m) header
+  head = header_at w.heap.objects (view_of w) (name_of (stored_of w) m) m.0 header method
+      (counted ∙ ap (λ n. unwrap_or (count_of n) 0) read ∙ header_is w.heap.objects (object_of (view_of w) (name_of (stored_of w) m)) m.0 method)
+
+  abbrev entry : ℕ
+  entry = 4 * (literal_count header + 1) + 1 + (if skip then 3 else 0)
+
+  entry_is : entry_pc (object_of (view_of w) (name_of (stored_of w) m)) skip ≡ entry
+  entry_is = ap (λ n. n + (if skip then 3 else 0)) head.first
+
+  lies : lies_in (object_of (view_of w) (name_of (stored_of w) m)) entry ≡ true
+  lies = ap (lies_in (object_of (view_of w) (name_of (stored_of w) m))) (sym entry_is) ∙ method_lies (object_of (view_of w) (name_of (stored_of w) m)) skip fits.method fits.marked
+
+  entry_small : entry < 2 ^ 30
+  entry_small = omega (arith, pc_small (stored_of w) (view_of w) m entry ready.sound.holds named lies)
+
+  temporaries_small : temporary_count header < 2 ^ 30
+  temporaries_small = omega arith
+
+  args_few : args ≤ temporary_count header
+  args_few = omega (arith, head.temporaries, ap argument_count head.is, fits.count)
+
+  -- the fields that the code writes
+
+  module _ (entry_pc temporaries depth : ℕ) (pc stackp receiver : Oop) (deep : depth ≡ depth_of (view_of w)) (entry_read : entry_pc ≡ entry) (pc_is : pc.0 ≡ small_word (pos entry_pc))
+      (temporaries_read : temporaries ≡ temporary_count header) (stackp_is : stackp.0 ≡ small_word (pos temporaries))
+      (names : Names (stored_of w) receiver (unwrap_or (slice_get (stack_of (view_of w)) (depth - (args + 1))) (operation.nil_of (view_of w)))) where
+    abbrev fields : Fields
+    fields = record { sender = b; pc = pc; stackp = stackp; method = m; closure = record { 0 = base }; receiver = receiver }
+
+    pc_word : pc.0 ≡ small_word (pos entry)
+    pc_word = pc_is ∙ ap (λ n. small_word (pos n)) entry_read
+
+    stackp_word : stackp.0 ≡ small_word (pos (temporary_count header))
+    stackp_word = stackp_is ∙ ap (λ n. small_word (pos n)) temporaries_read
+
+    pc_count : count_of pc.0 ≡ Some entry
+    pc_count = ap count_of pc_word ∙ count_of-small entry entry_small
+
+    stackp_count : count_of stackp.0 ≡ Some (temporary_count header)
+    stackp_count = ap count_of stackp_word ∙ count_of-small (temporary_count header) temporaries_small
+
+    nothing : copied_words w.heap.objects base 0 ≡ []
+    nothing = none (drop 3 (calling.words_in (object_at w.heap.objects base)))
+      where
+        none : (ws : List ℕ) → take 0 ws ≡ []
+        none [] = refl
+        none (a ∷ ws) = refl
+
+    pub can_call : CanCall (stored_of w) (view_of w) header args 0 fields
+    can_call = record {
+      entry = entry;
+      pc = pc_count;
+      lies = lies;
+      depth = temporary_count header;
+      stackp = stackp_count;
+      holds = omega (arith, args_few);
+      fits = head.size;
+      pc_named = ap (is_reference w.heap.objects) pc_word ∙ is_reference-small w.heap.objects (pos entry) (small_natural entry entry_small);
+      stackp_named = ap (is_reference w.heap.objects) stackp_word ∙ is_reference-small w.heap.objects (pos (temporary_count header)) (small_natural (temporary_count header) temporaries_small);
+      method = named;
+      closure = nil_is_object w.heap.objects w.classes w.roots ready.sound.holds.whole;
+      receiver = names.sound;
+      there = fits.there;
+      values = ap length nothing;
+      named = subst (AllPass (is_reference w.heap.objects)) (sym nothing) (λ k d l. absurd (omega (arith, l)));
+      births = fits.births;
+    }
+
+    pub called_is : called_of (view_of w) args (called_context (stored_of w) (view_of w) header args 0 fields) ≡ enter_of (view_of w) (name_of (stored_of w) m) args skip
+    unfolding enter_of enter_with
+    called_is =
+        let k = view_of w in
+        let a = active_is w b ready known in
+        let sender : name_of (stored_of w) b ≡ ref.Obj (active_birth k) = ref_of-object w.heap.objects b.0 (is_object-object_at w.heap.objects b.0 a.0 a.1.there) ∙ ap (λ n. ref.Obj n) (sym a.1.birth) in
+        let entered : count_of pc.0 ≡ Some (operation.entry_pc (object_of k (name_of (stored_of w) m)) skip) = pc_count ∙ ap (λ n. Some n) (sym entry_is) in
+        let closure : ref_of w.heap.objects base ≡ operation.nil_of k = ref_of-nil w.heap.objects w.classes w.roots ready.sound.holds.whole in
+        let receives : name_of (stored_of w) receiver ≡ receiver_below args (operation.nil_of k) (stack_of k) = names.is ∙ ap (λ n. unwrap_or (slice_get (stack_of k) (n - (args + 1))) (operation.nil_of k)) deep in
+        let none : map (ref_of w.heap.objects) (copied_words w.heap.objects base 0) ≡ [] = ap (map (ref_of w.heap.objects)) nothing in
+        let count : unwrap_or (count_of stackp.0) 0 ≡ temporary_count (obj.header_in (object_of k (name_of (stored_of w) m))) = ap (λ o. unwrap_or o 0) stackp_count ∙ ap temporary_count head.is in
+        let left : unwrap_or (count_of stackp.0) 0 - (args + 0) ≡ temporary_count (obj.header_in (object_of k (name_of (stored_of w) m))) - args = omega (arith, count) in
+        let stack : called_stack (stored_of w) k (unwrap_or (count_of stackp.0) 0) args 0 fields
+            ≡ last_values args (stack_of k) ++ replicate (temporary_count (obj.header_in (object_of k (name_of (stored_of w) m))) - args) (operation.nil_of k) =
+        ap₂ (λ us n. last_values args (stack_of k) ++ (us ++ replicate n (operation.nil_of k))) none left in
+        ap (called_of k args) (λ i. record {
+          hash = 0;
+          sender = sender i;
+          pc = entered i;
+          method = name_of (stored_of w) m;
+          closure = closure i;
+          receiver = receives i;
+          stack = stack i;
+          size = context_size (head.is i);
+        })
+
+-- the method's header has a slot
+pub header_there : (w : PlainWorld) (m : Oop) → IsSound (stored_of w) (view_of w) → IsNamed (stored_of w) m → obj.is_method (object_of (view_of w) (name_of (stored_of w) m)) ≡ true → 0 < slot_count_of w.heap.objects m.0
+header_there w m sound named is = omega (arith, slots_fit w.heap.objects (object_of (view_of w) (name_of (stored_of w) m)) m.0 (method_at w m sound named is))

@@ -15,6 +15,6 @@ mod Making
 mod Calling
 mod Called
 mod Entering
-mod Entered
+mod Block
 mod Asking
 mod Allocating
