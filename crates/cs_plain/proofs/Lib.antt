@@ -10,7 +10,9 @@ mod Scheduled
 mod Copying
 mod Words
 mod Acts
+mod Ways
 mod Leaving
+mod Cutting
 mod Making
 mod Calling
 mod Called
