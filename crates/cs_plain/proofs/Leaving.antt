@@ -125,10 +125,10 @@ module _ {w : PlainWorld} {a : Oop} {x : Object} (sound : IsSound (stored_of w) 
       (buried_context refer x.hash x.words at.whole.fields
       ∙ ap (λ r. record (context_of refer x.hash x.words) { sender = r; pc = None; stack = [] }) (ref_of-nil os w.classes w.roots sound.holds.whole))))
 
-  buried_edited : Edited w.heap.objects (buried w.heap.objects a.0)
+  pub buried_edited : Edited w.heap.objects (buried w.heap.objects a.0)
   buried_edited = subst (Edited w.heap.objects) (sym (buried-one w.heap.objects a.0)) (edited w.heap.objects a.0 x bury bury-IsEdit at.there)
 
-  killed : view_of (with_objects w (buried w.heap.objects a.0)) ≡ kill_of (view_of w) x.birth
+  pub killed : view_of (with_objects w (buried w.heap.objects a.0)) ≡ kill_of (view_of w) x.birth
   unfolding kill_of
   killed =
       let os = w.heap.objects in

@@ -17,6 +17,7 @@ pub record AtHome (old new : PlainWorld) (home target : ℕ) (context : Oop) : T
   pub birth : birth_at new.heap.objects context ≡ Some home
   pub kills : kill_of (view_of new) home ≡ kill_all (dying_to (view_of old) home) (view_of old)
   pub sender : sender_birth (view_of new) home ≡ Some target
+  pub other : target ≢ home
   pub stays : object_at (view_of new) target ≡ object_at (view_of old) target
   pub sound : IsSound (stored_of new) (view_of new)
   pub names : KeepsNames (stored_of old) (stored_of new)

@@ -1,53 +1,25 @@
-use Rattle.std.proofs.Common.{rules, ◌≡◌, ◌<◌, ◌≤◌, ◌+◌, ◌*◌, ◌^◌, if◌then◌else◌, is_some, pos, Some, unwrap_or, ℕ, IfOk, false, true, None, IfErr, IfSome, IsSomeAnd, OnOk, ◌-◌, length, ◌/◌, ◌%◌, Bool, nat_eq, nat_lt, List, [], ◌∷◌, ◌++◌, slice_index_or, slice_set, bit_and, bit_or, Fits, w8, w32, w64, Bor, MutBor}
-use Rattle.cs_word.specs.Word.{small_word}
-use Rattle.cs_heap.specs.Object.{slot_count_of}
-use Rattle.cs_classes.specs.Meaning.{count_of}
-use Rattle.cs_model.specs.Obj.{context_size, literal_count, temporary_count, Context, Ctx}
-use Rattle.cs_model.specs.Ref.{natural_of}
-use Rattle.cs_acts.specs.Reading.{is_context_at}
-use Rattle.cs_acts.specs.Ready.{IsReady, IsSound}
-use Rattle.cs_plain.specs.Storing.{buried, copied, with_fields}
-use Rattle.std.specs.FinMap.{get}
-use Rattle.cs_model.specs.State.{PcLies, object_at}
-use Rattle.cs_classes.specs.Sound.{IsWhole}
-use Rattle.cs_model.specs.Read.{IsRunning, active_birth}
-use Rattle.cs_model.specs.Due.{is_idle}
-use Rattle.cs_model.specs.Operation.{nil_of}
-use Rattle.cs_model.specs.Settle.{open_kept}
-use Rattle.cs_model.specs.Step.{shape_fault}
-use Rattle.cs_acts.specs.Names.{IsNamed, Names, name_of, KeepsNames}
-use Rattle.cs_model.specs.Return.{sender_birth}
-use Rattle.cs_acts.specs.Full.{CausesFull}
-use Rattle.cs_acts.specs.Targets.{CanCut}
-use Rattle.cs_plain.specs.Calling.{CanCall, called_context, called_of}
-use Rattle.cs_plain.specs.Cutting.{AtHome, CanLand, landed_of}
-use Rattle.cs_plain.specs.View.{birth_at, loaded_kept, stored_of, taken_of, view_of}
+use Rattle.std.proofs.Common.{arith}
+use Rattle.cs_plain.proofs.Cutting.{cuts_first, cutting, is_there, met_home, met_last, next, six_there}
+use Rattle.cs_plain.proofs.Ways.{links_is}
 use Rattle.cs_plain.proofs.PlainWorld.bury_to.Goals as goal
 
--- src/lib.rt:326:9
 pub loop-init : goal.loop-init
-loop-init c = ?
+loop-init c = cuts_first c.args.self.now c.args.home c.active_context-context.result c.requires.ready c.active_context-context.ensures c.requires.target
 
--- src/lib.rt:327:16
 pub birth-requires : goal.birth-requires
-birth-requires c = ?
+birth-requires c = is_there c.args.self.now c.loop.self c.args.home c.loop.context c.loop.counter (cutting c.args.self.now c.loop.self c.args.home c.loop.context c.loop.counter c.requires.target c.loop.invariant)
 
--- src/lib.rt:328:17
 pub returns-then-birth-home : goal.returns-then-birth-home
-returns-then-birth-home c = ?
+returns-then-birth-home c = met_home c.args.self.now c.loop.self c.args.home c.loop.context c.loop.counter (cutting c.args.self.now c.loop.self c.args.home c.loop.context c.loop.counter c.requires.target c.loop.invariant) c.birth.result c.birth.ensures c.if-birth-home.true
 
--- src/lib.rt:330:17
 pub slot-sender-requires : goal.slot-sender-requires
-slot-sender-requires c = ?
+slot-sender-requires c = omega (arith, six_there c.args.self.now c.loop.self c.args.home c.loop.context c.loop.counter (cutting c.args.self.now c.loop.self c.args.home c.loop.context c.loop.counter c.requires.target c.loop.invariant))
 
--- src/lib.rt:331:13
 pub bury-requires : goal.bury-requires
-bury-requires c = ?
+bury-requires c = omega (arith, six_there c.args.self.now c.loop.self c.args.home c.loop.context c.loop.counter (cutting c.args.self.now c.loop.self c.args.home c.loop.context c.loop.counter c.requires.target c.loop.invariant))
 
--- src/lib.rt:326:9
 pub loop-preserved : goal.loop-preserved
-loop-preserved c = ?
+loop-preserved c = next c.args.self.now c.loop.self c.args.home c.loop.context c.loop.counter (cutting c.args.self.now c.loop.self c.args.home c.loop.context c.loop.counter c.requires.target c.loop.invariant) c.slot-sender.result c.bury.new.heap c.slot-sender.ensures c.bury.ensures c.birth.result c.birth.ensures c.if-birth-home.false
 
--- src/lib.rt:320:5
 pub returns : goal.returns
-returns c = ?
+returns c = met_last c.args.self.now c.loop.self c.args.home c.loop.context c.loop.counter (cutting c.args.self.now c.loop.self c.args.home c.loop.context c.loop.counter c.requires.target c.loop.invariant) (omega (arith, links_is, c.loop-test.false))
