@@ -6,7 +6,7 @@ use Rattle.cs_word.specs.declared.Oop.{Oop}
 use Rattle.cs_heap.specs.Object.{Memory, Object, birth_of, is_object, slot_count_of, slot_of}
 use Rattle.cs_classes.proofs.Heaps.{birth_of-object_at, is_object-object_at}
 use Rattle.cs_model.specs.Ref.{Ref}
-use Rattle.cs_model.specs.Obj.{Context, context_in}
+use Rattle.cs_model.specs.Obj.{Context, Obj, context_in}
 use Rattle.cs_model.specs.State.{Kept, object_at}
 use Rattle.cs_model.specs.Keeps.{Keeps}
 use Rattle.cs_model.specs.Read.{active_birth}
@@ -25,6 +25,7 @@ use Rattle.cs_plain.proofs.Acts as acts
 use Rattle.cs_plain.proofs.Acts.{ContextAt, sender_read}
 use Rattle.cs_plain.proofs.Leaving.{buried_edited, buried_sound, killed, names_both, some_same}
 use Rattle.cs_plain.proofs.Ways.{IsWay, first_apart, killed_other, killed_sender, killed_way, links_is, rest_apart, search_first, way_apart}
+use Rattle.cs_plain.proofs.Writing.{held_by}
 use Rattle.cs_plain.proofs.Written.{keeps_names, with_objects}
 
 -- So many contexts are dead, and this one is the next. What is left to die is the way from it to the home, in the state that is left.
@@ -229,3 +230,21 @@ cut_exact w v u home c x t named h =
     subst (λ o. IfSome o (λ target. view_of u ≡ landed_of (view_of v) home target (name_of (stored_of v) x))) t.at.sender
     (subst (λ o. IfSome o (λ home. IfSome (sender_birth (view_of v) home) (λ target. view_of u ≡ landed_of (view_of v) home target (name_of (stored_of v) x)))) t.at.birth h) in
     landed ∙ ap (landed_of (view_of v) home t.target) (t.at.names x named).is ∙ ap (λ m. push_of (resume_of m t.target) (name_of (stored_of w) x)) t.at.kills
+
+pub cut_state : (w u : PlainWorld) (x : Oop) (home target : ℕ) → IsReady (stored_of w) (view_of w) → IsNamed (stored_of w) x → CanCut (view_of w) home target
+    → view_of u ≡ cut_to_of (view_of w) (dying_to (view_of w) home) target (name_of (stored_of w) x) → (m : Kept) → Keeps (view_of w) m
+    → Keeps (view_of u) (cut_to_of m (dying_to (view_of w) home) target (name_of (stored_of w) x))
+cut_state w u x home target ready named can view m k =
+    subst (λ v. Keeps v (cut_to_of m (dying_to (view_of w) home) target (name_of (stored_of w) x))) (sym view)
+    (cut_to_moved k (dying_to (view_of w) home) (same target (held (object_at (view_of w) target) can.live)) (held_by w x ready named)).keeps
+  where
+    held : (o : Option Obj) → is_some (option_and_then (λ (c : Context). c.pc) (context_in o)) ≡ true → is_some o ≡ true
+    held None h = absurd (false≢true h)
+    held (Some o) h = refl
+
+-- what is said where there is one
+pub told : (o : Option ℕ) (i : ℕ) (P : ℕ → Type 0) → o ≡ Some i → P i → IfSome o P
+told o i P e h = subst (λ p. IfSome p P) (sym e) h
+
+pub of_some : (o : Option ℕ) (i : ℕ) (P : ℕ → Type 0) → o ≡ Some i → IsSomeAnd o P → P i
+of_some o i P e h = subst (λ p. IsSomeAnd p P) e h

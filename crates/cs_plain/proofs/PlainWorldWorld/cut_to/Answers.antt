@@ -1,35 +1,36 @@
-use Rattle.std.proofs.Common.{rules, ◌≡◌, ◌<◌, ◌≤◌, ◌+◌, ◌*◌, ◌^◌, if◌then◌else◌, is_some, pos, Some, unwrap_or, None, ℕ, ◌-◌, length, ◌/◌, ◌%◌, Bool, true, false, nat_eq, nat_lt, List, [], ◌∷◌, ◌++◌, slice_index_or, slice_set, bit_and, bit_or, Fits, w8, w32, w64, Bor, MutBor}
-use Rattle.cs_word.specs.Word.{small_word}
-use Rattle.cs_heap.specs.Object.{slot_count_of}
-use Rattle.cs_classes.specs.Meaning.{count_of}
-use Rattle.cs_model.specs.Obj.{context_size, literal_count, temporary_count}
-use Rattle.cs_model.specs.Ref.{natural_of}
-use Rattle.cs_acts.specs.Reading.{is_context_at}
-use Rattle.cs_acts.specs.Ready.{IsReady}
-use Rattle.cs_plain.specs.Storing.{buried, copied, with_fields}
+use Rattle.std.proofs.Common.{IfSome, IsSomeAnd, refl, sym, subst, ◌∙◌}
+use Rattle.cs_model.specs.Keeps.{Keeps, SameKept}
+use Rattle.cs_model.specs.Operation.{cut_to_of}
+use Rattle.cs_model.specs.Return.{sender_birth}
+use Rattle.cs_acts.specs.Names.{name_of}
+use Rattle.cs_acts.specs.Targets.{CanCut, dying_to}
 use Rattle.cs_plain.specs.View.{act_of, stored_of, view_of}
+use Rattle.cs_plain.proofs.Cutting.{can_land, cut, cut_exact, cut_state, of_some, told}
+use Rattle.cs_plain.proofs.Leaving.{names_both}
+use Rattle.cs_plain.proofs.Writing.{same_kept}
 use Rattle.cs_plain.proofs.PlainWorldWorld.cut_to.Goals as goal
 
--- src/lib.rt:577:9
 pub land-requires-clause-sound : goal.land-requires-clause-sound
-land-requires-clause-sound c = ?
+land-requires-clause-sound c = (cut c.args.self.now c.bury_to-context.new.self c.act_birth-birth.result c.bury_to-context.result (of_some _ _ _ c.act_birth-birth.ensures c.requires.target) c.bury_to-context.ensures).at.sound
 
--- src/lib.rt:577:9
 pub land-requires-clause-target : goal.land-requires-clause-target
-land-requires-clause-target c = ?
+land-requires-clause-target c = can_land c.args.self.now c.bury_to-context.new.self c.act_birth-birth.result c.bury_to-context.result (cut c.args.self.now c.bury_to-context.new.self c.act_birth-birth.result c.bury_to-context.result (of_some _ _ _ c.act_birth-birth.ensures c.requires.target) c.bury_to-context.ensures)
 
--- src/lib.rt:574:5
 pub returns-clause-state : goal.returns-clause-state
-returns-clause-state c = ?
+returns-clause-state c =
+    let t = cut c.args.self.now c.bury_to-context.new.self c.act_birth-birth.result c.bury_to-context.result (of_some _ _ _ c.act_birth-birth.ensures c.requires.target) c.bury_to-context.ensures in
+    let exact = cut_exact c.args.self.now c.bury_to-context.new.self c.land.new.self c.act_birth-birth.result c.bury_to-context.result c.args.v t c.requires.named c.land.ensures.view in
+    told (act_of c.args.self.now c.args.home) c.act_birth-birth.result _ c.act_birth-birth.ensures (told _ t.target _ t.is (λ m k.
+    cut_state c.args.self.now c.land.new.self c.args.v c.act_birth-birth.result t.target c.requires.ready c.requires.named t.can exact m k))
 
--- src/lib.rt:574:5
 pub returns-clause-exact : goal.returns-clause-exact
-returns-clause-exact c = ?
+returns-clause-exact c none =
+    let t = cut c.args.self.now c.bury_to-context.new.self c.act_birth-birth.result c.bury_to-context.result (of_some _ _ _ c.act_birth-birth.ensures c.requires.target) c.bury_to-context.ensures in
+    let exact = cut_exact c.args.self.now c.bury_to-context.new.self c.land.new.self c.act_birth-birth.result c.bury_to-context.result c.args.v t c.requires.named c.land.ensures.view in
+    told (act_of c.args.self.now c.args.home) c.act_birth-birth.result _ c.act_birth-birth.ensures (told _ t.target _ t.is (same_kept _ _ exact))
 
--- src/lib.rt:574:5
 pub returns-clause-limit : goal.returns-clause-limit
-returns-clause-limit c = ?
+returns-clause-limit c = c.land.ensures.limit ∙ (cut c.args.self.now c.bury_to-context.new.self c.act_birth-birth.result c.bury_to-context.result (of_some _ _ _ c.act_birth-birth.ensures c.requires.target) c.bury_to-context.ensures).at.limit
 
--- src/lib.rt:574:5
 pub returns-clause-names : goal.returns-clause-names
-returns-clause-names c = ?
+returns-clause-names c = names_both c.args.self.now c.bury_to-context.new.self c.land.new.self (cut c.args.self.now c.bury_to-context.new.self c.act_birth-birth.result c.bury_to-context.result (of_some _ _ _ c.act_birth-birth.ensures c.requires.target) c.bury_to-context.ensures).at.names c.land.ensures.names
