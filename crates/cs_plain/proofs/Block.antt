@@ -1,19 +1,18 @@
 -- Entering a block: its closure, the outer context, and what the new context is.
-use Rattle.std.proofs.Common.{◌≡◌, ◌≢◌, ℕ, pos, zero, suc, ◌+◌, ◌*◌, ◌-◌, ◌<◌, ◌≤◌, ◌^◌, Bool, true, false, refl, sym, ap, ap₂, subst, ◌∙◌, Option, Some, None, is_some, unwrap_or, List, [], ◌∷◌, ◌++◌, length, map, take, drop, replicate, get_or, length-drop, arith}
+use Rattle.std.proofs.Common.{◌≡◌, ℕ, pos, ◌+◌, ◌-◌, ◌<◌, ◌≤◌, ◌^◌, Bool, true, false, refl, sym, ap, ap₂, subst, ◌∙◌, Option, Some, None, is_some, unwrap_or, List, [], ◌++◌, length, map, take, drop, replicate, get_or, length-drop, arith}
 use Rattle.std.specs.Prelude.{◌/◌, ◌%◌, ◌==◌, ◌&&◌, if◌then◌else◌, nat_le, slice_get, slice_index, option_map}
 use Rattle.std.specs.Option.{option_map_or}
 use Rattle.std.specs.List.{AllPass, drop-map}
 use Rattle.std.proofs.lemmas.Bool.Decides.{nat_tests}
 use Rattle.std.proofs.lemmas.List.{append-nil, length-map, take_all}
-use Rattle.std.proofs.lemmas.List.Elements.{All-drop, All-get_or, All-take}
+use Rattle.std.proofs.lemmas.List.Elements.{All-drop, All-get_or}
 use Rattle.std.proofs.lemmas.Option.{slice_get-map, slice_get-get_or}
 use Rattle.cs_word.specs.declared.Oop.{Oop}
 use Rattle.cs_word.specs.declared.Kind.{Kind}
 use Rattle.cs_word.specs.declared.Kind.TheVariants as kind
 use Rattle.cs_word.specs.Word.{kind_of, small_word}
-use Rattle.cs_heap.specs.Object.{Object, birth_of, is_object, object_at, slot_count_of, slot_of}
-use Rattle.cs_heap.specs.Format.{is_pointers}
-use Rattle.cs_classes.specs.Meaning.{context_of, count_of, is_context, obj_of, ref_of, ref_of_kind}
+use Rattle.cs_heap.specs.Object.{Object, is_object, object_at, slot_count_of, slot_of}
+use Rattle.cs_classes.specs.Meaning.{context_of, count_of, obj_of, ref_of, ref_of_kind}
 use Rattle.cs_classes.specs.Sound.{is_reference, is_reference_kind}
 use Rattle.cs_classes.proofs.Heaps.{birth_of-object_at, is_object-object_at, object_there}
 use Rattle.cs_classes.proofs.Refs.{count_of-small, index_of-ref_of, is_reference-small, ref_of-object, small_natural}
@@ -24,14 +23,14 @@ use Rattle.cs_model.specs.Ref as ref
 use Rattle.cs_model.specs.Obj.{Context, Ctx, Method, Obj, Ptr, Raw, context_in, context_size, lies_in}
 use Rattle.cs_model.specs.Obj as obj
 use Rattle.cs_model.specs.State.{Kept, object_of}
-use Rattle.cs_model.specs.Read.{active_birth, active_context, stack_of}
+use Rattle.cs_model.specs.Read.{active_birth, stack_of}
 use Rattle.cs_model.specs.Operation.{enter_with, last_values, nil_of}
 use Rattle.cs_model.specs.Context.{lies_if_index}
-use Rattle.cs_model.specs.Enter.{block_context, block_size, can_evaluate, closure_method, closure_slot, closure_slots, copied_values, enter_block_of, is_count, method_in_context, outer_context, receiver_in_context}
+use Rattle.cs_model.specs.Enter.{block_size, can_evaluate, closure_method, closure_slot, closure_slots, copied_values, enter_block_of, is_count, method_in_context, outer_context, receiver_in_context}
 use Rattle.cs_acts.specs.Names.{IsNamed, Names, name_of}
 use Rattle.cs_acts.specs.Ready.{IsReady, IsSound}
 use Rattle.cs_acts.specs.Targets.{CanEnterBlock}
-use Rattle.cs_acts.proofs.Methods.{IsMethodAt, header_is}
+use Rattle.cs_acts.proofs.Methods.{header_is}
 use Rattle.cs_plain.specs.declared.Fields.{Fields}
 use Rattle.cs_plain.specs.declared.PlainWorld.{PlainWorld}
 use Rattle.cs_plain.specs.Calling.{CanCall, called_context, called_of, called_stack, copied_words}

@@ -1,10 +1,10 @@
 -- A new context as the code makes it: what its calls ask for, and what its writes amount to.
-use Rattle.std.proofs.Common.{◌≡◌, ℕ, pos, zero, suc, ◌+◌, ◌-◌, ◌*◌, ◌/◌, ◌%◌, ◌^◌, ◌<◌, ◌≤◌, Bool, true, false, refl, sym, ap, ap₂, subst, ◌∙◌, Some, None, Option, List, [], ◌∷◌, ◌++◌, length, take, drop, length-take, length-drop, arith}
+use Rattle.std.proofs.Common.{◌≡◌, ℕ, pos, ◌+◌, ◌-◌, ◌/◌, ◌%◌, ◌^◌, ◌<◌, ◌≤◌, Bool, true, false, sym, ap, ap₂, subst, ◌∙◌, Some, None, Option, List, [], ◌∷◌, ◌++◌, length, take, drop, length-take, length-drop, arith}
 use Rattle.std.specs.Prelude.{if◌then◌else◌, ◌==◌}
 use Rattle.std.specs.Option.{option_map_or}
 use Rattle.cs_word.specs.declared.Oop.{Oop}
 use Rattle.cs_word.specs.Word.{small_word}
-use Rattle.cs_heap.specs.Object.{Memory, Object, is_object, new_object, next_address, object_at, size, slot_count_of, used, with_slot}
+use Rattle.cs_heap.specs.Object.{Memory, Object, is_object, new_object, next_address, size, slot_count_of, used, with_slot}
 use Rattle.cs_heap.proofs.Laws.{field_of-new, field_of-old, length-new_words, next_address-new, slot_count_of-with_slot}
 use Rattle.cs_classes.specs.Meaning.{depth_in}
 use Rattle.cs_classes.proofs.Heaps.{is_object-object_at, object_there}
@@ -22,7 +22,6 @@ use Rattle.cs_plain.specs.Storing.{copied, with_fields}
 use Rattle.cs_plain.specs.View.{stored_of, view_of}
 use Rattle.cs_plain.proofs.Active.{Active, active_is}
 use Rattle.cs_plain.proofs.Calling.{entered_names, entered_ready, entered_view, entered_words, with_entered}
-use Rattle.cs_plain.proofs.Copying.{count-in}
 use Rattle.cs_plain.proofs.Making.{context_object-is, context_words, context_added}
 use Rattle.cs_plain.proofs.Slots.{depth_is_read, depth_within, few_slots, fields_within, slots_are}
 

@@ -1,19 +1,18 @@
 -- A return past a home: contexts die along the senders, until the home is met.
-use Rattle.std.proofs.Common.{◌≡◌, ◌≢◌, ℕ, zero, suc, ◌+◌, ◌<◌, ◌≤◌, Bool, true, false, refl, sym, ap, subst, ◌∙◌, Option, Some, None, IsSome, IfSome, IsSomeAnd, is_some, option_and_then, List, [], ◌∷◌, ◌++◌, length, arith}
+use Rattle.std.proofs.Common.{◌≡◌, ◌≢◌, ℕ, ◌+◌, ◌≤◌, Bool, true, false, refl, sym, ap, subst, ◌∙◌, Option, Some, None, IfSome, IsSomeAnd, is_some, option_and_then, List, [], ◌∷◌, length, arith}
 use Rattle.std.specs.Prelude.{◌==◌}
 use Rattle.std.proofs.lemmas.Bool.{eq-eqb, eqb-true, false≢true}
 use Rattle.cs_word.specs.declared.Oop.{Oop}
 use Rattle.cs_heap.specs.Object.{Memory, Object, birth_of, is_object, slot_count_of, slot_of}
 use Rattle.cs_classes.proofs.Heaps.{birth_of-object_at, is_object-object_at}
-use Rattle.cs_model.specs.Ref.{Ref}
 use Rattle.cs_model.specs.Obj.{Context, Obj, context_in}
 use Rattle.cs_model.specs.State.{Kept, object_at}
 use Rattle.cs_model.specs.Keeps.{Keeps}
 use Rattle.cs_model.specs.Read.{active_birth}
 use Rattle.cs_model.specs.Operation.{cut_to_of, kill_all, kill_of, push_of, resume_of}
-use Rattle.cs_model.specs.Return.{Met, Search, has_room, is_among, is_live, links, search_senders, sender_birth, senders_to}
+use Rattle.cs_model.specs.Return.{has_room, is_among, links, sender_birth, senders_to}
 use Rattle.cs_model.proofs.Operating.{cut_to_moved}
-use Rattle.cs_model.proofs.Same.{Same, same}
+use Rattle.cs_model.proofs.Same.{same}
 use Rattle.cs_acts.specs.Names.{IsNamed, KeepsNames, name_of}
 use Rattle.cs_acts.specs.Ready.{IsReady, IsSound}
 use Rattle.cs_acts.specs.Targets.{CanCut, dying_in, dying_to}
@@ -24,7 +23,7 @@ use Rattle.cs_plain.specs.View.{active_in, birth_at, stored_of, view_of}
 use Rattle.cs_plain.proofs.Acts as acts
 use Rattle.cs_plain.proofs.Acts.{ContextAt, sender_read}
 use Rattle.cs_plain.proofs.Leaving.{buried_edited, buried_sound, killed, names_both, some_same}
-use Rattle.cs_plain.proofs.Ways.{IsWay, first_apart, killed_other, killed_sender, killed_way, links_is, rest_apart, search_first, way_apart}
+use Rattle.cs_plain.proofs.Ways.{IsWay, first_apart, killed_other, killed_sender, killed_way, rest_apart, search_first, way_apart}
 use Rattle.cs_plain.proofs.Writing.{held_by}
 use Rattle.cs_plain.proofs.Written.{keeps_names, with_objects}
 

@@ -1,43 +1,33 @@
 -- Entering a method: its header, and what the new context is.
-use Rattle.std.proofs.Common.{◌≡◌, ◌≢◌, ℕ, pos, zero, suc, ◌+◌, ◌*◌, ◌/◌, ◌-◌, ◌%◌, ◌<◌, ◌≤◌, ◌^◌, Bool, true, false, refl, sym, ap, ap₂, subst, ◌∙◌, Option, Some, None, is_some, unwrap_or, List, [], ◌∷◌, ◌++◌, length, map, take, drop, replicate, get_or, length-take, length-drop, arith}
-use Rattle.std.specs.Prelude.{slice_get, ◌==◌, ◌||◌, ◌&&◌, if◌then◌else◌, nat_le, IsTrue}
+use Rattle.std.proofs.Common.{◌≡◌, ◌≢◌, ℕ, pos, ◌+◌, ◌*◌, ◌/◌, ◌-◌, ◌%◌, ◌<◌, ◌≤◌, ◌^◌, Bool, true, false, refl, sym, ap, ap₂, subst, ◌∙◌, Option, Some, None, unwrap_or, List, [], ◌∷◌, ◌++◌, length, map, take, drop, replicate, arith}
+use Rattle.std.specs.Prelude.{slice_get, ◌==◌, ◌||◌, ◌&&◌, if◌then◌else◌, nat_le}
 use Rattle.std.specs.List.{AllPass}
-use Rattle.std.specs.FinMap.{get}
-use Rattle.std.proofs.lemmas.Bool.{eqb-true, false≢true, or_right}
 use Rattle.std.proofs.lemmas.Bool.Decides.{nat_tests}
-use Rattle.std.proofs.lemmas.List.{drop-map, drop-take, length-append, length-map, length-replicate, map-append, take-replicate}
-use Rattle.std.proofs.lemmas.List.Elements.{All-append, All-cons, All-drop, All-replicate, All-take}
-use Rattle.std.proofs.Math.Seq.{take-append-add}
+use Rattle.std.proofs.lemmas.List.{length-map}
 use Rattle.cs_word.specs.declared.Oop.{Oop}
 use Rattle.cs_word.specs.declared.Kind.{Kind}
 use Rattle.cs_word.specs.declared.Kind.TheVariants as kind
 use Rattle.cs_word.specs.Word.{kind_of, small_word}
-use Rattle.cs_heap.specs.Object.{Object, slot_count_of, slot_of, base, birth_of, header_address, is_object, new_object, next_address, object_at, size, used, with_slot}
-use Rattle.cs_heap.proofs.Laws.{object_at-new, used-pushed}
+use Rattle.cs_heap.specs.Object.{Object, slot_count_of, slot_of, base, birth_of, is_object, object_at}
 use Rattle.cs_classes.specs.Meaning.{context_of, count_of, depth_in, header_in, is_context, kept_of, literals_in, obj_of, objects_of, ref_of, ref_of_kind, used_bytes, code_in}
 use Rattle.cs_classes.specs.Meaning as meaning
-use Rattle.cs_classes.specs.Sound.{IsSoundObject, IsWhole, is_reference, is_reference_kind, nil_of}
-use Rattle.cs_classes.proofs.Heaps.{birth_of-object_at, is_object-object_at, object_there, set_word-IsEdit, stands}
-use Rattle.cs_classes.proofs.Makings.{Makes, makes, nil_is_object, ref_of-nil}
-use Rattle.cs_classes.proofs.Objects.{get-objects_of-fresh}
-use Rattle.cs_classes.proofs.Refs.{count_of-small, is_reference-object, is_reference-push, is_reference-small, ref_of-object, ref_of-push, small_natural}
-use Rattle.cs_classes.proofs.Sorts.{AContext, AMethod, Bytes, Pointers, Sort, map_alike, obj_of-bytes, obj_of-context, obj_of-method, obj_of-pointers, sort_of}
+use Rattle.cs_classes.specs.Sound.{is_reference, is_reference_kind}
+use Rattle.cs_classes.proofs.Heaps.{birth_of-object_at, is_object-object_at, object_there}
+use Rattle.cs_classes.proofs.Makings.{nil_is_object, ref_of-nil}
+use Rattle.cs_classes.proofs.Refs.{count_of-small, is_reference-small, ref_of-object, small_natural}
+use Rattle.cs_classes.proofs.Sorts.{AContext, AMethod, Bytes, Pointers, Sort, obj_of-bytes, obj_of-context, obj_of-method, obj_of-pointers, sort_of}
 use Rattle.cs_classes.proofs.Sounds.{sound_at}
-use Rattle.cs_classes.proofs.Wholes.{after_birth, next_is_fresh}
-use Rattle.cs_classes.proofs.Writes.{does-pop}
 use Rattle.cs_model.specs.Ref.{Ref}
 use Rattle.cs_model.specs.Ref as ref
 use Rattle.cs_model.specs.Obj.{Context, Ctx, Method, Obj, Ptr, Raw, argument_count, bytecodes_in, context_size, first_pc, has_primitive, is_header, lies_between, lies_in, literal_count, number_in, popped, primitive_number, temporary_count}
 use Rattle.cs_model.specs.Obj as obj
 use Rattle.cs_model.specs.State as state
 use Rattle.cs_model.specs.State.{Kept, PcLies, object_of, put, with_rest}
-use Rattle.cs_model.specs.Read.{IsRunning, active_birth, active_context, depth_of, stack_of}
+use Rattle.cs_model.specs.Read.{active_birth, depth_of, stack_of}
 use Rattle.cs_model.specs.Operation.{activate, add_of, drop_of, enter_of, enter_with, entry_pc, last_values, method_context, receiver_below}
 use Rattle.cs_model.specs.Operation as operation
-use Rattle.cs_model.proofs.Objects.{object_at-put_same}
-use Rattle.cs_acts.specs.Names.{IsNamed, KeepsNames, Names, name_of}
+use Rattle.cs_acts.specs.Names.{IsNamed, Names, name_of}
 use Rattle.cs_acts.specs.Ready.{IsReady, IsSound}
-use Rattle.cs_model.specs.Demand.{words_in}
 use Rattle.cs_acts.specs.Targets.{CanEnter}
 use Rattle.cs_acts.proofs.Methods.{IsMethodAt, header_is, length-literals, parts, slots_fit}
 use Rattle.cs_acts.proofs.Sizes.{pc_small}
@@ -45,15 +35,9 @@ use Rattle.cs_plain.specs.declared.Fields.{Fields}
 use Rattle.cs_plain.specs.declared.PlainWorld.{PlainWorld}
 use Rattle.cs_plain.specs.Calling.{CanCall, called_context, called_of, called_stack, copied_words}
 use Rattle.cs_plain.specs.Calling as calling
-use Rattle.cs_plain.specs.View.{birth_at, birth_in, stored_of, view_of}
-use Rattle.cs_plain.proofs.Active.{Active, active_is, meaning_there}
-use Rattle.cs_plain.proofs.Edits.{Edited, edited}
-use Rattle.cs_plain.proofs.Making.{drop-drop, context_words}
-use Rattle.cs_plain.proofs.Pcs.{KeepsPcs, lies_still, no_place, pcs-put, pcs-rest, running}
-use Rattle.cs_plain.proofs.Slots.{depth_is_read, stack_words, whole_active}
+use Rattle.cs_plain.specs.View.{stored_of, view_of}
+use Rattle.cs_plain.proofs.Active.{active_is, meaning_there}
 use Rattle.cs_plain.proofs.Storing.{kind_address}
-use Rattle.cs_plain.proofs.Words.{words_of-kept}
-use Rattle.cs_plain.proofs.Written.{Written, with_objects, written}
 
 -- ---- the method
 
@@ -248,7 +232,7 @@ module _ (w : PlainWorld) (m b : Oop) (args : ℕ) (skip : Bool) (ready : IsRead
         let count : unwrap_or (count_of stackp.0) 0 ≡ temporary_count (obj.header_in (object_of k (name_of (stored_of w) m))) = ap (λ o. unwrap_or o 0) stackp_count ∙ ap temporary_count head.is in
         let left : unwrap_or (count_of stackp.0) 0 - (args + 0) ≡ temporary_count (obj.header_in (object_of k (name_of (stored_of w) m))) - args = omega (arith, count) in
         let stack : called_stack (stored_of w) k (unwrap_or (count_of stackp.0) 0) args 0 fields
-            ≡ last_values args (stack_of k) ++ replicate (temporary_count (obj.header_in (object_of k (name_of (stored_of w) m))) - args) (operation.nil_of k) =
+        ≡ last_values args (stack_of k) ++ replicate (temporary_count (obj.header_in (object_of k (name_of (stored_of w) m))) - args) (operation.nil_of k) =
         ap₂ (λ us n. last_values args (stack_of k) ++ (us ++ replicate n (operation.nil_of k))) none left in
         ap (called_of k args) (λ i. record {
           hash = 0;

@@ -24,21 +24,19 @@ use Rattle.cs_model.specs.Keeps.{Keeps, SameKept}
 use Rattle.cs_model.specs.Read.{IsRunning, active_birth, active_context, blank, depth_of, size_of}
 use Rattle.cs_model.specs.Return.{context_at, context_birth, has_room, sender_birth}
 use Rattle.cs_model.specs.Operation.{dead_object, edit_found, edit_object, kill_of, leave_of, push_of, resume_of}
-use Rattle.cs_model.proofs.Objects.{object_at-put_other}
 use Rattle.cs_model.proofs.Operating.{leave_moved}
-use Rattle.cs_acts.specs.Names.{IsNamed, KeepsNames, Names, name_of}
+use Rattle.cs_acts.specs.Names.{IsNamed, KeepsNames, name_of}
 use Rattle.cs_acts.specs.Ready.{IsReady}
 use Rattle.cs_acts.specs.Targets.{CanArrive}
 use Rattle.cs_plain.specs.declared.PlainWorld.{PlainWorld}
 use Rattle.cs_plain.specs.Storing.{buried}
 use Rattle.cs_plain.specs.View.{birth_at, stored_of, view_of}
-use Rattle.cs_plain.proofs.Active.{Active, active_is, sound_world}
+use Rattle.cs_plain.proofs.Active.{sound_world}
 use Rattle.cs_plain.proofs.Acts.{context_named}
 use Rattle.cs_plain.proofs.Edits.{Edited, edited}
-use Rattle.cs_plain.proofs.Pcs.{KeepsPcs, pcs-edit_active, pcs-rest, running}
-use Rattle.cs_plain.proofs.Slots.{fields_within, names_slot, sender_is_read, sound_active}
+use Rattle.cs_plain.proofs.Pcs.{KeepsPcs, pcs-rest, running}
 use Rattle.cs_plain.proofs.Writing.{held_by}
-use Rattle.cs_plain.proofs.Written.{keeps_names, with_objects, written_view}
+use Rattle.cs_plain.proofs.Written.{keeps_names, with_objects}
 use Rattle.std.specs.Prelude.{IfSome}
 use Rattle.cs_heap.specs.Object.{slot_count_of}
 use Rattle.cs_classes.proofs.Heaps.{birth_of-object_at, is_object-object_at}

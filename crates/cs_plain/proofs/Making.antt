@@ -110,7 +110,7 @@ HasCopied more copied = length (take copied (drop 3 more)) ≡ copied
 
 pub context_object-is : (f : Fields) (from more : List ℕ) (at args copied size birth : ℕ) → at + args ≤ length from → HasCopied more copied → args + copied ≤ size
     → context_object f from more at args copied size birth
-        ≡ record (new_object 36 3 (6 + size) birth) { words = context_words f (take args (drop at from)) (take copied (drop 3 more)) (size - (args + copied)) }
+    ≡ record (new_object 36 3 (6 + size) birth) { words = context_words f (take args (drop at from)) (take copied (drop 3 more)) (size - (args + copied)) }
 unfolding fielded context_object stacked
 context_object-is f from more at args copied size birth h long l =
     let y : Object = new_object 36 3 (6 + size) birth in
@@ -194,7 +194,7 @@ with_object-old os y a g h =
 
 pub context_added : (os : List Object) (x y : Object) (f : Fields) (a b c at args copies size birth v : ℕ) → object_at os b ≡ Some x → object_at os c ≡ Some y → a ≡ next_address os (6 + size)
     → with_slot (copied (copied (with_fields (os ++ new_object 36 3 (6 + size) birth ∷ []) a f) b at a 6 args) c 3 a (6 + args) copies) b 2 v
-        ≡ with_slot os b 2 v ++ context_object f x.words y.words at args copies size birth ∷ []
+    ≡ with_slot os b 2 v ++ context_object f x.words y.words at args copies size birth ∷ []
 unfolding fielded context_object
 context_added os x y f a b c at args copies size birth v there copied_there h =
     let z : Object = new_object 36 3 (6 + size) birth in

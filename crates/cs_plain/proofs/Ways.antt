@@ -1,12 +1,12 @@
 -- The way along the senders, from a context to a home that is met there; and what stays of a state where a context dies.
-use Rattle.std.proofs.Common.{◌≡◌, ◌≢◌, inl, inr, ℕ, zero, suc, ◌+◌, ◌<◌, ◌≤◌, Bool, true, false, refl, sym, ap, subst, ◌∙◌, Option, Some, None, List, [], ◌∷◌, ◌++◌, length, option_and_then, arith}
+use Rattle.std.proofs.Common.{◌≡◌, ◌≢◌, inl, inr, ℕ, zero, suc, ◌<◌, Bool, true, false, refl, sym, ap, subst, ◌∙◌, Option, Some, None, List, [], ◌∷◌, ◌++◌, length, option_and_then, arith}
 use Rattle.std.specs.Prelude.{◌==◌, ◌||◌, if◌then◌else◌}
 use Rattle.std.proofs.lemmas.Bool.{eqb-true, eq-eqb, false≢true}
 use Rattle.std.proofs.lemmas.Bool.Decides.{eqb_tells}
 use Rattle.cs_model.specs.Ref.{Ref, Small, Char, birth_of}
 use Rattle.cs_model.specs.Ref as ref
 use Rattle.cs_model.specs.Obj.{Context, Ctx, context_in, dead}
-use Rattle.cs_model.specs.State.{Kept, object_at, object_of, put}
+use Rattle.cs_model.specs.State.{Kept, object_at, put}
 use Rattle.cs_model.specs.Operation.{dead_object, edit_found, kill_of}
 use Rattle.cs_model.specs.Return.{Search, Met, Ended, TooLong, context_birth, is_among, links, passing, search_senders, sender_birth}
 use Rattle.cs_model.proofs.Objects.{object_at-put_other, object_at-put_same}

@@ -1,6 +1,5 @@
 -- A context that is made of its fields, of arguments, and of copied values.
 use Rattle.std.specs.Prelude.{◌≡◌, ℕ, ◌+◌, ◌-◌, ◌<◌, ◌≤◌, true, List, [], ◌++◌, length, drop, take, map, replicate, Option, Some, None, unwrap_or}
-use Rattle.cs_word.specs.declared.Oop.{Oop}
 use Rattle.cs_heap.specs.Object.{Object, is_object, object_at}
 use Rattle.cs_classes.specs.Meaning.{count_of, ref_of}
 use Rattle.cs_classes.specs.Sound.{is_reference}

@@ -288,7 +288,13 @@ impl PlainWorld {
 
     /// Makes a context of these fields active. So many arguments leave the stack of the active one, with what is below them, for
     /// the new stack; above them come so many copied values of the closure.
-    fn new_context(&mut self, header: u32, fields: Fields, args: u32, copied: u32) -> Result<(), Full>
+    fn new_context(
+        &mut self,
+        header: u32,
+        fields: Fields,
+        args: u32,
+        copied: u32,
+    ) -> Result<(), Full>
         requires ready { IsReady (stored_of self.old) (view_of self.old) }
         requires sender { self.old.active ≡ Some fields.sender }
         requires fits { CanCall (stored_of self.old) (view_of self.old) header args copied fields }
@@ -308,8 +314,22 @@ impl PlainWorld {
             return Err(Full::Heap);
         };
         write_fields(&mut self.heap, context, fields);
-        copy_slots(&mut self.heap, sender, STACK + left + 1, context, STACK, args);
-        copy_slots(&mut self.heap, fields.closure, COPIED, context, STACK + args, copied);
+        copy_slots(
+            &mut self.heap,
+            sender,
+            STACK + left + 1,
+            context,
+            STACK,
+            args,
+        );
+        copy_slots(
+            &mut self.heap,
+            fields.closure,
+            COPIED,
+            context,
+            STACK + args,
+            copied,
+        );
         self.heap.set_slot(sender, STACKP, count_word(left));
         self.roots.next_birth = birth + 1;
         self.active = Some(context);
@@ -335,17 +355,17 @@ impl PlainWorld {
     }
 
     /// Makes a context dead and its sender active, and pushes a value there.
-    fn land(&mut self, context: Oop, v: Oop)
+    fn land(&mut self, dying: Oop, v: Oop)
         requires sound { IsSound (stored_of self.old) (view_of self.old) }
         requires named { IsNamed (stored_of self.old) v }
-        requires target { IsSomeAnd (birth_at self.old.heap.objects context) (λ home. IsSomeAnd (sender_birth (view_of self.old) home) (CanLand (view_of self.old) home)) }
-        ensures view { IfSome (birth_at self.old.heap.objects context) (λ home. IfSome (sender_birth (view_of self.old) home) (λ target. view_of self.new ≡ landed_of (view_of self.old) home target (name_of (stored_of self.old) v))) }
+        requires target { IsSomeAnd (birth_at self.old.heap.objects dying) (λ home. IsSomeAnd (sender_birth (view_of self.old) home) (CanLand (view_of self.old) home)) }
+        ensures view { IfSome (birth_at self.old.heap.objects dying) (λ home. IfSome (sender_birth (view_of self.old) home) (λ target. view_of self.new ≡ landed_of (view_of self.old) home target (name_of (stored_of self.old) v))) }
         ensures ready { IsReady (stored_of self.new) (view_of self.new) }
         ensures names { KeepsNames (stored_of self.old) (stored_of self.new) }
         ensures limit { self.new.heap.limit ≡ self.old.heap.limit }
     {
-        let sender = self.heap.slot(context, SENDER);
-        bury(&mut self.heap, context);
+        let sender = self.heap.slot(dying, SENDER);
+        bury(&mut self.heap, dying);
         self.active = Some(sender);
         self.push(v);
     }

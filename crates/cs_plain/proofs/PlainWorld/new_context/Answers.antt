@@ -1,4 +1,4 @@
-use Rattle.std.proofs.Common.{ℕ, ◌+◌, ◌-◌, arith, refl}
+use Rattle.std.proofs.Common.{◌+◌, ◌-◌, arith, refl}
 use Rattle.std.proofs.lemmas.Bool.{false≢true}
 use Rattle.cs_plain.proofs.Called.{args_below, closure_still, copied_slots, depth_few, enters, full, new_fields, new_slots, sender_slots, sender_still, stack_few, stack_holds, written-heap}
 use Rattle.cs_plain.proofs.Copying.{count-in}
@@ -28,13 +28,21 @@ copy_slots-requires-clause-few c = omega (arith, depth_few c.args.self.now c.arg
 
 pub copy_slots-requires-2-clause-from : goal.copy_slots-requires-2-clause-from
 copy_slots-requires-2-clause-from c some =
-    omega (arith, copied_slots c.args.self.now c.args.header c.args.args c.args.copied c.depth.result c.args.fields c.requires.ready c.requires.sender c.requires.fits c.depth.ensures.value some, closure_still c.args.self.now c.args.header c.args.args c.args.copied c.depth.result c.args.fields c.requires.ready c.requires.sender c.requires.fits c.depth.ensures.value c.context_slots.result c.context_slots.ensures c.allocate.new.self c.write_fields.new.heap c.in-Ok.context c.in-Ok.ensures.added c.in-Ok.ensures.address c.write_fields.ensures,
-    count-in c.copy_slots.new.heap c.write_fields.new.heap c.args.fields.sender.0 (6 + (c.depth.result - (c.args.args + 1)) + 1) c.in-Ok.context.0 6 c.args.args c.args.fields.closure.0 c.copy_slots.ensures)
+    omega (
+      arith,
+      copied_slots c.args.self.now c.args.header c.args.args c.args.copied c.depth.result c.args.fields c.requires.ready c.requires.sender c.requires.fits c.depth.ensures.value some,
+      closure_still c.args.self.now c.args.header c.args.args c.args.copied c.depth.result c.args.fields c.requires.ready c.requires.sender c.requires.fits c.depth.ensures.value c.context_slots.result c.context_slots.ensures c.allocate.new.self c.write_fields.new.heap c.in-Ok.context c.in-Ok.ensures.added c.in-Ok.ensures.address c.write_fields.ensures,
+      count-in c.copy_slots.new.heap c.write_fields.new.heap c.args.fields.sender.0 (6 + (c.depth.result - (c.args.args + 1)) + 1) c.in-Ok.context.0 6 c.args.args c.args.fields.closure.0 c.copy_slots.ensures,
+    )
 
 pub copy_slots-requires-2-clause-to : goal.copy_slots-requires-2-clause-to
 copy_slots-requires-2-clause-to c =
-    omega (arith, stack_holds c.args.self.now c.args.header c.args.args c.args.copied c.depth.result c.args.fields c.requires.ready c.requires.sender c.requires.fits c.depth.ensures.value, new_fields c.args.self.now c.args.header c.args.args c.args.copied c.depth.result c.args.fields c.requires.ready c.requires.sender c.requires.fits c.depth.ensures.value c.context_slots.result c.context_slots.ensures c.allocate.new.self c.write_fields.new.heap c.in-Ok.context c.in-Ok.ensures.added c.in-Ok.ensures.address c.write_fields.ensures,
-    count-in c.copy_slots.new.heap c.write_fields.new.heap c.args.fields.sender.0 (6 + (c.depth.result - (c.args.args + 1)) + 1) c.in-Ok.context.0 6 c.args.args c.in-Ok.context.0 c.copy_slots.ensures)
+    omega (
+      arith,
+      stack_holds c.args.self.now c.args.header c.args.args c.args.copied c.depth.result c.args.fields c.requires.ready c.requires.sender c.requires.fits c.depth.ensures.value,
+      new_fields c.args.self.now c.args.header c.args.args c.args.copied c.depth.result c.args.fields c.requires.ready c.requires.sender c.requires.fits c.depth.ensures.value c.context_slots.result c.context_slots.ensures c.allocate.new.self c.write_fields.new.heap c.in-Ok.context c.in-Ok.ensures.added c.in-Ok.ensures.address c.write_fields.ensures,
+      count-in c.copy_slots.new.heap c.write_fields.new.heap c.args.fields.sender.0 (6 + (c.depth.result - (c.args.args + 1)) + 1) c.in-Ok.context.0 6 c.args.args c.in-Ok.context.0 c.copy_slots.ensures,
+    )
 
 pub copy_slots-requires-2-clause-few : goal.copy_slots-requires-2-clause-few
 copy_slots-requires-2-clause-few c = omega (arith, stack_few c.args.self.now c.args.header c.args.args c.args.copied c.depth.result c.args.fields c.requires.ready c.requires.sender c.requires.fits c.depth.ensures.value)
@@ -50,8 +58,13 @@ count_word-requires c = omega (arith, depth_few c.args.self.now c.args.header c.
 
 pub set_slot-requires : goal.set_slot-requires
 set_slot-requires c =
-    omega (arith, sender_slots c.args.self.now c.args.header c.args.args c.args.copied c.depth.result c.args.fields c.requires.ready c.requires.sender c.requires.fits c.depth.ensures.value, sender_still c.args.self.now c.args.header c.args.args c.args.copied c.depth.result c.args.fields c.requires.ready c.requires.sender c.requires.fits c.depth.ensures.value c.context_slots.result c.context_slots.ensures c.allocate.new.self c.write_fields.new.heap c.in-Ok.context c.in-Ok.ensures.added c.in-Ok.ensures.address c.write_fields.ensures,
-    count-in c.copy_slots.new.heap c.write_fields.new.heap c.args.fields.sender.0 (6 + (c.depth.result - (c.args.args + 1)) + 1) c.in-Ok.context.0 6 c.args.args c.args.fields.sender.0 c.copy_slots.ensures, count-in c.copy_slots-2.new.heap c.copy_slots.new.heap c.args.fields.closure.0 3 c.in-Ok.context.0 (6 + c.args.args) c.args.copied c.args.fields.sender.0 c.copy_slots-2.ensures)
+    omega (
+      arith,
+      sender_slots c.args.self.now c.args.header c.args.args c.args.copied c.depth.result c.args.fields c.requires.ready c.requires.sender c.requires.fits c.depth.ensures.value,
+      sender_still c.args.self.now c.args.header c.args.args c.args.copied c.depth.result c.args.fields c.requires.ready c.requires.sender c.requires.fits c.depth.ensures.value c.context_slots.result c.context_slots.ensures c.allocate.new.self c.write_fields.new.heap c.in-Ok.context c.in-Ok.ensures.added c.in-Ok.ensures.address c.write_fields.ensures,
+      count-in c.copy_slots.new.heap c.write_fields.new.heap c.args.fields.sender.0 (6 + (c.depth.result - (c.args.args + 1)) + 1) c.in-Ok.context.0 6 c.args.args c.args.fields.sender.0 c.copy_slots.ensures,
+      count-in c.copy_slots-2.new.heap c.copy_slots.new.heap c.args.fields.closure.0 3 c.in-Ok.context.0 (6 + c.args.args) c.args.copied c.args.fields.sender.0 c.copy_slots-2.ensures,
+    )
 
 pub returns-clause-view : goal.returns-clause-view
 returns-clause-view c =

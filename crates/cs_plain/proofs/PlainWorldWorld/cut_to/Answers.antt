@@ -1,10 +1,5 @@
-use Rattle.std.proofs.Common.{IfSome, IsSomeAnd, refl, sym, subst, ◌∙◌}
-use Rattle.cs_model.specs.Keeps.{Keeps, SameKept}
-use Rattle.cs_model.specs.Operation.{cut_to_of}
-use Rattle.cs_model.specs.Return.{sender_birth}
-use Rattle.cs_acts.specs.Names.{name_of}
-use Rattle.cs_acts.specs.Targets.{CanCut, dying_to}
-use Rattle.cs_plain.specs.View.{act_of, stored_of, view_of}
+use Rattle.std.proofs.Common.{◌∙◌}
+use Rattle.cs_plain.specs.View.{act_of}
 use Rattle.cs_plain.proofs.Cutting.{can_land, cut, cut_exact, cut_state, of_some, told}
 use Rattle.cs_plain.proofs.Leaving.{names_both}
 use Rattle.cs_plain.proofs.Writing.{same_kept}

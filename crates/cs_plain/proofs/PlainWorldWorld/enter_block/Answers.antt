@@ -1,4 +1,4 @@
-use Rattle.std.proofs.Common.{arith, refl, sym, subst, ◌∙◌, ◌-◌, None}
+use Rattle.std.proofs.Common.{arith, sym, subst, ◌∙◌, ◌-◌, None}
 use Rattle.std.specs.Result.{IfErr}
 use Rattle.std.proofs.lemmas.Result.{on_ok_weaker}
 use Rattle.cs_model.specs.Keeps.{Keeps}
