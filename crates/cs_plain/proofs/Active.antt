@@ -9,7 +9,8 @@ use Rattle.cs_classes.specs.Sound.{IsWhole}
 use Rattle.cs_classes.proofs.Heaps.{birth_of-object_at, stands}
 use Rattle.cs_classes.proofs.Objects.{get-objects_of-element}
 use Rattle.cs_classes.proofs.Sorts.{context_is, obj_of-context}
-use Rattle.cs_classes.proofs.Wholes.{kept_of-closed, kept_of-roots}
+use Rattle.cs_classes.proofs.Wholes.{kept_of-below, kept_of-closed, kept_of-roots}
+use Rattle.cs_model.specs.Context.{closure_class}
 use Rattle.cs_model.specs.Obj.{Ctx, is_context_at}
 use Rattle.cs_model.specs.Read.{active_birth, active_context}
 use Rattle.cs_acts.specs.Ready.{IsReady, IsSound}
@@ -52,8 +53,8 @@ active_is w a ready known = go (object_at w.heap.objects a.0) refl
     go (Some x) e = (x, is_active x (is_context x) refl e)
 
 -- a whole heap is a sound world
-pub sound_world : (w : PlainWorld) → IsWhole w.heap.objects w.classes w.roots → used w.heap.objects ≤ w.heap.limit → w.heap.limit ≤ 67108864 → KeepsPcs (view_of w) → IsSound (stored_of w) (view_of w)
-sound_world w whole within most pcs = record {
+pub sound_world : (w : PlainWorld) → IsWhole w.heap.objects w.classes w.roots → used w.heap.objects ≤ w.heap.limit → w.heap.limit ≤ 67108864 → is_some (get w.classes closure_class) ≡ true → KeepsPcs (view_of w) → IsSound (stored_of w) (view_of w)
+sound_world w whole within most closures pcs = record {
   closed = record {
     same = λ i o h. h;
     whole = λ i o h other. h;
@@ -62,6 +63,8 @@ sound_world w whole within most pcs = record {
     rest = refl;
   };
   pcs = pcs;
+  births = λ i o h. kept_of-below w.heap.objects w.classes w.roots i o whole h;
+  closures = closures;
   holds = record {
     whole = whole;
     object = λ j x h other. get-objects_of-element w.heap.objects j x whole.heap.apart h;

@@ -180,7 +180,7 @@ module _ (w : PlainWorld) (class format slots : ℕ) (sound : IsSound (stored_of
 
   pub made_sound : used os + size slots ≤ w.heap.limit → IsSound (stored_of (with_made w all)) (view_of (with_made w all))
   made_sound room =
-      sound_world (with_made w all) makes.whole (omega (arith, room, used-pushed os new, ap size (length-new_words class format slots w.roots.next_birth))) sound.holds.most (subst KeepsPcs (sym made_view) made_pcs)
+      sound_world (with_made w all) makes.whole (omega (arith, room, used-pushed os new, ap size (length-new_words class format slots w.roots.next_birth))) sound.holds.most sound.closures (subst KeepsPcs (sym made_view) made_pcs)
 
   pub made_ready : used os + size slots ≤ w.heap.limit → IsReady (stored_of w) (view_of w) → IsReady (stored_of (with_made w all)) (view_of (with_made w all))
   made_ready room ready = record { sound = made_sound room; running = subst IsRunning (sym made_view) (runs ready.running) }

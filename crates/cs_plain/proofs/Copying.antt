@@ -4,23 +4,23 @@ use Rattle.cs_heap.specs.Object.{Memory, Object, slot_count_of, slot_of, with_sl
 use Rattle.cs_heap.proofs.Laws.{slot_count_of-with_slot}
 use Rattle.cs_plain.specs.Storing.{copied}
 
-pub count-copied : (os : List Object) (from at to n b : ℕ) → slot_count_of (copied os from at to n) b ≡ slot_count_of os b
+pub count-copied : (os : List Object) (from at to start n b : ℕ) → slot_count_of (copied os from at to start n) b ≡ slot_count_of os b
 unfolding copied
-count-copied os from at to zero b = refl
-count-copied os from at to (suc n) b =
-    slot_count_of-with_slot (copied os from at to n) to (6 + n) (slot_of (copied os from at to n) from (at + n)) b ∙ count-copied os from at to n b
+count-copied os from at to start zero b = refl
+count-copied os from at to start (suc n) b =
+    slot_count_of-with_slot (copied os from at to start n) to (start + n) (slot_of (copied os from at to start n) from (at + n)) b ∙ count-copied os from at to start n b
 
-pub count-in : (g h : Memory) (from at to n b : ℕ) → g ≡ record h { objects = copied h.objects from at to n } → slot_count_of g.objects b ≡ slot_count_of h.objects b
-count-in g h from at to n b e = ap (λ (m : Memory). slot_count_of m.objects b) e ∙ count-copied h.objects from at to n b
+pub count-in : (g h : Memory) (from at to start n b : ℕ) → g ≡ record h { objects = copied h.objects from at to start n } → slot_count_of g.objects b ≡ slot_count_of h.objects b
+count-in g h from at to start n b e = ap (λ (m : Memory). slot_count_of m.objects b) e ∙ count-copied h.objects from at to start n b
 
 -- one more is copied
-pub copied-more : (h g k : Memory) (from at to n v : ℕ) → g ≡ record h { objects = copied h.objects from at to n } → v ≡ slot_of g.objects from (at + n)
-    → k ≡ record g { objects = with_slot g.objects to (6 + n) v } → k ≡ record h { objects = copied h.objects from at to (n + 1) }
+pub copied-more : (h g k : Memory) (from at to start n v : ℕ) → g ≡ record h { objects = copied h.objects from at to start n } → v ≡ slot_of g.objects from (at + n)
+    → k ≡ record g { objects = with_slot g.objects to (start + n) v } → k ≡ record h { objects = copied h.objects from at to start (n + 1) }
 unfolding copied
-copied-more h g k from at to n v before read stored =
-    stored ∙ ap (λ (w : ℕ). record g { objects = with_slot g.objects to (6 + n) w }) read
-    ∙ ap (λ (m : Memory). record m { objects = with_slot m.objects to (6 + n) (slot_of m.objects from (at + n)) }) before
-    ∙ ap (λ (j : ℕ). record h { objects = copied h.objects from at to j }) (later n)
+copied-more h g k from at to start n v before read stored =
+    stored ∙ ap (λ (w : ℕ). record g { objects = with_slot g.objects to (start + n) w }) read
+    ∙ ap (λ (m : Memory). record m { objects = with_slot m.objects to (start + n) (slot_of m.objects from (at + n)) }) before
+    ∙ ap (λ (j : ℕ). record h { objects = copied h.objects from at to start j }) (later n)
   where
     later : (n : ℕ) → suc n ≡ n + 1
     later n = omega arith

@@ -1,4 +1,4 @@
--- Leaving: the active context dies, and its sender is active.
+-- A context dies, and its sender is active.
 use Rattle.std.proofs.Common.{◌≡◌, ℕ, pos, ◌<◌, ◌≤◌, ◌^◌, true, refl, sym, ap, subst, ◌∙◌, Option, Some, None, is_some, unwrap_or, List, [], length, set, option_and_then, arith, IsSomeAnd}
 use Rattle.std.specs.Prelude.{◌==◌, nat_lt}
 use Rattle.std.specs.FinMap.{nat_cmp-IsAntisymmetric, same_map}
@@ -24,21 +24,33 @@ use Rattle.cs_model.specs.Keeps.{Keeps, SameKept}
 use Rattle.cs_model.specs.Read.{IsRunning, active_birth, active_context, blank, depth_of, size_of}
 use Rattle.cs_model.specs.Return.{context_at, context_birth, has_room, sender_birth}
 use Rattle.cs_model.specs.Operation.{dead_object, edit_found, edit_object, kill_of, leave_of, push_of, resume_of}
-use Rattle.cs_model.proofs.Objects.{object_at-put_other}
 use Rattle.cs_model.proofs.Operating.{leave_moved}
-use Rattle.cs_acts.specs.Names.{IsNamed, KeepsNames, Names, name_of}
+use Rattle.cs_acts.specs.Names.{IsNamed, KeepsNames, name_of}
 use Rattle.cs_acts.specs.Ready.{IsReady}
 use Rattle.cs_acts.specs.Targets.{CanArrive}
 use Rattle.cs_plain.specs.declared.PlainWorld.{PlainWorld}
 use Rattle.cs_plain.specs.Storing.{buried}
 use Rattle.cs_plain.specs.View.{birth_at, stored_of, view_of}
-use Rattle.cs_plain.proofs.Active.{Active, active_is, sound_world}
+use Rattle.cs_plain.proofs.Active.{sound_world}
 use Rattle.cs_plain.proofs.Acts.{context_named}
 use Rattle.cs_plain.proofs.Edits.{Edited, edited}
-use Rattle.cs_plain.proofs.Pcs.{KeepsPcs, pcs-edit_active, pcs-rest, running}
-use Rattle.cs_plain.proofs.Slots.{fields_within, names_slot, sender_is_read, sound_active}
+use Rattle.cs_plain.proofs.Pcs.{KeepsPcs, pcs-rest, running}
 use Rattle.cs_plain.proofs.Writing.{held_by}
-use Rattle.cs_plain.proofs.Written.{keeps_names, with_objects, written_view}
+use Rattle.cs_plain.proofs.Written.{keeps_names, with_objects}
+use Rattle.std.specs.Prelude.{IfSome}
+use Rattle.cs_heap.specs.Object.{slot_count_of}
+use Rattle.cs_classes.proofs.Heaps.{birth_of-object_at, is_object-object_at}
+use Rattle.cs_classes.proofs.Refs.{ref_of-object}
+use Rattle.cs_classes.proofs.Sounds.{sound_at}
+use Rattle.cs_model.specs.Ref as ref
+use Rattle.cs_acts.specs.Ready.{IsSound}
+use Rattle.cs_plain.specs.Cutting.{CanLand, landed_of}
+use Rattle.cs_plain.specs.View.{active_in}
+use Rattle.cs_plain.proofs.Acts.{ContextAt, sender_read}
+use Rattle.cs_plain.proofs.Acts as acts
+use Rattle.cs_plain.proofs.Pcs.{no_place, pcs-put}
+use Rattle.cs_plain.proofs.Ways.{kill-put, killed_other}
+use Rattle.cs_plain.proofs.Written.{active-same}
 
 -- ---- a context dies
 
@@ -70,12 +82,15 @@ buried-one os a =
     ap (λ us. with_slot us a 2 (small_word (pos 0))) (with_object-twice os a (set_word 0 base) (set_word 1 base) (set_word-IsEdit 0 base))
     ∙ with_object-twice os a (λ x. set_word 1 base (set_word 0 base x)) (set_word 2 (small_word (pos 0))) (both-IsEdit (set_word 0 base) (set_word 1 base) (set_word-IsEdit 0 base) (set_word-IsEdit 1 base))
 
-module _ {w : PlainWorld} {a : Oop} {x : Object} (ready : IsReady (stored_of w) (view_of w)) (active : Active w a x) where
+module _ {w : PlainWorld} {a : Oop} {x : Object} (sound : IsSound (stored_of w) (view_of w)) (at : ContextAt w a x) where
   abbrev nil : ℕ
   nil = meaning.birth_at w.heap.objects 0
 
+  abbrev c : Context
+  c = context_of (ref_of w.heap.objects) x.hash x.words
+
   base_named : is_reference w.heap.objects base ≡ true
-  base_named = is_reference-object w.heap.objects base (nil_is_object w.heap.objects w.classes w.roots ready.sound.holds.whole)
+  base_named = is_reference-object w.heap.objects base (nil_is_object w.heap.objects w.classes w.roots sound.holds.whole)
 
   sound_buried : IsSoundObject w.heap.objects (bury x)
   unfolding bury
@@ -84,12 +99,12 @@ module _ {w : PlainWorld} {a : Oop} {x : Object} (ready : IsReady (stored_of w) 
       let zero_word : ℕ = small_word (pos 0) in
       let small : 0 < 2 ^ 30 = omega arith in
       let count = count_of-small 0 small in
-      let is_nil : (base == nil_of os) ≡ true = eq-eqb base (nil_of os) (sym ready.sound.holds.whole.nil) in
-      let first = sound-set_context os x 0 base (sound_active ready active) active.context
+      let is_nil : (base == nil_of os) ≡ true = eq-eqb base (nil_of os) (sym sound.holds.whole.nil) in
+      let first = sound-set_context os x 0 base (sound_at os a.0 x sound.holds.whole.heap at.there) at.context
       (record { reference = base_named; pc = λ e. absurd (omega (arith, e)); stackp = λ e. absurd (omega (arith, e)); depth = λ e. absurd (omega (arith, e)) }) in
-      let second = sound-set_context os (set_word 0 base x) 1 base first active.context
+      let second = sound-set_context os (set_word 0 base x) 1 base first at.context
       (record { reference = base_named; pc = λ e. or_left (base == nil_of os) (is_some (count_of base)) is_nil; stackp = λ e. absurd (omega (arith, e)); depth = λ e. absurd (omega (arith, e)) }) in
-      sound-set_context os (set_word 1 base (set_word 0 base x)) 2 zero_word second active.context
+      sound-set_context os (set_word 1 base (set_word 0 base x)) 2 zero_word second at.context
       (record {
         reference = is_reference-small os (pos 0) (small_natural 0 small);
         pc = λ e. absurd (omega (arith, e));
@@ -103,24 +118,36 @@ module _ {w : PlainWorld} {a : Oop} {x : Object} (ready : IsReady (stored_of w) 
       let os = w.heap.objects in
       let refer = ref_of os in
       subst (λ us. Does os us w.classes w.roots (λ k. edit_object k (refer a.0) (edit_context (dead nil)))) (sym (buried-one os a.0))
-      (does-edit (record { whole = ready.sound.holds.whole; there = active.there }) bury (edit_context (dead nil)) bury-IsEdit sound_buried
-      (obj_of-edit_context refer x (bury x) (dead nil) active.context active.context
-      (buried_context refer x.hash x.words (fields_within ready active)
-      ∙ ap (λ r. record (context_of refer x.hash x.words) { sender = r; pc = None; stack = [] }) (ref_of-nil os w.classes w.roots ready.sound.holds.whole))))
+      (does-edit (record { whole = sound.holds.whole; there = at.there }) bury (edit_context (dead nil)) bury-IsEdit sound_buried
+      (obj_of-edit_context refer x (bury x) (dead nil) at.context at.context
+      (buried_context refer x.hash x.words at.whole.fields
+      ∙ ap (λ r. record (context_of refer x.hash x.words) { sender = r; pc = None; stack = [] }) (ref_of-nil os w.classes w.roots sound.holds.whole))))
 
-  buried_edited : Edited w.heap.objects (buried w.heap.objects a.0)
-  buried_edited = subst (Edited w.heap.objects) (sym (buried-one w.heap.objects a.0)) (edited w.heap.objects a.0 x bury bury-IsEdit active.there)
+  pub buried_edited : Edited w.heap.objects (buried w.heap.objects a.0)
+  buried_edited = subst (Edited w.heap.objects) (sym (buried-one w.heap.objects a.0)) (edited w.heap.objects a.0 x bury bury-IsEdit at.there)
 
-  killed : view_of (with_objects w (buried w.heap.objects a.0)) ≡ kill_of (view_of w) (active_birth (view_of w))
+  pub killed : view_of (with_objects w (buried w.heap.objects a.0)) ≡ kill_of (view_of w) x.birth
   unfolding kill_of
   killed =
-      written_view w a x (buried w.heap.objects a.0) (dead nil) ready active does-bury buried_edited
-      ∙ sym (ap (λ o. edit_found (dead_object nil) (active_birth (view_of w)) o (view_of w)) ready.running.found)
+      let os = w.heap.objects in
+      let us = buried os a.0 in
+      let k = view_of w in
+      let name : ref_of os a.0 ≡ ref.Obj x.birth = ref_of-object os a.0 (is_object-object_at os a.0 x at.there) ∙ ap (λ n. ref.Obj n) (birth_of-object_at os a.0 x at.there) in
+      ap (kept_of us w.classes w.roots) (active-same os us w.active buried_edited) ∙ does-bury.kept (active_in os w.active)
+      ∙ ap (λ r. edit_object k r (edit_context (dead nil))) name
+      ∙ ap (λ o. edit_found (edit_context (dead nil)) x.birth o k) at.means ∙ sym (ap (λ o. edit_found (dead_object nil) x.birth o k) at.means)
 
-  killed_pcs : KeepsPcs (kill_of (view_of w) (active_birth (view_of w)))
-  unfolding kill_of
-  killed_pcs = subst KeepsPcs (sym (ap (λ o. edit_found (dead_object nil) (active_birth (view_of w)) o (view_of w)) ready.running.found))
-      (pcs-edit_active (view_of w) (dead nil) ready.running ready.sound.pcs (λ pc e. absurd (cc)))
+  killed_pcs : KeepsPcs (kill_of (view_of w) x.birth)
+  killed_pcs = subst KeepsPcs (sym (kill-put (view_of w) x.birth c at.means))
+      (pcs-put (view_of w) x.birth (Ctx (dead nil c)) sound.pcs (no_place (object_at (view_of w) x.birth) c (Ctx (dead nil c)) at.means) (λ d e pc l. absurd (dead_pc d e pc l)))
+    where
+      dead_pc : (d : Context) → Ctx (dead nil c) ≡ Ctx d → (pc : ℕ) → d.pc ≡ Some pc → ⊥
+      dead_pc d e pc l = let same : dead nil c ≡ d = cc in let no : ◌≡◌ {A = Option ℕ} None (Some pc) = ap (λ (f : Context). f.pc) same ∙ l in absurd (cc)
+
+  -- a context dies
+  pub buried_sound : IsSound (stored_of (with_objects w (buried w.heap.objects a.0))) (view_of (with_objects w (buried w.heap.objects a.0)))
+  buried_sound = sound_world (with_objects w (buried w.heap.objects a.0)) does-bury.whole (subst (λ n. n ≤ w.heap.limit) (sym buried_edited.words) sound.holds.within) sound.holds.most sound.closures
+      (subst KeepsPcs (sym killed) killed_pcs)
 
 -- ---- its sender is active
 
@@ -146,49 +173,32 @@ live_context (Some (Ctx c)) h = go c.pc refl h
 abbrev pub with_left : PlainWorld → Oop → Oop → PlainWorld
 with_left w a sender = record w { heap = record w.heap { objects = buried w.heap.objects a.0 }; active = Some sender }
 
-pub record Left (w v : PlainWorld) : Type 0 where
-  pub leaves : (x : Ref) → push_of (view_of v) x ≡ leave_of (view_of w) x
+pub record Landed (w v : PlainWorld) (home target : ℕ) : Type 0 where
+  pub view : view_of v ≡ resume_of (kill_of (view_of w) home) target
   pub ready : IsReady (stored_of v) (view_of v)
   pub names : KeepsNames (stored_of w) (stored_of v)
   pub fits : depth_of (view_of v) < size_of (view_of v)
 
-birth_of_context : (k : Kept) (r : Ref) (i : ℕ) → context_birth k r ≡ Some i → birth_of r ≡ Some i
-birth_of_context k r i h = go (context_at k r) h
-  where
-    go : (o : Option Context) → option_and_then (λ c. birth_of r) o ≡ Some i → birth_of r ≡ Some i
-    go None e = absurd (cc)
-    go (Some c) e = e
-
-module _ {w : PlainWorld} {a : Oop} {x : Object} (ready : IsReady (stored_of w) (view_of w)) (active : Active w a x) (sender : Oop) (read : sender.0 ≡ slot_of w.heap.objects a.0 0) where
-  sender_names : Names (stored_of w) sender (active_context (view_of w)).sender
-  sender_names = names_slot ready active sender 0 _ (omega (arith, fields_within ready active)) read (sender_is_read ready active)
-
-  sender_birth_is : sender_birth (view_of w) (active_birth (view_of w)) ≡ context_birth (view_of w) (active_context (view_of w)).sender
-  sender_birth_is = ap (λ o. option_and_then (λ (c : Context). context_birth (view_of w) c.sender) (context_in o)) ready.running.found
-
-  left_at : (target : ℕ) → sender_birth (view_of w) (active_birth (view_of w)) ≡ Some target → CanArrive (view_of w) target → Left w (with_left w a sender)
-  unfolding kill_of resume_of active_context leave_of
-  left_at target is arrive =
+module _ {w : PlainWorld} {a : Oop} {x : Object} (sound : IsSound (stored_of w) (view_of w)) (at : ContextAt w a x) (sender : Oop) (read : sender.0 ≡ slot_of w.heap.objects a.0 0) where
+  landed_at : (target : ℕ) → sender_birth (view_of w) x.birth ≡ Some target → CanLand (view_of w) x.birth target → Landed w (with_left w a sender) x.birth target
+  unfolding resume_of active_context
+  landed_at target is can =
       let os = w.heap.objects in
       let us = buried os a.0 in
       let k = view_of w in
-      let d : Kept = kill_of k (active_birth k) in
-      let edit = buried_edited ready active in
-      let does = does-bury ready active in
-      let arrives : context_birth k (active_context k).sender ≡ Some target = sym sender_birth_is ∙ is in
-      let birth : birth_at us sender ≡ Some target = edit.births sender ∙ context_named w sender ready.sound sender_names.sound ∙ ap (context_birth k) sender_names.is ∙ arrives in
-      let view : view_of (with_left w a sender) ≡ resume_of d target = ap (kept_of us w.classes w.roots) birth ∙ ap (λ m. resume_of m target) (killed ready active) in
-      let t = live_context (object_at k target) arrive.live in
-      let stays : object_at d target ≡ Some (Ctx t.context) =
-      ap (λ o. object_at (edit_found (dead_object k.rest.nil) (active_birth k) o k) target) ready.running.found
-      ∙ object_at-put_other k (active_birth k) target (Ctx (dead k.rest.nil (active_context k))) arrive.other ∙ t.is in
-      let pcs : KeepsPcs (resume_of d target) = pcs-rest (resume_of d target).rest d (killed_pcs ready active) in
+      let d : Kept = kill_of k x.birth in
+      let edit = buried_edited sound at in
+      let birth : birth_at us sender ≡ Some target = edit.births sender ∙ sender_read sound at sender read ∙ is in
+      let view : view_of (with_left w a sender) ≡ resume_of d target = ap (kept_of us w.classes w.roots) birth ∙ ap (λ m. resume_of m target) (killed sound at) in
+      let t = live_context (object_at k target) can.live in
+      let stays : object_at d target ≡ Some (Ctx t.context) = killed_other k x.birth (c sound at) at.means target can.other ∙ t.is in
+      let pcs : KeepsPcs (resume_of d target) = pcs-rest (resume_of d target).rest d (killed_pcs sound at) in
       let context : active_context (resume_of d target) ≡ t.context = ap (λ o. unwrap_or (context_in o) blank) stays in
-      let room : nat_lt (length t.context.stack) t.context.size ≡ true = ap (λ o. has_room (context_in o)) (sym t.is) ∙ arrive.room in
+      let room : nat_lt (length t.context.stack) t.context.size ≡ true = ap (λ o. has_room (context_in o)) (sym t.is) ∙ can.room in
       record {
-        leaves = λ v. ap (λ m. push_of m v) view ∙ ap (λ n. push_of (resume_of d n) v) (sym (ap (λ o. unwrap_or o k.rest.nil) (birth_of_context k (active_context k).sender target arrives)));
+        view = view;
         ready = record {
-          sound = sound_world (with_left w a sender) does.whole (subst (λ n. n ≤ w.heap.limit) (sym edit.words) ready.sound.holds.within) ready.sound.holds.most (subst KeepsPcs (sym view) pcs);
+          sound = sound_world (with_left w a sender) (does-bury sound at).whole (subst (λ n. n ≤ w.heap.limit) (sym edit.words) sound.holds.within) sound.holds.most sound.closures (subst KeepsPcs (sym view) pcs);
           running = subst IsRunning (sym view) (running (resume_of d target) target t.context t.pc refl stays t.live pcs);
         };
         names = keeps_names w us edit;
@@ -198,18 +208,40 @@ module _ {w : PlainWorld} {a : Oop} {x : Object} (ready : IsReady (stored_of w) 
       below : (m n : ℕ) → nat_lt m n ≡ true → m < n
       below m n h = grind (arith, nat_tests, h)
 
--- the heap that the code has
-pub left_world : (w : PlainWorld) (a sender : Oop) (h : Memory) → h ≡ record w.heap { objects = buried w.heap.objects a.0 } → Left w (with_left w a sender) → Left w (record w { heap = h; active = Some sender })
-left_world w a sender h e done = subst (λ (g : Memory). Left w (record w { heap = g; active = Some sender })) (sym e) done
+-- what is asked of a context that dies and of its sender, with both of them
+pub record Target (w : PlainWorld) (a : Oop) : Type 0 where
+  pub home : ℕ
+  pub target : ℕ
+  pub birth : birth_at w.heap.objects a ≡ Some home
+  pub sender : sender_birth (view_of w) home ≡ Some target
+  pub can : CanLand (view_of w) home target
 
-pub leaving : (w : PlainWorld) (a sender : Oop) (h : Memory) → (ready : IsReady (stored_of w) (view_of w)) → w.active ≡ Some a → sender.0 ≡ slot_of w.heap.objects a.0 0
-    → h ≡ record w.heap { objects = buried w.heap.objects a.0 } → IsSomeAnd (sender_birth (view_of w) (active_birth (view_of w))) (CanArrive (view_of w))
-    → Left w (record w { heap = h; active = Some sender })
-leaving w a sender h ready known read e target = go (sender_birth (view_of w) (active_birth (view_of w))) refl target
+pub target_of : (w : PlainWorld) (a : Oop) → IsSomeAnd (birth_at w.heap.objects a) (λ home. IsSomeAnd (sender_birth (view_of w) home) (CanLand (view_of w) home)) → Target w a
+target_of w a h = go (birth_at w.heap.objects a) refl h
   where
-    go : (o : Option ℕ) → sender_birth (view_of w) (active_birth (view_of w)) ≡ o → IsSomeAnd o (CanArrive (view_of w)) → Left w (record w { heap = h; active = Some sender })
-    go None is t = absurd t
-    go (Some i) is t = left_world w a sender h e (left_at ready (active_is w a ready known).1 sender read i is t)
+    then : (home : ℕ) → birth_at w.heap.objects a ≡ Some home → (o : Option ℕ) → sender_birth (view_of w) home ≡ o → IsSomeAnd o (CanLand (view_of w) home) → Target w a
+    then home e None f h = absurd h
+    then home e (Some target) f h = record { home = home; target = target; birth = e; sender = f; can = h }
+
+    go : (o : Option ℕ) → birth_at w.heap.objects a ≡ o → IsSomeAnd o (λ home. IsSomeAnd (sender_birth (view_of w) home) (CanLand (view_of w) home)) → Target w a
+    go None e h = absurd h
+    go (Some home) e h = then home e (sender_birth (view_of w) home) refl h
+
+-- the slots of its fields are there
+pub six_slots : (w : PlainWorld) (a : Oop) → IsSound (stored_of w) (view_of w) → Target w a → 6 ≤ slot_count_of w.heap.objects a.0
+six_slots w a sound t = let x = acts.context_at w a sound (ap is_some t.birth) in omega (arith, x.1.whole.fields, x.1.count)
+
+pub some_same : (m n : ℕ) → ◌≡◌ {A = Option ℕ} (Some m) (Some n) → m ≡ n
+some_same m n h = cc
+
+-- the heap that the code has
+pub landing : (w : PlainWorld) (a sender : Oop) (h : Memory) → IsSound (stored_of w) (view_of w) → (t : Target w a) → sender.0 ≡ slot_of w.heap.objects a.0 0
+    → h ≡ record w.heap { objects = buried w.heap.objects a.0 } → Landed w (record w { heap = h; active = Some sender }) t.home t.target
+landing w a sender h sound t read e =
+    let x = acts.context_at w a sound (ap is_some t.birth) in
+    let is : x.0.birth ≡ t.home = some_same x.0.birth t.home (sym x.1.birth ∙ t.birth) in
+    let done = landed_at sound x.1 sender read t.target (ap (sender_birth (view_of w)) is ∙ t.sender) (subst (λ n. CanLand (view_of w) n t.target) (sym is) t.can) in
+    subst (λ (g : Memory). Landed w (record w { heap = g; active = Some sender }) t.home t.target) (sym e) (subst (λ n. Landed w (with_left w a sender) n t.target) is done)
 
 -- ---- and the value is pushed
 
@@ -219,9 +251,52 @@ equal_kept a b s =
     λ i. record { objects = objects i; rest = s.rest i }
 
 -- the world behind the push
-pub left_exact : (w v u : PlainWorld) (x : Oop) → Left w v → IsNamed (stored_of w) x → SameKept (view_of u) (push_of (view_of v) (name_of (stored_of v) x)) → view_of u ≡ leave_of (view_of w) (name_of (stored_of w) x)
-left_exact w v u x left named same =
-    equal_kept (view_of u) (push_of (view_of v) (name_of (stored_of v) x)) same ∙ ap (push_of (view_of v)) (left.names x named).is ∙ left.leaves (name_of (stored_of w) x)
+pub landed_view : (w v u : PlainWorld) (a x : Oop) (t : Target w a) → Landed w v t.home t.target → IsNamed (stored_of w) x → SameKept (view_of u) (push_of (view_of v) (name_of (stored_of v) x))
+    → IfSome (birth_at w.heap.objects a) (λ home. IfSome (sender_birth (view_of w) home) (λ target. view_of u ≡ landed_of (view_of w) home target (name_of (stored_of w) x)))
+landed_view w v u a x t done named same =
+    let exact : view_of u ≡ landed_of (view_of w) t.home t.target (name_of (stored_of w) x) =
+    equal_kept (view_of u) (push_of (view_of v) (name_of (stored_of v) x)) same ∙ ap (push_of (view_of v)) (done.names x named).is ∙ ap (λ m. push_of m (name_of (stored_of w) x)) done.view in
+    subst (λ o. IfSome o (λ home. IfSome (sender_birth (view_of w) home) (λ target. view_of u ≡ landed_of (view_of w) home target (name_of (stored_of w) x)))) (sym t.birth)
+    (subst (λ o. IfSome o (λ target. view_of u ≡ landed_of (view_of w) t.home target (name_of (stored_of w) x))) (sym t.sender) exact)
+
+-- ---- the active context
+
+birth_of_context : (k : Kept) (r : Ref) (i : ℕ) → context_birth k r ≡ Some i → birth_of r ≡ Some i
+birth_of_context k r i h = go (context_at k r) h
+  where
+    go : (o : Option Context) → option_and_then (λ c. birth_of r) o ≡ Some i → birth_of r ≡ Some i
+    go None e = absurd (cc)
+    go (Some c) e = e
+
+module _ (w u : PlainWorld) (a v : Oop) (ready : IsReady (stored_of w) (view_of w)) (known : w.active ≡ Some a) (target : IsSomeAnd (sender_birth (view_of w) (active_birth (view_of w))) (CanArrive (view_of w))) where
+  active_at : birth_at w.heap.objects a ≡ Some (active_birth (view_of w))
+  active_at = sym (ap (active_in w.heap.objects) known) ∙ ready.running.known
+
+  -- it can die
+  pub can_land : IsSomeAnd (birth_at w.heap.objects a) (λ home. IsSomeAnd (sender_birth (view_of w) home) (CanLand (view_of w) home))
+  can_land = subst (λ o. IsSomeAnd o (λ home. IsSomeAnd (sender_birth (view_of w) home) (CanLand (view_of w) home))) (sym active_at) (go (sender_birth (view_of w) (active_birth (view_of w))) target)
+    where
+      go : (o : Option ℕ) → IsSomeAnd o (CanArrive (view_of w)) → IsSomeAnd o (CanLand (view_of w) (active_birth (view_of w)))
+      go None h = h
+      go (Some i) h = record { live = h.live; other = h.other; room = h.room }
+
+  sender_birth_is : sender_birth (view_of w) (active_birth (view_of w)) ≡ context_birth (view_of w) (active_context (view_of w)).sender
+  sender_birth_is = ap (λ o. option_and_then (λ (c : Context). context_birth (view_of w) c.sender) (context_in o)) ready.running.found
+
+  pub left_exact : IfSome (birth_at w.heap.objects a) (λ home. IfSome (sender_birth (view_of w) home) (λ target. view_of u ≡ landed_of (view_of w) home target (name_of (stored_of w) v)))
+      → view_of u ≡ leave_of (view_of w) (name_of (stored_of w) v)
+  unfolding leave_of
+  left_exact h =
+      let k = view_of w in
+      let at = subst (λ o. IfSome o (λ home. IfSome (sender_birth k home) (λ target. view_of u ≡ landed_of k home target (name_of (stored_of w) v)))) active_at h in
+      go (sender_birth k (active_birth k)) refl target at
+    where
+      go : (o : Option ℕ) → sender_birth (view_of w) (active_birth (view_of w)) ≡ o → IsSomeAnd o (CanArrive (view_of w))
+          → IfSome o (λ target. view_of u ≡ landed_of (view_of w) (active_birth (view_of w)) target (name_of (stored_of w) v)) → view_of u ≡ leave_of (view_of w) (name_of (stored_of w) v)
+      go None e t h = absurd t
+      go (Some i) e t h =
+          h ∙ ap (λ n. landed_of (view_of w) (active_birth (view_of w)) n (name_of (stored_of w) v))
+          (sym (ap (λ o. unwrap_or o (view_of w).rest.nil) (birth_of_context (view_of w) (active_context (view_of w)).sender i (sym sender_birth_is ∙ e))))
 
 pub left_state : (w u : PlainWorld) (x : Oop) → IsReady (stored_of w) (view_of w) → IsNamed (stored_of w) x → view_of u ≡ leave_of (view_of w) (name_of (stored_of w) x) → (m : Kept) → Keeps (view_of w) m
     → Keeps (view_of u) (leave_of m (name_of (stored_of w) x))

@@ -10,9 +10,13 @@ mod Scheduled
 mod Copying
 mod Words
 mod Acts
+mod Ways
 mod Leaving
+mod Cutting
 mod Making
+mod Calling
+mod Called
 mod Entering
-mod Entered
+mod Block
 mod Asking
 mod Allocating

@@ -130,11 +130,11 @@ module _ {w : PlainWorld} (p c nil : Oop) (sound : IsSound (stored_of w) (view_o
       let pcs : KeepsPcs (kept_of us w.classes w.roots active) = subst KeepsPcs (sym stored) (pcs-store k (name_of (stored_of w) p) 1 (nil_of k) sound.pcs) in
       let between : PlainWorld = record w { heap = record w.heap { objects = us }; active = None } in
       let within = subst (λ n. n ≤ w.heap.limit) (sym (used-with_slot os p.0 1 nil.0)) sound.holds.within in
-      let birth : birth_at us c ≡ Some i = context_active between c us i (sound_world between does.whole within sound.holds.most (pcs-rest (view_of between).rest (kept_of us w.classes w.roots active) pcs)) refl
+      let birth : birth_at us c ≡ Some i = context_active between c us i (sound_world between does.whole within sound.holds.most sound.closures (pcs-rest (view_of between).rest (kept_of us w.classes w.roots active) pcs)) refl
       (is_object-with_slot os p.0 1 nil.0 c.0 ∙ at.0) (birth_of-with_slot os p.0 1 nil.0 c.0 ∙ at.1) (subst IsRunning taken running) in
       record {
         view = ap (kept_of us w.classes w.roots) birth ∙ sym taken;
-        sound = sound_world (with_taken w p nil c) does.whole within sound.holds.most (pcs-rest (view_of (with_taken w p nil c)).rest (kept_of us w.classes w.roots active) pcs);
+        sound = sound_world (with_taken w p nil c) does.whole within sound.holds.most sound.closures (pcs-rest (view_of (with_taken w p nil c)).rest (kept_of us w.classes w.roots active) pcs);
       }
 
   -- it does, for else no context would run

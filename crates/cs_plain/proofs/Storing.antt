@@ -139,7 +139,7 @@ writes-store w o v i x ready named value s =
       state = λ m k. subst (λ u. Keeps u (store_of m (name_of (stored_of w) o) i (name_of (stored_of w) v))) (sym view) (store_moved k (held_by w o ready named) i (held_by w v ready value)).keeps;
       exact = same_kept _ _ view;
       ready = record {
-        sound = sound_world (with_objects w us) does.whole (subst (λ n. n ≤ w.heap.limit) (sym edit.words) ready.sound.holds.within) ready.sound.holds.most
+        sound = sound_world (with_objects w us) does.whole (subst (λ n. n ≤ w.heap.limit) (sym edit.words) ready.sound.holds.within) ready.sound.holds.most ready.sound.closures
             (subst KeepsPcs (sym view) (pcs-store (view_of w) (name_of (stored_of w) o) i (name_of (stored_of w) v) ready.sound.pcs));
         running = subst IsRunning (sym (view ∙ put_is)) running;
       };

@@ -66,7 +66,7 @@ written w a x us g pc ready active does same at method lies =
     record {
       view = view;
       ready = record {
-        sound = sound_world (with_objects w us) does.whole (subst (λ n. n ≤ w.heap.limit) (sym same.words) ready.sound.holds.within) ready.sound.holds.most (subst KeepsPcs (sym view) kept);
+        sound = sound_world (with_objects w us) does.whole (subst (λ n. n ≤ w.heap.limit) (sym same.words) ready.sound.holds.within) ready.sound.holds.most ready.sound.closures (subst KeepsPcs (sym view) kept);
         running = subst IsRunning (sym view) (running-edit (view_of w) g pc ready.running at method lies);
       };
       names = keeps_names w us same;

@@ -45,6 +45,13 @@ const RECEIVER: u32 = 5;
 
 const STACK: u32 = 6;
 
+/// The slots of a closure: outerContext, startpc, numArgs, and then its copied values.
+const OUTER_CONTEXT: u32 = 0;
+
+const START_PC: u32 = 1;
+
+const COPIED: u32 = 3;
+
 /// The class index of contexts, and their format: one with named and indexed fields.
 const CONTEXT: u32 = 36;
 
@@ -126,13 +133,14 @@ fn entry_pc(header: u32, skip: bool) -> u32
     if skip { first + 3 } else { first }
 }
 
-/// What a new context has in its fields but the closure, which is nil.
+/// What a new context has in its fields.
 #[derive(Clone, Copy)]
 struct Fields {
     sender: Oop,
     pc: Oop,
     stackp: Oop,
     method: Oop,
+    closure: Oop,
     receiver: Oop,
 }
 
@@ -146,20 +154,21 @@ fn write_fields(heap: &mut Heap, context: Oop, fields: Fields)
     heap.set_slot(context, PC, fields.pc);
     heap.set_slot(context, STACKP, fields.stackp);
     heap.set_slot(context, METHOD, fields.method);
+    heap.set_slot(context, CLOSURE, fields.closure);
     heap.set_slot(context, RECEIVER, fields.receiver);
 }
 
-/// Copies so many slots of one object, from this one on, to another object, from the first slot of a stack on.
-fn copy_slots(heap: &mut Heap, from: Oop, at: u32, to: Oop, count: u32)
-    requires from { at + count ≤ slot_count_of heap.old.objects from.0 }
-    requires to { 6 + count ≤ slot_count_of heap.old.objects to.0 }
-    requires few { slot_count_of heap.old.objects from.0 < 2 ^ 31 }
-    requires small { count < 2 ^ 31 }
-    ensures { heap.new ≡ record heap.old { objects = copied heap.old.objects from.0 at to.0 count } }
+/// Copies so many slots of one object, from slot `at` on, to another object, from slot `start` on.
+fn copy_slots(heap: &mut Heap, from: Oop, at: u32, to: Oop, start: u32, count: u32)
+    requires from { 0 < count → at + count ≤ slot_count_of heap.old.objects from.0 }
+    requires to { start + count ≤ slot_count_of heap.old.objects to.0 }
+    requires few { at + count < 2 ^ 31 }
+    requires small { start + count < 2 ^ 31 }
+    ensures { heap.new ≡ record heap.old { objects = copied heap.old.objects from.0 at to.0 start count } }
 {
     for i in 0..count {
         let value = heap.slot(from, at + i);
-        heap.set_slot(to, STACK + i, value);
+        heap.set_slot(to, start + i, value);
     }
 }
 
@@ -187,7 +196,15 @@ impl PlainWorld {
     ghost use Rattle.cs_model.specs.Step.{shape_fault};
     ghost use Rattle.cs_acts.specs.Names.{IsNamed, Names, name_of};
     ghost use Rattle.cs_acts.specs.Ready.{IsSound};
-    ghost use Rattle.cs_plain.specs.View.{loaded_kept, stored_of, taken_of, view_of};
+    ghost use Rattle.std.specs.Prelude.{IfErr, IfSome, IsSomeAnd, OnOk};
+    ghost use Rattle.cs_model.specs.Read.{active_birth};
+    ghost use Rattle.cs_model.specs.Return.{sender_birth};
+    ghost use Rattle.cs_acts.specs.Full.{CausesFull};
+    ghost use Rattle.cs_acts.specs.Names.{KeepsNames};
+    ghost use Rattle.cs_acts.specs.Targets.{CanCut};
+    ghost use Rattle.cs_plain.specs.Calling.{CanCall, called_context, called_of};
+    ghost use Rattle.cs_plain.specs.Cutting.{AtHome, CanLand, landed_of};
+    ghost use Rattle.cs_plain.specs.View.{birth_at, loaded_kept, stored_of, taken_of, view_of};
 
     /// Opens a loaded image: the active process gives its context to the machine. With no active process none is active.
     ///
@@ -267,6 +284,90 @@ impl PlainWorld {
             unreachable!();
         };
         context
+    }
+
+    /// Makes a context of these fields active. So many arguments leave the stack of the active one, with what is below them, for
+    /// the new stack; above them come so many copied values of the closure.
+    fn new_context(
+        &mut self,
+        header: u32,
+        fields: Fields,
+        args: u32,
+        copied: u32,
+    ) -> Result<(), Full>
+        requires ready { IsReady (stored_of self.old) (view_of self.old) }
+        requires sender { self.old.active ≡ Some fields.sender }
+        requires fits { CanCall (stored_of self.old) (view_of self.old) header args copied fields }
+        ensures view { OnOk result (view_of self.new ≡ called_of (view_of self.old) args (called_context (stored_of self.old) (view_of self.old) header args copied fields)) }
+        ensures ready { OnOk result (IsReady (stored_of self.new) (view_of self.new)) }
+        ensures names { OnOk result (KeepsNames (stored_of self.old) (stored_of self.new)) }
+        ensures limit { self.new.heap.limit ≡ self.old.heap.limit }
+        ensures full { IfErr result (CausesFull (stored_of self.new) None (view_of self.old) 0 (called_of (view_of self.old) args (called_context (stored_of self.old) (view_of self.old) header args copied fields))) }
+    {
+        let sender = fields.sender;
+        let left = self.depth() - (args + 1);
+        let birth = self.roots.next_birth;
+        let Ok(context) = self
+            .heap
+            .allocate(CONTEXT, FIELDS_AND_INDICES, context_slots(header), birth)
+        else {
+            return Err(Full::Heap);
+        };
+        write_fields(&mut self.heap, context, fields);
+        copy_slots(
+            &mut self.heap,
+            sender,
+            STACK + left + 1,
+            context,
+            STACK,
+            args,
+        );
+        copy_slots(
+            &mut self.heap,
+            fields.closure,
+            COPIED,
+            context,
+            STACK + args,
+            copied,
+        );
+        self.heap.set_slot(sender, STACKP, count_word(left));
+        self.roots.next_birth = birth + 1;
+        self.active = Some(context);
+        Ok(())
+    }
+
+    /// Makes the active context dead, and its senders, until the home is met: the context of this birth. Answers the home.
+    fn bury_to(&mut self, home: u64) -> Oop
+        requires ready { IsReady (stored_of self.old) (view_of self.old) }
+        requires target { IsSomeAnd (sender_birth (view_of self.old) home) (CanCut (view_of self.old) home) }
+        ensures { IfSome (sender_birth (view_of self.old) home) (λ target. AtHome self.old self.new home target result) }
+    {
+        let mut context = self.active_context();
+        for _ in 0..1_048_576_u32 {
+            if self.heap.birth(context) == home {
+                return context;
+            }
+            let sender = self.heap.slot(context, SENDER);
+            bury(&mut self.heap, context);
+            context = sender;
+        }
+        context
+    }
+
+    /// Makes a context dead and its sender active, and pushes a value there.
+    fn land(&mut self, dying: Oop, v: Oop)
+        requires sound { IsSound (stored_of self.old) (view_of self.old) }
+        requires named { IsNamed (stored_of self.old) v }
+        requires target { IsSomeAnd (birth_at self.old.heap.objects dying) (λ home. IsSomeAnd (sender_birth (view_of self.old) home) (CanLand (view_of self.old) home)) }
+        ensures view { IfSome (birth_at self.old.heap.objects dying) (λ home. IfSome (sender_birth (view_of self.old) home) (λ target. view_of self.new ≡ landed_of (view_of self.old) home target (name_of (stored_of self.old) v))) }
+        ensures ready { IsReady (stored_of self.new) (view_of self.new) }
+        ensures names { KeepsNames (stored_of self.old) (stored_of self.new) }
+        ensures limit { self.new.heap.limit ≡ self.old.heap.limit }
+    {
+        let sender = self.heap.slot(dying, SENDER);
+        bury(&mut self.heap, dying);
+        self.active = Some(sender);
+        self.push(v);
     }
 }
 
@@ -456,38 +557,44 @@ impl World for PlainWorld {
     }
 
     fn enter(&mut self, method: Oop, args: u32, skip: bool) -> Result<(), Full> {
-        let sender = self.active_context();
-        let depth = self.depth();
         let header = count(self.heap.slot(method, 0));
-        let left = depth - (args + 1);
         let fields = Fields {
-            sender,
+            sender: self.active_context(),
             pc: count_word(entry_pc(header, skip)),
             stackp: count_word(temporaries(header)),
             method,
-            receiver: self.stack_at(left),
+            closure: Oop(BASE),
+            receiver: self.stack_at(self.depth() - (args + 1)),
         };
-        let birth = self.roots.next_birth;
-        let Ok(context) = self
-            .heap
-            .allocate(CONTEXT, FIELDS_AND_INDICES, context_slots(header), birth)
-        else {
-            return Err(Full::Heap);
+        self.new_context(header, fields, args, 0)
+    }
+
+    fn enter_block(&mut self, closure: Oop, args: u32) -> Result<(), Full> {
+        let outer = self.heap.slot(closure, OUTER_CONTEXT);
+        let method = self.heap.slot(outer, METHOD);
+        let header = count(self.heap.slot(method, 0));
+        let copied = self.heap.slot_count(closure) - COPIED;
+        let fields = Fields {
+            sender: self.active_context(),
+            pc: self.heap.slot(closure, START_PC),
+            stackp: count_word(args + copied),
+            method,
+            closure,
+            receiver: self.heap.slot(outer, RECEIVER),
         };
-        write_fields(&mut self.heap, context, fields);
-        copy_slots(&mut self.heap, sender, STACK + left + 1, context, args);
-        self.heap.set_slot(sender, STACKP, count_word(left));
-        self.roots.next_birth = birth + 1;
-        self.active = Some(context);
-        Ok(())
+        self.new_context(header, fields, args, copied)
     }
 
     fn leave(&mut self, v: Oop) -> Result<(), Full> {
         let context = self.active_context();
-        let sender = self.heap.slot(context, SENDER);
-        bury(&mut self.heap, context);
-        self.active = Some(sender);
-        self.push(v);
+        self.land(context, v);
+        Ok(())
+    }
+
+    fn cut_to(&mut self, home: Act, v: Oop) -> Result<(), Full> {
+        let birth = self.act_birth(home);
+        let context = self.bury_to(birth);
+        self.land(context, v);
         Ok(())
     }
 }

@@ -8,21 +8,21 @@ unfolding copied
 loop-i-init c = refl
 
 pub overflow_add-at : goal.overflow_add-at
-overflow_add-at c = omega (arith, c.requires.from, c.requires.few, c.loop-i-test.true)
+overflow_add-at c = omega (arith, c.requires.few, c.loop-i-test.true)
 
 pub slot-value-requires : goal.slot-value-requires
 slot-value-requires c =
-    omega (arith, c.requires.from, c.loop-i-test.true, count-in c.loop-i.heap c.args.heap.now c.args.from.0 c.args.at c.args.to.0 c.loop-i.i c.args.from.0 c.loop-i.invariant)
+    omega (arith, c.requires.from (omega (arith, c.loop-i-test.true)), c.loop-i-test.true, count-in c.loop-i.heap c.args.heap.now c.args.from.0 c.args.at c.args.to.0 c.args.start c.loop-i.i c.args.from.0 c.loop-i.invariant)
 
 pub set_slot-requires : goal.set_slot-requires
 set_slot-requires c =
-    omega (arith, c.requires.to, c.loop-i-test.true, count-in c.loop-i.heap c.args.heap.now c.args.from.0 c.args.at c.args.to.0 c.loop-i.i c.args.to.0 c.loop-i.invariant)
+    omega (arith, c.requires.to, c.loop-i-test.true, count-in c.loop-i.heap c.args.heap.now c.args.from.0 c.args.at c.args.to.0 c.args.start c.loop-i.i c.args.to.0 c.loop-i.invariant)
 
 pub loop-i-preserved : goal.loop-i-preserved
 loop-i-preserved c =
-    copied-more c.args.heap.now c.loop-i.heap c.set_slot.new.self c.args.from.0 c.args.at c.args.to.0 c.loop-i.i c.slot-value.result.0 c.loop-i.invariant c.slot-value.ensures c.set_slot.ensures
+    copied-more c.args.heap.now c.loop-i.heap c.set_slot.new.self c.args.from.0 c.args.at c.args.to.0 c.args.start c.loop-i.i c.slot-value.result.0 c.loop-i.invariant c.slot-value.ensures c.set_slot.ensures
 
 pub returns : goal.returns
 returns c =
     c.loop-i.invariant
-    ∙ ap (λ n. record c.args.heap.now { objects = copied c.args.heap.now.objects c.args.from.0 c.args.at c.args.to.0 n }) (omega arith)
+    ∙ ap (λ n. record c.args.heap.now { objects = copied c.args.heap.now.objects c.args.from.0 c.args.at c.args.to.0 c.args.start n }) (omega arith)

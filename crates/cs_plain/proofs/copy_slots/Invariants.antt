@@ -3,4 +3,4 @@ use Rattle.cs_plain.specs.Storing.{copied}
 use Rattle.cs_plain.proofs.copy_slots.Given as goal
 
 abbrev pub invariant-loop-i : goal.invariant-loop-i
-invariant-loop-i l = l.heap ≡ record l.fn.heap { objects = copied l.fn.heap.objects l.from.0 l.at l.to.0 l.i }
+invariant-loop-i l = l.heap ≡ record l.fn.heap { objects = copied l.fn.heap.objects l.from.0 l.at l.to.0 l.start l.i }

@@ -14,6 +14,7 @@ open-requires-clause-sound c =
     sound_world w c.requires.whole
     (subst (λ n. n ≤ w.heap.limit) c.used_words-used.ensures.value c.used_words-used.ensures.within)
     (subst (λ n. n ≤ 67108864) c.limit_words-limit.ensures.value c.limit_words-limit.ensures.most)
+    c.requires.closures
     c.requires.pcs
 
 pub returns-clause-idle : goal.returns-clause-idle

@@ -1,0 +1,34 @@
+-- A return past a home, where all that dies before the home is dead.
+use Rattle.std.specs.Prelude.{◌≡◌, ◌≢◌, ℕ, true, Some}
+use Rattle.cs_word.specs.declared.Oop.{Oop}
+use Rattle.cs_model.specs.Ref.{Ref}
+use Rattle.cs_model.specs.Obj.{context_in}
+use Rattle.cs_model.specs.State.{Kept, object_at}
+use Rattle.cs_model.specs.Operation.{kill_all, kill_of, push_of, resume_of}
+use Rattle.cs_model.specs.Return.{has_room, is_live, sender_birth}
+use Rattle.cs_acts.specs.Names.{KeepsNames}
+use Rattle.cs_acts.specs.Ready.{IsSound}
+use Rattle.cs_acts.specs.Targets.{dying_to}
+use Rattle.cs_plain.specs.declared.PlainWorld.{PlainWorld}
+use Rattle.cs_plain.specs.View.{birth_at, stored_of, view_of}
+
+-- The home stands at this address. With its death all that die are dead; its sender and the target are as before.
+pub record AtHome (old new : PlainWorld) (home target : ℕ) (context : Oop) : Type 0 where
+  pub birth : birth_at new.heap.objects context ≡ Some home
+  pub kills : kill_of (view_of new) home ≡ kill_all (dying_to (view_of old) home) (view_of old)
+  pub sender : sender_birth (view_of new) home ≡ Some target
+  pub other : target ≢ home
+  pub stays : object_at (view_of new) target ≡ object_at (view_of old) target
+  pub sound : IsSound (stored_of new) (view_of new)
+  pub names : KeepsNames (stored_of old) (stored_of new)
+  pub limit : new.heap.limit ≡ old.heap.limit
+
+-- A context that dies has this target as its sender, which is another one, live, and has room for a value.
+pub record CanLand (k : Kept) (home target : ℕ) : Type 0 where
+  pub live : is_live k target ≡ true
+  pub other : target ≢ home
+  pub room : has_room (context_in (object_at k target)) ≡ true
+
+-- the home dies, the target is active, and the value is pushed
+abbrev pub landed_of : Kept → ℕ → ℕ → Ref → Kept
+landed_of k home target x = push_of (resume_of (kill_of k home) target) x
