@@ -76,6 +76,11 @@ impl Parts {
         Ok(())
     }
 
+    /// Enters the block of a closure.
+    pub(crate) fn enter_block(&mut self, _closure: Oop, _args: u32) -> Result<(), Full> {
+        Err(Full::Heap)
+    }
+
     /// Makes the frame of a method above the active one, where there is room for it.
     fn call(&mut self, method: Oop, args: u32, skip: bool)
         requires good { IsGood self.old }
@@ -219,7 +224,7 @@ impl Parts {
     }
 
     /// Makes a live single context of the heap the base frame of a free page.
-    fn rebase(&mut self, context: Oop)
+    pub(crate) fn rebase(&mut self, context: Oop)
         requires good { IsGood self.old }
         requires context { CanBase self.old.heap.objects context.0 }
         requires free { length self.old.pages.recent < self.old.pages.total }
