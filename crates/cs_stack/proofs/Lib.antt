@@ -37,3 +37,5 @@ pub mod Marrying
 pub mod Grown
 pub mod Allocating
 pub mod Fields
+pub mod CutWays
+pub mod CutStates
