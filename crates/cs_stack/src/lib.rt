@@ -10,6 +10,7 @@ ghost use Rattle.std.specs.Prelude.{◌≡◌};
 ghost use Rattle.cs_stack.specs.View.{act_of, layout_of, stored_of, view_of};
 
 mod arguments;
+mod cuts;
 mod looks;
 mod moves;
 mod parts;
@@ -281,8 +282,17 @@ impl World for StackWorld {
         self.parts.enter(method, args, skip)
     }
 
+    fn enter_block(&mut self, closure: Oop, args: u32) -> Result<(), Full> {
+        self.parts.enter_block(closure, args)
+    }
+
     fn leave(&mut self, v: Oop) -> Result<(), Full> {
         self.parts.leave(v);
+        Ok(())
+    }
+
+    fn cut_to(&mut self, home: Act, v: Oop) -> Result<(), Full> {
+        self.parts.cut_to(home, v);
         Ok(())
     }
 }

@@ -3,6 +3,7 @@ ghost use Rattle.std.specs.Prelude.{◌≡◌, ◌≢◌, ◌≤◌, ◌<◌, �
 ghost use Rattle.cs_frame.specs.Frame.{nil};
 ghost use Rattle.cs_frame.specs.Page.{IsBase, ref_of, top, used};
 ghost use Rattle.cs_marriage.specs.Marriage.{CanBase};
+ghost use Rattle.cs_model.specs.Enter.{enter_block_of};
 ghost use Rattle.cs_model.specs.Keeps.{Keeps};
 ghost use Rattle.cs_model.specs.Operation.{enter_of, leave_of, nil_of};
 ghost use Rattle.cs_model.specs.Read.{IsRunning, active_birth};
@@ -14,7 +15,7 @@ ghost use Rattle.cs_acts.specs.Layout.{LaidBy, entered, left};
 ghost use Rattle.cs_acts.specs.Made.{MakesAtMost, made_by_entering};
 ghost use Rattle.cs_acts.specs.Names.{IsNamed, KeepsNames, Names, NamesOption, name_of};
 ghost use Rattle.cs_acts.specs.Ready.{IsReady};
-ghost use Rattle.cs_acts.specs.Targets.{CanArrive, CanEnter};
+ghost use Rattle.cs_acts.specs.Targets.{CanArrive, CanEnter, CanEnterBlock};
 ghost use Rattle.cs_stack.specs.Good.{IsGood};
 ghost use Rattle.cs_stack.specs.Moved.{Takes, Unwound, active_number, based_parts, begun_parts, called_parts, entry_of, taken_of};
 ghost use Rattle.cs_stack.specs.View.{active_page, layout_of, stored_of, view_of};
@@ -162,6 +163,24 @@ impl Parts {
         push_nils(&mut self.frames, frame, temporary_count(head) - args);
         drop_values(&mut self.frames, caller, args + 1);
         self.roots.next_birth += 1;
+    }
+
+    /// Enters the block of a closure on a frame of its own, as a method is entered.
+    pub(crate) fn enter_block(&mut self, closure: Oop, args: u32) -> Result<(), Full>
+        requires good { IsGood self.old }
+        requires ready { IsReady (stored_of self.old) (view_of self.old) }
+        requires named { IsNamed (stored_of self.old) closure }
+        requires fits { CanEnterBlock (view_of self.old) (name_of (stored_of self.old) closure) args }
+        ensures good { IsGood self.new }
+        ensures view { OnOk result (view_of self.new ≡ enter_block_of (view_of self.old) (name_of (stored_of self.old) closure) args) }
+        ensures layout { OnOk result (LaidBy (entered (view_of self.old) (view_of self.old).rest.next) (layout_of self.old) (layout_of self.new)) }
+        ensures limit { self.new.heap.limit ≡ self.old.heap.limit }
+        ensures contexts { OnOk result (MakesAtMost (made_by_entering (view_of self.old) (layout_of self.old)) (layout_of self.old) (stored_of self.old) (stored_of self.new)) }
+        ensures names { OnOk result (KeepsNames (stored_of self.old) (stored_of self.new)) }
+        ensures full { IfErr result (CausesFull (stored_of self.new) (layout_of self.old) (view_of self.old) 0 (enter_block_of (view_of self.old) (name_of (stored_of self.old) closure) args)) }
+    {
+        self.call(closure, args, false);
+        Ok(())
     }
 
     /// The active context dies, its sender is active, and the value is pushed there.
