@@ -200,6 +200,7 @@ module _ {u : Parts} (good : IsGood u) (closed : u.pages.recent ≡ []) (s : ℕ
     used_pages = λ q. subst (λ ns. Contains ns q ↔ (0 < length (frames_of ps q))) (sym recent_is) (only q);
     chain = subst (λ ns. IsChain ps ns) (sym recent_is) tt;
     entry = λ _. context_known;
+    closures = good.closures;
   }
 
   -- ---- the state

@@ -26,6 +26,7 @@ pub mod Writing
 pub mod Stacking
 pub mod Adding
 pub mod Entries
+pub mod Copies
 pub mod Entering
 pub mod Called
 pub mod Begun

@@ -109,6 +109,7 @@ module _ {w : Parts} (good : IsGood w) (ready : IsReady (stored_of w) (view_of w
         used_pages = ordered.used_pages;
         chain = ordered.chain;
         entry = λ _. contexts_known w good o;
+        closures = good.closures;
       }
 
   nil_name : ref_of os nil ≡ ref.Obj (view_of w).rest.nil
