@@ -30,6 +30,21 @@ pub record Target (w : Parts) : Type 0 where
   pub arrives : CanArrive (view_of w) t
   pub sends : Sends (view_of w) (active_context (view_of w)).sender t c
 
+-- the same of one that need not take a value
+pub record Next (w : Parts) : Type 0 where
+  pub t : ℕ
+  pub is : sender_birth (view_of w) (active_birth (view_of w)) ≡ Some t
+  pub c : Context
+  pub sends : Sends (view_of w) (active_context (view_of w)).sender t c
+
+abbrev pub next_of : {w : Parts} → Target w → Next w
+next_of g = record { t = g.t; is = g.is; c = g.c; sends = g.sends }
+
+pub next_at : (w : Parts) (t : ℕ) → IsReady (stored_of w) (view_of w) → sender_birth (view_of w) (active_birth (view_of w)) ≡ Some t → Next w
+next_at w t ready e =
+    let found = sender_found (view_of w) t ready.running e in
+    record { t = t; is = e; c = found.0; sends = found.1 }
+
 pub target : (w : Parts) → IsReady (stored_of w) (view_of w) → IsSomeAnd (sender_birth (view_of w) (active_birth (view_of w))) (CanArrive (view_of w)) → Target w
 target w ready can = go (sender_birth (view_of w) (active_birth (view_of w))) refl can
   where

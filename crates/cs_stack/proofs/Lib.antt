@@ -40,3 +40,4 @@ pub mod Allocating
 pub mod Fields
 pub mod CutWays
 pub mod CutStates
+pub mod CutSteps
