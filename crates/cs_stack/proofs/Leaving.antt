@@ -1,5 +1,5 @@
 -- A return: the active context dies, and its sender gets the value.
-use Rattle.std.proofs.Common.{◌≡◌, ℕ, ◌<◌, true, refl, sym, ap, subst, ◌∙◌, arith, Option, Some, None, length, unwrap_or}
+use Rattle.std.proofs.Common.{◌≡◌, ℕ, ◌<◌, true, refl, sym, ap, subst, ◌∙◌, arith, Option, Some, None, IsSome, length, unwrap_or}
 use Rattle.std.specs.Prelude.{IfSome, IsSomeAnd, nat_lt}
 use Rattle.std.proofs.lemmas.Bool.Decides.{nat_tests}
 use Rattle.cs_word.specs.declared.Oop.{Oop}
@@ -44,6 +44,13 @@ pub next_at : (w : Parts) (t : ℕ) → IsReady (stored_of w) (view_of w) → se
 next_at w t ready e =
     let found = sender_found (view_of w) t ready.running e in
     record { t = t; is = e; c = found.0; sends = found.1 }
+
+pub next_some : (w : Parts) → IsReady (stored_of w) (view_of w) → IsSome (sender_birth (view_of w) (active_birth (view_of w))) → Next w
+next_some w ready some = go (sender_birth (view_of w) (active_birth (view_of w))) refl some
+  where
+    go : (o : Option ℕ) → sender_birth (view_of w) (active_birth (view_of w)) ≡ o → IsSome o → Next w
+    go None e some = absurd (cc)
+    go (Some t) e some = next_at w t ready e
 
 pub target : (w : Parts) → IsReady (stored_of w) (view_of w) → IsSomeAnd (sender_birth (view_of w) (active_birth (view_of w))) (CanArrive (view_of w)) → Target w
 target w ready can = go (sender_birth (view_of w) (active_birth (view_of w))) refl can

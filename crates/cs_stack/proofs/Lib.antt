@@ -41,3 +41,5 @@ pub mod Fields
 pub mod CutWays
 pub mod CutStates
 pub mod CutSteps
+pub mod CutFrames
+pub mod CutBuried
