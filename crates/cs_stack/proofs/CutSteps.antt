@@ -133,10 +133,10 @@ module _ {w v : Parts} {dying : List ℕ} {t n : ℕ} {a : Act} (go : Going w v 
   in_time = subst (λ m. m ≤ length dying) go.count (subst (λ ms. length go.gone ≤ length ms) (sym go.all) (both_long go.gone go.rest))
 
   module _ (on : Ahead go) where
-    way : IsWay (view_of v) t (on.i ∷ on.is)
+    pub way : IsWay (view_of v) t (on.i ∷ on.is)
     way = subst (IsWay (view_of v) t) on.rest_is go.way
 
-    next_other : (js : List ℕ) → on.i ≢ t → is_among on.i js ≡ false → on.i ≢ ahead t js
+    pub next_other : (js : List ℕ) → on.i ≢ t → is_among on.i js ≡ false → on.i ≢ ahead t js
     next_other [] ne h = ne
     next_other (j ∷ js) ne h = (among_not on.i j js h).0
 

@@ -68,10 +68,10 @@ told g P h = subst (λ o. IfSome o P) g.is h
 pub tell : {w : Parts} (g : Target w) (P : ℕ → Type 0) → P g.t → IfSome (sender_birth (view_of w) (active_birth (view_of w))) P
 tell g P h = subst (λ o. IfSome o P) (sym g.is) h
 
-less : (a b : ℕ) → nat_lt a b ≡ true → a < b
+pub less : (a b : ℕ) → nat_lt a b ≡ true → a < b
 less a b h = grind (arith, nat_tests, h)
 
-push_active : (k : Kept) (x : Ref) → (push_of k x).rest.active ≡ k.rest.active
+pub push_active : (k : Kept) (x : Ref) → (push_of k x).rest.active ≡ k.rest.active
 unfolding push_of put
 push_active k x = refl
 

@@ -43,3 +43,4 @@ pub mod CutStates
 pub mod CutSteps
 pub mod CutFrames
 pub mod CutBuried
+pub mod CutPast
