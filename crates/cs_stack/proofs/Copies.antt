@@ -115,7 +115,7 @@ pub record Copied (os : List Object) (a copies : ℕ) (values : List Ref) : Type
   pub each : (i : ℕ) → i < copies → is_reference os (slot_of os a (3 + i)) ≡ true
   pub long : length (copied_at os a copies) ≡ copies
 
-take_none : {A : Type 0} (xs : List A) → take 0 xs ≡ []
+pub take_none : {A : Type 0} (xs : List A) → take 0 xs ≡ []
 take_none [] = refl
 take_none (x ∷ xs) = refl
 
