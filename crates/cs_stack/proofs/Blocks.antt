@@ -1,5 +1,5 @@
 -- The frame of a block is a new frame, and its context is that of the model.
-use Rattle.std.proofs.Common.{◌≡◌, ◌≢◌, ℕ, pos, suc, ◌+◌, ◌-◌, ◌<◌, ◌≤◌, Bool, true, false, refl, sym, ap, ap₂, subst, ◌∙◌, arith, Option, Some, None, is_some, List, ◌++◌, length, length-drop, drop, take, unwrap_or, option_map}
+use Rattle.std.proofs.Common.{◌≡◌, ◌≢◌, ℕ, ◌+◌, ◌-◌, ◌<◌, ◌≤◌, Bool, true, false, refl, sym, ap, ap₂, subst, ◌∙◌, arith, Some, is_some, List, ◌++◌, length, length-drop, unwrap_or, option_map}
 use Rattle.std.specs.Prelude.{◌&&◌, nat_le, slice_get, slice_index}
 use Rattle.std.specs.Option.{option_map_or}
 use Rattle.std.proofs.lemmas.Bool.Decides.{nat_tests}
@@ -17,13 +17,11 @@ use Rattle.cs_classes.proofs.Heaps.{birth_of-object_at, is_object-object_at}
 use Rattle.cs_classes.proofs.Refs.{ref_of-object}
 use Rattle.cs_classes.proofs.Sounds.{IsWholeContext, sound_at, whole_context}
 use Rattle.cs_frame.specs.declared.NewFrame.{NewFrame}
-use Rattle.cs_frame.specs.Frame.{Frame, nil}
-use Rattle.cs_marriage.specs.Agree as agree
+use Rattle.cs_frame.specs.Frame.{nil}
 use Rattle.cs_marriage.specs.Agree.{AreMarried}
 use Rattle.cs_model.specs.Ref.{Ref, index_of}
 use Rattle.cs_model.specs.Ref as ref
-use Rattle.cs_model.specs.Obj.{Context, Ctx, Obj, context_in, context_size, header_in, is_method}
-use Rattle.cs_model.specs.State as state
+use Rattle.cs_model.specs.Obj.{Context, context_in, context_size, header_in, is_method}
 use Rattle.cs_model.specs.State.{Kept, object_of}
 use Rattle.cs_model.specs.Context.{lies_if_index}
 use Rattle.cs_model.specs.Enter.{block_context, can_evaluate, closure_method, closure_slot, closure_slots, copied_values, enter_block_of, method_in_context, outer_context, receiver_in_context}
@@ -35,7 +33,7 @@ use Rattle.cs_acts.specs.Targets.{CanEnterBlock}
 use Rattle.cs_stack.specs.declared.parts.Parts.{Parts}
 use Rattle.cs_stack.specs.View.{bare, frame_context, is_married, stored_of, unframed, view_of}
 use Rattle.cs_stack.specs.Good.{IsGood}
-use Rattle.cs_stack.specs.Moved.{CanBegin, begun_context, begun_state}
+use Rattle.cs_stack.specs.Moved.{begun_context, begun_state}
 use Rattle.cs_stack.proofs.Framed.{all_fit, onto_frame}
 use Rattle.cs_stack.proofs.Places.{married_on}
 use Rattle.cs_stack.proofs.Acts.{HasBody, context_there, kept_word, married_body}

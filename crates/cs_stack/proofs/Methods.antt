@@ -1,5 +1,5 @@
 -- The frame of a method is a new frame, and its context is that of the model.
-use Rattle.std.proofs.Common.{◌≡◌, ℕ, pos, ◌+◌, ◌-◌, ◌<◌, ◌≤◌, ◌^◌, Bool, refl, sym, ap, ap₂, subst, ◌∙◌, arith, Some, List, ◌++◌, length, replicate, take, unwrap_or}
+use Rattle.std.proofs.Common.{◌≡◌, ℕ, pos, ◌+◌, ◌-◌, ◌<◌, ◌≤◌, ◌^◌, Bool, refl, sym, ap, subst, ◌∙◌, arith, Some, List, ◌++◌, length, replicate, take, unwrap_or}
 use Rattle.std.specs.Prelude.{slice_get, slice_index}
 use Rattle.std.proofs.lemmas.List.{append-nil}
 use Rattle.cs_word.specs.declared.Oop.{Oop}
@@ -12,7 +12,7 @@ use Rattle.cs_frame.specs.declared.NewFrame.{NewFrame}
 use Rattle.cs_frame.specs.Frame.{nil}
 use Rattle.cs_marriage.specs.Agree.{header_at}
 use Rattle.cs_model.specs.Ref.{Ref}
-use Rattle.cs_model.specs.Obj.{Context, context_size, header_in, temporary_count}
+use Rattle.cs_model.specs.Obj.{context_size, header_in, temporary_count}
 use Rattle.cs_model.specs.State.{Kept, object_of}
 use Rattle.cs_model.specs.Context.{lies_if_index}
 use Rattle.cs_model.specs.Enter.{copied_values}

@@ -14,9 +14,9 @@ use Rattle.cs_stack.proofs.StackWorldWorld.cut_to.Goals as goal
 pub returns-clause-state : goal.returns-clause-state
 returns-clause-state c =
     subst (λ (w : Parts). IfSome (act_of w c.args.home) (λ birth. IfSome (sender_birth (view_of w) birth) (λ target. (m : Kept) → Keeps (view_of w) m
-        → Keeps (view_of c.cut_to.new.self) (cut_to_of m (dying_to (view_of w) birth) target (name_of (stored_of w) c.args.v))))) c.self.view_is c.cut_to.ensures.state
+    → Keeps (view_of c.cut_to.new.self) (cut_to_of m (dying_to (view_of w) birth) target (name_of (stored_of w) c.args.v))))) c.self.view_is c.cut_to.ensures.state
 
 pub returns-clause-layout : goal.returns-clause-layout
 returns-clause-layout c =
     subst (λ (w : Parts). IfSome (act_of w c.args.home) (λ birth. IfSome (sender_birth (view_of w) birth) (λ target.
-        LaidBy (cut (dying_to (view_of w) birth) target) (layout_of w) (layout_of c.cut_to.new.self)))) c.self.view_is c.cut_to.ensures.layout
+    LaidBy (cut (dying_to (view_of w) birth) target) (layout_of w) (layout_of c.cut_to.new.self)))) c.self.view_is c.cut_to.ensures.layout

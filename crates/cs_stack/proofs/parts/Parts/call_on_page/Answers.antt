@@ -145,8 +145,15 @@ push_copied-requires-clause-room c =
     let s4 = begun_arguments c.requires.good c.requires.ready o c.requires.can p free c.args.sender.0 c.args.caller c.requires.caller s3 c.copy_arguments.new.frames c.copy_arguments.ensures.copied in
     let s5 = stage_longer s4 c.push_nils.new.frames (replicate c.args.new.fill nil) c.push_nils.ensures.pushed in
     let arguments : List ℕ = drop (length o.f.stack - c.args.new.args) o.f.stack in
-    omega (arith, stage_used s5, length-append arguments (replicate c.args.new.fill nil), length-replicate c.args.new.fill nil, length-drop (length o.f.stack - c.args.new.args) o.f.stack,
-    there c.requires.good c.requires.ready o c.requires.can, few c.requires.good c.requires.ready o c.requires.can)
+    omega (
+      arith,
+      stage_used s5,
+      length-append arguments (replicate c.args.new.fill nil),
+      length-replicate c.args.new.fill nil,
+      length-drop (length o.f.stack - c.args.new.args) o.f.stack,
+      there c.requires.good c.requires.ready o c.requires.can,
+      few c.requires.good c.requires.ready o c.requires.can,
+    )
 
 pub push_copied-requires-clause-values : goal.push_copied-requires-clause-values
 push_copied-requires-clause-values c =
@@ -195,4 +202,3 @@ returns c =
     let s6 = stage_longer s5 c.push_copied.new.frames (copied_at w.heap.objects c.args.new.closure.0 c.args.copies) c.push_copied.ensures.pushed in
     let made = begun_made c.requires.good c.requires.ready o c.requires.can p free c.args.sender.0 c.args.caller c.requires.caller s6 c.drop_values.new.frames c.drop_values.ensures.dropped in
     record { made = record { page = p; free = free; is = ap₂ (λ order ss. record (given_birth w) { pages = order; frames = ss }) c.in-Some.ensures.taken made } }
-

@@ -80,4 +80,3 @@ returns-clause-full c =
     let pc = c.count_word.ensures ∙ ap (λ n. small_word (pos n)) (c.entry_pc.ensures ∙ ap (λ h. entry_of h c.args.skip) c.header-head.ensures) in
     let b = method_begins c.requires.ready o c.args.method c.args.args c.args.skip c.requires.named c.requires.fits c.slot-receiver.result (c.temporary_count.result - c.args.args) c.count_word.result received filled pc in
     subst (λ (t : Kept). IfErr c.begin.result (CausesFull (stored_of c.begin.new.self) (layout_of c.args.self.now) (view_of c.args.self.now) 0 t)) b.state c.begin.ensures.full
-

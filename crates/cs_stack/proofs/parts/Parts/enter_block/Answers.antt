@@ -50,4 +50,3 @@ returns-clause-full c =
     let b = block_begins c.requires.good c.requires.ready c.args.closure c.args.args c.requires.named c.requires.fits c.slot-outer.result c.slot-outer.ensures c.slot.result c.slot-2.result c.slot-pc.result (c.slot_count-copies.result - 3)
     c.slot.ensures c.slot-2.ensures c.slot-pc.ensures counted in
     subst (λ (t : Kept). IfErr c.begin.result (CausesFull (stored_of c.begin.new.self) (layout_of c.args.self.now) (view_of c.args.self.now) 0 t)) b.state c.begin.ensures.full
-
