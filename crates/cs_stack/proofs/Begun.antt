@@ -1,7 +1,8 @@
 -- A new frame stands on a page of its own: it is the base frame, and the married context of its caller is its sender.
-use Rattle.std.proofs.Common.{◌≡◌, ◌≢◌, ℕ, ◌+◌, ◌<◌, true, false, refl, sym, ap, ap₂, subst, ◌∙◌, arith, Some, List, [], ◌∷◌, ◌++◌, length, zero, suc}
+use Rattle.std.proofs.Common.{◌≡◌, ◌≢◌, ℕ, ◌+◌, ◌-◌, ◌<◌, true, false, refl, sym, ap, ap₂, subst, ◌∙◌, arith, Some, List, [], ◌∷◌, ◌++◌, length, drop, replicate, zero, suc}
 use Rattle.std.specs.Prelude.{◌↔◌, Contains, nat_eq, nat_le, if◌then◌else◌}
 use Rattle.std.proofs.lemmas.Bool.Decides.{nat_tests}
+use Rattle.std.proofs.lemmas.List.{append_assoc}
 use Rattle.std.proofs.lemmas.List.Elements.{All-cons}
 use Rattle.std.proofs.lemmas.Map.Keys.{IsDistinct-cons}
 use Rattle.cs_word.specs.declared.Oop.{Oop}
@@ -11,7 +12,7 @@ use Rattle.cs_classes.specs.Sound.{is_reference}
 use Rattle.cs_classes.proofs.Refs.{is_reference-object, ref_of-object}
 use Rattle.cs_frame.specs.declared.FrameRef.{FrameRef}
 use Rattle.cs_frame.specs.declared.NewFrame.{NewFrame}
-use Rattle.cs_frame.specs.Frame.{Frame, cut, nil, with_stack}
+use Rattle.cs_frame.specs.Frame.{Frame, cut, nil, with_caller, with_saved_pc, with_stack}
 use Rattle.cs_frame.specs.Page.{IsBase, IsFrame, IsTop, called, fresh, frame, frames_of, index_of, nth, on_frame, on_page, on_top, top, used}
 use Rattle.cs_frame.specs.Page as page
 use Rattle.cs_frame.proofs.PageLaws.{frames_of-on_page, frames_of-on_page_other, length-on_page, on_page-on_page_other}
@@ -27,7 +28,7 @@ use Rattle.cs_pages.proofs.Lists.{lacks_from_not}
 use Rattle.cs_stack.specs.declared.parts.Parts.{Parts}
 use Rattle.cs_stack.specs.View.{active_page, births_of, frame_sender, laid_pages, layout_of, stored_of, view_of}
 use Rattle.cs_stack.specs.Good.{FrameFits, IsChain, IsGood, base_of}
-use Rattle.cs_stack.specs.Moved.{CanBegin, active_number, begun_parts, begun_state, callee, given_birth}
+use Rattle.cs_stack.specs.Moved.{CanBegin, active_number, begun_parts, begun_state, callee, copied_at, given_birth}
 use Rattle.cs_stack.proofs.Tops.{Opened, contexts_known}
 use Rattle.cs_stack.proofs.Framed.{IsOn, here}
 use Rattle.cs_stack.proofs.Places.{married_on}
@@ -285,3 +286,49 @@ module _ {w : Parts} (o : Opened w) (p : ℕ) (other : p ≢ o.p) {ss : List (Li
       ∙ on_page-on_page_other w.frames p o.p (λ _. g ∷ []) (λ _. cut args o.f ∷ o.fs) other
       ∙ ap (λ (fs : List Frame). on_page (on_page w.frames o.p (λ _. on_top (cut args) fs)) p (λ _. g ∷ [])) (sym o.is)
       ∙ ap (λ n. on_page (on_page w.frames n (on_top (cut args))) p (λ _. g ∷ [])) (sym (number_is o))
+
+-- ---- the frame, part by part
+
+module _ {w : Parts} (good : IsGood w) (ready : IsReady (stored_of w) (view_of w)) (o : Opened w) {new : NewFrame} {pc : Oop} {copies : ℕ}
+    (can : CanBegin (stored_of w) (view_of w) new pc copies) (p : ℕ) (free : IsFree w.pages p) (sender : ℕ) where
+  abbrev arguments : List ℕ
+  arguments = drop (length o.f.stack - new.args) o.f.stack
+
+  abbrev copied : List ℕ
+  copied = copied_at w.heap.objects new.closure.0 copies
+
+  -- with these values on its stack
+  abbrev pub holding : List ℕ → Frame
+  holding xs = record {
+    at = 0;
+    caller = sender;
+    saved_pc = pc.0;
+    method = new.method.0;
+    closure = new.closure.0;
+    context = nil;
+    birth = new.birth;
+    receiver = new.receiver.0;
+    stack = xs;
+  }
+
+  pub begun_empty : (ps qs ss : List (List Frame)) (r : FrameRef) → ps ≡ on_page w.frames p (called (record new { args = 0; fill = 0 })) → r ≡ page.ref_of p (top (frames_of ps p))
+      → qs ≡ on_frame ps r (with_caller sender) → ss ≡ on_frame qs r (with_saved_pc pc.0) → Stage w.frames p ss r (holding [])
+  begun_empty ps qs ss r built at sent saved =
+      let alone : NewFrame = record new { args = 0; fill = 0 } in
+      let first = stage_built w.frames p ps r alone (omega (arith, free.0, good.total)) (free_empty w good p free) built at in
+      stage_on_frame (stage_on_frame first qs (with_caller sender) refl sent) ss (with_saved_pc pc.0) refl saved
+
+  module _ {ss : List (List Frame)} {r : FrameRef} (c : FrameRef) (place : c ≡ page.ref_of (active_number w) (top (active_page w))) where
+    pub begun_arguments : Stage w.frames p ss r (holding []) → (qs : List (List Frame))
+        → qs ≡ on_page ss r.page (on_top (with_stack ((top (frames_of ss r.page)).stack ++ drop (length (frame ss c).stack - new.args) (frame ss c).stack)))
+        → Stage w.frames p qs r (holding arguments)
+    begun_arguments s qs pushed =
+        stage_longer s qs arguments (pushed ∙ ap (λ (f : Frame). longer ss r.page (drop (length f.stack - new.args) f.stack)) (caller_same o p (free_other o p free) s c place))
+
+    pub begun_made : Stage w.frames p ss r (holding ((arguments ++ replicate new.fill nil) ++ copied)) → (qs : List (List Frame)) → qs ≡ shorter ss c.page (new.args + 1)
+        → qs ≡ on_page (on_page w.frames (active_number w) (on_top (cut new.args))) p (λ _. callee w.heap.objects new pc.0 copies 0 sender (top (frames_of w.frames (active_number w))) ∷ [])
+    begun_made s qs dropped =
+        let active : top (frames_of w.frames (active_number w)) ≡ o.f = ap (λ (fs : List Frame). top fs) (ap (frames_of w.frames) (number_is o) ∙ o.is) in
+        stage_cut o p (free_other o p free) s c place qs new.args dropped
+        ∙ ap (λ (xs : List ℕ). on_page (on_page w.frames (active_number w) (on_top (cut new.args))) p (λ _. holding xs ∷ [])) (append_assoc arguments (replicate new.fill nil) copied)
+        ∙ ap (λ (f : Frame). on_page (on_page w.frames (active_number w) (on_top (cut new.args))) p (λ _. callee w.heap.objects new pc.0 copies 0 sender f ∷ [])) (sym active)

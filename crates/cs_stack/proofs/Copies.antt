@@ -7,7 +7,7 @@ use Rattle.std.proofs.lemmas.List.{drop-map, get_or-drop, length-map, take_more}
 use Rattle.std.proofs.lemmas.List.Elements.{All-drop, All-get_or, All-take}
 use Rattle.cs_word.specs.declared.Oop.{Oop}
 use Rattle.cs_heap.specs.Object.{Object, object_at, slot_count_of, slot_of}
-use Rattle.cs_classes.specs.Meaning.{header_in, code_in, literals_in, ref_of, used_bytes}
+use Rattle.cs_classes.specs.Meaning.{ref_of}
 use Rattle.cs_classes.specs.Sound.{is_reference}
 use Rattle.cs_classes.proofs.Sorts.{AContext, AMethod, Bytes, Pointers, Sort, obj_of-bytes, obj_of-method, obj_of-pointers, references-pointers, sort_of}
 use Rattle.cs_classes.proofs.Sounds.{sound_at}
@@ -115,7 +115,7 @@ pub record Copied (os : List Object) (a copies : ℕ) (values : List Ref) : Type
   pub each : (i : ℕ) → i < copies → is_reference os (slot_of os a (3 + i)) ≡ true
   pub long : length (copied_at os a copies) ≡ copies
 
-take_none : {A : Type 0} (xs : List A) → take 0 xs ≡ []
+pub take_none : {A : Type 0} (xs : List A) → take 0 xs ≡ []
 take_none [] = refl
 take_none (x ∷ xs) = refl
 

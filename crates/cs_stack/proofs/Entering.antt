@@ -1,5 +1,5 @@
 -- A new frame is made: its receiver and arguments leave the active frame, and it has the context of the model.
-use Rattle.std.proofs.Common.{◌≡◌, ℕ, ◌+◌, ◌-◌, ◌<◌, ◌≤◌, Bool, true, false, refl, sym, ap, ap₂, subst, ◌∙◌, arith, Some, List, [], ◌∷◌, ◌++◌, length, length-take, length-drop, map, take, drop, zero, suc, replicate, unwrap_or, option_map}
+use Rattle.std.proofs.Common.{◌≡◌, ℕ, ◌+◌, ◌-◌, ◌<◌, ◌≤◌, true, false, refl, sym, ap, ap₂, subst, ◌∙◌, arith, Option, Some, None, IsSome, List, [], ◌∷◌, ◌++◌, length, length-take, length-drop, map, take, drop, zero, suc, replicate, unwrap_or, option_map}
 use Rattle.std.specs.Prelude.{slice_get, slice_index}
 use Rattle.std.specs.FinMap.{get}
 use Rattle.std.specs.List.{take-map}
@@ -15,18 +15,19 @@ use Rattle.cs_classes.specs.Sound.{is_reference, is_reference_kind}
 use Rattle.cs_classes.proofs.Objects.{get-objects_of-fresh}
 use Rattle.cs_classes.proofs.Wholes.{next_is_fresh}
 use Rattle.cs_frame.specs.declared.NewFrame.{NewFrame}
-use Rattle.cs_frame.specs.Frame.{Frame, IsValue, cut, nil}
+use Rattle.cs_frame.specs.Frame.{Frame, IsPc, IsValue, cut, nil}
 use Rattle.cs_frame.specs.Page.{HoldsValues, IsStacked, frames_of, on_page, used}
 use Rattle.cs_marriage.specs.Agree as marriage
 use Rattle.cs_marriage.specs.Agree.{header_at}
+use Rattle.cs_marriage.proofs.Based.{number_pc}
 use Rattle.cs_marriage.proofs.Laws.{PageFits, agree_on_page, fits_above, fits_below, fits_stack, fits_top, page_fits}
 use Rattle.cs_model.specs.Ref.{Ref}
 use Rattle.cs_model.specs.Ref as ref
-use Rattle.cs_model.specs.Obj.{Context, context_size}
+use Rattle.cs_model.specs.Obj.{Context, Obj, context_size}
 use Rattle.cs_model.specs.Obj as obj
 use Rattle.cs_model.specs.Context.{lies_if_index}
 use Rattle.cs_model.specs.State.{Kept, object_of, put}
-use Rattle.cs_model.specs.Read.{active_birth, active_context, depth_of, stack_of}
+use Rattle.cs_model.specs.Read.{active_birth, depth_of, stack_of}
 use Rattle.cs_model.specs.Operation.{drop_of, enter_with, last_values, nil_of}
 use Rattle.cs_model.specs.Enter.{copied_values}
 use Rattle.cs_acts.specs.Layout.{page_words}
@@ -138,6 +139,10 @@ pages_are w o = ap (laid_pages w.frames) o.recent ∙ ap (λ (fs : List Frame). 
 
 -- ---- the context that is entered
 
+some_pc : (m : Option Obj) (at : Option ℕ) → lies_if_index m at ≡ true → IsSome at
+some_pc m None h = absurd (cc)
+some_pc m (Some pc) h = refl
+
 module _ {w : Parts} (good : IsGood w) (ready : IsReady (stored_of w) (view_of w)) (o : Opened w) {new : NewFrame} {pc : Oop} {copies : ℕ}
     (can : CanBegin (stored_of w) (view_of w) new pc copies) where
   abbrev os : List Object
@@ -233,6 +238,10 @@ module _ {w : Parts} (good : IsGood w) (ready : IsReady (stored_of w) (view_of w
     stack = size_fits;
     married = λ some. absurd (some refl);
   }
+
+  -- its pc is a number
+  pub new_pc : IsPc pc.0
+  new_pc = number_pc pc.0 (some_pc (object_of k (name_of (stored_of w) new.method)) (count_of pc.0) can.lies)
 
   -- what it is given to hold is no link
   pub new_values : HoldsValues new

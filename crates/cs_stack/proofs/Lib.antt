@@ -31,9 +31,11 @@ pub mod Entering
 pub mod Called
 pub mod Begun
 pub mod Overflowing
+pub mod Methods
 pub mod Stores
 pub mod Acts
 pub mod Spouses
+pub mod Blocks
 pub mod Marrying
 pub mod Grown
 pub mod Allocating

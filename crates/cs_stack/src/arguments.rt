@@ -1,4 +1,4 @@
-//! How receiver and arguments leave a caller for a frame on another page.
+//! How receiver and arguments leave a caller for a frame on another page, and what follows them there.
 ghost use Rattle.std.specs.Prelude.{◌≡◌, ◌≢◌, ◌≤◌, ◌<◌, ◌+◌, ◌-◌, ◌++◌, ℕ, drop, length, replicate, slice_index, take};
 ghost use Rattle.cs_heap.specs.Object.{slot_count_of, slot_of};
 ghost use Rattle.cs_stack.specs.Moved.{copied_at};

@@ -1,7 +1,7 @@
 //! A world that keeps activations as frames on stack pages.
 //!
-//! A context that the machine enters is a frame, and has no object in the heap until code looks at it, or until a method that it calls
-//! finds no room on its page and begins another one. Then frame and context are married, and the frame goes on as its body. The
+//! A context that the machine enters is a frame, and has no object in the heap until code looks at it, or until a method or block that it
+//! calls finds no room on its page and begins another one. Then frame and context are married, and the frame goes on as its body. The
 //! context that was active when the machine was opened, and a single one into which it returns later, become the base frame of a page.
 //! All other contexts stay in the heap.
 #![tactic(auto)]

@@ -88,6 +88,35 @@ impl Parts {
         self.begin(new, count_word(entry_pc(head, skip)), 0)
     }
 
+    /// Enters the block of a closure on a frame of its own, as a method is entered.
+    pub(crate) fn enter_block(&mut self, closure: Oop, args: u32) -> Result<(), Full>
+        requires good { IsGood self.old }
+        requires ready { IsReady (stored_of self.old) (view_of self.old) }
+        requires named { IsNamed (stored_of self.old) closure }
+        requires fits { CanEnterBlock (view_of self.old) (name_of (stored_of self.old) closure) args }
+        ensures good { IsGood self.new }
+        ensures view { OnOk result (view_of self.new ≡ enter_block_of (view_of self.old) (name_of (stored_of self.old) closure) args) }
+        ensures layout { OnOk result (LaidBy (entered (view_of self.old) (view_of self.old).rest.next) (layout_of self.old) (layout_of self.new)) }
+        ensures limit { self.new.heap.limit ≡ self.old.heap.limit }
+        ensures contexts { OnOk result (MakesAtMost (made_by_entering (view_of self.old) (layout_of self.old)) (layout_of self.old) (stored_of self.old) (stored_of self.new)) }
+        ensures names { OnOk result (KeepsNames (stored_of self.old) (stored_of self.new)) }
+        ensures full { IfErr result (CausesFull (stored_of self.new) (layout_of self.old) (view_of self.old) 0 (enter_block_of (view_of self.old) (name_of (stored_of self.old) closure) args)) }
+    {
+        // its words keep method and receiver, also where it has a frame or had one
+        let outer = self.heap.slot(closure, OUTER_CONTEXT);
+        let new = NewFrame {
+            method: self.heap.slot(outer, METHOD),
+            closure,
+            receiver: self.heap.slot(outer, RECEIVER),
+            birth: self.roots.next_birth,
+            args,
+            fill: 0,
+        };
+        let pc = self.heap.slot(closure, FIRST_PC);
+        let copies = self.heap.slot_count(closure) - COPIED;
+        self.begin(new, pc, copies)
+    }
+
     /// Makes a frame above the active one, or where 66 words aren't free there, on a page of its own. So many values that its closure has
     /// copied follow its arguments.
     fn begin(&mut self, new: NewFrame, pc: Oop, copies: u32) -> Result<(), Full>
@@ -175,34 +204,6 @@ impl Parts {
         push_copied(&mut self.frames, frame, &self.heap, new.closure, copies);
         drop_values(&mut self.frames, caller, new.args + 1);
         self.roots.next_birth += 1;
-    }
-
-    /// Enters the block of a closure on a frame of its own, as a method is entered.
-    pub(crate) fn enter_block(&mut self, closure: Oop, args: u32) -> Result<(), Full>
-        requires good { IsGood self.old }
-        requires ready { IsReady (stored_of self.old) (view_of self.old) }
-        requires named { IsNamed (stored_of self.old) closure }
-        requires fits { CanEnterBlock (view_of self.old) (name_of (stored_of self.old) closure) args }
-        ensures good { IsGood self.new }
-        ensures view { OnOk result (view_of self.new ≡ enter_block_of (view_of self.old) (name_of (stored_of self.old) closure) args) }
-        ensures layout { OnOk result (LaidBy (entered (view_of self.old) (view_of self.old).rest.next) (layout_of self.old) (layout_of self.new)) }
-        ensures limit { self.new.heap.limit ≡ self.old.heap.limit }
-        ensures contexts { OnOk result (MakesAtMost (made_by_entering (view_of self.old) (layout_of self.old)) (layout_of self.old) (stored_of self.old) (stored_of self.new)) }
-        ensures names { OnOk result (KeepsNames (stored_of self.old) (stored_of self.new)) }
-        ensures full { IfErr result (CausesFull (stored_of self.new) (layout_of self.old) (view_of self.old) 0 (enter_block_of (view_of self.old) (name_of (stored_of self.old) closure) args)) }
-    {
-        let outer = self.heap.slot(closure, OUTER_CONTEXT);
-        let new = NewFrame {
-            method: self.heap.slot(outer, METHOD),
-            closure,
-            receiver: self.heap.slot(outer, RECEIVER),
-            birth: self.roots.next_birth,
-            args,
-            fill: 0,
-        };
-        let pc = self.heap.slot(closure, FIRST_PC);
-        let copies = self.heap.slot_count(closure) - COPIED;
-        self.begin(new, pc, copies)
     }
 
     /// The active context dies, its sender is active, and the value is pushed there.

@@ -1,12 +1,12 @@
-use Rattle.std.proofs.Common.{◌≡◌, List, subst, sym, ap, ◌∙◌, arith}
+use Rattle.std.proofs.Common.{List, subst, sym, ap, arith}
 use Rattle.cs_frame.specs.Frame.{Frame}
-use Rattle.cs_frame.specs.Page.{CanCall, frames_of, used}
+use Rattle.cs_frame.specs.Page.{CanCall, frames_of}
 use Rattle.cs_frame.specs.declared.FrameRef.{FrameRef}
 use Rattle.cs_stack.specs.declared.parts.Parts.{Parts}
 use Rattle.cs_stack.specs.Moved.{given_birth}
 use Rattle.cs_stack.proofs.Tops.{opened}
-use Rattle.cs_stack.proofs.Entering.{copied, copied_values_hold, few, new_values}
-use Rattle.cs_stack.proofs.Called.{active_used, built_room, built_top, can_call, frame_built, frame_made, top_ref}
+use Rattle.cs_stack.proofs.Entering.{copied, copied_values_hold, few, new_pc, new_values}
+use Rattle.cs_stack.proofs.Called.{built_room, built_top, can_call, frame_built, frame_made, top_ref}
 use Rattle.cs_stack.proofs.parts.Parts.call.Goals as goal
 
 pub build-frame-requires-clause-size : goal.build-frame-requires-clause-size
@@ -20,6 +20,9 @@ build-frame-requires-clause-caller c =
 
 pub build-frame-requires-clause-values : goal.build-frame-requires-clause-values
 build-frame-requires-clause-values c = new_values c.requires.good c.requires.ready (opened c.args.self.now c.requires.good c.requires.ready) c.requires.can
+
+pub set_saved_pc-requires-clause-pc : goal.set_saved_pc-requires-clause-pc
+set_saved_pc-requires-clause-pc c = new_pc c.requires.good c.requires.ready (opened c.args.self.now c.requires.good c.requires.ready) c.requires.can
 
 pub push_copied-requires-clause-top : goal.push_copied-requires-clause-top
 push_copied-requires-clause-top c =
