@@ -1,12 +1,12 @@
 -- A context of the heap dies where no frame is left.
-use Rattle.std.proofs.Common.{◌≡◌, ◌≢◌, ◌⊎◌, ℕ, pos, set, ◌-◌, ◌<◌, ◌≤◌, ◌^◌, Bool, true, false, refl, sym, ap, subst, ◌∙◌, arith, Option, Some, None, IfSome, IsSome, is_some, List, [], ◌∷◌, length, length-set, option_map, unwrap_or, inl, inr}
+use Rattle.std.proofs.Common.{◌≡◌, ◌≢◌, ◌⊎◌, ℕ, pos, set, ◌<◌, ◌≤◌, ◌^◌, Bool, true, false, refl, sym, ap, subst, ◌∙◌, arith, Option, Some, None, IfSome, IsSome, is_some, List, [], ◌∷◌, length, length-set, option_map, unwrap_or, inl, inr}
 use Rattle.std.specs.Prelude.{slice_get, slice_index, ◌==◌, ◌&&◌, ◌||◌, if◌then◌else◌}
 use Rattle.std.specs.FinMap.{get}
 use Rattle.std.proofs.lemmas.Bool.{cases_eq, eq-eqb}
 use Rattle.std.proofs.lemmas.Bool.Decides.{eqb_tells}
 use Rattle.cs_word.specs.Word.{small_word}
 use Rattle.cs_word.specs.declared.Oop.{Oop}
-use Rattle.cs_heap.specs.Object.{Memory, Object, at_index, birth_of, class_of, object_at, set_word, slot_count_of, used, with_object, with_slot}
+use Rattle.cs_heap.specs.Object.{Memory, Object, at_index, birth_of, object_at, set_word, with_object, with_slot}
 use Rattle.cs_heap.proofs.Laws.{field_of-with_object_kept, is_object-with_object, object_at-with_object_other, object_at-with_object_same, used-with_object}
 use Rattle.cs_classes.specs.Meaning.{context_of, count_of, is_context, kept_of, meaning_at, obj_of, objects_of, ref_of}
 use Rattle.cs_classes.specs.Sound.{IsSoundObject, IsWhole, is_reference, nil_of}
@@ -14,10 +14,10 @@ use Rattle.cs_classes.proofs.Contexts.{by_six}
 use Rattle.cs_classes.proofs.Heaps.{IsEdit, slice_get-at_index_other, slice_get-at_index_same, stands, with_object-stands, with_object-twice}
 use Rattle.cs_classes.proofs.Refs.{count_of-small, is_reference-small, is_reference-with_object, ref_of-with_object, small_natural}
 use Rattle.cs_classes.proofs.Sorts.{obj_of-context}
-use Rattle.cs_classes.proofs.Sounds.{sound-set_context, sound_at, whole_context}
+use Rattle.cs_classes.proofs.Sounds.{sound-set_context, sound_at}
 use Rattle.cs_classes.proofs.Wholes.{kept_of-with_object, whole-with_object}
 use Rattle.cs_frame.specs.Frame.{nil}
-use Rattle.cs_frame.specs.Page.{IsFrame, frames_of, index_in}
+use Rattle.cs_frame.specs.Page.{IsFrame}
 use Rattle.cs_marriage.specs.Agree.{Agree}
 use Rattle.cs_marriage.specs.Marriage.{buried}
 use Rattle.cs_marriage.specs.Place.{names_place}
@@ -28,16 +28,14 @@ use Rattle.cs_model.specs.Context.{lies_if_live}
 use Rattle.cs_model.specs.State as state
 use Rattle.cs_model.specs.State.{Kept, Rest}
 use Rattle.cs_model.specs.Operation.{activate, edit_object}
-use Rattle.cs_model.specs.Return.{is_among}
 use Rattle.cs_acts.specs.declared.act.Act.{Act}
 use Rattle.cs_acts.specs.declared.act.Act.TheVariants as act
-use Rattle.cs_acts.specs.Names.{KeepsNames}
 use Rattle.cs_acts.proofs.Firsts.{nil_names}
 use Rattle.cs_stack.specs.declared.parts.Parts.{Parts}
-use Rattle.cs_stack.specs.Cuts.{Dies, Fades, IsDead, Stays}
+use Rattle.cs_stack.specs.Cuts.{Dies, Fades, Stays}
 use Rattle.cs_stack.specs.Good.{FramesFit, IsGood, LinkFits, PcFits}
 use Rattle.cs_stack.specs.View.{act_of, active_in, active_page, bare, birth_in, dead_words, is_linked, is_married, pages_onto, stored_of, unframed, view_of}
-use Rattle.cs_stack.proofs.Acts.{ContextAct, answers, birth_is, context_act, nil_counts, slot_within}
+use Rattle.cs_stack.proofs.Acts.{ContextAct, answers, birth_is, context_act, nil_counts}
 use Rattle.cs_stack.proofs.Bare.{bare_at, bare_birth, bare_element, bare_whole, bare_with_object, unlinked}
 use Rattle.cs_stack.proofs.Based.{edit_other, edit_rest}
 use Rattle.cs_stack.proofs.Closed.{good_sound}

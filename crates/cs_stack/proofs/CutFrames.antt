@@ -1,15 +1,14 @@
 -- The active frame is gone on the way of a return past a home: its context has died, and the frame behind it, if there is one, is active.
-use Rattle.std.proofs.Common.{◌≡◌, ◌≢◌, ◌⊎◌, ℕ, Bool, true, false, refl, sym, ap, subst, ◌∙◌, Option, Some, None, List, [], ◌∷◌, length, map, inl, inr}
-use Rattle.std.specs.Prelude.{◌==◌, ◌||◌, if◌then◌else◌}
+use Rattle.std.proofs.Common.{◌≡◌, ◌≢◌, ◌⊎◌, ℕ, Bool, true, false, refl, sym, ap, subst, ◌∙◌, Option, Some, None, List, [], ◌∷◌, map, inl, inr}
+use Rattle.std.specs.Prelude.{◌||◌, if◌then◌else◌}
 use Rattle.std.specs.List.{filter}
 use Rattle.std.proofs.lemmas.Bool.{cases_eq}
 use Rattle.std.proofs.lemmas.Bool.Decides.{eqb_tells}
-use Rattle.cs_heap.specs.Object.{Object, object_at}
+use Rattle.cs_heap.specs.Object.{object_at}
 use Rattle.cs_frame.specs.declared.FrameRef.{FrameRef}
 use Rattle.cs_frame.specs.Frame.{Frame}
 use Rattle.cs_frame.specs.Page.{IsBase, frames_of, on_page, ref_of, rest_of, top}
-use Rattle.cs_pages.specs.Order.{IsFree, IsSound, Order}
-use Rattle.cs_model.specs.Obj.{Context, Ctx}
+use Rattle.cs_pages.specs.Order.{Order}
 use Rattle.cs_model.specs.State as state
 use Rattle.cs_model.specs.State.{Rest}
 use Rattle.cs_model.specs.Read.{active_birth, active_context}
@@ -19,10 +18,10 @@ use Rattle.cs_acts.specs.declared.act.Act.TheVariants as act
 use Rattle.cs_acts.specs.Layout.{Layout, has_frame, left_of, none_dies}
 use Rattle.cs_acts.specs.Ready.{IsReady}
 use Rattle.cs_stack.specs.declared.parts.Parts.{Parts}
-use Rattle.cs_stack.specs.Cuts.{Dies, Fades, IsDead, Stays, spared}
+use Rattle.cs_stack.specs.Cuts.{Dies, Fades, IsDead, Stays}
 use Rattle.cs_stack.specs.Good.{IsGood}
 use Rattle.cs_stack.specs.Moved.{Unwound, active_number}
-use Rattle.cs_stack.specs.View.{act_of, active_page, birth_from, birth_in, births_of, is_married, laid_pages, layout_of, stored_of, view_of}
+use Rattle.cs_stack.specs.View.{act_of, active_page, birth_from, birth_in, births_of, is_married, laid_pages, stored_of, view_of}
 use Rattle.cs_stack.proofs.Acts.{HasBody, body_married, married_body}
 use Rattle.cs_stack.proofs.CutWays.{among_not}
 use Rattle.cs_stack.proofs.Dropping.{gone_here, gone_other}

@@ -1,13 +1,11 @@
 -- A return past a home: all contexts on the way have died, and the sender of the home is active.
-use Rattle.std.proofs.Common.{◌≡◌, ◌≢◌, ℕ, suc, zero, ◌+◌, ◌<◌, ◌≤◌, Bool, true, false, refl, sym, ap, subst, ◌∙◌, arith, Option, Some, None, IfSome, IsSome, is_some, List, [], ◌∷◌, ◌++◌, length, map, option_and_then, unwrap_or, inl, inr}
-use Rattle.std.specs.Prelude.{Contains, IsSomeAnd, nat_eq, nat_lt, not, ◌==◌, ◌||◌, if◌then◌else◌}
-use Rattle.std.specs.List.{AllByRecursion, IsDistinct, filter, list_any}
+use Rattle.std.proofs.Common.{◌≡◌, ℕ, suc, ◌+◌, ◌<◌, ◌≤◌, Bool, true, false, refl, sym, ap, subst, ◌∙◌, arith, Option, Some, None, IfSome, is_some, List, [], ◌∷◌, ◌++◌, length, map, option_and_then, unwrap_or, inl, inr}
+use Rattle.std.specs.Prelude.{Contains, IsSomeAnd, nat_lt, not, ◌||◌, if◌then◌else◌}
+use Rattle.std.specs.List.{AllByRecursion, filter, list_any}
 use Rattle.std.specs.FinMap.{get}
 use Rattle.std.proofs.lemmas.Bool.{eqb-false}
-use Rattle.std.proofs.lemmas.Bool.Decides.{nat_tests}
-use Rattle.std.proofs.lemmas.Map.Keys.{IsDistinct-head}
 use Rattle.cs_word.specs.declared.Oop.{Oop}
-use Rattle.cs_heap.specs.Object.{Object, birth_of}
+use Rattle.cs_heap.specs.Object.{birth_of}
 use Rattle.cs_classes.specs.Meaning.{context_of, count_of, objects_of, ref_of}
 use Rattle.cs_classes.specs.Sound.{is_reference}
 use Rattle.cs_frame.specs.Frame.{Frame, nil}
@@ -16,31 +14,30 @@ use Rattle.cs_marriage.specs.Marriage.{CanBase}
 use Rattle.cs_pages.specs.Order.{IsFree}
 use Rattle.cs_pages.proofs.Lists.{Lacks as Off}
 use Rattle.cs_model.specs.Ref.{Ref}
-use Rattle.cs_model.specs.Obj.{Context, Ctx, Obj, context_in, dead}
+use Rattle.cs_model.specs.Obj.{Context, Ctx, context_in, dead}
 use Rattle.cs_model.specs.Keeps.{Keeps}
-use Rattle.cs_model.specs.State.{IsHeld, Kept, Rest, object_at, put}
+use Rattle.cs_model.specs.State.{IsHeld, Kept, Rest, object_at}
 use Rattle.cs_model.specs.Read.{active_birth, active_context, blank, depth_of, size_of}
 use Rattle.cs_model.specs.Operation.{activate, cut_to_of, push_of}
 use Rattle.cs_model.specs.Return.{context_birth, has_room, is_among, is_live, sender_birth}
 use Rattle.cs_acts.specs.declared.act.Act.{Act}
 use Rattle.cs_acts.specs.declared.act.Act.TheVariants as act
-use Rattle.cs_acts.specs.Layout.{LaidBy, cut, has_frame, is_on, left_of, none_dies, touched}
+use Rattle.cs_acts.specs.Layout.{has_frame, is_on, left_of, none_dies, touched}
 use Rattle.cs_acts.specs.Made.{contexts_in}
-use Rattle.cs_acts.specs.Names.{IsNamed, KeepsNames, name_of}
+use Rattle.cs_acts.specs.Names.{IsNamed, name_of}
 use Rattle.cs_acts.specs.Ready.{IsReady}
 use Rattle.cs_acts.specs.Targets.{CanCut, dying_in, dying_to}
 use Rattle.cs_acts.proofs.Firsts.{nil_names}
 use Rattle.cs_acts.proofs.Held.{named_held}
 use Rattle.cs_stack.specs.declared.parts.Parts.{Parts}
-use Rattle.cs_stack.specs.Cuts.{Arrives, CutPast, Cuts, Dies, IsFirst, IsWay, Leads, Stays, ahead, spared}
-use Rattle.cs_stack.specs.Good.{AreApart, IsGood, Lacks}
+use Rattle.cs_stack.specs.Cuts.{Arrives, CutPast, Dies, IsFirst, IsWay, Leads, ahead, spared}
+use Rattle.cs_stack.specs.Good.{AreApart, IsGood}
 use Rattle.cs_stack.specs.Moved.{Takes, based_parts}
-use Rattle.cs_stack.specs.View.{act_of, bare, births_of, frame_context, laid_pages, layout_of, stored_of, unframed, view_of}
+use Rattle.cs_stack.specs.View.{act_of, bare, births_of, frame_context, laid_pages, stored_of, unframed, view_of}
 use Rattle.cs_stack.proofs.Acts.{ContextAct, answers, birth_is, context_act, object}
 use Rattle.cs_stack.proofs.Based.{based_contexts, based_good, based_layout, based_names, based_view}
 use Rattle.cs_stack.proofs.Closed.{good_sound}
 use Rattle.cs_stack.proofs.CutStates.{keeps-cut}
-use Rattle.cs_stack.proofs.CutSteps.{stays_more}
 use Rattle.cs_stack.proofs.CutWays.{GoesPast, and_found, goes_past}
 use Rattle.cs_stack.proofs.Dropping.{touched_first}
 use Rattle.cs_stack.proofs.Framed.{IsOn, above, all_fit, fits_on, here, onto_frame}

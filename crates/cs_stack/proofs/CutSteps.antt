@@ -1,25 +1,22 @@
 -- One context after another dies, from the active one on.
-use Rattle.std.proofs.Common.{◌≡◌, ◌≢◌, ◌⊎◌, ℕ, suc, ◌+◌, ◌<◌, ◌≤◌, Bool, true, false, refl, sym, ap, subst, ◌∙◌, arith, append_assoc, Option, Some, None, IfSome, IsSome, is_some, List, [], ◌∷◌, ◌++◌, length, unwrap_or, inl, inr}
+use Rattle.std.proofs.Common.{◌≡◌, ◌≢◌, ◌⊎◌, ℕ, ◌+◌, ◌≤◌, Bool, true, false, refl, sym, ap, subst, ◌∙◌, arith, append_assoc, Option, Some, None, IfSome, IsSome, is_some, List, [], ◌∷◌, ◌++◌, length, unwrap_or, inl, inr}
 use Rattle.std.specs.Prelude.{◌==◌, ◌||◌}
-use Rattle.std.proofs.lemmas.Bool.{cases_eq, ne_eqb}
-use Rattle.cs_word.specs.declared.Oop.{Oop}
+use Rattle.std.proofs.lemmas.Bool.{ne_eqb}
 use Rattle.cs_model.specs.State.{Rest}
 use Rattle.cs_model.specs.Read.{active_birth}
-use Rattle.cs_model.specs.Operation.{activate}
 use Rattle.cs_model.specs.Return.{is_among, sender_birth}
 use Rattle.cs_acts.specs.declared.act.Act.{Act}
 use Rattle.cs_acts.specs.declared.act.Act.TheVariants as act
-use Rattle.cs_acts.specs.Names.{KeepsNames}
 use Rattle.cs_acts.specs.Ready.{IsReady}
 use Rattle.cs_stack.specs.declared.parts.Parts.{Parts}
 use Rattle.cs_stack.specs.Cuts.{Arrives, Dies, Fades, IsFirst, IsWay, Leads, Stays, Stepped, Steps, ahead, spared}
 use Rattle.cs_stack.specs.Good.{IsGood, Lacks}
 use Rattle.cs_stack.specs.View.{act_of, birth_from, stored_of, view_of}
-use Rattle.cs_stack.proofs.Acts.{ContextAct, answers, context_act, free_lacks}
+use Rattle.cs_stack.proofs.Acts.{answers, context_act, free_lacks}
 use Rattle.cs_stack.proofs.CutStates.{dies_more, dies_none}
 use Rattle.cs_stack.proofs.CutWays.{among_here, among_not, passed_once, way_on}
 use Rattle.cs_stack.proofs.Rebasing.{no_frames}
-use Rattle.cs_stack.proofs.Tops.{Opened, good_ready, opened_at}
+use Rattle.cs_stack.proofs.Tops.{good_ready, opened_at}
 
 -- ---- what stands for the active context, or for one where no frame is left
 

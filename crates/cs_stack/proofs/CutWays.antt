@@ -3,7 +3,7 @@ use Rattle.std.proofs.Common.{◌≡◌, ◌≢◌, ◌⊎◌, ℕ, zero, suc, �
 use Rattle.std.specs.Prelude.{◌==◌, ◌||◌, if◌then◌else◌}
 use Rattle.std.proofs.lemmas.Bool.{eq-eqb}
 use Rattle.std.proofs.lemmas.Bool.Decides.{eqb_tells}
-use Rattle.cs_model.specs.Obj.{Context, Ctx, context_in}
+use Rattle.cs_model.specs.Obj.{Context, context_in}
 use Rattle.cs_model.specs.State.{Kept, object_at}
 use Rattle.cs_model.specs.Return.{Search, Met, Ended, TooLong, context_birth, is_among, links, passing, search_senders, sender_birth, senders_to}
 use Rattle.cs_stack.specs.Cuts.{IsWay, ahead}

@@ -1,5 +1,5 @@
 -- What a return past a home makes of the parts: each context on the way along the senders dies.
-use Rattle.std.specs.Prelude.{◌≡◌, ◌≢◌, ◌⊎◌, ℕ, ◌≤◌, Bool, true, false, List, [], ◌∷◌, length, map, Option, Some, None}
+use Rattle.std.specs.Prelude.{◌≡◌, ◌≢◌, ◌⊎◌, ℕ, ◌≤◌, true, false, List, [], ◌∷◌, length, map, Option, Some, None}
 use Rattle.std.specs.List.{filter}
 use Rattle.cs_model.specs.Obj.{Context, Ctx, dead}
 use Rattle.cs_model.specs.State as state

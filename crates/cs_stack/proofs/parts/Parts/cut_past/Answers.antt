@@ -1,4 +1,4 @@
-use Rattle.std.proofs.Common.{◌+◌, arith}
+use Rattle.std.proofs.Common.{arith}
 use Rattle.cs_acts.specs.Targets.{dying_to}
 use Rattle.cs_stack.specs.Cuts.{CutPast}
 use Rattle.cs_stack.specs.View.{view_of}

@@ -1,11 +1,6 @@
-use Rattle.std.proofs.Common.{◌≡◌, ℕ, Option, Some, None, IsSome, refl}
-use Rattle.cs_model.specs.Read.{active_birth}
-use Rattle.cs_model.specs.Return.{sender_birth}
-use Rattle.cs_acts.specs.Ready.{IsReady}
-use Rattle.cs_stack.specs.declared.parts.Parts.{Parts}
-use Rattle.cs_stack.specs.View.{stored_of, view_of}
+use Rattle.std.proofs.Common.{refl}
 use Rattle.cs_stack.proofs.CutFrames.{drop_alone, drop_below}
-use Rattle.cs_stack.proofs.Leaving.{Next, next_some}
+use Rattle.cs_stack.proofs.Leaving.{next_some}
 use Rattle.cs_stack.proofs.Tops.{opened}
 use Rattle.cs_stack.proofs.parts.Parts.drop_active.Goals as goal
 
