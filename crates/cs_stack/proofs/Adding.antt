@@ -202,6 +202,7 @@ module _ (w : Parts) (good : IsGood w) (m : ℕ) (new : Frame) (order : Order) (
     used_pages = used_pages;
     chain = subst (IsChain ss) (sym can.recent) can.chain;
     entry = λ _. can.entry;
+    closures = good.closures;
   }
 
   -- ---- its context

@@ -174,6 +174,7 @@ module _ (w : Parts) (good : IsGood w) (class format slots : ℕ) (fits : CanAll
     used_pages = good.used_pages;
     chain = good.chain;
     entry = good.entry;
+    closures = good.closures;
   }
 
   pub made_contexts : contexts_in all ≡ contexts_in os

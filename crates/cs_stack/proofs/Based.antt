@@ -53,7 +53,7 @@ apart_none : (gs : List Frame) → AreApart gs []
 apart_none [] = tt
 apart_none (g ∷ gs) = (tt, apart_none gs)
 
-edit_rest : (k : Kept) (b : ℕ) (g : Obj → Obj) → (edit_object k (ref.Obj b) g).rest ≡ k.rest
+pub edit_rest : (k : Kept) (b : ℕ) (g : Obj → Obj) → (edit_object k (ref.Obj b) g).rest ≡ k.rest
 unfolding put
 edit_rest k b g = go (state.object_at k b)
   where
@@ -61,7 +61,7 @@ edit_rest k b g = go (state.object_at k b)
     go None = refl
     go (Some o) = refl
 
-edit_other : (k : Kept) (b i : ℕ) (g : Obj → Obj) → i ≢ b → state.object_at (edit_object k (ref.Obj b) g) i ≡ state.object_at k i
+pub edit_other : (k : Kept) (b i : ℕ) (g : Obj → Obj) → i ≢ b → state.object_at (edit_object k (ref.Obj b) g) i ≡ state.object_at k i
 edit_other k b i g ne = go (state.object_at k b)
   where
     go : (o : Option Obj) → state.object_at (edit_found g b o k) i ≡ state.object_at k i
@@ -200,6 +200,7 @@ module _ {u : Parts} (good : IsGood u) (closed : u.pages.recent ≡ []) (s : ℕ
     used_pages = λ q. subst (λ ns. Contains ns q ↔ (0 < length (frames_of ps q))) (sym recent_is) (only q);
     chain = subst (λ ns. IsChain ps ns) (sym recent_is) tt;
     entry = λ _. context_known;
+    closures = good.closures;
   }
 
   -- ---- the state

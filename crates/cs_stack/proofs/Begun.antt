@@ -1,7 +1,8 @@
--- A method is entered on a page of its own: its frame is the base frame, and the married context of its caller is its sender.
-use Rattle.std.proofs.Common.{◌≡◌, ◌≢◌, ℕ, ◌+◌, ◌<◌, Bool, true, false, refl, sym, ap, ap₂, subst, ◌∙◌, arith, Some, List, [], ◌∷◌, ◌++◌, length, zero, suc}
+-- A new frame stands on a page of its own: it is the base frame, and the married context of its caller is its sender.
+use Rattle.std.proofs.Common.{◌≡◌, ◌≢◌, ℕ, ◌+◌, ◌-◌, ◌<◌, true, false, refl, sym, ap, ap₂, subst, ◌∙◌, arith, Some, List, [], ◌∷◌, ◌++◌, length, drop, replicate, zero, suc}
 use Rattle.std.specs.Prelude.{◌↔◌, Contains, nat_eq, nat_le, if◌then◌else◌}
 use Rattle.std.proofs.lemmas.Bool.Decides.{nat_tests}
+use Rattle.std.proofs.lemmas.List.{append_assoc}
 use Rattle.std.proofs.lemmas.List.Elements.{All-cons}
 use Rattle.std.proofs.lemmas.Map.Keys.{IsDistinct-cons}
 use Rattle.cs_word.specs.declared.Oop.{Oop}
@@ -11,7 +12,7 @@ use Rattle.cs_classes.specs.Sound.{is_reference}
 use Rattle.cs_classes.proofs.Refs.{is_reference-object, ref_of-object}
 use Rattle.cs_frame.specs.declared.FrameRef.{FrameRef}
 use Rattle.cs_frame.specs.declared.NewFrame.{NewFrame}
-use Rattle.cs_frame.specs.Frame.{Frame, cut, nil, with_stack}
+use Rattle.cs_frame.specs.Frame.{Frame, cut, nil, with_caller, with_saved_pc, with_stack}
 use Rattle.cs_frame.specs.Page.{IsBase, IsFrame, IsTop, called, fresh, frame, frames_of, index_of, nth, on_frame, on_page, on_top, top, used}
 use Rattle.cs_frame.specs.Page as page
 use Rattle.cs_frame.proofs.PageLaws.{frames_of-on_page, frames_of-on_page_other, length-on_page, on_page-on_page_other}
@@ -20,17 +21,14 @@ use Rattle.cs_marriage.proofs.Based.{alone, alone_base, alone_frames, alone_on_f
 use Rattle.cs_marriage.proofs.Objects.{context_there}
 use Rattle.cs_model.specs.Ref as ref
 use Rattle.cs_model.specs.Read.{active_birth}
-use Rattle.cs_model.specs.Operation.{enter_of}
 use Rattle.cs_acts.specs.Layout.{LaidBy, entered, page_words}
-use Rattle.cs_acts.specs.Names.{IsNamed, name_of}
 use Rattle.cs_acts.specs.Ready.{IsReady}
-use Rattle.cs_acts.specs.Targets.{CanEnter}
 use Rattle.cs_pages.specs.Order.{IsFree, IsSound, Order}
 use Rattle.cs_pages.proofs.Lists.{lacks_from_not}
 use Rattle.cs_stack.specs.declared.parts.Parts.{Parts}
 use Rattle.cs_stack.specs.View.{active_page, births_of, frame_sender, laid_pages, layout_of, stored_of, view_of}
 use Rattle.cs_stack.specs.Good.{FrameFits, IsChain, IsGood, base_of}
-use Rattle.cs_stack.specs.Moved.{active_number, begun_parts, callee, given_birth}
+use Rattle.cs_stack.specs.Moved.{CanBegin, active_number, begun_parts, begun_state, callee, copied_at, given_birth}
 use Rattle.cs_stack.proofs.Tops.{Opened, contexts_known}
 use Rattle.cs_stack.proofs.Framed.{IsOn, here}
 use Rattle.cs_stack.proofs.Places.{married_on}
@@ -84,8 +82,8 @@ module _ (w : Parts) (good : IsGood w) (o : Opened w) (some : o.f.context ≢ ni
 
 -- ---- the world
 
-module _ {w : Parts} (good : IsGood w) (ready : IsReady (stored_of w) (view_of w)) (o : Opened w) (method : Oop) (args : ℕ) (skip : Bool)
-    (named : IsNamed (stored_of w) method) (can : CanEnter (view_of w) (name_of (stored_of w) method) args skip) (p : ℕ) (free : IsFree w.pages p) (sender : ℕ)
+module _ {w : Parts} (good : IsGood w) (ready : IsReady (stored_of w) (view_of w)) (o : Opened w) {new : NewFrame} {pc : Oop} {copies : ℕ}
+    (can : CanBegin (stored_of w) (view_of w) new pc copies) (p : ℕ) (free : IsFree w.pages p) (sender : ℕ)
     (same : (top (active_page w)).context ≡ sender) (some : sender ≢ nil) where
   abbrev os : List Object
   os = w.heap.objects
@@ -94,13 +92,13 @@ module _ {w : Parts} (good : IsGood w) (ready : IsReady (stored_of w) (view_of w
   next = w.roots.next_birth
 
   abbrev caller : Frame
-  caller = cut args o.f
+  caller = cut new.args o.f
 
-  abbrev new : Frame
-  new = callee os method.0 args skip next 0 sender o.f
+  abbrev made : Frame
+  made = callee os new pc.0 copies 0 sender o.f
 
   abbrev w1 : Parts
-  w1 = cut_parts w o args
+  w1 = cut_parts w o new.args
 
   abbrev order : Order
   order = taken_order w.pages p
@@ -129,45 +127,45 @@ module _ {w : Parts} (good : IsGood w) (ready : IsReady (stored_of w) (view_of w
   below : frames_of w1.frames o.p ≡ caller ∷ o.fs
   below = frames_of-on_page w.frames o.p (λ _. caller ∷ o.fs) o.within
 
-  begun_is : begun_parts p sender method.0 args skip w ≡ added_parts w1 p new order
+  begun_is : begun_parts p sender new pc.0 copies w ≡ added_parts w1 p made order
   begun_is =
-      let word : ℕ → Frame → Frame = λ a f. callee os method.0 args skip next 0 a f in
+      let word : ℕ → Frame → Frame = λ a f. callee os new pc.0 copies 0 a f in
       ap (λ ss. record (given_birth w) { pages = order; frames = ss })
-      (ap (λ n. on_page (on_page w.frames n (on_top (cut args))) p (λ _. word sender (top (frames_of w.frames n)) ∷ [])) (number_is o)
-      ∙ ap (λ (fs : List Frame). on_page (on_page w.frames o.p (λ _. on_top (cut args) fs)) p (λ _. word sender (top fs) ∷ [])) o.is
-      ∙ ap (λ (fs : List Frame). on_page w1.frames p (λ _. new ∷ fs)) (sym still_empty))
+      (ap (λ n. on_page (on_page w.frames n (on_top (cut new.args))) p (λ _. word sender (top (frames_of w.frames n)) ∷ [])) (number_is o)
+      ∙ ap (λ (fs : List Frame). on_page (on_page w.frames o.p (λ _. on_top (cut new.args) fs)) p (λ _. word sender (top fs) ∷ [])) o.is
+      ∙ ap (λ (fs : List Frame). on_page w1.frames p (λ _. made ∷ fs)) (sym still_empty))
 
   inside : p < length w1.frames
   inside = omega (arith, free.0, good.total, length-on_page w.frames o.p (λ _. caller ∷ o.fs))
 
   abbrev ss : List (List Frame)
-  ss = on_page w1.frames p (λ gs. new ∷ gs)
+  ss = on_page w1.frames p (λ gs. made ∷ gs)
 
-  alone_there : frames_of ss p ≡ new ∷ []
-  alone_there = frames_of-on_page w1.frames p (λ gs. new ∷ gs) inside ∙ ap (λ (fs : List Frame). new ∷ fs) still_empty
+  alone_there : frames_of ss p ≡ made ∷ []
+  alone_there = frames_of-on_page w1.frames p (λ gs. made ∷ gs) inside ∙ ap (λ (fs : List Frame). made ∷ fs) still_empty
 
   behind_there : frames_of ss o.p ≡ caller ∷ o.fs
-  behind_there = frames_of-on_page_other w1.frames p o.p (λ gs. new ∷ gs) (λ e. other (sym e)) ∙ below
+  behind_there = frames_of-on_page_other w1.frames p o.p (λ gs. made ∷ gs) (λ e. other (sym e)) ∙ below
 
   stays : Stay w1.frames ss w.pages.recent
-  stays q h = frames_of-on_page_other w1.frames p q (λ gs. new ∷ gs) (λ e. free.1 (subst (Contains w.pages.recent) e h))
+  stays q h = frames_of-on_page_other w1.frames p q (λ gs. made ∷ gs) (λ e. free.1 (subst (Contains w.pages.recent) e h))
 
   -- its sender is the context of the last frame of the page behind it
   chain : IsChain ss (p ∷ w.pages.recent)
   chain = subst (λ rs. IsChain ss (p ∷ rs)) (sym o.recent) (
     ap (λ (fs : List Frame). (base_of fs).caller) alone_there ∙ sym context_is ∙ sym (ap (λ (fs : List Frame). (top fs).context) behind_there),
     λ e. has (sym (ap (λ (fs : List Frame). (top fs).context) behind_there) ∙ e),
-    subst (IsChain ss) o.recent (chain_stay w1.frames ss w.pages.recent stays (cut_edited w good o args).good.chain),
+    subst (IsChain ss) o.recent (chain_stay w1.frames ss w.pages.recent stays (cut_edited w good o new.args).good.chain),
   )
 
-  can_add : CanAdd w1 p new order
+  can_add : CanAdd w1 p made order
   can_add = record {
     entry = contexts_known w good o;
     within = inside;
     births = can.births;
-    fresh = refl;
-    fits = subst (FrameFits os (next + 1) new) (sym still_empty) (new_fits good ready o method args skip named can 0 sender [] refl (omega arith) tt sender_named);
-    married = new_married good ready o method args skip named can p 0 sender (omega arith);
+    fresh = can.birth;
+    fits = subst (FrameFits os (next + 1) made) (sym still_empty) (new_fits good ready o can 0 sender [] refl (omega arith) tt sender_named);
+    married = new_married good ready o can p 0 sender (omega arith);
     total = refl;
     sound = taken_sound w.pages p good.order free;
     rest = w.pages.recent;
@@ -176,24 +174,24 @@ module _ {w : Parts} (good : IsGood w) (ready : IsReady (stored_of w) (view_of w
     chain = chain;
   }
 
-  pub begun_good : IsGood (begun_parts p sender method.0 args skip w)
-  begun_good = subst IsGood (sym begun_is) (added_good w1 (cut_edited w good o args).good p new order can_add)
+  pub begun_good : IsGood (begun_parts p sender new pc.0 copies w)
+  begun_good = subst IsGood (sym begun_is) (added_good w1 (cut_edited w good o new.args).good p made order can_add)
 
-  pub begun_view : view_of (begun_parts p sender method.0 args skip w) ≡ enter_of (view_of w) (name_of (stored_of w) method) args skip
+  pub begun_view : view_of (begun_parts p sender new pc.0 copies w) ≡ begun_state (stored_of w) (view_of w) new pc copies
   begun_view =
       ap view_of begun_is
-      ∙ entered_state good ready o method args skip named can p 0 sender order can_add (ap (frame_sender os new) still_empty ∙ sender_name)
+      ∙ entered_state good ready o can p 0 sender order can_add (ap (frame_sender os made) still_empty ∙ sender_name)
 
   cut_stay : Stay w.frames w1.frames o.qs
   cut_stay q h = frames_of-on_page_other w.frames o.p q (λ _. caller ∷ o.fs) (behind w.pages o.p o.qs good.order o.recent q h)
 
-  pub begun_layout : 4096 < used (active_page w) + 66 → LaidBy (entered (view_of w) next) (layout_of w) (layout_of (begun_parts p sender method.0 args skip w))
+  pub begun_layout : 4096 < used (active_page w) + 66 → LaidBy (entered (view_of w) next) (layout_of w) (layout_of (begun_parts p sender new pc.0 copies w))
   unfolding can_add
   begun_layout full =
       let tight : nat_le (page_words (view_of w) (births_of (o.f ∷ o.fs)) + 66) 4096 ≡ false = ap (λ n. nat_le (n + 66) 4096) (words_used w good o ∙ ap used (sym o.page_is)) ∙ at_least _ _ full in
       let most : ℕ = w.pages.total in
       ap layout_of begun_is
-      ∙ added_layout w1 (cut_edited w good o args).good p new order can_add
+      ∙ added_layout w1 (cut_edited w good o new.args).good p made order can_add
       ∙ ap (λ (fs : List Frame). Some (record { most = most; pages = (next ∷ births_of fs) ∷ laid_pages w1.frames w.pages.recent })) still_empty
       ∙ ap (λ rs. Some (record { most = most; pages = (next ∷ []) ∷ laid_pages w1.frames rs })) o.recent
       ∙ ap₂ (λ (fs : List Frame) bs. Some (record { most = most; pages = (next ∷ []) ∷ births_of fs ∷ bs })) below (laid_stay w.frames w1.frames o.qs cut_stay)
@@ -288,3 +286,49 @@ module _ {w : Parts} (o : Opened w) (p : ℕ) (other : p ≢ o.p) {ss : List (Li
       ∙ on_page-on_page_other w.frames p o.p (λ _. g ∷ []) (λ _. cut args o.f ∷ o.fs) other
       ∙ ap (λ (fs : List Frame). on_page (on_page w.frames o.p (λ _. on_top (cut args) fs)) p (λ _. g ∷ [])) (sym o.is)
       ∙ ap (λ n. on_page (on_page w.frames n (on_top (cut args))) p (λ _. g ∷ [])) (sym (number_is o))
+
+-- ---- the frame, part by part
+
+module _ {w : Parts} (good : IsGood w) (ready : IsReady (stored_of w) (view_of w)) (o : Opened w) {new : NewFrame} {pc : Oop} {copies : ℕ}
+    (can : CanBegin (stored_of w) (view_of w) new pc copies) (p : ℕ) (free : IsFree w.pages p) (sender : ℕ) where
+  abbrev arguments : List ℕ
+  arguments = drop (length o.f.stack - new.args) o.f.stack
+
+  abbrev copied : List ℕ
+  copied = copied_at w.heap.objects new.closure.0 copies
+
+  -- with these values on its stack
+  abbrev pub holding : List ℕ → Frame
+  holding xs = record {
+    at = 0;
+    caller = sender;
+    saved_pc = pc.0;
+    method = new.method.0;
+    closure = new.closure.0;
+    context = nil;
+    birth = new.birth;
+    receiver = new.receiver.0;
+    stack = xs;
+  }
+
+  pub begun_empty : (ps qs ss : List (List Frame)) (r : FrameRef) → ps ≡ on_page w.frames p (called (record new { args = 0; fill = 0 })) → r ≡ page.ref_of p (top (frames_of ps p))
+      → qs ≡ on_frame ps r (with_caller sender) → ss ≡ on_frame qs r (with_saved_pc pc.0) → Stage w.frames p ss r (holding [])
+  begun_empty ps qs ss r built at sent saved =
+      let alone : NewFrame = record new { args = 0; fill = 0 } in
+      let first = stage_built w.frames p ps r alone (omega (arith, free.0, good.total)) (free_empty w good p free) built at in
+      stage_on_frame (stage_on_frame first qs (with_caller sender) refl sent) ss (with_saved_pc pc.0) refl saved
+
+  module _ {ss : List (List Frame)} {r : FrameRef} (c : FrameRef) (place : c ≡ page.ref_of (active_number w) (top (active_page w))) where
+    pub begun_arguments : Stage w.frames p ss r (holding []) → (qs : List (List Frame))
+        → qs ≡ on_page ss r.page (on_top (with_stack ((top (frames_of ss r.page)).stack ++ drop (length (frame ss c).stack - new.args) (frame ss c).stack)))
+        → Stage w.frames p qs r (holding arguments)
+    begun_arguments s qs pushed =
+        stage_longer s qs arguments (pushed ∙ ap (λ (f : Frame). longer ss r.page (drop (length f.stack - new.args) f.stack)) (caller_same o p (free_other o p free) s c place))
+
+    pub begun_made : Stage w.frames p ss r (holding ((arguments ++ replicate new.fill nil) ++ copied)) → (qs : List (List Frame)) → qs ≡ shorter ss c.page (new.args + 1)
+        → qs ≡ on_page (on_page w.frames (active_number w) (on_top (cut new.args))) p (λ _. callee w.heap.objects new pc.0 copies 0 sender (top (frames_of w.frames (active_number w))) ∷ [])
+    begun_made s qs dropped =
+        let active : top (frames_of w.frames (active_number w)) ≡ o.f = ap (λ (fs : List Frame). top fs) (ap (frames_of w.frames) (number_is o) ∙ o.is) in
+        stage_cut o p (free_other o p free) s c place qs new.args dropped
+        ∙ ap (λ (xs : List ℕ). on_page (on_page w.frames (active_number w) (on_top (cut new.args))) p (λ _. holding xs ∷ [])) (append_assoc arguments (replicate new.fill nil) copied)
+        ∙ ap (λ (f : Frame). on_page (on_page w.frames (active_number w) (on_top (cut new.args))) p (λ _. callee w.heap.objects new pc.0 copies 0 sender f ∷ [])) (sym active)

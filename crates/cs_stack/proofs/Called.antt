@@ -1,31 +1,26 @@
--- A method is entered where its frame fits above the active one.
-use Rattle.std.proofs.Common.{◌≡◌, ℕ, pos, ◌+◌, ◌-◌, ◌<◌, ◌≤◌, Bool, true, refl, sym, ap, ap₂, subst, ◌∙◌, arith, Some, List, [], ◌∷◌, ◌++◌, length, length-take, suc, drop, replicate, inl, inr}
+-- A new frame stands above the active one, where it fits there.
+use Rattle.std.proofs.Common.{◌≡◌, ℕ, ◌+◌, ◌-◌, ◌<◌, ◌≤◌, true, refl, sym, ap, ap₂, subst, ◌∙◌, arith, Some, List, [], ◌∷◌, length, length-drop, length-take, suc, drop, replicate, inl, inr}
 use Rattle.std.specs.Prelude.{slice_index, nat_le, if◌then◌else◌}
 use Rattle.std.proofs.lemmas.Bool.Decides.{eqb_tells, nat_tests}
+use Rattle.std.proofs.lemmas.List.{append_assoc, length-append, length-replicate}
 use Rattle.cs_word.specs.declared.Oop.{Oop}
-use Rattle.cs_word.specs.Word.{small_word}
 use Rattle.cs_heap.specs.Object.{Object}
-use Rattle.cs_classes.specs.Sound.{is_reference}
 use Rattle.cs_frame.specs.declared.FrameRef.{FrameRef}
 use Rattle.cs_frame.specs.declared.NewFrame.{NewFrame}
-use Rattle.cs_frame.specs.Frame.{Frame, cut, nil, with_saved_pc}
-use Rattle.cs_frame.specs.Page.{CanCall, HoldsValues, IsFrame, called, fresh, frame, frames_of, index_of, nth, on_frame, on_nth, on_page, ref_of, top, used}
+use Rattle.cs_frame.specs.Frame.{Frame, cut, nil, with_saved_pc, with_stack}
+use Rattle.cs_frame.specs.Page.{CanCall, IsFrame, IsTop, called, fresh, frame, frames_of, index_of, nth, on_frame, on_nth, on_page, ref_of, top, used}
 use Rattle.cs_frame.proofs.PageLaws.{frames_of-on_page, frames_of-on_page_other, length-on_page, on_page-on_page}
-use Rattle.cs_marriage.specs.Agree.{header_at}
 use Rattle.cs_model.specs.Ref as ref
-use Rattle.cs_model.specs.Obj.{temporary_count}
-use Rattle.cs_model.specs.Operation.{enter_of}
 use Rattle.cs_acts.specs.Layout.{LaidBy, entered, page_words}
-use Rattle.cs_acts.specs.Names.{IsNamed, name_of}
 use Rattle.cs_acts.specs.Ready.{IsReady}
-use Rattle.cs_acts.specs.Targets.{CanEnter}
 use Rattle.cs_stack.specs.declared.parts.Parts.{Parts}
 use Rattle.cs_stack.specs.View.{active_page, births_of, frame_sender, laid_pages, layout_of, stored_of, view_of}
 use Rattle.cs_stack.specs.Good.{FrameFits, IsChain, IsGood, base_of}
-use Rattle.cs_stack.specs.Moved.{active_number, called_page, called_parts, callee, entry_of, given_birth}
+use Rattle.cs_stack.specs.Moved.{CanBegin, active_number, begun_state, called_page, called_parts, callee, copied_at, given_birth}
 use Rattle.cs_stack.proofs.Tops.{Opened, contexts_known}
 use Rattle.cs_stack.proofs.Adding.{CanAdd, Stay, added_good, added_layout, added_parts, behind, chain_first, lacks_next, laid_stay}
-use Rattle.cs_stack.proofs.Entering.{cut_edited, cut_fits, cut_parts, e, entered_state, new_fits, new_married, nil_named, pages_are, reference_value, there, value_named, words_used}
+use Rattle.cs_stack.proofs.Stacking.{longer, longer_page}
+use Rattle.cs_stack.proofs.Entering.{cut_edited, cut_fits, cut_parts, entered_state, few, new_fits, new_married, pages_are, there, words_used}
 
 pub at_most : (a b : ℕ) → a ≤ b → nat_le a b ≡ true
 at_most a b h = grind (arith, nat_tests, h)
@@ -66,8 +61,8 @@ module _ {w : Parts} (o : Opened w) where
 
 -- ---- the frame above it
 
-module _ {w : Parts} (good : IsGood w) (ready : IsReady (stored_of w) (view_of w)) (o : Opened w) (method : Oop) (args : ℕ) (skip : Bool)
-    (named : IsNamed (stored_of w) method) (can : CanEnter (view_of w) (name_of (stored_of w) method) args skip) where
+module _ {w : Parts} (good : IsGood w) (ready : IsReady (stored_of w) (view_of w)) (o : Opened w) {new : NewFrame} {pc : Oop} {copies : ℕ}
+    (can : CanBegin (stored_of w) (view_of w) new pc copies) where
   abbrev os : List Object
   os = w.heap.objects
 
@@ -75,116 +70,136 @@ module _ {w : Parts} (good : IsGood w) (ready : IsReady (stored_of w) (view_of w
   next = w.roots.next_birth
 
   abbrev caller : Frame
-  caller = cut args o.f
+  caller = cut new.args o.f
 
-  abbrev new : Frame
-  new = callee os method.0 args skip next (used (caller ∷ o.fs)) nil o.f
+  abbrev made : Frame
+  made = callee os new pc.0 copies (used (caller ∷ o.fs)) nil o.f
 
   abbrev w1 : Parts
-  w1 = cut_parts w o args
+  w1 = cut_parts w o new.args
 
-  pub can_call : CanCall args (frames_of w.frames o.p)
-  can_call = subst (CanCall args) (sym o.is) (omega (arith, there good ready o method args skip named can))
+  pub can_call : CanCall new.args (frames_of w.frames o.p)
+  can_call = subst (CanCall new.args) (sym o.is) (omega (arith, there good ready o can))
 
-  pub holds_values : (receiver : Oop) (fill : ℕ) → receiver.0 ≡ slice_index o.f.stack (length o.f.stack - (args + 1)) → (n : ℕ)
-      → HoldsValues (record { method = method; closure = record { 0 = nil }; receiver = receiver; birth = next; args = n; fill = fill })
-  holds_values receiver fill received n = record {
-    method = reference_value os method.0 named;
-    closure = reference_value os nil (nil_named good ready o method args skip named can);
-    receiver = reference_value os receiver.0 (ap (is_reference os) received ∙ value_named o (length o.f.stack - (args + 1)) (omega (arith, there good ready o method args skip named can)));
-  }
+  -- ---- how it is made
 
-  pub frame_made : (receiver : Oop) (fill v : ℕ) (t r : FrameRef) (ps qs : List (List Frame)) → t ≡ ref_of (active_number w) (top (active_page w))
-      → receiver.0 ≡ slice_index o.f.stack (length o.f.stack - (args + 1)) → fill ≡ temporary_count (header_at os method.0) - args → v ≡ small_word (pos (entry_of (header_at os method.0) skip))
-      → ps ≡ on_page w.frames t.page (called (record { method = method; closure = record { 0 = nil }; receiver = receiver; birth = next; args = args; fill = fill }))
-      → r ≡ ref_of t.page (top (frames_of ps t.page)) → qs ≡ on_frame ps r (with_saved_pc v)
-      → qs ≡ on_page w.frames (active_number w) (called_page os method.0 args skip next)
-  frame_made receiver fill v t r ps qs place received filled pc built at saved =
-      let nf : NewFrame = record { method = method; closure = record { 0 = nil }; receiver = receiver; birth = next; args = args; fill = fill } in
-      let made : Frame = fresh nf (used (caller ∷ o.fs)) nil (drop (length o.f.stack - args) o.f.stack) in
+  -- without what its closure has copied
+  abbrev built : Frame
+  built = with_saved_pc pc.0 (fresh new (used (caller ∷ o.fs)) nil (drop (length o.f.stack - new.args) o.f.stack))
+
+  abbrev as_built : List (List Frame)
+  as_built = on_page w.frames o.p (λ _. built ∷ caller ∷ o.fs)
+
+  -- that frame, and where it stands
+  pub record Built (qs : List (List Frame)) (r : FrameRef) : Type 0 where
+    pub is : qs ≡ as_built
+    pub ref : r ≡ ref_of o.p built
+
+  pub frame_built : (t r : FrameRef) (ps qs : List (List Frame)) → t ≡ ref_of (active_number w) (top (active_page w)) → ps ≡ on_page w.frames t.page (called new)
+      → r ≡ ref_of t.page (top (frames_of ps t.page)) → qs ≡ on_frame ps r (with_saved_pc pc.0) → Built qs r
+  frame_built t r ps qs place whole at saved =
+      let bare : Frame = fresh new (used (caller ∷ o.fs)) nil (drop (length o.f.stack - new.args) o.f.stack) in
       let page : t.page ≡ o.p = ap (λ (s : FrameRef). s.page) (top_ref o t place) in
-      let whole : ps ≡ on_page w.frames o.p (λ _. made ∷ caller ∷ o.fs) = built ∙ ap (λ n. on_page w.frames n (called nf)) page ∙ ap (λ (fs : List Frame). on_page w.frames o.p (λ _. called nf fs)) o.is in
-      let frames : frames_of ps o.p ≡ made ∷ caller ∷ o.fs = ap (λ ss. frames_of ss o.p) whole ∙ frames_of-on_page w.frames o.p (λ _. made ∷ caller ∷ o.fs) o.within in
-      let ref : r ≡ ref_of o.p made = at ∙ ap (λ n. ref_of n (top (frames_of ps n))) page ∙ ap (λ (fs : List Frame). ref_of o.p (top fs)) frames in
-      saved
-      ∙ ap₂ (λ ss q. on_frame ss q (with_saved_pc v)) whole ref
-      ∙ top_on_frame w.frames o.p made (caller ∷ o.fs) (with_saved_pc v) o.within
-      ∙ (λ i. on_page w.frames o.p (λ _. record {
-        at = used (caller ∷ o.fs);
-        caller = nil;
-        saved_pc = pc i;
-        method = method.0;
-        closure = nil;
-        context = nil;
-        birth = next;
-        receiver = received i;
-        stack = drop (length o.f.stack - args) o.f.stack ++ replicate (filled i) nil;
-      } ∷ caller ∷ o.fs))
-      ∙ ap (λ (fs : List Frame). on_page w.frames o.p (λ _. called_page os method.0 args skip next fs)) (sym o.is)
-      ∙ ap (λ n. on_page w.frames n (called_page os method.0 args skip next)) (sym (number_is o))
+      let all : ps ≡ on_page w.frames o.p (λ _. bare ∷ caller ∷ o.fs) = whole ∙ ap (λ n. on_page w.frames n (called new)) page ∙ ap (λ (fs : List Frame). on_page w.frames o.p (λ _. called new fs)) o.is in
+      let frames : frames_of ps o.p ≡ bare ∷ caller ∷ o.fs = ap (λ ss. frames_of ss o.p) all ∙ frames_of-on_page w.frames o.p (λ _. bare ∷ caller ∷ o.fs) o.within in
+      let ref : r ≡ ref_of o.p bare = at ∙ ap (λ n. ref_of n (top (frames_of ps n))) page ∙ ap (λ (fs : List Frame). ref_of o.p (top fs)) frames in
+      record {
+        is = saved ∙ ap₂ (λ ss q. on_frame ss q (with_saved_pc pc.0)) all ref ∙ top_on_frame w.frames o.p bare (caller ∷ o.fs) (with_saved_pc pc.0) o.within;
+        ref = ref;
+      }
+
+  module _ {qs : List (List Frame)} {r : FrameRef} (b : Built qs r) where
+    page_is : r.page ≡ o.p
+    page_is = ap (λ (s : FrameRef). s.page) b.ref
+
+    pub built_frames : frames_of qs r.page ≡ built ∷ caller ∷ o.fs
+    built_frames = ap₂ frames_of b.is page_is ∙ frames_of-on_page w.frames o.p (λ _. built ∷ caller ∷ o.fs) o.within
+
+    pub built_top : IsTop qs r
+    built_top = (omega (arith, ap length built_frames), ap (λ (s : FrameRef). s.at) b.ref ∙ sym (ap (λ (fs : List Frame). (top fs).at) built_frames))
+
+    pub built_room : used (active_page w) + 66 ≤ 4096 → used (frames_of qs r.page) + copies ≤ 4096
+    built_room room =
+        let arguments = length-drop (length o.f.stack - new.args) o.f.stack in
+        let nils = length-replicate new.fill nil in
+        let all = length-append (drop (length o.f.stack - new.args) o.f.stack) (replicate new.fill nil) in
+        let below = length-take (length o.f.stack - (new.args + 1)) o.f.stack in
+        omega (arith, room, ap used o.page_is, ap used built_frames, below, arguments, nils, all, few good ready o can, there good ready o can)
+
+    pub frame_made : (zs : List (List Frame)) → zs ≡ longer qs r.page (copied_at os new.closure.0 copies) → zs ≡ on_page w.frames (active_number w) (called_page os new pc.0 copies)
+    frame_made zs pushed =
+        let copied : List ℕ = copied_at os new.closure.0 copies in
+        let arguments : List ℕ = drop (length o.f.stack - new.args) o.f.stack in
+        pushed
+        ∙ ap (λ (fs : List Frame). on_page qs r.page (λ _. longer_page copied fs)) built_frames
+        ∙ ap₂ (λ ss n. on_page ss n (λ _. longer_page copied (built ∷ caller ∷ o.fs))) b.is page_is
+        ∙ on_page-on_page w.frames o.p (λ _. built ∷ caller ∷ o.fs) (λ _. longer_page copied (built ∷ caller ∷ o.fs)) o.within
+        ∙ ap (λ (xs : List ℕ). on_page w.frames o.p (λ _. with_stack xs built ∷ caller ∷ o.fs)) (append_assoc arguments (replicate new.fill nil) copied)
+        ∙ ap (λ (fs : List Frame). on_page w.frames o.p (λ _. called_page os new pc.0 copies fs)) (sym o.is)
+        ∙ ap (λ n. on_page w.frames n (called_page os new pc.0 copies)) (sym (number_is o))
 
   -- ---- the world
 
   frames_is : frames_of w1.frames o.p ≡ caller ∷ o.fs
   frames_is = frames_of-on_page w.frames o.p (λ _. caller ∷ o.fs) o.within
 
-  called_is : called_parts method.0 args skip w ≡ added_parts w1 o.p new w.pages
+  called_is : called_parts new pc.0 copies w ≡ added_parts w1 o.p made w.pages
   called_is =
       ap (λ ps. record (given_birth w) { frames = ps })
-      (ap (λ n. on_page w.frames n (called_page os method.0 args skip next)) (number_is o)
-      ∙ ap (λ (fs : List Frame). on_page w.frames o.p (λ _. called_page os method.0 args skip next fs)) o.is
-      ∙ sym (on_page-on_page w.frames o.p (λ _. caller ∷ o.fs) (λ gs. new ∷ gs) o.within))
+      (ap (λ n. on_page w.frames n (called_page os new pc.0 copies)) (number_is o)
+      ∙ ap (λ (fs : List Frame). on_page w.frames o.p (λ _. called_page os new pc.0 copies fs)) o.is
+      ∙ sym (on_page-on_page w.frames o.p (λ _. caller ∷ o.fs) (λ gs. made ∷ gs) o.within))
 
   module _ (room : used (active_page w) + 66 ≤ 4096) where
     short : used (caller ∷ o.fs) + 66 ≤ 4096
-    short = omega (arith, room, ap used o.page_is, length-take (length o.f.stack - (args + 1)) o.f.stack)
+    short = omega (arith, room, ap used o.page_is, length-take (length o.f.stack - (new.args + 1)) o.f.stack)
 
     inside : o.p < length w1.frames
     inside = omega (arith, o.within, length-on_page w.frames o.p (λ _. caller ∷ o.fs))
 
-    above : frames_of (on_page w1.frames o.p (λ gs. new ∷ gs)) o.p ≡ new ∷ caller ∷ o.fs
-    above = frames_of-on_page w1.frames o.p (λ gs. new ∷ gs) inside ∙ ap (λ (fs : List Frame). new ∷ fs) frames_is
+    above : frames_of (on_page w1.frames o.p (λ gs. made ∷ gs)) o.p ≡ made ∷ caller ∷ o.fs
+    above = frames_of-on_page w1.frames o.p (λ gs. made ∷ gs) inside ∙ ap (λ (fs : List Frame). made ∷ fs) frames_is
 
-    fits_above : FrameFits os (next + 1) new (frames_of w1.frames o.p)
-    fits_above = subst (FrameFits os (next + 1) new) (sym frames_is)
-        (new_fits good ready o method args skip named can (used (caller ∷ o.fs)) nil (caller ∷ o.fs) refl short (lacks_next os next (caller ∷ o.fs) (cut_fits os next args o.f o.fs o.fits, o.rest)) tt)
+    fits_above : FrameFits os (next + 1) made (frames_of w1.frames o.p)
+    fits_above = subst (FrameFits os (next + 1) made) (sym frames_is)
+        (new_fits good ready o can (used (caller ∷ o.fs)) nil (caller ∷ o.fs) refl short (lacks_next os next (caller ∷ o.fs) (cut_fits os next new.args o.f o.fs o.fits, o.rest)) tt)
 
-    can_add : CanAdd w1 o.p new w.pages
+    can_add : CanAdd w1 o.p made w.pages
     can_add = record {
       entry = contexts_known w good o;
       within = inside;
       births = can.births;
-      fresh = refl;
+      fresh = can.birth;
       fits = fits_above;
-      married = new_married good ready o method args skip named can o.p (used (caller ∷ o.fs)) nil (omega (arith, short));
+      married = new_married good ready o can o.p (used (caller ∷ o.fs)) nil (omega (arith, short));
       total = refl;
       sound = good.order;
       rest = o.qs;
       recent = o.recent;
       others = λ q other. (λ h. h, λ h. h);
-      chain = chain_first w1.frames (on_page w1.frames o.p (λ gs. new ∷ gs)) o.p o.qs
+      chain = chain_first w1.frames (on_page w1.frames o.p (λ gs. made ∷ gs)) o.p o.qs
           (ap (λ (fs : List Frame). (base_of fs).caller) above ∙ sym (ap (λ (fs : List Frame). (base_of fs).caller) frames_is))
-          (λ q h. frames_of-on_page_other w1.frames o.p q (λ gs. new ∷ gs) (behind w.pages o.p o.qs good.order o.recent q h))
-          (subst (IsChain w1.frames) o.recent (cut_edited w good o args).good.chain);
+          (λ q h. frames_of-on_page_other w1.frames o.p q (λ gs. made ∷ gs) (behind w.pages o.p o.qs good.order o.recent q h))
+          (subst (IsChain w1.frames) o.recent (cut_edited w good o new.args).good.chain);
     }
 
-    pub called_good : IsGood (called_parts method.0 args skip w)
-    called_good = subst IsGood (sym called_is) (added_good w1 (cut_edited w good o args).good o.p new w.pages can_add)
+    pub called_good : IsGood (called_parts new pc.0 copies w)
+    called_good = subst IsGood (sym called_is) (added_good w1 (cut_edited w good o new.args).good o.p made w.pages can_add)
 
-    pub called_view : view_of (called_parts method.0 args skip w) ≡ enter_of (view_of w) (name_of (stored_of w) method) args skip
+    pub called_view : view_of (called_parts new pc.0 copies w) ≡ begun_state (stored_of w) (view_of w) new pc copies
     called_view =
         ap view_of called_is
-        ∙ entered_state good ready o method args skip named can o.p (used (caller ∷ o.fs)) nil w.pages can_add (ap (frame_sender os new) frames_is ∙ ap (λ b. ref.Obj b) (sym o.birth))
+        ∙ entered_state good ready o can o.p (used (caller ∷ o.fs)) nil w.pages can_add (ap (frame_sender os made) frames_is ∙ ap (λ b. ref.Obj b) (sym o.birth))
 
     cut_stay : Stay w.frames w1.frames o.qs
     cut_stay q h = frames_of-on_page_other w.frames o.p q (λ _. caller ∷ o.fs) (behind w.pages o.p o.qs good.order o.recent q h)
 
-    pub called_layout : LaidBy (entered (view_of w) next) (layout_of w) (layout_of (called_parts method.0 args skip w))
+    pub called_layout : LaidBy (entered (view_of w) next) (layout_of w) (layout_of (called_parts new pc.0 copies w))
     unfolding can_add
     called_layout =
         let free : nat_le (page_words (view_of w) (births_of (o.f ∷ o.fs)) + 66) 4096 ≡ true = ap (λ n. nat_le (n + 66) 4096) (words_used w good o ∙ ap used (sym o.page_is)) ∙ at_most _ _ room in
         ap layout_of called_is
-        ∙ added_layout w1 (cut_edited w good o args).good o.p new w.pages can_add
+        ∙ added_layout w1 (cut_edited w good o new.args).good o.p made w.pages can_add
         ∙ ap₂ (λ (fs : List Frame) bs. Some (record { most = w.pages.total; pages = (next ∷ births_of fs) ∷ bs })) frames_is (laid_stay w.frames w1.frames o.qs cut_stay)
         ∙ ap (λ b. Some (record { most = w.pages.total; pages = if b then (next ∷ births_of (o.f ∷ o.fs)) ∷ laid_pages w.frames o.qs else (next ∷ []) ∷ births_of (o.f ∷ o.fs) ∷ laid_pages w.frames o.qs })) (sym free)
         ∙ ap (λ ps. Some (record { most = w.pages.total; pages = entered (view_of w) next ps })) (sym (pages_are w o))

@@ -1,5 +1,5 @@
 -- A good world names only what it has, and its heap has what it must.
-use Rattle.std.proofs.Common.{◌≡◌, ℕ, suc, pos, ◌≤◌, Bool, true, false, refl, sym, ap, cond, subst, ◌∙◌, Option, Some, None, IsSome, is_some, List, [], ◌∷◌, length, map, option_map, arith, set, get_or-set_other, get_or-set_same}
+use Rattle.std.proofs.Common.{◌≡◌, ℕ, suc, pos, ◌<◌, ◌≤◌, Bool, true, false, refl, sym, ap, cond, subst, ◌∙◌, Option, Some, None, IsSome, is_some, List, [], ◌∷◌, length, map, option_map, arith, set, get_or-set_other, get_or-set_same}
 use Rattle.std.specs.Prelude.{slice_get, slice_index}
 use Rattle.std.specs.List.{AllByRecursion, AllPass}
 use Rattle.std.specs.FinMap.{get}
@@ -198,6 +198,16 @@ module _ (w : Parts) (good : IsGood w) where
           let is = context_is (ref_of os) (unframed from.object) c from.meaning in
           subst (PcLies view) is.value (unframed_lies from.place from.object from.element (sym (unframed_context from.object) ∙ is.context))
 
+  -- births are below the next one
+  view_births : (i : ℕ) (o : Obj) → object_at view i ≡ Some o → i < w.roots.next_birth
+  view_births i o h = go (which i w.frames)
+    where
+      go : Which i w.frames → i < w.roots.next_birth
+      go (Framed p f gs on is) = subst (λ n. n < w.roots.next_birth) (sym is) (fits f gs p on).birth
+      go (Bare l) =
+          let from = comes_bare os i o good.whole.heap (sym (onto_bare os w.frames (objects_of (bare os)) i l) ∙ h) in
+          subst (λ n. n < w.roots.next_birth) from.birth (good.whole.births from.place from.object from.element)
+
 -- ---- the world
 
 pub good_sound : (w : Parts) → IsGood w → IsSound (stored_of w) (view_of w)
@@ -206,6 +216,7 @@ good_sound w good =
     record {
       closed = view_closed w good;
       pcs = view_pcs w good;
+      births = view_births w good;
       holds = record {
         whole = good.whole;
         object = λ j x e other. plain_there w good x.birth (obj_of (ref_of os) x) (get-objects_of-element os j x good.whole.heap.apart e) (no_context (ref_of os) x other);
@@ -215,4 +226,5 @@ good_sound w good =
         most = good.most;
         rest = sym (bare_rest os w.classes w.roots (active_in (active_page w)));
       };
+      closures = good.closures;
     }

@@ -1,48 +1,50 @@
--- A method is entered: its receiver and arguments leave the active frame, and its own frame has the context of the model.
-use Rattle.std.proofs.Common.{◌≡◌, ℕ, pos, ◌+◌, ◌-◌, ◌<◌, ◌≤◌, ◌^◌, Bool, true, false, refl, sym, ap, ap₂, subst, ◌∙◌, arith, Some, List, [], ◌∷◌, ◌++◌, length, length-take, length-drop, map, take, drop, zero, suc, replicate, unwrap_or, option_map}
+-- A new frame is made: its receiver and arguments leave the active frame, and it has the context of the model.
+use Rattle.std.proofs.Common.{◌≡◌, ℕ, ◌+◌, ◌-◌, ◌<◌, ◌≤◌, true, false, refl, sym, ap, ap₂, subst, ◌∙◌, arith, Option, Some, None, IsSome, List, [], ◌∷◌, ◌++◌, length, length-take, length-drop, map, take, drop, zero, suc, replicate, unwrap_or, option_map}
 use Rattle.std.specs.Prelude.{slice_get, slice_index}
+use Rattle.std.specs.FinMap.{get}
 use Rattle.std.specs.List.{take-map}
 use Rattle.std.proofs.lemmas.List.{drop-map, length-append, length-map, length-replicate, map-append}
 use Rattle.std.proofs.lemmas.List.Elements.{All-append, All-drop, All-get_or, All-replicate, All-take}
 use Rattle.std.proofs.lemmas.Option.{slice_get-get_or, slice_get-map}
 use Rattle.cs_word.specs.declared.Oop.{Oop}
-use Rattle.cs_word.specs.Word.{kind_of, small_word}
+use Rattle.cs_word.specs.Word.{kind_of}
 use Rattle.cs_word.proofs.Words.{kind_of-link}
-use Rattle.cs_heap.specs.Object.{Object}
-use Rattle.cs_classes.specs.Meaning.{count_of, meaning_at, ref_of}
+use Rattle.cs_heap.specs.Object.{Object, slot_of}
+use Rattle.cs_classes.specs.Meaning.{count_of, objects_of, ref_of}
 use Rattle.cs_classes.specs.Sound.{is_reference, is_reference_kind}
 use Rattle.cs_classes.proofs.Objects.{get-objects_of-fresh}
-use Rattle.cs_classes.proofs.Refs.{count_of-small}
 use Rattle.cs_classes.proofs.Wholes.{next_is_fresh}
-use Rattle.cs_frame.specs.Frame.{Frame, IsValue, cut, nil}
-use Rattle.cs_frame.specs.Page.{IsStacked, frames_of, on_page, used}
+use Rattle.cs_frame.specs.declared.NewFrame.{NewFrame}
+use Rattle.cs_frame.specs.Frame.{Frame, IsPc, IsValue, cut, nil}
+use Rattle.cs_frame.specs.Page.{HoldsValues, IsStacked, frames_of, on_page, used}
 use Rattle.cs_marriage.specs.Agree as marriage
 use Rattle.cs_marriage.specs.Agree.{header_at}
+use Rattle.cs_marriage.proofs.Based.{number_pc}
 use Rattle.cs_marriage.proofs.Laws.{PageFits, agree_on_page, fits_above, fits_below, fits_stack, fits_top, page_fits}
 use Rattle.cs_model.specs.Ref.{Ref}
 use Rattle.cs_model.specs.Ref as ref
-use Rattle.cs_model.specs.Obj.{Context, context_size, lies_in, temporary_count}
+use Rattle.cs_model.specs.Obj.{Context, Obj, context_size}
 use Rattle.cs_model.specs.Obj as obj
 use Rattle.cs_model.specs.Context.{lies_if_index}
 use Rattle.cs_model.specs.State.{Kept, object_of, put}
-use Rattle.cs_model.specs.Read.{active_birth, active_context, depth_of, stack_of}
-use Rattle.cs_model.specs.Operation.{drop_of, enter_of, enter_with, last_values, method_context, nil_of, receiver_below}
+use Rattle.cs_model.specs.Read.{active_birth, depth_of, stack_of}
+use Rattle.cs_model.specs.Operation.{drop_of, enter_with, last_values, nil_of}
+use Rattle.cs_model.specs.Enter.{copied_values}
 use Rattle.cs_acts.specs.Layout.{page_words}
-use Rattle.cs_acts.specs.Names.{IsNamed, name_of}
+use Rattle.cs_acts.specs.Names.{name_of}
 use Rattle.cs_acts.specs.Ready.{IsReady}
-use Rattle.cs_acts.specs.Targets.{CanEnter}
 use Rattle.cs_acts.proofs.Firsts.{nil_names}
-use Rattle.cs_acts.proofs.Sizes.{pc_small}
 use Rattle.cs_pages.specs.Order.{Order}
 use Rattle.cs_stack.specs.declared.parts.Parts.{Parts}
 use Rattle.cs_stack.specs.View.{births_of, frame_context, frame_sender, laid_pages, stored_of, view_of}
 use Rattle.cs_stack.specs.Good.{FrameFits, HasSender, IsGood, Lacks}
-use Rattle.cs_stack.specs.Moved.{callee, entry_of}
+use Rattle.cs_stack.specs.Moved.{CanBegin, begun_context, begun_stack, begun_state, callee, copied_at}
 use Rattle.cs_stack.proofs.Tops.{Edited, Opened, edited, with_frames}
 use Rattle.cs_stack.proofs.Laid as laid
 use Rattle.cs_stack.proofs.Places.{stacked}
 use Rattle.cs_stack.proofs.Adding.{CanAdd, added_parts, added_view, begun_kept}
-use Rattle.cs_stack.proofs.Entries.{Entry, entry}
+use Rattle.cs_stack.proofs.Entries.{IsCode, code_there, size_most}
+use Rattle.cs_stack.proofs.Copies.{Copied, copied_there}
 
 map-replicate : (r : ℕ → Ref) (n w : ℕ) → map r (replicate n w) ≡ replicate n (r w)
 map-replicate r zero w = refl
@@ -123,7 +125,7 @@ module _ {w : Parts} (o : Opened w) where
   pub value_named : (i : ℕ) → i < length o.f.stack → is_reference w.heap.objects (slice_index o.f.stack i) ≡ true
   value_named i there = All-get_or (λ (u : ℕ). is_reference w.heap.objects u ≡ true) o.f.stack i 0 there o.fits.names.stack
 
-  value_name : (i : ℕ) (d : Ref) → i < length o.f.stack → ref_of w.heap.objects (slice_index o.f.stack i) ≡ unwrap_or (slice_get (stack_of (view_of w)) i) d
+  pub value_name : (i : ℕ) (d : Ref) → i < length o.f.stack → ref_of w.heap.objects (slice_index o.f.stack i) ≡ unwrap_or (slice_get (stack_of (view_of w)) i) d
   value_name i d there =
       let got : slice_get o.f.stack i ≡ Some (slice_index o.f.stack i) = slice_get-get_or o.f.stack i 0 there in
       sym (ap (λ (xs : List Ref). unwrap_or (slice_get xs i) d) stack_read
@@ -137,118 +139,130 @@ pages_are w o = ap (laid_pages w.frames) o.recent ∙ ap (λ (fs : List Frame). 
 
 -- ---- the context that is entered
 
-module _ {w : Parts} (good : IsGood w) (ready : IsReady (stored_of w) (view_of w)) (o : Opened w) (method : Oop) (args : ℕ) (skip : Bool)
-    (named : IsNamed (stored_of w) method) (can : CanEnter (view_of w) (name_of (stored_of w) method) args skip) where
+some_pc : (m : Option Obj) (at : Option ℕ) → lies_if_index m at ≡ true → IsSome at
+some_pc m None h = absurd (cc)
+some_pc m (Some pc) h = refl
+
+module _ {w : Parts} (good : IsGood w) (ready : IsReady (stored_of w) (view_of w)) (o : Opened w) {new : NewFrame} {pc : Oop} {copies : ℕ}
+    (can : CanBegin (stored_of w) (view_of w) new pc copies) where
   abbrev os : List Object
   os = w.heap.objects
 
   abbrev k : Kept
   k = view_of w
 
-  abbrev x : Ref
-  x = name_of (stored_of w) method
+  abbrev entered : ℕ → ℕ → Frame
+  entered at sender = callee os new pc.0 copies at sender o.f
 
-  pub e : Entry os (object_of k x) method.0 args skip
-  e = entry (stored_of w) k method args skip ready.sound.holds named can
+  code : IsCode os (object_of k (name_of (stored_of w) new.method)) new.method.0
+  code = code_there (stored_of w) k new.method ready.sound.holds can.method can.code
 
-  abbrev new : ℕ → ℕ → Frame
-  new at sender = callee os method.0 args skip w.roots.next_birth at sender o.f
+  pub copied : Copied os new.closure.0 copies (copied_values k (name_of (stored_of w) new.closure))
+  copied = copied_there (stored_of w) k new.closure copies ready.sound.holds can.closure can.copied
 
-  pub there : args < length o.f.stack
+  pub there : new.args < length o.f.stack
   there = omega (arith, can.there, depth_read o)
+
+  -- few enough for a page
+  pub few : new.args + (new.fill + copies) ≤ 56
+  few = omega (arith, can.fits, size_most (obj.header_in (object_of k (name_of (stored_of w) new.method))))
 
   nil_name : ref_of os nil ≡ nil_of k
   nil_name = (nil_names (stored_of w) k (record { 0 = nil }) ready.sound refl).is
 
-  pub nil_named : is_reference os nil ≡ true
+  nil_named : is_reference os nil ≡ true
   nil_named = (nil_names (stored_of w) k (record { 0 = nil }) ready.sound refl).sound
 
-  pub small : entry_of e.header skip < 2 ^ 30
-  small = omega (arith, pc_small (stored_of w) k method (entry_of e.header skip) ready.sound.holds named e.lies)
-
-  pc_is : count_of (small_word (pos (entry_of (header_at os method.0) skip))) ≡ Some (entry_of e.header skip)
-  pc_is = ap (λ h. count_of (small_word (pos (entry_of h skip)))) e.header_is ∙ count_of-small (entry_of e.header skip) small
-
-  receiver_is : ref_of os (slice_index o.f.stack (length o.f.stack - (args + 1))) ≡ receiver_below args (nil_of k) (stack_of k)
-  receiver_is = value_name o (length o.f.stack - (args + 1)) (nil_of k) (omega (arith, there))
-      ∙ ap (λ n. unwrap_or (slice_get (stack_of k) (n - (args + 1))) (nil_of k)) (sym (depth_read o))
-
   abbrev values : List ℕ
-  values = drop (length o.f.stack - args) o.f.stack ++ replicate (temporary_count (header_at os method.0) - args) nil
+  values = drop (length o.f.stack - new.args) o.f.stack ++ (replicate new.fill nil ++ copied_at os new.closure.0 copies)
 
-  stack_moves : map (ref_of os) values ≡ last_values args (stack_of k) ++ replicate (temporary_count (obj.header_in (object_of k x)) - args) (nil_of k)
+  stack_moves : map (ref_of os) values ≡ last_values new.args (stack_of k) ++ begun_stack (stored_of w) k new copies
   stack_moves =
-      map-append (ref_of os) (drop (length o.f.stack - args) o.f.stack) (replicate (temporary_count (header_at os method.0) - args) nil)
+      map-append (ref_of os) (drop (length o.f.stack - new.args) o.f.stack) (replicate new.fill nil ++ copied_at os new.closure.0 copies)
       ∙ ap₂ (λ (ys zs : List Ref). ys ++ zs)
-      (sym (drop-map (ref_of os) (length o.f.stack - args) o.f.stack) ∙ ap (λ ys. drop (length o.f.stack - args) ys) (sym (stack_read o)) ∙ ap (λ n. drop (n - args) (stack_of k)) (sym (depth_read o)))
-      (map-replicate (ref_of os) (temporary_count (header_at os method.0) - args) nil
-      ∙ ap₂ (λ (h : ℕ) (r : Ref). replicate (temporary_count h - args) r) (e.header_is ∙ sym e.model_header) nil_name)
+      (sym (drop-map (ref_of os) (length o.f.stack - new.args) o.f.stack) ∙ ap (λ ys. drop (length o.f.stack - new.args) ys) (sym (stack_read o)) ∙ ap (λ n. drop (n - new.args) (stack_of k)) (sym (depth_read o)))
+      (map-append (ref_of os) (replicate new.fill nil) (copied_at os new.closure.0 copies)
+      ∙ ap₂ (λ (ys zs : List Ref). ys ++ zs) (map-replicate (ref_of os) new.fill nil ∙ ap (replicate new.fill) nil_name) copied.refer)
 
-  new_context : (at sender : ℕ) (gs : List Frame) → frame_sender os (new at sender) gs ≡ ref.Obj (active_birth k) → frame_context os (new at sender) gs ≡ method_context k x args skip (active_context k)
+  new_context : (at sender : ℕ) (gs : List Frame) → frame_sender os (entered at sender) gs ≡ ref.Obj (active_birth k) → frame_context os (entered at sender) gs ≡ begun_context (stored_of w) k new pc copies
   unfolding frame_context
   new_context at sender gs from = λ i. record {
     hash = 0;
     sender = from i;
-    pc = (pc_is ∙ ap (λ n. Some n) (sym e.pc)) i;
-    method = x;
-    closure = nil_name i;
-    receiver = receiver_is i;
+    pc = count_of pc.0;
+    method = name_of (stored_of w) new.method;
+    closure = name_of (stored_of w) new.closure;
+    receiver = name_of (stored_of w) new.receiver;
     stack = stack_moves i;
-    size = ap context_size (e.header_is ∙ sym e.model_header) i;
+    size = ap context_size code.header_is i;
   }
 
   -- ---- its frame
 
-  few : args ≤ temporary_count (header_at os method.0)
-  few = subst (λ h. args ≤ temporary_count h) (sym e.header_is) e.few
-
-  size_fits : temporary_count (header_at os method.0) ≤ context_size (header_at os method.0)
-  size_fits = subst (λ h. temporary_count h ≤ context_size h) (sym e.header_is) e.fits
-
-  pub long : length values ≡ temporary_count (header_at os method.0)
+  pub long : length values ≡ new.args + (new.fill + copies)
   long =
-      let drops = length-drop (length o.f.stack - args) o.f.stack in
-      let nils = length-replicate (temporary_count (header_at os method.0) - args) nil in
-      let all = length-append (drop (length o.f.stack - args) o.f.stack) (replicate (temporary_count (header_at os method.0) - args) nil) in
-      omega (arith, few, drops, nils, all, there)
+      let drops = length-drop (length o.f.stack - new.args) o.f.stack in
+      let nils = length-replicate new.fill nil in
+      let behind = length-append (replicate new.fill nil) (copied_at os new.closure.0 copies) in
+      let all = length-append (drop (length o.f.stack - new.args) o.f.stack) (replicate new.fill nil ++ copied_at os new.closure.0 copies) in
+      omega (arith, drops, nils, behind, all, there, copied.long)
 
-  pub new_fits : (at sender : ℕ) (gs : List Frame) → at ≡ used gs → at + 66 ≤ 4096 → Lacks w.roots.next_birth gs → HasSender os (new at sender) gs
-      → FrameFits os (w.roots.next_birth + 1) (new at sender) gs
+  size_fits : length values ≤ context_size (header_at os new.method.0)
+  size_fits = subst (λ h. length values ≤ context_size h) (sym code.header_is) (omega (arith, long, can.fits))
+
+  pub new_fits : (at sender : ℕ) (gs : List Frame) → at ≡ used gs → at + 66 ≤ 4096 → Lacks w.roots.next_birth gs → HasSender os (entered at sender) gs
+      → FrameFits os (w.roots.next_birth + 1) (entered at sender) gs
   new_fits at sender gs stands room apart from = record {
     names = record {
-      closure = nil_named;
-      receiver = value_named o (length o.f.stack - (args + 1)) (omega (arith, there));
-      stack = All-append (λ (u : ℕ). is_reference os u ≡ true) (drop (length o.f.stack - args) o.f.stack) (replicate (temporary_count (header_at os method.0) - args) nil)
-          (All-drop (λ (u : ℕ). is_reference os u ≡ true) (length o.f.stack - args) o.f.stack o.fits.names.stack)
-          (All-replicate (λ (u : ℕ). is_reference os u ≡ true) (temporary_count (header_at os method.0) - args) nil nil_named);
+      closure = can.closure;
+      receiver = can.receiver;
+      stack = All-append (λ (u : ℕ). is_reference os u ≡ true) (drop (length o.f.stack - new.args) o.f.stack) (replicate new.fill nil ++ copied_at os new.closure.0 copies)
+          (All-drop (λ (u : ℕ). is_reference os u ≡ true) (length o.f.stack - new.args) o.f.stack o.fits.names.stack)
+          (All-append (λ (u : ℕ). is_reference os u ≡ true) (replicate new.fill nil) (copied_at os new.closure.0 copies)
+          (All-replicate (λ (u : ℕ). is_reference os u ≡ true) new.fill nil nil_named) copied.named);
     };
-    lies = ap (lies_if_index (meaning_at os method.0)) pc_is ∙ ap (λ p. lies_in p (entry_of e.header skip)) e.means ∙ e.lies;
-    fits = omega (arith, long, size_fits);
+    lies = ap (λ p. lies_if_index p (count_of pc.0)) code.means ∙ can.lies;
+    fits = size_fits;
     stands = stands;
     room = room;
-    birth = omega arith;
-    apart = apart;
+    birth = omega (arith, can.birth);
+    apart = subst (λ n. Lacks n gs) (sym can.birth) apart;
     sender = from;
-    alone = λ _. get-objects_of-fresh os w.roots.next_birth (next_is_fresh os w.classes w.roots good.whole);
+    alone = λ _. ap (get (objects_of os)) can.birth ∙ get-objects_of-fresh os w.roots.next_birth (next_is_fresh os w.classes w.roots good.whole);
   }
 
-  pub new_married : (p at sender : ℕ) → at < 4096 → marriage.FrameFits os (record { page = p; at = at }) (new at sender)
+  pub new_married : (p at sender : ℕ) → at < 4096 → marriage.FrameFits os (record { page = p; at = at }) (entered at sender)
   new_married p at sender within = record {
     within = within;
-    method = e.method;
-    stack = omega (arith, long, size_fits);
+    method = code.method;
+    stack = size_fits;
     married = λ some. absurd (some refl);
   }
+
+  -- its pc is a number
+  pub new_pc : IsPc pc.0
+  new_pc = number_pc pc.0 (some_pc (object_of k (name_of (stored_of w) new.method)) (count_of pc.0) can.lies)
+
+  -- what it is given to hold is no link
+  pub new_values : HoldsValues new
+  new_values = record {
+    method = reference_value os new.method.0 can.method;
+    closure = reference_value os new.closure.0 can.closure;
+    receiver = reference_value os new.receiver.0 can.receiver;
+  }
+
+  pub copied_values_hold : (i : ℕ) → i < copies → IsValue (slot_of os new.closure.0 (3 + i))
+  copied_values_hold i h = reference_value os (slot_of os new.closure.0 (3 + i)) (copied.each i h)
 
   -- ---- the state
 
   abbrev w1 : Parts
-  w1 = cut_parts w o args
+  w1 = cut_parts w o new.args
 
-  pub entered_state : (m at sender : ℕ) (order : Order) (fit : CanAdd w1 m (new at sender) order) → frame_sender os (new at sender) (frames_of w1.frames m) ≡ ref.Obj (active_birth k)
-      → view_of (added_parts w1 m (new at sender) order) ≡ enter_of k x args skip
-  unfolding enter_of enter_with drop_of put
+  pub entered_state : (m at sender : ℕ) (order : Order) (fit : CanAdd w1 m (entered at sender) order) → frame_sender os (entered at sender) (frames_of w1.frames m) ≡ ref.Obj (active_birth k)
+      → view_of (added_parts w1 m (entered at sender) order) ≡ begun_state (stored_of w) k new pc copies
+  unfolding enter_with drop_of put
   entered_state m at sender order fit from =
-      let cut_done = cut_edited w good o args in
-      added_view w1 cut_done.good m (new at sender) order fit
+      let cut_done = cut_edited w good o new.args in
+      added_view w1 cut_done.good m (entered at sender) order fit
       ∙ ap₂ begun_kept cut_done.view (new_context at sender (frames_of w1.frames m) from)

@@ -82,6 +82,36 @@ entry_lies : (n count : ℕ) (skip : Bool) → (skip ≡ true → 3 ≤ count) �
 entry_lies n count true enough = let e = enough refl in grind (arith, nat_tests, e)
 entry_lies n count false enough = grind (arith, nat_tests)
 
+-- ---- what heap and frames have of it
+
+-- the same header and the same bytecodes
+pub record IsCode (os : List Object) (o : Option Obj) (m : ℕ) : Type 0 where
+  pub header_is : header_at os m ≡ obj.header_in o
+  pub method : marriage.IsMethodAt os m
+  pub means : meaning_at os m ≡ o
+
+pub code_there : (s : Store) (k : Kept) (o : Oop) → Holds s k → IsNamed s o → obj.is_method (object_of k (name_of s o)) ≡ true
+    → IsCode s.memory.objects (object_of k (name_of s o)) o.0
+code_there s k o holds named is =
+    let os = s.memory.objects in
+    let found = object_of k (name_of s o) in
+    let m = method_named s k o holds named is in
+    record {
+      header_is = header_is os found o.0 m ∙ sym (ap obj.header_in m.means);
+      method = record {
+        format = ap (λ p. is_method (option_map_or (λ (x : Object). x.format) p 0)) m.there ∙ m.format;
+        header = omega (arith, slots_fit os found o.0 m);
+      };
+      means = ap (option_map (obj_of (ref_of os))) m.there ∙ ap (λ y. Some y) (obj_of-method (ref_of os) m.object (method_other os m.object m.sound m.format) (not_pointers m.object.format m.format) m.format) ∙ sym m.means;
+    }
+
+pub size_most : (h : ℕ) → context_size h ≤ 56
+size_most h = by_flag (h / 2 ^ 17 % 2 == 1)
+  where
+    by_flag : (b : Bool) → (if b then 56 else 16) ≤ 56
+    by_flag true = omega arith
+    by_flag false = omega arith
+
 -- ---- what is entered
 
 -- what the code and the model read of the method at the address m
@@ -89,14 +119,11 @@ pub record Entry (os : List Object) (o : Option Obj) (m args : ℕ) (skip : Bool
   pub header : ℕ
   pub header_is : header_at os m ≡ header
   pub model_header : obj.header_in o ≡ header
-  pub method : marriage.IsMethodAt os m
   pub takes : argument_count header ≡ args
   pub few : args ≤ temporary_count header
   pub fits : temporary_count header ≤ context_size header
-  pub most : temporary_count header ≤ 56
   pub pc : entry_pc o skip ≡ entry_of header skip
   pub lies : lies_in o (entry_of header skip) ≡ true
-  pub means : meaning_at os m ≡ o
 
 less : (a b : ℕ) → nat_le a b ≡ true → a ≤ b
 less a b h = grind (arith, nat_tests, h)
@@ -106,16 +133,6 @@ and_three true true true h = (refl, refl)
 and_three true true false h = absurd (cc)
 and_three true false c h = absurd (cc)
 and_three false b c h = absurd (cc)
-
-most_size : (header : ℕ) → temporary_count header ≤ context_size header → temporary_count header ≤ 56
-most_size header fits = omega (arith, fits, size header)
-  where
-    size : (h : ℕ) → context_size h ≤ 56
-    size h = by_flag (h / 2 ^ 17 % 2 == 1)
-      where
-        by_flag : (b : Bool) → (if b then 56 else 16) ≤ 56
-        by_flag true = omega arith
-        by_flag false = omega arith
 
 pub entry : (s : Store) (k : Kept) (o : Oop) (args : ℕ) (skip : Bool) → Holds s k → IsNamed s o → CanEnter k (name_of s o) args skip
     → Entry s.memory.objects (object_of k (name_of s o)) o.0 args skip
@@ -138,17 +155,11 @@ entry s k o args skip holds named can =
       header = header;
       header_is = header_is os found o.0 m;
       model_header = model;
-      method = record {
-        format = ap (λ p. is_method (option_map_or (λ (x : Object). x.format) p 0)) m.there ∙ m.format;
-        header = omega (arith, slots_fit os found o.0 m);
-      };
       takes = takes;
       few = omega (arith, less (argument_count header) (temporary_count header) valid.0, takes);
       fits = less (temporary_count header) (context_size header) valid.1;
-      most = most_size header (less (temporary_count header) (context_size header) valid.1);
       pc = ap (λ n. 4 * (n + 1) + 1 + (if skip then 3 else 0)) literals;
       lies = ap (λ p. lies_in p (entry_of header skip)) m.means
           ∙ ap (λ n. nat_le (4 * (n + 1) + 1) (entry_of header skip) && nat_le (entry_of header skip) (4 * (n + 1) + 1 + length bytes)) (length-map (literals_in words) (ref_of os) ∙ length-literals os found o.0 m)
           ∙ entry_lies (literal_count header) (length bytes) skip enough;
-      means = ap (option_map (obj_of (ref_of os))) m.there ∙ ap (λ y. Some y) (obj_of-method (ref_of os) m.object (method_other os m.object m.sound m.format) (not_pointers m.object.format m.format) m.format) ∙ sym m.means;
     }

@@ -24,7 +24,7 @@ use Rattle.cs_stack.specs.View.{active_page, bare, laid_pages, layout_of, stored
 use Rattle.cs_stack.specs.Good.{IsGood}
 use Rattle.cs_stack.specs.Moved.{Takes, Unwound, active_number, based_parts}
 use Rattle.cs_stack.proofs.Based.{based_contexts, based_good, based_layout, based_names, based_view}
-use Rattle.cs_stack.proofs.Leaving.{Target, tell}
+use Rattle.cs_stack.proofs.Leaving.{Target, next_of, tell}
 use Rattle.cs_stack.proofs.Rebasing.{IsLive, bare_objects, can_base, live_at}
 use Rattle.cs_stack.proofs.Tops.{Opened}
 use Rattle.cs_stack.proofs.Unwinding.{freed_good, laid_alone, other, recent_is, sender_at, to_below, to_page, unwinds}
@@ -44,10 +44,10 @@ module _ {w : Parts} (good : IsGood w) (ready : IsReady (stored_of w) (view_of w
   u = record w { frames = on_page w.frames o.p rest_of; pages = pages }
 
   pub good_freed : IsGood u
-  good_freed = freed_good good ready o g alone pages free.freed free.free free.others free.sound
+  good_freed = freed_good good ready o (next_of g) alone pages free.freed free.free free.others free.sound
 
   recent : pages.recent ≡ o.qs
-  recent = recent_is good ready o g alone pages free.freed free.free free.others free.sound
+  recent = recent_is good ready o (next_of g) alone pages free.freed free.free free.others free.sound
 
   -- ---- no other page is used
 
@@ -62,7 +62,7 @@ module _ {w : Parts} (good : IsGood w) (ready : IsReady (stored_of w) (view_of w
     live = sym (ap (λ p. is_some (option_and_then (λ (c : Context). c.pc) (context_in p))) g.sends.there) ∙ g.arrives.live
 
     sender : (is_object os o.f.caller ≡ true) × (birth_of os o.f.caller ≡ g.t)
-    sender = sender_at good ready o g alone pages free.freed free.free free.others free.sound
+    sender = sender_at good ready o (next_of g) alone pages free.freed free.free free.others free.sound
 
     pub sender_live : IsLive os o.f.caller
     sender_live = live_at os w.classes w.roots o.f.caller g.t g.c good.whole sender.0 sender.1 found live
@@ -85,7 +85,7 @@ module _ {w : Parts} (good : IsGood w) (ready : IsReady (stored_of w) (view_of w
         state = unwinds good ready o pages g.t (view_of (based_parts page o.f.caller u))
             (based_view good_freed none o.f.caller sender_live page unused nil_named ∙ ap (λ n. record (view_of u) { rest = record (view_of w).rest { active = Some n } }) sender.1);
         layout = subst (λ l. LaidBy (left g.t) l (layout_of (based_parts page o.f.caller u)))
-            (sym (laid_alone good ready o g alone pages free.freed free.free free.others free.sound
+            (sym (laid_alone good ready o (next_of g) alone pages free.freed free.free free.others free.sound
             ∙ ap (λ ns. Some (record { most = w.pages.total; pages = (o.f.birth ∷ []) ∷ laid_pages w.frames ns })) last)) laid;
         names = based_names good_freed none o.f.caller sender_live page unused nil_named;
       }
@@ -100,7 +100,7 @@ module _ {w : Parts} (good : IsGood w) (ready : IsReady (stored_of w) (view_of w
     where
       go : (ns : List ℕ) → o.qs ≡ ns → Unwound w u g.t
       go [] e = absurd (some (recent ∙ e))
-      go (q ∷ rs) e = to_page good ready o g alone pages free.freed free.free free.others free.sound q rs e
+      go (q ∷ rs) e = to_page good ready o (next_of g) alone pages free.freed free.free free.others free.sound q rs e
 
 -- ---- what a call sees
 
@@ -140,7 +140,7 @@ module _ {w : Parts} (o : Opened w) (r : FrameRef) (at_top : r ≡ ref_of (activ
     where
       go : (fs : List Frame) → o.fs ≡ fs → Unwound w (record w { frames = on_page w.frames o.p rest_of }) g.t
       go [] e = absurd (is_above above e)
-      go (d ∷ ds) e = to_below good ready o g d ds e
+      go (d ∷ ds) e = to_below good ready o (next_of g) d ds e
 
   -- ---- the page is given back
 

@@ -1,5 +1,5 @@
 -- A return: the active context dies, and its sender gets the value.
-use Rattle.std.proofs.Common.{◌≡◌, ℕ, ◌<◌, true, refl, sym, ap, subst, ◌∙◌, arith, Option, Some, None, length, unwrap_or}
+use Rattle.std.proofs.Common.{◌≡◌, ℕ, ◌<◌, true, refl, sym, ap, subst, ◌∙◌, arith, Option, Some, None, IsSome, length, unwrap_or}
 use Rattle.std.specs.Prelude.{IfSome, IsSomeAnd, nat_lt}
 use Rattle.std.proofs.lemmas.Bool.Decides.{nat_tests}
 use Rattle.cs_word.specs.declared.Oop.{Oop}
@@ -30,6 +30,28 @@ pub record Target (w : Parts) : Type 0 where
   pub arrives : CanArrive (view_of w) t
   pub sends : Sends (view_of w) (active_context (view_of w)).sender t c
 
+-- the same of one that need not take a value
+pub record Next (w : Parts) : Type 0 where
+  pub t : ℕ
+  pub is : sender_birth (view_of w) (active_birth (view_of w)) ≡ Some t
+  pub c : Context
+  pub sends : Sends (view_of w) (active_context (view_of w)).sender t c
+
+abbrev pub next_of : {w : Parts} → Target w → Next w
+next_of g = record { t = g.t; is = g.is; c = g.c; sends = g.sends }
+
+pub next_at : (w : Parts) (t : ℕ) → IsReady (stored_of w) (view_of w) → sender_birth (view_of w) (active_birth (view_of w)) ≡ Some t → Next w
+next_at w t ready e =
+    let found = sender_found (view_of w) t ready.running e in
+    record { t = t; is = e; c = found.0; sends = found.1 }
+
+pub next_some : (w : Parts) → IsReady (stored_of w) (view_of w) → IsSome (sender_birth (view_of w) (active_birth (view_of w))) → Next w
+next_some w ready some = go (sender_birth (view_of w) (active_birth (view_of w))) refl some
+  where
+    go : (o : Option ℕ) → sender_birth (view_of w) (active_birth (view_of w)) ≡ o → IsSome o → Next w
+    go None e some = absurd (cc)
+    go (Some t) e some = next_at w t ready e
+
 pub target : (w : Parts) → IsReady (stored_of w) (view_of w) → IsSomeAnd (sender_birth (view_of w) (active_birth (view_of w))) (CanArrive (view_of w)) → Target w
 target w ready can = go (sender_birth (view_of w) (active_birth (view_of w))) refl can
   where
@@ -46,10 +68,10 @@ told g P h = subst (λ o. IfSome o P) g.is h
 pub tell : {w : Parts} (g : Target w) (P : ℕ → Type 0) → P g.t → IfSome (sender_birth (view_of w) (active_birth (view_of w))) P
 tell g P h = subst (λ o. IfSome o P) (sym g.is) h
 
-less : (a b : ℕ) → nat_lt a b ≡ true → a < b
+pub less : (a b : ℕ) → nat_lt a b ≡ true → a < b
 less a b h = grind (arith, nat_tests, h)
 
-push_active : (k : Kept) (x : Ref) → (push_of k x).rest.active ≡ k.rest.active
+pub push_active : (k : Kept) (x : Ref) → (push_of k x).rest.active ≡ k.rest.active
 unfolding push_of put
 push_active k x = refl
 

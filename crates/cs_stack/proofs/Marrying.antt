@@ -673,6 +673,7 @@ module _ (w : Parts) (good : IsGood w) (r : FrameRef) (is : IsFrame w.frames r) 
     used_pages = λ p. subst (λ n. Contains w.pages.recent p ↔ (0 < n)) (sym (length_alike (frames_of qs p) (frames_of w.frames p) (page_births p))) (good.used_pages p);
     chain = chain_still w.pages.recent good.chain;
     entry = good.entry;
+    closures = good.closures;
   }
 
 -- ---- the call

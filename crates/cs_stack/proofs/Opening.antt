@@ -27,6 +27,7 @@ use Rattle.cs_marriage.specs.Place.{names_place}
 use Rattle.cs_marriage.proofs.Laws.{agree_empty}
 use Rattle.cs_pages.specs.Order.{Order}
 use Rattle.cs_pages.specs.Order as pages
+use Rattle.cs_model.specs.Context.{closure_class}
 use Rattle.cs_model.specs.Ref.{Ref}
 use Rattle.cs_model.specs.Obj.{Context, Ctx, context_class, is_context_at, lies_in}
 use Rattle.cs_model.specs.Context.{lies_if_live}
@@ -160,7 +161,8 @@ module _ (l : Loaded) (n : ℕ) (order : Order) (frames : List (List Frame)) (wh
 
   module _ (few : n ≤ 64) (within : used l.heap.objects ≤ l.heap.limit) (most : l.heap.limit ≤ 67108864) (births : l.roots.next_birth ≤ 4611686018427387904)
       (pcs : (i : ℕ) (c : Context) → state.object_at (loaded_kept l) i ≡ Some (Ctx c) → PcLies (loaded_kept l) c)
-      (plain : is_context_at (state.object_at (loaded_kept l) (loaded_kept l).rest.nil) ≡ false) (sound : pages.IsSound order) where
+      (plain : is_context_at (state.object_at (loaded_kept l) (loaded_kept l).rest.nil) ≡ false) (sound : pages.IsSound order)
+      (closures : is_some (get l.classes closure_class) ≡ true) where
     pub made_good : IsGood made
     made_good = record {
       whole = whole;
@@ -177,6 +179,7 @@ module _ (l : Loaded) (n : ℕ) (order : Order) (frames : List (List Frame)) (wh
       used_pages = used_none;
       chain = subst (IsChain frames) (sym recent) tt;
       entry = λ some. absurd (omega (arith, some, ap length recent));
+      closures = closures;
     }
 
     -- the state is that of the image

@@ -1,18 +1,24 @@
--- A method is entered where no room is left on the page: the caller is married first, and a call that is refused has its cause.
-use Rattle.std.proofs.Common.{◌≡◌, ◌≢◌, ℕ, ◌+◌, ◌<◌, ◌≤◌, Bool, true, false, refl, sym, ap, ap₂, subst, ◌∙◌, arith, Option, Some, None, List, [], ◌∷◌, length, zero, suc, inl, inr}
+-- A new frame where no room is left on the page: the caller is married first, and a call that is refused has its cause.
+use Rattle.std.proofs.Common.{◌≡◌, ◌≢◌, ℕ, ◌+◌, ◌<◌, ◌≤◌, Bool, true, false, refl, sym, ap, ap₂, subst, ◌∙◌, arith, Option, Some, None, List, [], ◌∷◌, ◌++◌, length, take, replicate, zero, suc, inl, inr}
 use Rattle.std.specs.Prelude.{◌==◌, nat_le, if◌then◌else◌}
 use Rattle.std.specs.FinMap.{get, insert}
 use Rattle.std.proofs.lemmas.Bool.Decides.{eqb_tells}
 use Rattle.cs_word.specs.declared.Oop.{Oop}
+use Rattle.cs_classes.specs.Meaning.{count_of}
 use Rattle.cs_frame.specs.declared.FrameRef.{FrameRef}
+use Rattle.cs_frame.specs.declared.NewFrame.{NewFrame}
 use Rattle.cs_frame.specs.Frame.{Frame}
 use Rattle.cs_frame.specs.Page.{frames_of, ref_of, top, used}
 use Rattle.cs_model.specs.Ref.{Ref}
-use Rattle.cs_model.specs.Obj.{Ctx, popped}
-use Rattle.cs_model.specs.State.{Kept, object_at, put}
-use Rattle.cs_model.specs.Read.{IsRunning, active_birth, active_context}
-use Rattle.cs_model.specs.Operation.{drop_of, enter_of, enter_with, method_context}
+use Rattle.cs_model.specs.Ref as ref
+use Rattle.cs_model.specs.Obj.{Context, Ctx, context_size, header_in, is_method, popped}
+use Rattle.cs_model.specs.State.{Kept, object_at, object_of, put}
+use Rattle.cs_model.specs.Read.{IsRunning, active_birth, active_context, stack_of}
+use Rattle.cs_model.specs.Operation.{drop_of, enter_of, enter_with, last_values, nil_of}
+use Rattle.cs_model.specs.Enter.{copied_values, enter_block_of}
+use Rattle.cs_model.specs.Context.{lies_if_index}
 use Rattle.cs_model.specs.Keeps.{Keeps}
+use Rattle.cs_model.proofs.Entering.{enter_block_moved}
 use Rattle.cs_model.proofs.Operating.{enter_moved}
 use Rattle.cs_model.proofs.Same.{same}
 use Rattle.cs_acts.proofs.Held.{named_held}
@@ -26,28 +32,27 @@ use Rattle.cs_acts.specs.Layout.{LaidBy, Layout, entered, first_page, page_words
 use Rattle.cs_acts.specs.Made.{made_by_entering}
 use Rattle.cs_acts.specs.Names.{IsNamed, KeepsNames, Store, name_of}
 use Rattle.cs_acts.specs.Ready.{IsReady}
-use Rattle.cs_acts.specs.Targets.{CanEnter}
 use Rattle.cs_stack.specs.declared.parts.Parts.{Parts}
 use Rattle.cs_stack.specs.View.{act_of, active_page, birth_from, laid_pages, layout_of, stored_of, view_of}
 use Rattle.cs_stack.specs.Good.{IsGood, Lacks}
-use Rattle.cs_stack.specs.Moved.{IsContextOf, Takes, active_number, begun_parts}
+use Rattle.cs_stack.specs.Moved.{CanBegin, IsContextOf, Takes, active_number, begun_parts, begun_state}
 use Rattle.cs_stack.proofs.Maps.{Objects, get_apart, get_here}
 use Rattle.cs_stack.proofs.Tops.{Opened, good_ready, opened, opened_at, ready_again}
 use Rattle.cs_stack.proofs.Entering.{pages_are, words_used}
 use Rattle.cs_stack.proofs.Called.{number_is, top_frame, top_ref}
 use Rattle.cs_stack.proofs.Begun.{at_least, begun_good, begun_layout, begun_view}
 
--- ---- the words of a state in which a method is entered
+-- ---- the words of a state in which a context is entered
 
-module _ (k : Kept) (x : Ref) (args : ℕ) (skip : Bool) (running : IsRunning k) where
+module _ (k : Kept) (args : ℕ) (new : Context → Context) (running : IsRunning k) where
   abbrev t : Kept
-  t = enter_of k x args skip
+  t = enter_with k args new
 
   same_words : (i : ℕ) → i < k.rest.next → words_at (object_at k i) ≡ words_at (object_at t i)
-  unfolding enter_of enter_with drop_of put
+  unfolding enter_with drop_of put
   same_words i below =
       let cut : Objects = insert k.objects (active_birth k) (Ctx (popped (args + 1) (active_context k))) in
-      let apart : object_at t i ≡ get cut i = get_apart cut k.rest.next i (Ctx (method_context k x args skip (active_context k))) (λ e. omega (arith, e, below)) in
+      let apart : object_at t i ≡ get cut i = get_apart cut k.rest.next i (Ctx (new (active_context k))) (λ e. omega (arith, e, below)) in
       elim (eqb_tells i (active_birth k)) [
         | inl e ↦ ap words_at (ap (object_at k) e.1 ∙ running.found)
             ∙ sym (ap words_at (apart ∙ ap (get cut) e.1 ∙ get_here k.objects (active_birth k) (Ctx (popped (args + 1) (active_context k)))))
@@ -60,7 +65,7 @@ module _ (k : Kept) (x : Ref) (args : ℕ) (skip : Bool) (running : IsRunning k)
   same_below (suc n) le = ap₂ (λ a b. a + b) (same_below n (omega (arith, le))) (same_words n (omega (arith, le)))
 
   pub words_more : words_in k ≤ words_in t
-  unfolding enter_of enter_with words_below
+  unfolding enter_with words_below
   words_more =
       let next : k.rest.next + 1 ≡ suc k.rest.next = omega arith in
       let less : words_below k.rest.next t ≤ words_below (suc k.rest.next) t = omega arith in
@@ -125,6 +130,36 @@ abbrev pages_in : Option Layout → List (List ℕ)
 pages_in None = []
 pages_in (Some l) = l.pages
 
+-- what a frame is begun with is still there, and means the same
+module _ {s t : Store} {k l : Kept} (names : KeepsNames s t) (view : l ≡ k) {new : NewFrame} {pc : Oop} {copies : ℕ} (can : CanBegin s k new pc copies) where
+  pub can_begin_still : CanBegin t l new pc copies
+  can_begin_still = subst (λ j. CanBegin t j new pc copies) (sym view) (record {
+    method = (names new.method can.method).sound;
+    closure = (names new.closure can.closure).sound;
+    receiver = (names new.receiver can.receiver).sound;
+    code = ap (λ x. is_method (object_of k x)) (names new.method can.method).is ∙ can.code;
+    lies = ap (λ x. lies_if_index (object_of k x) (count_of pc.0)) (names new.method can.method).is ∙ can.lies;
+    copied = subst (λ x. copies ≤ length (copied_values k x)) (sym (names new.closure can.closure).is) can.copied;
+    there = can.there;
+    fits = subst (λ x. new.args + (new.fill + copies) ≤ context_size (header_in (object_of k x))) (sym (names new.method can.method).is) can.fits;
+    birth = can.birth;
+    births = can.births;
+  })
+
+  pub begun_state_still : begun_state t l new pc copies ≡ begun_state s k new pc copies
+  begun_state_still =
+      ap (λ j. begun_state t j new pc copies) view
+      ∙ (λ i. enter_with k new.args (λ _. record {
+        hash = 0;
+        sender = ref.Obj (active_birth k);
+        pc = count_of pc.0;
+        method = (names new.method can.method).is i;
+        closure = (names new.closure can.closure).is i;
+        receiver = (names new.receiver can.receiver).is i;
+        stack = last_values new.args (stack_of k) ++ (replicate new.fill (nil_of k) ++ take copies (copied_values k ((names new.closure can.closure).is i)));
+        size = context_size (header_in (object_of k ((names new.method can.method).is i)));
+      }))
+
 module _ {w v : Parts} (good : IsGood w) (ready : IsReady (stored_of w) (view_of w)) {r : FrameRef} {a : ℕ} (m : Marries w v r a)
     (place : r ≡ ref_of (active_number w) (top (active_page w))) where
   pub married_ready : IsReady (stored_of v) (view_of v)
@@ -167,26 +202,23 @@ module _ {w v : Parts} (good : IsGood w) (ready : IsReady (stored_of w) (view_of
       ∙ ap₂ (λ k l. page_words k (first_page (pages_in l))) m.view m.layout
       ∙ first_words w good o
 
-  module _ (method : Oop) (args : ℕ) (skip : Bool) (named : IsNamed (stored_of w) method) (can : CanEnter (view_of w) (name_of (stored_of w) method) args skip) where
-    named_still : IsNamed (stored_of v) method
-    named_still = (m.names method named).sound
+  module _ {new : NewFrame} {pc : Oop} {copies : ℕ} (can : CanBegin (stored_of w) (view_of w) new pc copies) where
+    can_still : CanBegin (stored_of v) (view_of v) new pc copies
+    can_still = can_begin_still m.names m.view can
 
-    can_still : CanEnter (view_of v) (name_of (stored_of v) method) args skip
-    can_still = subst (λ k. CanEnter k (name_of (stored_of v) method) args skip) (sym m.view) (subst (λ x. CanEnter (view_of w) x args skip) (sym (m.names method named).is) can)
-
-    module _ {z : Parts} (t : Takes v.pages z (λ page. begun_parts page a method.0 args skip v)) where
+    module _ {z : Parts} (t : Takes v.pages z (λ page. begun_parts page a new pc.0 copies v)) where
       pub overflowed_good : IsGood z
-      overflowed_good = subst IsGood (sym t.is) (begun_good m.good married_ready u method args skip named_still can_still t.page t.free a married_context m.context.1)
+      overflowed_good = subst IsGood (sym t.is) (begun_good m.good married_ready u can_still t.page t.free a married_context m.context.1)
 
-      pub overflowed_view : view_of z ≡ enter_of (view_of w) (name_of (stored_of w) method) args skip
+      pub overflowed_view : view_of z ≡ begun_state (stored_of w) (view_of w) new pc copies
       overflowed_view =
           ap view_of t.is
-          ∙ begun_view m.good married_ready u method args skip named_still can_still t.page t.free a married_context m.context.1
-          ∙ ap₂ (λ k x. enter_of k x args skip) m.view (m.names method named).is
+          ∙ begun_view m.good married_ready u can_still t.page t.free a married_context m.context.1
+          ∙ begun_state_still m.names m.view can
 
       pub overflowed_layout : 4096 < used (active_page w) + 66 → LaidBy (entered (view_of w) w.roots.next_birth) (layout_of w) (layout_of z)
       overflowed_layout full =
-          let laid = begun_layout m.good married_ready u method args skip named_still can_still t.page t.free a married_context m.context.1 (omega (arith, full, same_used)) in
+          let laid = begun_layout m.good married_ready u can_still t.page t.free a married_context m.context.1 (omega (arith, full, same_used)) in
           subst (λ l. LaidBy (entered (view_of w) w.roots.next_birth) l (layout_of z)) m.layout
           (subst (λ (k : Kept). LaidBy (entered k k.rest.next) (layout_of v) (layout_of z)) m.view
           (subst (λ (y : Parts). LaidBy (entered (view_of v) v.roots.next_birth) (layout_of v) (layout_of y)) (sym t.is) laid))
@@ -207,3 +239,18 @@ entered_keeps w v method args skip ready named view m keeps =
 pub entered_ready : (w v : Parts) (method : Oop) (args : ℕ) (skip : Bool) → IsGood v → view_of v ≡ enter_of (view_of w) (name_of (stored_of w) method) args skip → IsReady (stored_of v) (view_of v)
 entered_ready w v method args skip good view =
     good_ready v good (opened_at v _ good (ap (λ (k : Kept). k.rest.active) view ∙ entered_active (view_of w) (name_of (stored_of w) method) args skip))
+
+block_active : (k : Kept) (x : Ref) (args : ℕ) → (enter_block_of k x args).rest.active ≡ Some k.rest.next
+unfolding enter_block_of enter_with
+block_active k x args = refl
+
+pub block_keeps : (w v : Parts) (closure : Oop) (args : ℕ) → IsReady (stored_of w) (view_of w) → IsNamed (stored_of w) closure
+    → view_of v ≡ enter_block_of (view_of w) (name_of (stored_of w) closure) args
+    → (m : Kept) → Keeps (view_of w) m → Keeps (view_of v) (enter_block_of m (name_of (stored_of w) closure) args)
+block_keeps w v closure args ready named view m keeps =
+    let held = named_held (stored_of w) (view_of w) closure ready.sound.holds named in
+    subst (λ u. Keeps u (enter_block_of m (name_of (stored_of w) closure) args)) (sym view) (enter_block_moved keeps (same (name_of (stored_of w) closure) held) args).keeps
+
+pub block_ready : (w v : Parts) (closure : Oop) (args : ℕ) → IsGood v → view_of v ≡ enter_block_of (view_of w) (name_of (stored_of w) closure) args → IsReady (stored_of v) (view_of v)
+block_ready w v closure args good view =
+    good_ready v good (opened_at v _ good (ap (λ (k : Kept). k.rest.active) view ∙ block_active (view_of w) (name_of (stored_of w) closure) args))

@@ -398,6 +398,7 @@ module _ (w : Parts) (good : IsGood w) (o i x : ℕ) (can : Storable (stored_of 
           used_pages = good.used_pages;
           chain = good.chain;
           entry = good.entry;
+          closures = good.closures;
         };
         view = ap (λ m. at m (kept_of (bare us) w.classes w.roots active).rest) map_is
             ∙ ap (at (insert (pages_onto w.heap.objects ps (objects_of (bare w.heap.objects))) can.x.birth (changed was))) rest ∙ sym store_is;

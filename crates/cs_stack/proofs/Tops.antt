@@ -162,6 +162,7 @@ module _ (w : Parts) (good : IsGood w) (o : Opened w) (e : Frame) (h : Context â
     used_pages = used_pages;
     chain = chain_alike w.frames new (Î» q. alike_back (alike q)) w.pages.recent good.chain;
     entry = good.entry;
+    closures = good.closures;
   }
 
   abbrev below : Objects

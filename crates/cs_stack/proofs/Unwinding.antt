@@ -37,7 +37,7 @@ use Rattle.cs_stack.proofs.Dying.{widow}
 use Rattle.cs_stack.proofs.Dropping.{chain_apart, chain_first, chain_rest, gone_fit, gone_here, gone_other, laid_apart, onto_gone, onto_kept, touched_first}
 use Rattle.cs_stack.proofs.Framed.{AllFit, IsOn, all_fit, here}
 use Rattle.cs_stack.proofs.Laid.{off_births}
-use Rattle.cs_stack.proofs.Leaving.{Target}
+use Rattle.cs_stack.proofs.Leaving.{Next}
 use Rattle.cs_stack.proofs.Places.{good_stacked, married_on}
 use Rattle.cs_stack.proofs.Tops.{Opened, contexts_known}
 
@@ -109,6 +109,7 @@ module _ {w : Parts} (good : IsGood w) (ready : IsReady (stored_of w) (view_of w
         used_pages = ordered.used_pages;
         chain = ordered.chain;
         entry = λ _. contexts_known w good o;
+        closures = good.closures;
       }
 
   nil_name : ref_of os nil ≡ ref.Obj (view_of w).rest.nil
@@ -120,7 +121,7 @@ module _ {w : Parts} (good : IsGood w) (ready : IsReady (stored_of w) (view_of w
   here_is : (pages : Order) → state.object_at (view_of (dropped pages)) (active_birth (view_of w)) ≡ get (objects_of (bare os)) o.f.birth
   here_is pages = ap (state.object_at (view_of (dropped pages))) o.birth ∙ onto_gone o.p o.f o.fs fit o.is (objects_of (bare os))
 
-  died : (pages : Order) → (state.object_at (view_of (dropped pages)) (active_birth (view_of w)) ≡ None)
+  pub died : (pages : Order) → (state.object_at (view_of (dropped pages)) (active_birth (view_of w)) ≡ None)
       ⊎ (state.object_at (view_of (dropped pages)) (active_birth (view_of w)) ≡ Some (Ctx (dead (view_of w).rest.nil (active_context (view_of w)))))
   died pages = elim (cases_eq o.f.context nil) [
     | inl none ↦ inl (here_is pages ∙ bare_none os o.f.birth good.whole.heap (o.fits.alone none))
@@ -141,14 +142,14 @@ module _ {w : Parts} (good : IsGood w) (ready : IsReady (stored_of w) (view_of w
   chain : IsChain w.frames (o.p ∷ o.qs)
   chain = subst (IsChain w.frames) o.recent good.chain
 
-  laid : layout_of w ≡ Some (record { most = w.pages.total; pages = births_of (o.f ∷ o.fs) ∷ laid_pages w.frames o.qs })
+  pub laid : layout_of w ≡ Some (record { most = w.pages.total; pages = births_of (o.f ∷ o.fs) ∷ laid_pages w.frames o.qs })
   laid = ap (λ ns. Some (record { most = w.pages.total; pages = laid_pages w.frames ns })) o.recent
       ∙ ap (λ fs. Some (record { most = w.pages.total; pages = births_of fs ∷ laid_pages w.frames o.qs })) o.is
 
   total_kept : w.pages.total ≡ length (on_page w.frames o.p rest_of)
   total_kept = good.total ∙ sym (length-on_page w.frames o.p rest_of)
 
-  module _ (g : Target w) where
+  module _ (g : Next w) where
     pub sender_is : ref.Obj g.t ≡ frame_sender os o.f o.fs
     unfolding frame_context
     sender_is = sym g.sends.is ∙ ap (λ c. c.sender) o.context
@@ -189,7 +190,7 @@ module _ {w : Parts} (good : IsGood w) (ready : IsReady (stored_of w) (view_of w
       page_is : active_page (dropped w.pages) ≡ d ∷ ds
       page_is = ap (first_of (on_page w.frames o.p rest_of)) o.recent ∙ stays
 
-      laid_now : layout_of (dropped w.pages) ≡ Some (record { most = w.pages.total; pages = births_of (d ∷ ds) ∷ laid_pages w.frames o.qs })
+      pub laid_now : layout_of (dropped w.pages) ≡ Some (record { most = w.pages.total; pages = births_of (d ∷ ds) ∷ laid_pages w.frames o.qs })
       laid_now = ap (λ ns. Some (record { most = w.pages.total; pages = laid_pages (on_page w.frames o.p rest_of) ns })) o.recent
           ∙ ap (λ fs. Some (record { most = w.pages.total; pages = births_of fs ∷ laid_pages (on_page w.frames o.p rest_of) o.qs })) stays
           ∙ ap (λ pages. Some (record { most = w.pages.total; pages = births_of (d ∷ ds) ∷ pages })) (laid_apart w.frames o.p rest_of o.qs off)
@@ -238,7 +239,7 @@ module _ {w : Parts} (good : IsGood w) (ready : IsReady (stored_of w) (view_of w
       pub freed_good : IsGood (dropped pages)
       freed_good = good_dropped pages freed_ordered
 
-      laid_freed : layout_of (dropped pages) ≡ Some (record { most = w.pages.total; pages = laid_pages w.frames o.qs })
+      pub laid_freed : layout_of (dropped pages) ≡ Some (record { most = w.pages.total; pages = laid_pages w.frames o.qs })
       laid_freed = ap (λ (n : Order). Some (record { most = n.total; pages = laid_pages (on_page w.frames o.p rest_of) pages.recent })) freed
           ∙ ap (λ ns. Some (record { most = w.pages.total; pages = laid_pages (on_page w.frames o.p rest_of) ns })) recent_is
           ∙ ap (λ ns. Some (record { most = w.pages.total; pages = ns })) (laid_apart w.frames o.p rest_of o.qs off)

@@ -1,3 +1,4 @@
 pub mod View
 pub mod Good
 pub mod Moved
+pub mod Cuts

@@ -1,23 +1,26 @@
 -- What entering and leaving make of the parts.
-use Rattle.std.specs.Prelude.{◌≡◌, ◌≢◌, ◌⊎◌, ℕ, pos, ◌+◌, ◌-◌, ◌*◌, Bool, if◌then◌else◌, List, [], ◌∷◌, ◌++◌, length, drop, replicate, slice_index, Option, Some, None, option_and_then}
-use Rattle.cs_word.specs.Word.{small_word}
-use Rattle.cs_heap.specs.Object.{Object, with_object}
+use Rattle.std.specs.Prelude.{◌≡◌, ◌≢◌, ◌⊎◌, ℕ, ◌+◌, ◌-◌, ◌*◌, ◌<◌, ◌≤◌, Bool, true, if◌then◌else◌, List, [], ◌∷◌, ◌++◌, length, take, drop, replicate, slice_index, Option, Some, None, option_and_then}
+use Rattle.std.specs.Option.{option_map_or}
+use Rattle.cs_word.specs.declared.Oop.{Oop}
+use Rattle.cs_heap.specs.Object.{Object, object_at, with_object}
+use Rattle.cs_classes.specs.Meaning.{count_of}
 use Rattle.cs_frame.specs.declared.FrameRef.{FrameRef}
+use Rattle.cs_frame.specs.declared.NewFrame.{NewFrame}
 use Rattle.cs_frame.specs.Frame.{Frame, cut, nil}
 use Rattle.cs_frame.specs.Page.{frame, frames_of, on_page, on_top, top, used}
-use Rattle.cs_marriage.specs.Agree.{header_at}
 use Rattle.cs_marriage.specs.Marriage.{base_frame, linked}
 use Rattle.cs_model.specs.Ref.{Ref}
 use Rattle.cs_model.specs.Ref as ref
-use Rattle.cs_model.specs.Obj.{Ctx, context_in, dead, literal_count, temporary_count}
+use Rattle.cs_model.specs.Obj.{Context, Ctx, context_in, context_size, dead, header_in, is_method, literal_count}
 use Rattle.cs_model.specs.State as state
-use Rattle.cs_model.specs.State.{Kept}
-use Rattle.cs_model.specs.Read.{active_birth, active_context}
-use Rattle.cs_model.specs.Operation.{activate}
-use Rattle.cs_model.specs.Context.{context_get}
+use Rattle.cs_model.specs.State.{Kept, object_of}
+use Rattle.cs_model.specs.Read.{active_birth, active_context, depth_of, stack_of}
+use Rattle.cs_model.specs.Operation.{activate, enter_with, last_values, nil_of}
+use Rattle.cs_model.specs.Enter.{copied_values}
+use Rattle.cs_model.specs.Context.{context_get, lies_if_index}
 use Rattle.cs_model.specs.Settle.{context_kept, open_at}
 use Rattle.cs_acts.specs.Layout.{LaidBy, left}
-use Rattle.cs_acts.specs.Names.{KeepsNames}
+use Rattle.cs_acts.specs.Names.{IsNamed, KeepsNames, Store, name_of}
 use Rattle.cs_pages.specs.Order.{IsFree, Order}
 use Rattle.cs_stack.specs.declared.parts.Parts.{Parts}
 use Rattle.cs_stack.specs.Good.{IsGood}
@@ -43,41 +46,86 @@ pub record Takes (o : Order) (v : Parts) (make : ℕ → Parts) : Type 0 where
 abbrev pub entry_of : ℕ → Bool → ℕ
 entry_of header skip = 4 * (literal_count header + 1) + 1 + (if skip then 3 else 0)
 
--- The frame of a method that the frame f calls, where it stands at `at` with this word for a sender: receiver and arguments were the
--- last values of f.
-abbrev pub callee : List Object → ℕ → ℕ → Bool → ℕ → ℕ → ℕ → Frame → Frame
-callee os method args skip birth at caller f = record {
+-- the words of the object at an address
+abbrev pub words_at : List Object → ℕ → List ℕ
+words_at os a = option_map_or (λ (x : Object). x.words) (object_at os a) []
+
+-- the first values that the closure at an address has copied, so many
+abbrev pub copied_at : List Object → ℕ → ℕ → List ℕ
+copied_at os closure copies = take copies (drop 3 (words_at os closure))
+
+-- what follows the arguments on the stack of a new frame
+abbrev pub behind_arguments : List Object → NewFrame → ℕ → List ℕ
+behind_arguments os new copies = replicate new.fill nil ++ copied_at os new.closure.0 copies
+
+-- The new frame that the frame f calls, where it stands at `at` with this word for a sender: receiver and arguments were the last values
+-- of f.
+abbrev pub callee : List Object → NewFrame → ℕ → ℕ → ℕ → ℕ → Frame → Frame
+callee os new pc copies at caller f = record {
   at = at;
   caller = caller;
-  saved_pc = small_word (pos (entry_of (header_at os method) skip));
-  method = method;
-  closure = nil;
+  saved_pc = pc;
+  method = new.method.0;
+  closure = new.closure.0;
   context = nil;
-  birth = birth;
-  receiver = slice_index f.stack (length f.stack - (args + 1));
-  stack = drop (length f.stack - args) f.stack ++ replicate (temporary_count (header_at os method) - args) nil;
+  birth = new.birth;
+  receiver = new.receiver.0;
+  stack = drop (length f.stack - new.args) f.stack ++ behind_arguments os new copies;
 }
 
 -- on the page of its caller
-abbrev pub called_page : List Object → ℕ → ℕ → Bool → ℕ → List Frame → List Frame
-called_page os method args skip birth [] = []
-called_page os method args skip birth (f ∷ fs) = callee os method args skip birth (used (cut args f ∷ fs)) nil f ∷ cut args f ∷ fs
+abbrev pub called_page : List Object → NewFrame → ℕ → ℕ → List Frame → List Frame
+called_page os new pc copies [] = []
+called_page os new pc copies (f ∷ fs) = callee os new pc copies (used (cut new.args f ∷ fs)) nil f ∷ cut new.args f ∷ fs
 
 abbrev pub given_birth : Parts → Parts
 given_birth w = record w { roots = record w.roots { next_birth = w.roots.next_birth + 1 } }
 
-abbrev pub called_parts : ℕ → ℕ → Bool → Parts → Parts
-called_parts method args skip w = record (given_birth w) {
-  frames = on_page w.frames (active_number w) (called_page w.heap.objects method args skip w.roots.next_birth);
-}
+abbrev pub called_parts : NewFrame → ℕ → ℕ → Parts → Parts
+called_parts new pc copies w = record (given_birth w) { frames = on_page w.frames (active_number w) (called_page w.heap.objects new pc copies) }
 
 -- on a page of its own, with the context of its caller as sender
-abbrev pub begun_parts : ℕ → ℕ → ℕ → ℕ → Bool → Parts → Parts
-begun_parts page sender method args skip w = record (given_birth w) {
+abbrev pub begun_parts : ℕ → ℕ → NewFrame → ℕ → ℕ → Parts → Parts
+begun_parts page sender new pc copies w = record (given_birth w) {
   pages = record w.pages { recent = page ∷ w.pages.recent };
-  frames = on_page (on_page w.frames (active_number w) (on_top (cut args))) page
-      (λ _. callee w.heap.objects method args skip w.roots.next_birth 0 sender (top (frames_of w.frames (active_number w))) ∷ []);
+  frames = on_page (on_page w.frames (active_number w) (on_top (cut new.args))) page
+      (λ _. callee w.heap.objects new pc copies 0 sender (top (frames_of w.frames (active_number w))) ∷ []);
 }
+
+-- the values that follow the arguments
+abbrev pub begun_stack : Store → Kept → NewFrame → ℕ → List Ref
+begun_stack s k new copies = replicate new.fill (nil_of k) ++ take copies (copied_values k (name_of s new.closure))
+
+-- A new frame can be made with so many copied values: what it names is there, its pc lies in its method, the active stack has receiver
+-- and arguments, and its own fits.
+pub record CanBegin (s : Store) (k : Kept) (new : NewFrame) (pc : Oop) (copies : ℕ) : Type 0 where
+  pub method : IsNamed s new.method
+  pub closure : IsNamed s new.closure
+  pub receiver : IsNamed s new.receiver
+  pub code : is_method (object_of k (name_of s new.method)) ≡ true
+  pub lies : lies_if_index (object_of k (name_of s new.method)) (count_of pc.0) ≡ true
+  pub copied : copies ≤ length (copied_values k (name_of s new.closure))
+  pub there : new.args < depth_of k
+  pub fits : new.args + (new.fill + copies) ≤ context_size (header_in (object_of k (name_of s new.method)))
+  pub birth : new.birth ≡ k.rest.next
+  pub births : k.rest.next < 4611686018427387904
+
+-- the context that it is
+abbrev pub begun_context : Store → Kept → NewFrame → Oop → ℕ → Context
+begun_context s k new pc copies = record {
+  hash = 0;
+  sender = ref.Obj (active_birth k);
+  pc = count_of pc.0;
+  method = name_of s new.method;
+  closure = name_of s new.closure;
+  receiver = name_of s new.receiver;
+  stack = last_values new.args (stack_of k) ++ begun_stack s k new copies;
+  size = context_size (header_in (object_of k (name_of s new.method)));
+}
+
+-- and the state in which it is active
+abbrev pub begun_state : Store → Kept → NewFrame → Oop → ℕ → Kept
+begun_state s k new pc copies = enter_with k new.args (λ _. begun_context s k new pc copies)
 
 -- ---- a context of the heap as the base frame
 

@@ -1,10 +1,17 @@
-//! How receiver and arguments leave a caller for a frame on another page.
+//! How receiver and arguments leave a caller for a frame on another page, and what follows them there.
 ghost use Rattle.std.specs.Prelude.{◌≡◌, ◌≢◌, ◌≤◌, ◌<◌, ◌+◌, ◌-◌, ◌++◌, ℕ, drop, length, replicate, slice_index, take};
+ghost use Rattle.cs_heap.specs.Object.{slot_count_of, slot_of};
+ghost use Rattle.cs_stack.specs.Moved.{copied_at};
 ghost use Rattle.cs_frame.specs.Frame.{IsValue, nil, with_stack};
 ghost use Rattle.cs_frame.specs.Page.{IsFrame, IsTop, frame, frames_of, on_page, on_top, top, used};
 
 use crate::parts::NIL;
 use cs_frame::{FrameRef, Frames};
+use cs_heap::Heap;
+use cs_word::Oop;
+
+/// The slot of a closure from which on its copied values stand, behind outer context, first pc and count of arguments.
+pub(crate) const COPIED: u32 = 3;
 
 /// Pushes the last `args` values of one frame onto the last frame of another page, in their order.
 pub(crate) fn copy_arguments(frames: &mut Frames, caller: FrameRef, callee: FrameRef, args: u32)
@@ -31,6 +38,19 @@ pub(crate) fn push_nils(frames: &mut Frames, f: FrameRef, count: u32)
 {
     for _ in 0..count {
         frames.push(f, NIL);
+    }
+}
+
+/// Pushes the first values that a closure has copied, so many, onto the last frame of a page.
+pub(crate) fn push_copied(frames: &mut Frames, f: FrameRef, heap: &Heap, closure: Oop, count: u32)
+    requires top { IsTop frames.old f }
+    requires there { count ≤ slot_count_of heap.now.objects closure.0 - 3 }
+    requires room { used (frames_of frames.old f.page) + count ≤ 4096 }
+    requires values { (i : ℕ) → i < count → IsValue (slot_of heap.now.objects closure.0 (3 + i)) }
+    ensures pushed { frames.new ≡ on_page frames.old f.page (on_top (with_stack ((top (frames_of frames.old f.page)).stack ++ copied_at heap.now.objects closure.0 count))) }
+{
+    for i in 0..count {
+        frames.push(f, heap.slot(closure, COPIED + i));
     }
 }
 

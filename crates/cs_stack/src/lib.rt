@@ -1,7 +1,7 @@
 //! A world that keeps activations as frames on stack pages.
 //!
-//! A context that the machine enters is a frame, and has no object in the heap until code looks at it, or until a method that it calls
-//! finds no room on its page and begins another one. Then frame and context are married, and the frame goes on as its body. The
+//! A context that the machine enters is a frame, and has no object in the heap until code looks at it, or until a method or block that it
+//! calls finds no room on its page and begins another one. Then frame and context are married, and the frame goes on as its body. The
 //! context that was active when the machine was opened, and a single one into which it returns later, become the base frame of a page.
 //! All other contexts stay in the heap.
 #![tactic(auto)]
@@ -10,6 +10,7 @@ ghost use Rattle.std.specs.Prelude.{◌≡◌};
 ghost use Rattle.cs_stack.specs.View.{act_of, layout_of, stored_of, view_of};
 
 mod arguments;
+mod cuts;
 mod looks;
 mod moves;
 mod parts;
@@ -281,8 +282,17 @@ impl World for StackWorld {
         self.parts.enter(method, args, skip)
     }
 
+    fn enter_block(&mut self, closure: Oop, args: u32) -> Result<(), Full> {
+        self.parts.enter_block(closure, args)
+    }
+
     fn leave(&mut self, v: Oop) -> Result<(), Full> {
         self.parts.leave(v);
+        Ok(())
+    }
+
+    fn cut_to(&mut self, home: Act, v: Oop) -> Result<(), Full> {
+        self.parts.cut_to(home, v);
         Ok(())
     }
 }

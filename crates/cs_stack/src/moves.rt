@@ -3,6 +3,7 @@ ghost use Rattle.std.specs.Prelude.{◌≡◌, ◌≢◌, ◌≤◌, ◌<◌, �
 ghost use Rattle.cs_frame.specs.Frame.{nil};
 ghost use Rattle.cs_frame.specs.Page.{IsBase, ref_of, top, used};
 ghost use Rattle.cs_marriage.specs.Marriage.{CanBase};
+ghost use Rattle.cs_model.specs.Enter.{enter_block_of};
 ghost use Rattle.cs_model.specs.Keeps.{Keeps};
 ghost use Rattle.cs_model.specs.Operation.{enter_of, leave_of, nil_of};
 ghost use Rattle.cs_model.specs.Read.{IsRunning, active_birth};
@@ -14,13 +15,13 @@ ghost use Rattle.cs_acts.specs.Layout.{LaidBy, entered, left};
 ghost use Rattle.cs_acts.specs.Made.{MakesAtMost, made_by_entering};
 ghost use Rattle.cs_acts.specs.Names.{IsNamed, KeepsNames, Names, NamesOption, name_of};
 ghost use Rattle.cs_acts.specs.Ready.{IsReady};
-ghost use Rattle.cs_acts.specs.Targets.{CanArrive, CanEnter};
+ghost use Rattle.cs_acts.specs.Targets.{CanArrive, CanEnter, CanEnterBlock};
 ghost use Rattle.cs_stack.specs.Good.{IsGood};
-ghost use Rattle.cs_stack.specs.Moved.{Takes, Unwound, active_number, based_parts, begun_parts, called_parts, entry_of, taken_of};
+ghost use Rattle.cs_stack.specs.Moved.{CanBegin, Takes, Unwound, active_number, based_parts, begun_parts, begun_state, called_parts, entry_of, taken_of};
 ghost use Rattle.cs_stack.specs.View.{active_page, layout_of, stored_of, view_of};
 
-use crate::arguments::{copy_arguments, drop_values, push_nils};
-use crate::parts::{NIL, Parts, SUSPENDED_CONTEXT};
+use crate::arguments::{COPIED, copy_arguments, drop_values, push_copied, push_nils};
+use crate::parts::{METHOD, NIL, Parts, RECEIVER, SUSPENDED_CONTEXT};
 use crate::words::{count_word, header, literal_count, temporary_count};
 use cs_acts::Full;
 use cs_frame::{FrameRef, NewFrame};
@@ -29,6 +30,11 @@ use cs_word::Oop;
 
 /// The words that must be free where a frame is made: its ten, and those of 56 values.
 const FRAME_ROOM: u32 = 66;
+
+/// The first slots of a closure, as of V3PlusClosures: its outer context, and the pc of its block.
+const OUTER_CONTEXT: u32 = 0;
+
+const FIRST_PC: u32 = 1;
 
 /// How many bytes of bytecodes name a primitive.
 const PRIMITIVE_BYTES: u32 = 3;
@@ -68,99 +74,135 @@ impl Parts {
         ensures names { OnOk result (KeepsNames (stored_of self.old) (stored_of self.new)) }
         ensures full { IfErr result (CausesFull (stored_of self.new) (layout_of self.old) (view_of self.old) 0 (enter_of (view_of self.old) (name_of (stored_of self.old) method) args skip)) }
     {
-        let room = self.frames.room(self.pages.order(0));
-        if room < FRAME_ROOM {
-            return self.overflow(method, args, skip);
-        }
-        self.call(method, args, skip);
-        Ok(())
-    }
-
-    /// Makes the frame of a method above the active one, where there is room for it.
-    fn call(&mut self, method: Oop, args: u32, skip: bool)
-        requires good { IsGood self.old }
-        requires ready { IsReady (stored_of self.old) (view_of self.old) }
-        requires named { IsNamed (stored_of self.old) method }
-        requires fits { CanEnter (view_of self.old) (name_of (stored_of self.old) method) args skip }
-        requires room { used (active_page self.old) + 66 ≤ 4096 }
-        ensures made { self.new ≡ called_parts method.0 args skip self.old }
-    {
         let head = header(&self.heap, method);
         let top = self.top();
         let receiver = self.frames.slot(top, self.frames.depth(top) - args - 1);
-        let birth = self.roots.next_birth;
         let new = NewFrame {
             method,
             closure: NIL,
             receiver,
-            birth,
+            birth: self.roots.next_birth,
             args,
             fill: temporary_count(head) - args,
         };
-        let frame = self.frames.build(top.page, new);
-        self.frames
-            .set_saved_pc(frame, count_word(entry_pc(head, skip)));
-        self.roots.next_birth = birth + 1;
+        self.begin(new, count_word(entry_pc(head, skip)), 0)
     }
 
-    /// Makes the frame of a method on a page that is taken. The caller is married, so that the frame can name it as its sender.
-    fn overflow(&mut self, method: Oop, args: u32, skip: bool) -> Result<(), Full>
+    /// Enters the block of a closure on a frame of its own, as a method is entered.
+    pub(crate) fn enter_block(&mut self, closure: Oop, args: u32) -> Result<(), Full>
         requires good { IsGood self.old }
         requires ready { IsReady (stored_of self.old) (view_of self.old) }
-        requires named { IsNamed (stored_of self.old) method }
-        requires fits { CanEnter (view_of self.old) (name_of (stored_of self.old) method) args skip }
+        requires named { IsNamed (stored_of self.old) closure }
+        requires fits { CanEnterBlock (view_of self.old) (name_of (stored_of self.old) closure) args }
+        ensures good { IsGood self.new }
+        ensures view { OnOk result (view_of self.new ≡ enter_block_of (view_of self.old) (name_of (stored_of self.old) closure) args) }
+        ensures layout { OnOk result (LaidBy (entered (view_of self.old) (view_of self.old).rest.next) (layout_of self.old) (layout_of self.new)) }
+        ensures limit { self.new.heap.limit ≡ self.old.heap.limit }
+        ensures contexts { OnOk result (MakesAtMost (made_by_entering (view_of self.old) (layout_of self.old)) (layout_of self.old) (stored_of self.old) (stored_of self.new)) }
+        ensures names { OnOk result (KeepsNames (stored_of self.old) (stored_of self.new)) }
+        ensures full { IfErr result (CausesFull (stored_of self.new) (layout_of self.old) (view_of self.old) 0 (enter_block_of (view_of self.old) (name_of (stored_of self.old) closure) args)) }
+    {
+        // its words keep method and receiver, also where it has a frame or had one
+        let outer = self.heap.slot(closure, OUTER_CONTEXT);
+        let new = NewFrame {
+            method: self.heap.slot(outer, METHOD),
+            closure,
+            receiver: self.heap.slot(outer, RECEIVER),
+            birth: self.roots.next_birth,
+            args,
+            fill: 0,
+        };
+        let pc = self.heap.slot(closure, FIRST_PC);
+        let copies = self.heap.slot_count(closure) - COPIED;
+        self.begin(new, pc, copies)
+    }
+
+    /// Makes a frame above the active one, or where 66 words aren't free there, on a page of its own. So many values that its closure has
+    /// copied follow its arguments.
+    fn begin(&mut self, new: NewFrame, pc: Oop, copies: u32) -> Result<(), Full>
+        requires good { IsGood self.old }
+        requires ready { IsReady (stored_of self.old) (view_of self.old) }
+        requires can { CanBegin (stored_of self.old) (view_of self.old) new pc copies }
+        ensures good { IsGood self.new }
+        ensures view { OnOk result (view_of self.new ≡ begun_state (stored_of self.old) (view_of self.old) new pc copies) }
+        ensures layout { OnOk result (LaidBy (entered (view_of self.old) (view_of self.old).rest.next) (layout_of self.old) (layout_of self.new)) }
+        ensures limit { self.new.heap.limit ≡ self.old.heap.limit }
+        ensures contexts { OnOk result (MakesAtMost (made_by_entering (view_of self.old) (layout_of self.old)) (layout_of self.old) (stored_of self.old) (stored_of self.new)) }
+        ensures names { OnOk result (KeepsNames (stored_of self.old) (stored_of self.new)) }
+        ensures full { IfErr result (CausesFull (stored_of self.new) (layout_of self.old) (view_of self.old) 0 (begun_state (stored_of self.old) (view_of self.old) new pc copies)) }
+    {
+        let room = self.frames.room(self.pages.order(0));
+        if room < FRAME_ROOM {
+            return self.overflow(new, pc, copies);
+        }
+        self.call(new, pc, copies);
+        Ok(())
+    }
+
+    /// Makes a frame above the active one, where there is room for it.
+    fn call(&mut self, new: NewFrame, pc: Oop, copies: u32)
+        requires good { IsGood self.old }
+        requires ready { IsReady (stored_of self.old) (view_of self.old) }
+        requires can { CanBegin (stored_of self.old) (view_of self.old) new pc copies }
+        requires room { used (active_page self.old) + 66 ≤ 4096 }
+        ensures made { self.new ≡ called_parts new pc.0 copies self.old }
+    {
+        let top = self.top();
+        let frame = self.frames.build(top.page, new);
+        self.frames.set_saved_pc(frame, pc);
+        push_copied(&mut self.frames, frame, &self.heap, new.closure, copies);
+        self.roots.next_birth += 1;
+    }
+
+    /// Makes a frame on a page that is taken. The caller is married, so that the frame can name it as its sender.
+    fn overflow(&mut self, new: NewFrame, pc: Oop, copies: u32) -> Result<(), Full>
+        requires good { IsGood self.old }
+        requires ready { IsReady (stored_of self.old) (view_of self.old) }
+        requires can { CanBegin (stored_of self.old) (view_of self.old) new pc copies }
         requires full { 4096 < used (active_page self.old) + 66 }
         ensures good { IsGood self.new }
-        ensures view { OnOk result (view_of self.new ≡ enter_of (view_of self.old) (name_of (stored_of self.old) method) args skip) }
+        ensures view { OnOk result (view_of self.new ≡ begun_state (stored_of self.old) (view_of self.old) new pc copies) }
         ensures layout { OnOk result (LaidBy (entered (view_of self.old) (view_of self.old).rest.next) (layout_of self.old) (layout_of self.new)) }
         ensures limit { self.new.heap.limit ≡ self.old.heap.limit }
         ensures contexts { OnOk result (MakesAtMost 1 (layout_of self.old) (stored_of self.old) (stored_of self.new)) }
         ensures names { OnOk result (KeepsNames (stored_of self.old) (stored_of self.new)) }
-        ensures full { IfErr result (CausesFull (stored_of self.new) (layout_of self.old) (view_of self.old) 0 (enter_of (view_of self.old) (name_of (stored_of self.old) method) args skip)) }
+        ensures full { IfErr result (CausesFull (stored_of self.new) (layout_of self.old) (view_of self.old) 0 (begun_state (stored_of self.old) (view_of self.old) new pc copies)) }
     {
         if self.pages.used() == self.pages.len() {
             return Err(Full::Stack);
         }
         let caller = self.top();
         let sender = self.context_of(caller)?;
-        self.call_on_page(caller, sender, method, args, skip);
+        self.call_on_page(caller, sender, new, pc, copies);
         Ok(())
     }
 
-    /// Makes the frame of a method the base frame of a free page: receiver and arguments leave its caller.
-    fn call_on_page(&mut self, caller: FrameRef, sender: Oop, method: Oop, args: u32, skip: bool)
+    /// Makes a frame the base frame of a free page: receiver and arguments leave its caller.
+    fn call_on_page(&mut self, caller: FrameRef, sender: Oop, new: NewFrame, pc: Oop, copies: u32)
         requires good { IsGood self.old }
         requires ready { IsReady (stored_of self.old) (view_of self.old) }
-        requires named { IsNamed (stored_of self.old) method }
-        requires fits { CanEnter (view_of self.old) (name_of (stored_of self.old) method) args skip }
+        requires can { CanBegin (stored_of self.old) (view_of self.old) new pc copies }
         requires caller { caller ≡ ref_of (active_number self.old) (top (active_page self.old)) }
         requires sender { (top (active_page self.old)).context ≡ sender.0 }
         requires married { sender.0 ≢ nil }
         requires free { length self.old.pages.recent < self.old.pages.total }
-        ensures made { Takes self.old.pages self.new (λ page. begun_parts page sender.0 method.0 args skip self.old) }
+        ensures made { Takes self.old.pages self.new (λ page. begun_parts page sender.0 new pc.0 copies self.old) }
     {
         let Some(page) = self.pages.take_free() else {
             unreachable!();
         };
-        let head = header(&self.heap, method);
-        let receiver = self
-            .frames
-            .slot(caller, self.frames.depth(caller) - args - 1);
-        let new = NewFrame {
-            method,
-            closure: NIL,
-            receiver,
-            birth: self.roots.next_birth,
+        let alone = NewFrame {
             args: 0,
             fill: 0,
+            ..new
         };
-        let frame = self.frames.build(page, new);
+        let frame = self.frames.build(page, alone);
         self.frames.set_sender(frame, sender);
-        self.frames
-            .set_saved_pc(frame, count_word(entry_pc(head, skip)));
-        copy_arguments(&mut self.frames, caller, frame, args);
-        push_nils(&mut self.frames, frame, temporary_count(head) - args);
-        drop_values(&mut self.frames, caller, args + 1);
+        self.frames.set_saved_pc(frame, pc);
+        copy_arguments(&mut self.frames, caller, frame, new.args);
+        push_nils(&mut self.frames, frame, new.fill);
+        push_copied(&mut self.frames, frame, &self.heap, new.closure, copies);
+        drop_values(&mut self.frames, caller, new.args + 1);
         self.roots.next_birth += 1;
     }
 
@@ -219,7 +261,7 @@ impl Parts {
     }
 
     /// Makes a live single context of the heap the base frame of a free page.
-    fn rebase(&mut self, context: Oop)
+    pub(crate) fn rebase(&mut self, context: Oop)
         requires good { IsGood self.old }
         requires context { CanBase self.old.heap.objects context.0 }
         requires free { length self.old.pages.recent < self.old.pages.total }

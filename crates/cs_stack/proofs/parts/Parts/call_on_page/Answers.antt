@@ -1,48 +1,14 @@
-use Rattle.std.proofs.Common.{◌≡◌, ◌≤◌, ◌<◌, ◌+◌, ◌-◌, ℕ, List, [], ◌∷◌, ◌++◌, length, length-drop, subst, sym, ap, ap₂, ◌∙◌, arith, pos, drop, refl, replicate}
+use Rattle.std.proofs.Common.{◌<◌, ◌-◌, ℕ, length, length-drop, subst, sym, ap, ap₂, arith, drop, replicate, List}
 use Rattle.std.specs.Prelude.{slice_index}
-use Rattle.cs_word.specs.Word.{small_word}
-use Rattle.cs_frame.specs.declared.NewFrame.{NewFrame}
-use Rattle.cs_frame.specs.Frame.{Frame, IsValue, cut, nil, with_caller, with_saved_pc}
-use Rattle.cs_frame.specs.Page.{frame, frames_of, on_page, on_top, top, used}
-use Rattle.cs_model.specs.Obj.{temporary_count}
+use Rattle.std.proofs.lemmas.List.{length-append, length-replicate}
+use Rattle.cs_frame.specs.Frame.{Frame, IsValue, nil}
+use Rattle.cs_frame.specs.Page.{top, used}
 use Rattle.cs_stack.specs.declared.parts.Parts.{Parts}
-use Rattle.cs_stack.specs.Moved.{active_number, callee, entry_of, given_birth}
+use Rattle.cs_stack.specs.Moved.{copied_at, given_birth}
 use Rattle.cs_stack.proofs.Tops.{opened}
-use Rattle.cs_stack.proofs.Entering.{e, reference_value, there, value_named}
-use Rattle.cs_stack.proofs.Called.{holds_values, number_is, top_frame}
-use Rattle.cs_stack.proofs.Begun.{caller_frames, caller_same, caller_stands, caller_top, free_empty, free_other, sender_named, stage_base, stage_built, stage_cut, stage_longer, stage_on_frame, stage_used}
+use Rattle.cs_stack.proofs.Entering.{copied, copied_values_hold, few, new_pc, new_values, reference_value, there, value_named}
+use Rattle.cs_stack.proofs.Begun.{begun_arguments, begun_empty, begun_made, caller_frames, caller_same, caller_stands, caller_top, free_empty, free_other, sender_named, stage_base, stage_built, stage_longer, stage_top, stage_used}
 use Rattle.cs_stack.proofs.parts.Parts.call_on_page.Goals as goal
-
-pub header-head-requires : goal.header-head-requires
-header-head-requires c =
-    let w : Parts = c.args.self.now in
-    let o = opened w c.requires.good c.requires.ready in
-    let m = e c.requires.good c.requires.ready o c.args.method c.args.args c.args.skip c.requires.named c.requires.fits in
-    m.method.header
-
-pub overflow_sub-depth : goal.overflow_sub-depth
-overflow_sub-depth c =
-    let w : Parts = c.args.self.now in
-    let o = opened w c.requires.good c.requires.ready in
-    let deep : c.depth.result ≡ length o.f.stack = c.depth.ensures.depth ∙ ap (λ (f : Frame). length f.stack) (top_frame o c.args.caller c.requires.caller) in
-    let enough = there c.requires.good c.requires.ready o c.args.method c.args.args c.args.skip c.requires.named c.requires.fits in
-    omega (arith, deep, enough)
-
-pub overflow_sub-depth-2 : goal.overflow_sub-depth-2
-overflow_sub-depth-2 c =
-    let w : Parts = c.args.self.now in
-    let o = opened w c.requires.good c.requires.ready in
-    let deep : c.depth.result ≡ length o.f.stack = c.depth.ensures.depth ∙ ap (λ (f : Frame). length f.stack) (top_frame o c.args.caller c.requires.caller) in
-    let enough = there c.requires.good c.requires.ready o c.args.method c.args.args c.args.skip c.requires.named c.requires.fits in
-    omega (arith, deep, enough)
-
-pub slot-receiver-requires-clause-index : goal.slot-receiver-requires-clause-index
-slot-receiver-requires-clause-index c =
-    let w : Parts = c.args.self.now in
-    let o = opened w c.requires.good c.requires.ready in
-    let deep : c.depth.result ≡ length o.f.stack = c.depth.ensures.depth ∙ ap (λ (f : Frame). length f.stack) (top_frame o c.args.caller c.requires.caller) in
-    let enough = there c.requires.good c.requires.ready o c.args.method c.args.args c.args.skip c.requires.named c.requires.fits in
-    omega (arith, deep, c.depth.ensures.depth, enough)
 
 pub build-frame-requires-clause-room : goal.build-frame-requires-clause-room
 build-frame-requires-clause-room c =
@@ -50,18 +16,16 @@ build-frame-requires-clause-room c =
     let o = opened w c.requires.good c.requires.ready in
     let p : ℕ = c.in-Some.page in
     let free = c.in-Some.ensures.was_free in
-    let empty = free_empty w c.requires.good p free in
-    omega (arith, ap used empty)
+    omega (arith, ap used (free_empty w c.requires.good p free))
 
 pub build-frame-requires-clause-values : goal.build-frame-requires-clause-values
 build-frame-requires-clause-values c =
     let w : Parts = c.args.self.now in
     let o = opened w c.requires.good c.requires.ready in
-    let deep : c.depth.result ≡ length o.f.stack = c.depth.ensures.depth ∙ ap (λ (f : Frame). length f.stack) (top_frame o c.args.caller c.requires.caller) in
-    let at : c.depth.result - c.args.args - 1 ≡ length o.f.stack - (c.args.args + 1) = omega (arith, deep) in
-    let received : c.slot-receiver.result.0 ≡ slice_index o.f.stack (length o.f.stack - (c.args.args + 1)) =
-    c.slot-receiver.ensures.value ∙ ap (λ (f : Frame). slice_index f.stack (c.depth.result - c.args.args - 1)) (top_frame o c.args.caller c.requires.caller) ∙ ap (slice_index o.f.stack) at in
-    holds_values c.requires.good c.requires.ready o c.args.method c.args.args c.args.skip c.requires.named c.requires.fits c.slot-receiver.result _ received _
+    let p : ℕ = c.in-Some.page in
+    let free = c.in-Some.ensures.was_free in
+    let all = new_values c.requires.good c.requires.ready o c.requires.can in
+    record { method = all.method; closure = all.closure; receiver = all.receiver }
 
 pub set_sender-requires-clause-base : goal.set_sender-requires-clause-base
 set_sender-requires-clause-base c =
@@ -69,10 +33,7 @@ set_sender-requires-clause-base c =
     let o = opened w c.requires.good c.requires.ready in
     let p : ℕ = c.in-Some.page in
     let free = c.in-Some.ensures.was_free in
-    let empty = free_empty w c.requires.good p free in
-    let new : NewFrame = record { method = c.args.method; closure = record { 0 = nil }; receiver = c.slot-receiver.result; birth = w.roots.next_birth; args = 0; fill = 0 } in
-    let s1 = stage_built w.frames p c.build-frame.new.self c.build-frame.result new (omega (arith, free.0, c.requires.good.total)) empty c.build-frame.ensures.made c.build-frame.ensures.frame in
-    stage_base s1
+    stage_base (stage_built w.frames p c.build-frame.new.self c.build-frame.result (record c.args.new { args = 0; fill = 0 }) (omega (arith, free.0, c.requires.good.total)) (free_empty w c.requires.good p free) c.build-frame.ensures.made c.build-frame.ensures.frame)
 
 pub set_sender-requires-clause-value : goal.set_sender-requires-clause-value
 set_sender-requires-clause-value c =
@@ -80,8 +41,15 @@ set_sender-requires-clause-value c =
     let o = opened w c.requires.good c.requires.ready in
     let p : ℕ = c.in-Some.page in
     let free = c.in-Some.ensures.was_free in
-    let empty = free_empty w c.requires.good p free in
-    reference_value w.heap.objects c.args.sender.0 (sender_named c.requires.good c.requires.ready o c.args.method c.args.args c.args.skip c.requires.named c.requires.fits p free c.args.sender.0 c.requires.sender c.requires.married)
+    reference_value w.heap.objects c.args.sender.0 (sender_named c.requires.good c.requires.ready o c.requires.can p free c.args.sender.0 c.requires.sender c.requires.married)
+
+pub set_saved_pc-requires-clause-pc : goal.set_saved_pc-requires-clause-pc
+set_saved_pc-requires-clause-pc c =
+    let w : Parts = c.args.self.now in
+    let o = opened w c.requires.good c.requires.ready in
+    let p : ℕ = c.in-Some.page in
+    let free = c.in-Some.ensures.was_free in
+    new_pc c.requires.good c.requires.ready o c.requires.can
 
 pub copy_arguments-requires-clause-caller : goal.copy_arguments-requires-clause-caller
 copy_arguments-requires-clause-caller c =
@@ -89,13 +57,9 @@ copy_arguments-requires-clause-caller c =
     let o = opened w c.requires.good c.requires.ready in
     let p : ℕ = c.in-Some.page in
     let free = c.in-Some.ensures.was_free in
-    let empty = free_empty w c.requires.good p free in
-    let new : NewFrame = record { method = c.args.method; closure = record { 0 = nil }; receiver = c.slot-receiver.result; birth = w.roots.next_birth; args = 0; fill = 0 } in
-    let s1 = stage_built w.frames p c.build-frame.new.self c.build-frame.result new (omega (arith, free.0, c.requires.good.total)) empty c.build-frame.ensures.made c.build-frame.ensures.frame in
-    let s2 = stage_on_frame s1 c.set_sender.new.self (with_caller c.args.sender.0) refl c.set_sender.ensures.sender in
-    let s3 = stage_on_frame s2 c.set_saved_pc.new.self (with_saved_pc c.count_word.result.0) refl c.set_saved_pc.ensures.saved_pc in
-    let other = free_other o p free in
-    caller_stands o p other s3 c.args.caller c.requires.caller
+    let s3 = begun_empty c.requires.good c.requires.ready o c.requires.can p free c.args.sender.0 c.build-frame.new.self c.set_sender.new.self c.set_saved_pc.new.self c.build-frame.result
+    c.build-frame.ensures.made c.build-frame.ensures.frame c.set_sender.ensures.sender c.set_saved_pc.ensures.saved_pc in
+    caller_stands o p (free_other o p free) s3 c.args.caller c.requires.caller
 
 pub copy_arguments-requires-clause-there : goal.copy_arguments-requires-clause-there
 copy_arguments-requires-clause-there c =
@@ -103,14 +67,9 @@ copy_arguments-requires-clause-there c =
     let o = opened w c.requires.good c.requires.ready in
     let p : ℕ = c.in-Some.page in
     let free = c.in-Some.ensures.was_free in
-    let empty = free_empty w c.requires.good p free in
-    let new : NewFrame = record { method = c.args.method; closure = record { 0 = nil }; receiver = c.slot-receiver.result; birth = w.roots.next_birth; args = 0; fill = 0 } in
-    let s1 = stage_built w.frames p c.build-frame.new.self c.build-frame.result new (omega (arith, free.0, c.requires.good.total)) empty c.build-frame.ensures.made c.build-frame.ensures.frame in
-    let s2 = stage_on_frame s1 c.set_sender.new.self (with_caller c.args.sender.0) refl c.set_sender.ensures.sender in
-    let s3 = stage_on_frame s2 c.set_saved_pc.new.self (with_saved_pc c.count_word.result.0) refl c.set_saved_pc.ensures.saved_pc in
-    let other = free_other o p free in
-    let enough = there c.requires.good c.requires.ready o c.args.method c.args.args c.args.skip c.requires.named c.requires.fits in
-    omega (arith, enough, ap (λ (f : Frame). length f.stack) (caller_same o p other s3 c.args.caller c.requires.caller))
+    let s3 = begun_empty c.requires.good c.requires.ready o c.requires.can p free c.args.sender.0 c.build-frame.new.self c.set_sender.new.self c.set_saved_pc.new.self c.build-frame.result
+    c.build-frame.ensures.made c.build-frame.ensures.frame c.set_sender.ensures.sender c.set_saved_pc.ensures.saved_pc in
+    omega (arith, there c.requires.good c.requires.ready o c.requires.can, ap (λ (f : Frame). length f.stack) (caller_same o p (free_other o p free) s3 c.args.caller c.requires.caller))
 
 pub copy_arguments-requires-clause-room : goal.copy_arguments-requires-clause-room
 copy_arguments-requires-clause-room c =
@@ -118,14 +77,9 @@ copy_arguments-requires-clause-room c =
     let o = opened w c.requires.good c.requires.ready in
     let p : ℕ = c.in-Some.page in
     let free = c.in-Some.ensures.was_free in
-    let empty = free_empty w c.requires.good p free in
-    let new : NewFrame = record { method = c.args.method; closure = record { 0 = nil }; receiver = c.slot-receiver.result; birth = w.roots.next_birth; args = 0; fill = 0 } in
-    let s1 = stage_built w.frames p c.build-frame.new.self c.build-frame.result new (omega (arith, free.0, c.requires.good.total)) empty c.build-frame.ensures.made c.build-frame.ensures.frame in
-    let s2 = stage_on_frame s1 c.set_sender.new.self (with_caller c.args.sender.0) refl c.set_sender.ensures.sender in
-    let s3 = stage_on_frame s2 c.set_saved_pc.new.self (with_saved_pc c.count_word.result.0) refl c.set_saved_pc.ensures.saved_pc in
-    let other = free_other o p free in
-    let m = e c.requires.good c.requires.ready o c.args.method c.args.args c.args.skip c.requires.named c.requires.fits in
-    omega (arith, stage_used s3, m.few, m.most)
+    let s3 = begun_empty c.requires.good c.requires.ready o c.requires.can p free c.args.sender.0 c.build-frame.new.self c.set_sender.new.self c.set_saved_pc.new.self c.build-frame.result
+    c.build-frame.ensures.made c.build-frame.ensures.frame c.set_sender.ensures.sender c.set_saved_pc.ensures.saved_pc in
+    omega (arith, stage_used s3, few c.requires.good c.requires.ready o c.requires.can)
 
 pub copy_arguments-requires-clause-values : goal.copy_arguments-requires-clause-values
 copy_arguments-requires-clause-values c =
@@ -133,21 +87,21 @@ copy_arguments-requires-clause-values c =
     let o = opened w c.requires.good c.requires.ready in
     let p : ℕ = c.in-Some.page in
     let free = c.in-Some.ensures.was_free in
-    let empty = free_empty w c.requires.good p free in
-    let new : NewFrame = record { method = c.args.method; closure = record { 0 = nil }; receiver = c.slot-receiver.result; birth = w.roots.next_birth; args = 0; fill = 0 } in
-    let s1 = stage_built w.frames p c.build-frame.new.self c.build-frame.result new (omega (arith, free.0, c.requires.good.total)) empty c.build-frame.ensures.made c.build-frame.ensures.frame in
-    let s2 = stage_on_frame s1 c.set_sender.new.self (with_caller c.args.sender.0) refl c.set_sender.ensures.sender in
-    let s3 = stage_on_frame s2 c.set_saved_pc.new.self (with_saved_pc c.count_word.result.0) refl c.set_saved_pc.ensures.saved_pc in
-    let other = free_other o p free in
-    subst (λ (f : Frame). (i : ℕ) → i < length f.stack → IsValue (slice_index f.stack i)) (sym (caller_same o p other s3 c.args.caller c.requires.caller))
+    let s3 = begun_empty c.requires.good c.requires.ready o c.requires.can p free c.args.sender.0 c.build-frame.new.self c.set_sender.new.self c.set_saved_pc.new.self c.build-frame.result
+    c.build-frame.ensures.made c.build-frame.ensures.frame c.set_sender.ensures.sender c.set_saved_pc.ensures.saved_pc in
+    subst (λ (f : Frame). (i : ℕ) → i < length f.stack → IsValue (slice_index f.stack i)) (sym (caller_same o p (free_other o p free) s3 c.args.caller c.requires.caller))
     (λ i h. reference_value w.heap.objects (slice_index o.f.stack i) (value_named o i h))
 
-pub overflow_sub-temporary_count : goal.overflow_sub-temporary_count
-overflow_sub-temporary_count c =
+pub push_nils-requires-clause-top : goal.push_nils-requires-clause-top
+push_nils-requires-clause-top c =
     let w : Parts = c.args.self.now in
     let o = opened w c.requires.good c.requires.ready in
-    let m = e c.requires.good c.requires.ready o c.args.method c.args.args c.args.skip c.requires.named c.requires.fits in
-    subst (λ n. c.args.args ≤ n) (sym (c.temporary_count.ensures ∙ ap temporary_count (c.header-head.ensures ∙ m.header_is))) m.few
+    let p : ℕ = c.in-Some.page in
+    let free = c.in-Some.ensures.was_free in
+    let s3 = begun_empty c.requires.good c.requires.ready o c.requires.can p free c.args.sender.0 c.build-frame.new.self c.set_sender.new.self c.set_saved_pc.new.self c.build-frame.result
+    c.build-frame.ensures.made c.build-frame.ensures.frame c.set_sender.ensures.sender c.set_saved_pc.ensures.saved_pc in
+    let s4 = begun_arguments c.requires.good c.requires.ready o c.requires.can p free c.args.sender.0 c.args.caller c.requires.caller s3 c.copy_arguments.new.frames c.copy_arguments.ensures.copied in
+    stage_top s4
 
 pub push_nils-requires-clause-room : goal.push_nils-requires-clause-room
 push_nils-requires-clause-room c =
@@ -155,20 +109,59 @@ push_nils-requires-clause-room c =
     let o = opened w c.requires.good c.requires.ready in
     let p : ℕ = c.in-Some.page in
     let free = c.in-Some.ensures.was_free in
-    let empty = free_empty w c.requires.good p free in
-    let new : NewFrame = record { method = c.args.method; closure = record { 0 = nil }; receiver = c.slot-receiver.result; birth = w.roots.next_birth; args = 0; fill = 0 } in
-    let s1 = stage_built w.frames p c.build-frame.new.self c.build-frame.result new (omega (arith, free.0, c.requires.good.total)) empty c.build-frame.ensures.made c.build-frame.ensures.frame in
-    let s2 = stage_on_frame s1 c.set_sender.new.self (with_caller c.args.sender.0) refl c.set_sender.ensures.sender in
-    let s3 = stage_on_frame s2 c.set_saved_pc.new.self (with_saved_pc c.count_word.result.0) refl c.set_saved_pc.ensures.saved_pc in
-    let other = free_other o p free in
-    let same = caller_same o p other s3 c.args.caller c.requires.caller in
-    let f3 : Frame = frame c.set_saved_pc.new.self c.args.caller in
-    let ys : List ℕ = drop (length f3.stack - c.args.args) f3.stack in
-    let s4 = stage_longer s3 c.copy_arguments.new.frames ys c.copy_arguments.ensures.copied in
-    let m = e c.requires.good c.requires.ready o c.args.method c.args.args c.args.skip c.requires.named c.requires.fits in
-    let enough = there c.requires.good c.requires.ready o c.args.method c.args.args c.args.skip c.requires.named c.requires.fits in
-    let count = c.temporary_count.ensures ∙ ap temporary_count (c.header-head.ensures ∙ m.header_is) in
-    omega (arith, stage_used s4, length-drop (length f3.stack - c.args.args) f3.stack, ap (λ (f : Frame). length f.stack) same, enough, count, m.few, m.most)
+    let s3 = begun_empty c.requires.good c.requires.ready o c.requires.can p free c.args.sender.0 c.build-frame.new.self c.set_sender.new.self c.set_saved_pc.new.self c.build-frame.result
+    c.build-frame.ensures.made c.build-frame.ensures.frame c.set_sender.ensures.sender c.set_saved_pc.ensures.saved_pc in
+    let s4 = begun_arguments c.requires.good c.requires.ready o c.requires.can p free c.args.sender.0 c.args.caller c.requires.caller s3 c.copy_arguments.new.frames c.copy_arguments.ensures.copied in
+    omega (arith, stage_used s4, length-drop (length o.f.stack - c.args.new.args) o.f.stack, there c.requires.good c.requires.ready o c.requires.can, few c.requires.good c.requires.ready o c.requires.can)
+
+pub push_copied-requires-clause-top : goal.push_copied-requires-clause-top
+push_copied-requires-clause-top c =
+    let w : Parts = c.args.self.now in
+    let o = opened w c.requires.good c.requires.ready in
+    let p : ℕ = c.in-Some.page in
+    let free = c.in-Some.ensures.was_free in
+    let s3 = begun_empty c.requires.good c.requires.ready o c.requires.can p free c.args.sender.0 c.build-frame.new.self c.set_sender.new.self c.set_saved_pc.new.self c.build-frame.result
+    c.build-frame.ensures.made c.build-frame.ensures.frame c.set_sender.ensures.sender c.set_saved_pc.ensures.saved_pc in
+    let s4 = begun_arguments c.requires.good c.requires.ready o c.requires.can p free c.args.sender.0 c.args.caller c.requires.caller s3 c.copy_arguments.new.frames c.copy_arguments.ensures.copied in
+    let s5 = stage_longer s4 c.push_nils.new.frames (replicate c.args.new.fill nil) c.push_nils.ensures.pushed in
+    stage_top s5
+
+pub push_copied-requires-clause-there : goal.push_copied-requires-clause-there
+push_copied-requires-clause-there c =
+    let w : Parts = c.args.self.now in
+    let o = opened w c.requires.good c.requires.ready in
+    let p : ℕ = c.in-Some.page in
+    let free = c.in-Some.ensures.was_free in
+    (copied c.requires.good c.requires.ready o c.requires.can).within
+
+pub push_copied-requires-clause-room : goal.push_copied-requires-clause-room
+push_copied-requires-clause-room c =
+    let w : Parts = c.args.self.now in
+    let o = opened w c.requires.good c.requires.ready in
+    let p : ℕ = c.in-Some.page in
+    let free = c.in-Some.ensures.was_free in
+    let s3 = begun_empty c.requires.good c.requires.ready o c.requires.can p free c.args.sender.0 c.build-frame.new.self c.set_sender.new.self c.set_saved_pc.new.self c.build-frame.result
+    c.build-frame.ensures.made c.build-frame.ensures.frame c.set_sender.ensures.sender c.set_saved_pc.ensures.saved_pc in
+    let s4 = begun_arguments c.requires.good c.requires.ready o c.requires.can p free c.args.sender.0 c.args.caller c.requires.caller s3 c.copy_arguments.new.frames c.copy_arguments.ensures.copied in
+    let s5 = stage_longer s4 c.push_nils.new.frames (replicate c.args.new.fill nil) c.push_nils.ensures.pushed in
+    let arguments : List ℕ = drop (length o.f.stack - c.args.new.args) o.f.stack in
+    omega (
+      arith,
+      stage_used s5,
+      length-append arguments (replicate c.args.new.fill nil),
+      length-replicate c.args.new.fill nil,
+      length-drop (length o.f.stack - c.args.new.args) o.f.stack,
+      there c.requires.good c.requires.ready o c.requires.can,
+      few c.requires.good c.requires.ready o c.requires.can,
+    )
+
+pub push_copied-requires-clause-values : goal.push_copied-requires-clause-values
+push_copied-requires-clause-values c =
+    let w : Parts = c.args.self.now in
+    let o = opened w c.requires.good c.requires.ready in
+    let p : ℕ = c.in-Some.page in
+    let free = c.in-Some.ensures.was_free in
+    copied_values_hold c.requires.good c.requires.ready o c.requires.can
 
 pub drop_values-requires-clause-top : goal.drop_values-requires-clause-top
 drop_values-requires-clause-top c =
@@ -176,18 +169,12 @@ drop_values-requires-clause-top c =
     let o = opened w c.requires.good c.requires.ready in
     let p : ℕ = c.in-Some.page in
     let free = c.in-Some.ensures.was_free in
-    let empty = free_empty w c.requires.good p free in
-    let new : NewFrame = record { method = c.args.method; closure = record { 0 = nil }; receiver = c.slot-receiver.result; birth = w.roots.next_birth; args = 0; fill = 0 } in
-    let s1 = stage_built w.frames p c.build-frame.new.self c.build-frame.result new (omega (arith, free.0, c.requires.good.total)) empty c.build-frame.ensures.made c.build-frame.ensures.frame in
-    let s2 = stage_on_frame s1 c.set_sender.new.self (with_caller c.args.sender.0) refl c.set_sender.ensures.sender in
-    let s3 = stage_on_frame s2 c.set_saved_pc.new.self (with_saved_pc c.count_word.result.0) refl c.set_saved_pc.ensures.saved_pc in
-    let other = free_other o p free in
-    let same = caller_same o p other s3 c.args.caller c.requires.caller in
-    let f3 : Frame = frame c.set_saved_pc.new.self c.args.caller in
-    let ys : List ℕ = drop (length f3.stack - c.args.args) f3.stack in
-    let s4 = stage_longer s3 c.copy_arguments.new.frames ys c.copy_arguments.ensures.copied in
-    let s5 = stage_longer s4 c.push_nils.new.frames (replicate (c.temporary_count.result - c.args.args) nil) c.push_nils.ensures.pushed in
-    caller_top o p other s5 c.args.caller c.requires.caller
+    let s3 = begun_empty c.requires.good c.requires.ready o c.requires.can p free c.args.sender.0 c.build-frame.new.self c.set_sender.new.self c.set_saved_pc.new.self c.build-frame.result
+    c.build-frame.ensures.made c.build-frame.ensures.frame c.set_sender.ensures.sender c.set_saved_pc.ensures.saved_pc in
+    let s4 = begun_arguments c.requires.good c.requires.ready o c.requires.can p free c.args.sender.0 c.args.caller c.requires.caller s3 c.copy_arguments.new.frames c.copy_arguments.ensures.copied in
+    let s5 = stage_longer s4 c.push_nils.new.frames (replicate c.args.new.fill nil) c.push_nils.ensures.pushed in
+    let s6 = stage_longer s5 c.push_copied.new.frames (copied_at w.heap.objects c.args.new.closure.0 c.args.copies) c.push_copied.ensures.pushed in
+    caller_top o p (free_other o p free) s6 c.args.caller c.requires.caller
 
 pub drop_values-requires-clause-there : goal.drop_values-requires-clause-there
 drop_values-requires-clause-there c =
@@ -195,56 +182,23 @@ drop_values-requires-clause-there c =
     let o = opened w c.requires.good c.requires.ready in
     let p : ℕ = c.in-Some.page in
     let free = c.in-Some.ensures.was_free in
-    let empty = free_empty w c.requires.good p free in
-    let new : NewFrame = record { method = c.args.method; closure = record { 0 = nil }; receiver = c.slot-receiver.result; birth = w.roots.next_birth; args = 0; fill = 0 } in
-    let s1 = stage_built w.frames p c.build-frame.new.self c.build-frame.result new (omega (arith, free.0, c.requires.good.total)) empty c.build-frame.ensures.made c.build-frame.ensures.frame in
-    let s2 = stage_on_frame s1 c.set_sender.new.self (with_caller c.args.sender.0) refl c.set_sender.ensures.sender in
-    let s3 = stage_on_frame s2 c.set_saved_pc.new.self (with_saved_pc c.count_word.result.0) refl c.set_saved_pc.ensures.saved_pc in
-    let other = free_other o p free in
-    let same = caller_same o p other s3 c.args.caller c.requires.caller in
-    let f3 : Frame = frame c.set_saved_pc.new.self c.args.caller in
-    let ys : List ℕ = drop (length f3.stack - c.args.args) f3.stack in
-    let s4 = stage_longer s3 c.copy_arguments.new.frames ys c.copy_arguments.ensures.copied in
-    let s5 = stage_longer s4 c.push_nils.new.frames (replicate (c.temporary_count.result - c.args.args) nil) c.push_nils.ensures.pushed in
-    let enough = there c.requires.good c.requires.ready o c.args.method c.args.args c.args.skip c.requires.named c.requires.fits in
-    omega (arith, enough, ap (λ (fs : List Frame). length (top fs).stack) (caller_frames o p other s5 c.args.caller c.requires.caller))
+    let s3 = begun_empty c.requires.good c.requires.ready o c.requires.can p free c.args.sender.0 c.build-frame.new.self c.set_sender.new.self c.set_saved_pc.new.self c.build-frame.result
+    c.build-frame.ensures.made c.build-frame.ensures.frame c.set_sender.ensures.sender c.set_saved_pc.ensures.saved_pc in
+    let s4 = begun_arguments c.requires.good c.requires.ready o c.requires.can p free c.args.sender.0 c.args.caller c.requires.caller s3 c.copy_arguments.new.frames c.copy_arguments.ensures.copied in
+    let s5 = stage_longer s4 c.push_nils.new.frames (replicate c.args.new.fill nil) c.push_nils.ensures.pushed in
+    let s6 = stage_longer s5 c.push_copied.new.frames (copied_at w.heap.objects c.args.new.closure.0 c.args.copies) c.push_copied.ensures.pushed in
+    omega (arith, there c.requires.good c.requires.ready o c.requires.can, ap (λ (fs : List Frame). length (top fs).stack) (caller_frames o p (free_other o p free) s6 c.args.caller c.requires.caller))
 
 pub returns : goal.returns
 returns c =
     let w : Parts = c.args.self.now in
     let o = opened w c.requires.good c.requires.ready in
-    let deep : c.depth.result ≡ length o.f.stack = c.depth.ensures.depth ∙ ap (λ (f : Frame). length f.stack) (top_frame o c.args.caller c.requires.caller) in
-    let at : c.depth.result - c.args.args - 1 ≡ length o.f.stack - (c.args.args + 1) = omega (arith, deep) in
-    let received : c.slot-receiver.result.0 ≡ slice_index o.f.stack (length o.f.stack - (c.args.args + 1)) =
-    c.slot-receiver.ensures.value ∙ ap (λ (f : Frame). slice_index f.stack (c.depth.result - c.args.args - 1)) (top_frame o c.args.caller c.requires.caller) ∙ ap (slice_index o.f.stack) at in
     let p : ℕ = c.in-Some.page in
     let free = c.in-Some.ensures.was_free in
-    let empty = free_empty w c.requires.good p free in
-    let new : NewFrame = record { method = c.args.method; closure = record { 0 = nil }; receiver = c.slot-receiver.result; birth = w.roots.next_birth; args = 0; fill = 0 } in
-    let s1 = stage_built w.frames p c.build-frame.new.self c.build-frame.result new (omega (arith, free.0, c.requires.good.total)) empty c.build-frame.ensures.made c.build-frame.ensures.frame in
-    let s2 = stage_on_frame s1 c.set_sender.new.self (with_caller c.args.sender.0) refl c.set_sender.ensures.sender in
-    let s3 = stage_on_frame s2 c.set_saved_pc.new.self (with_saved_pc c.count_word.result.0) refl c.set_saved_pc.ensures.saved_pc in
-    let other = free_other o p free in
-    let same = caller_same o p other s3 c.args.caller c.requires.caller in
-    let f3 : Frame = frame c.set_saved_pc.new.self c.args.caller in
-    let ys : List ℕ = drop (length f3.stack - c.args.args) f3.stack in
-    let s4 = stage_longer s3 c.copy_arguments.new.frames ys c.copy_arguments.ensures.copied in
-    let s5 = stage_longer s4 c.push_nils.new.frames (replicate (c.temporary_count.result - c.args.args) nil) c.push_nils.ensures.pushed in
-    let pc = c.count_word.ensures ∙ ap (λ n. small_word (pos n)) (c.entry_pc.ensures ∙ ap (λ h. entry_of h c.args.skip) c.header-head.ensures) in
-    let filled = ap (λ n. n - c.args.args) (c.temporary_count.ensures ∙ ap temporary_count c.header-head.ensures) in
-    let drops = ap (λ (f : Frame). drop (length f.stack - c.args.args) f.stack) same in
-    let active : top (frames_of w.frames (active_number w)) ≡ o.f = ap (λ (fs : List Frame). top fs) (ap (frames_of w.frames) (number_is o) ∙ o.is) in
-    let made = stage_cut o p other s5 c.args.caller c.requires.caller c.drop_values.new.frames c.args.args c.drop_values.ensures.dropped
-    ∙ (λ i. on_page (on_page w.frames (active_number w) (on_top (cut c.args.args))) p (λ _. record {
-      at = 0;
-      caller = c.args.sender.0;
-      saved_pc = pc i;
-      method = c.args.method.0;
-      closure = nil;
-      context = nil;
-      birth = w.roots.next_birth;
-      receiver = received i;
-      stack = drops i ++ replicate (filled i) nil;
-    } ∷ []))
-    ∙ ap (λ (f : Frame). on_page (on_page w.frames (active_number w) (on_top (cut c.args.args))) p (λ _. callee w.heap.objects c.args.method.0 c.args.args c.args.skip w.roots.next_birth 0 c.args.sender.0 f ∷ [])) (sym active) in
+    let s3 = begun_empty c.requires.good c.requires.ready o c.requires.can p free c.args.sender.0 c.build-frame.new.self c.set_sender.new.self c.set_saved_pc.new.self c.build-frame.result
+    c.build-frame.ensures.made c.build-frame.ensures.frame c.set_sender.ensures.sender c.set_saved_pc.ensures.saved_pc in
+    let s4 = begun_arguments c.requires.good c.requires.ready o c.requires.can p free c.args.sender.0 c.args.caller c.requires.caller s3 c.copy_arguments.new.frames c.copy_arguments.ensures.copied in
+    let s5 = stage_longer s4 c.push_nils.new.frames (replicate c.args.new.fill nil) c.push_nils.ensures.pushed in
+    let s6 = stage_longer s5 c.push_copied.new.frames (copied_at w.heap.objects c.args.new.closure.0 c.args.copies) c.push_copied.ensures.pushed in
+    let made = begun_made c.requires.good c.requires.ready o c.requires.can p free c.args.sender.0 c.args.caller c.requires.caller s6 c.drop_values.new.frames c.drop_values.ensures.dropped in
     record { made = record { page = p; free = free; is = ap₂ (λ order ss. record (given_birth w) { pages = order; frames = ss }) c.in-Some.ensures.taken made } }

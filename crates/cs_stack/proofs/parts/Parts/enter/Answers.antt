@@ -1,43 +1,82 @@
-use Rattle.std.proofs.Common.{ap, sym, subst, ◌∙◌, arith}
-use Rattle.std.specs.Prelude.{OnOk}
-use Rattle.cs_frame.specs.Page.{frames_of, used}
-use Rattle.cs_acts.specs.Made.{MakesAtMost}
-use Rattle.cs_stack.specs.declared.parts.Parts.{Parts}
-use Rattle.cs_stack.specs.Good.{IsGood}
+use Rattle.std.proofs.Common.{◌≡◌, ◌≤◌, ◌-◌, ◌+◌, length, ap, sym, subst, ◌∙◌, arith, pos}
+use Rattle.std.specs.Prelude.{OnOk, IfErr, slice_index}
+use Rattle.cs_word.specs.Word.{small_word}
+use Rattle.cs_frame.specs.Frame.{Frame}
+use Rattle.cs_model.specs.Obj.{temporary_count}
+use Rattle.cs_model.specs.State.{Kept}
+use Rattle.cs_acts.specs.Full.{CausesFull}
+use Rattle.cs_stack.specs.Moved.{entry_of}
 use Rattle.cs_stack.specs.View.{layout_of, stored_of, view_of}
 use Rattle.cs_stack.proofs.Tops.{opened}
-use Rattle.cs_stack.proofs.Called.{active_used, called_good, called_layout, called_view}
-use Rattle.cs_stack.proofs.Overflowing.{made_one}
+use Rattle.cs_stack.proofs.Called.{top_frame, top_is_frame}
+use Rattle.cs_stack.proofs.Methods.{enough, method_begins, method_header, method_temporaries}
 use Rattle.cs_stack.proofs.parts.Parts.enter.Goals as goal
 
-pub returns-then-room-lt-FRAME_ROOM-clause-contexts : goal.returns-then-room-lt-FRAME_ROOM-clause-contexts
-returns-then-room-lt-FRAME_ROOM-clause-contexts c =
-    let w : Parts = c.args.self.now in
-    let o = opened w c.requires.good c.requires.ready in
-    let words = ap (λ n. used (frames_of w.frames n)) c.order.ensures.page ∙ active_used o in
-    subst (λ n. OnOk c.overflow.result (MakesAtMost n (layout_of w) (stored_of w) (stored_of c.overflow.new.self))) (sym (made_one w c.requires.good o (omega (arith, words, c.room-room.ensures.room, c.if-room-lt-FRAME_ROOM.true))))
-    c.overflow.ensures.contexts
+pub header-head-requires : goal.header-head-requires
+header-head-requires c =
+    method_header c.requires.ready (opened c.args.self.now c.requires.good c.requires.ready) c.args.method c.args.args c.args.skip c.requires.named c.requires.fits
 
-pub returns-clause-good : goal.returns-clause-good
-returns-clause-good c =
-    let w : Parts = c.args.self.now in
-    let o = opened w c.requires.good c.requires.ready in
-    let words = ap (λ n. used (frames_of w.frames n)) c.order.ensures.page ∙ active_used o in
-    subst IsGood (sym c.call.ensures.made)
-    (called_good c.requires.good c.requires.ready o c.args.method c.args.args c.args.skip c.requires.named c.requires.fits (omega (arith, words, c.room-room.ensures.room, c.if-room-lt-FRAME_ROOM.false)))
+pub depth-requires : goal.depth-requires
+depth-requires c =
+    let o = opened c.args.self.now c.requires.good c.requires.ready in
+    record { frame = top_is_frame o c.top-top.result c.top-top.ensures.is }
+
+pub overflow_sub-depth : goal.overflow_sub-depth
+overflow_sub-depth c =
+    let o = opened c.args.self.now c.requires.good c.requires.ready in
+    let deep = c.depth.ensures.depth ∙ ap (λ (f : Frame). length f.stack) (top_frame o c.top-top.result c.top-top.ensures.is) in
+    omega (arith, deep, enough c.requires.ready o c.args.method c.args.args c.args.skip c.requires.named c.requires.fits)
+
+pub overflow_sub-depth-2 : goal.overflow_sub-depth-2
+overflow_sub-depth-2 c =
+    let o = opened c.args.self.now c.requires.good c.requires.ready in
+    let deep = c.depth.ensures.depth ∙ ap (λ (f : Frame). length f.stack) (top_frame o c.top-top.result c.top-top.ensures.is) in
+    omega (arith, deep, enough c.requires.ready o c.args.method c.args.args c.args.skip c.requires.named c.requires.fits)
+
+pub slot-receiver-requires-clause-index : goal.slot-receiver-requires-clause-index
+slot-receiver-requires-clause-index c =
+    let o = opened c.args.self.now c.requires.good c.requires.ready in
+    let deep = c.depth.ensures.depth in
+    let same = ap (λ (f : Frame). length f.stack) (top_frame o c.top-top.result c.top-top.ensures.is) in
+    omega (arith, deep, same, enough c.requires.ready o c.args.method c.args.args c.args.skip c.requires.named c.requires.fits)
+
+pub overflow_sub-new : goal.overflow_sub-new
+overflow_sub-new c =
+    let o = opened c.args.self.now c.requires.good c.requires.ready in
+    subst (λ n. c.args.args ≤ n) (sym (c.temporary_count.ensures ∙ ap temporary_count c.header-head.ensures)) (method_temporaries c.requires.ready o c.args.method c.args.args c.args.skip c.requires.named c.requires.fits)
+
+pub begin-requires-clause-can : goal.begin-requires-clause-can
+begin-requires-clause-can c =
+    let o = opened c.args.self.now c.requires.good c.requires.ready in
+    let deep = c.depth.ensures.depth ∙ ap (λ (f : Frame). length f.stack) (top_frame o c.top-top.result c.top-top.ensures.is) in
+    let at : c.depth.result - c.args.args - 1 ≡ length o.f.stack - (c.args.args + 1) = omega (arith, deep) in
+    let received = c.slot-receiver.ensures.value ∙ ap (λ (f : Frame). slice_index f.stack (c.depth.result - c.args.args - 1)) (top_frame o c.top-top.result c.top-top.ensures.is)
+    ∙ ap (slice_index o.f.stack) at in
+    let filled = ap (λ n. n - c.args.args) (c.temporary_count.ensures ∙ ap temporary_count c.header-head.ensures) in
+    let pc = c.count_word.ensures ∙ ap (λ n. small_word (pos n)) (c.entry_pc.ensures ∙ ap (λ h. entry_of h c.args.skip) c.header-head.ensures) in
+    let b = method_begins c.requires.ready o c.args.method c.args.args c.args.skip c.requires.named c.requires.fits c.slot-receiver.result (c.temporary_count.result - c.args.args) c.count_word.result received filled pc in
+    b.can
 
 pub returns-clause-view : goal.returns-clause-view
 returns-clause-view c =
-    let w : Parts = c.args.self.now in
-    let o = opened w c.requires.good c.requires.ready in
-    let words = ap (λ n. used (frames_of w.frames n)) c.order.ensures.page ∙ active_used o in
-    ap view_of c.call.ensures.made
-    ∙ called_view c.requires.good c.requires.ready o c.args.method c.args.args c.args.skip c.requires.named c.requires.fits (omega (arith, words, c.room-room.ensures.room, c.if-room-lt-FRAME_ROOM.false))
+    let o = opened c.args.self.now c.requires.good c.requires.ready in
+    let deep = c.depth.ensures.depth ∙ ap (λ (f : Frame). length f.stack) (top_frame o c.top-top.result c.top-top.ensures.is) in
+    let at : c.depth.result - c.args.args - 1 ≡ length o.f.stack - (c.args.args + 1) = omega (arith, deep) in
+    let received = c.slot-receiver.ensures.value ∙ ap (λ (f : Frame). slice_index f.stack (c.depth.result - c.args.args - 1)) (top_frame o c.top-top.result c.top-top.ensures.is)
+    ∙ ap (slice_index o.f.stack) at in
+    let filled = ap (λ n. n - c.args.args) (c.temporary_count.ensures ∙ ap temporary_count c.header-head.ensures) in
+    let pc = c.count_word.ensures ∙ ap (λ n. small_word (pos n)) (c.entry_pc.ensures ∙ ap (λ h. entry_of h c.args.skip) c.header-head.ensures) in
+    let b = method_begins c.requires.ready o c.args.method c.args.args c.args.skip c.requires.named c.requires.fits c.slot-receiver.result (c.temporary_count.result - c.args.args) c.count_word.result received filled pc in
+    subst (λ (t : Kept). OnOk c.begin.result (view_of c.begin.new.self ≡ t)) b.state c.begin.ensures.view
 
-pub returns-clause-layout : goal.returns-clause-layout
-returns-clause-layout c =
-    let w : Parts = c.args.self.now in
-    let o = opened w c.requires.good c.requires.ready in
-    let words = ap (λ n. used (frames_of w.frames n)) c.order.ensures.page ∙ active_used o in
-    ap layout_of c.call.ensures.made
-    ∙ called_layout c.requires.good c.requires.ready o c.args.method c.args.args c.args.skip c.requires.named c.requires.fits (omega (arith, words, c.room-room.ensures.room, c.if-room-lt-FRAME_ROOM.false))
+pub returns-clause-full : goal.returns-clause-full
+returns-clause-full c =
+    let o = opened c.args.self.now c.requires.good c.requires.ready in
+    let deep = c.depth.ensures.depth ∙ ap (λ (f : Frame). length f.stack) (top_frame o c.top-top.result c.top-top.ensures.is) in
+    let at : c.depth.result - c.args.args - 1 ≡ length o.f.stack - (c.args.args + 1) = omega (arith, deep) in
+    let received = c.slot-receiver.ensures.value ∙ ap (λ (f : Frame). slice_index f.stack (c.depth.result - c.args.args - 1)) (top_frame o c.top-top.result c.top-top.ensures.is)
+    ∙ ap (slice_index o.f.stack) at in
+    let filled = ap (λ n. n - c.args.args) (c.temporary_count.ensures ∙ ap temporary_count c.header-head.ensures) in
+    let pc = c.count_word.ensures ∙ ap (λ n. small_word (pos n)) (c.entry_pc.ensures ∙ ap (λ h. entry_of h c.args.skip) c.header-head.ensures) in
+    let b = method_begins c.requires.ready o c.args.method c.args.args c.args.skip c.requires.named c.requires.fits c.slot-receiver.result (c.temporary_count.result - c.args.args) c.count_word.result received filled pc in
+    subst (λ (t : Kept). IfErr c.begin.result (CausesFull (stored_of c.begin.new.self) (layout_of c.args.self.now) (view_of c.args.self.now) 0 t)) b.state c.begin.ensures.full
