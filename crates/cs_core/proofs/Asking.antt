@@ -1,5 +1,5 @@
 -- An instruction that asks for a send leaves the state as it is, and one that returns may have popped its value.
-use Rattle.std.proofs.Common.{◌≡◌, ◌⊎◌, inl, inr, ℕ, ◌+◌, ◌≤◌, Bool, true, false, refl, ap, subst, ◌∙◌, arith, Option, Some, None, List, [], ◌∷◌, length, length-take, nat_lt}
+use Rattle.std.proofs.Common.{◌≡◌, ◌⊎◌, nat_le, inl, inr, ℕ, ◌+◌, ◌≤◌, Bool, true, false, refl, ap, subst, ◌∙◌, arith, Option, Some, None, List, [], ◌∷◌, length, length-take, nat_lt}
 use Rattle.std.specs.Prelude.{ℤ, pos, ◌==◌, ◌-◌, ◌*◌, option_and_then, if◌then◌else◌, slice_get}
 use Rattle.std.proofs.lemmas.Bool.{eqb-false}
 use Rattle.cs_model.specs.declared.stop.Stop.{Stop}
@@ -12,11 +12,11 @@ use Rattle.cs_model.specs.Obj.{Obj, Context, Ptr, Raw, Method, Ctx, context_in, 
 use Rattle.cs_model.specs.State.{Kept, Rest, object_of}
 use Rattle.cs_model.specs.Keeps.{Keeps}
 use Rattle.cs_model.specs.Read.{IsRunning, active_birth, active_context, depth_of, from_top, literals_of, pc_of, receiver_of, size_of, stack_of}
-use Rattle.cs_model.specs.Operation.{drop_of, pop_of, push_of, put_active, set_pc_of}
+use Rattle.cs_model.specs.Operation.{add_of, next_ref, drop_of, pop_of, push_of, put_active, set_pc_of}
 use Rattle.cs_model.specs.Number.{boolean}
 use Rattle.cs_model.specs.End as ends
-use Rattle.cs_model.specs.End.{End, Out, given, done, stop, looked}
-use Rattle.cs_model.specs.Exec.{argument_count_in, is_local, return_out, literal_at, selector_pair, top_of, variable_value, class_out, common_out, dup_out, exec, jump_if_out, jump_out, pop_into, pop_out, push_field, push_literal_out, push_out, push_receiver_out, push_temp_out, push_variable_out, push_vector_out, same_out, send_literal_out, send_selector_out, send_super_out, special_out, special_send_out, store_field, store_into, store_receiver_out, store_temp_out, store_variable_out, store_vector_out, this_context_out}
+use Rattle.cs_model.specs.End.{End, Out, given, done, stop, looked, made, and_then, is_done}
+use Rattle.cs_model.specs.Exec.{closure_out, new_closure, pc_after, argument_count_in, is_local, return_out, literal_at, selector_pair, top_of, variable_value, class_out, common_out, dup_out, exec, jump_if_out, jump_out, pop_into, pop_out, push_field, push_literal_out, push_out, push_receiver_out, push_temp_out, push_variable_out, push_vector_out, same_out, send_literal_out, send_selector_out, send_super_out, special_out, special_send_out, store_field, store_into, store_receiver_out, store_temp_out, store_variable_out, store_vector_out, this_context_out}
 use Rattle.cs_model.specs.Built.{is_built_op}
 use Rattle.cs_model.proofs.Editing.{edit_twice}
 use Rattle.cs_model.proofs.Objects.{object_at-put_other, object_at-put_same, rest-put}
@@ -142,6 +142,24 @@ jump_asks : (k t : Kept) (offset : ℤ) → Asks k (jump_out t offset)
 unfolding jump_out
 jump_asks k t offset = given_asks k _ _ _ stop_asks (λ x. done_asks)
 
+then_asks : (k : Kept) (o : Out) (next : Kept → Kept) → Asks k o → Asks k (and_then o (λ t. done (next t)))
+unfolding and_then
+then_asks k o next h = if_asks k (is_done o.end) _ _ (record { leaves = tt }) h
+
+made_asks : (k : Kept) (words : ℕ) (o : Out) → Asks k o → Asks k (made words o)
+unfolding made
+made_asks k words o h = record { leaves = h.leaves }
+
+push_on_asks : (k t : Kept) (x : Ref) → Asks k (push_out t x)
+unfolding push_out
+push_on_asks k t x = if_asks k (nat_lt (depth_of t) (size_of t)) _ _ done_asks stop_asks
+
+closure_asks : (k : Kept) (copied args size : ℕ) → Asks k (closure_out k copied args size)
+unfolding closure_out
+closure_asks k copied args size =
+    given_asks k (pc_after k (pos size)) _ _ stop_asks (λ pc. if_asks k (nat_le copied (depth_of k)) _ _
+    (looked_asks k _ (made_asks k _ _ (then_asks k _ (λ t. set_pc_of t pc) (push_on_asks k (drop_of (add_of k (new_closure k copied args)) copied) (next_ref k))))) stop_asks)
+
 -- ---- instructions that send
 
 special_send_asks : (k : Kept) (special args : ℕ) → Asks k (special_send_out k special args)
@@ -222,7 +240,7 @@ exec_asks (op.Prim i j) k h = done_asks
 exec_asks (op.PushVec i j) k h = vector_asks k i j
 exec_asks (op.StoreVec i j) k h = store_into_asks k _ (λ t x. store_vector_asks k t i j x)
 exec_asks (op.PopVec i j) k h = pop_into_asks k _ (λ t x. store_vector_asks k t i j x)
-exec_asks (op.Closure copied args size) k h = absurd (cc)
+exec_asks (op.Closure copied args size) k h = closure_asks k copied args size
 exec_asks (op.Jump offset) k h = jump_asks k k offset
 exec_asks (op.JumpTrue offset) k h = jump_if_asks k true offset
 exec_asks (op.JumpFalse offset) k h = jump_if_asks k false offset

@@ -1,5 +1,5 @@
 -- How a step begins: what the code has read, and what it has done of the instruction.
-use Rattle.std.proofs.Common.{◌≡◌, ℕ, ◌+◌, ◌-◌, ◌<◌, ◌≤◌, Bool, true, false, refl, sym, ap, subst, ◌∙◌, arith, Option, Some, None, List, length, option_map, nat_lt, nat_le, IfSome, ◌*◌}
+use Rattle.std.proofs.Common.{◌≡◌, inl, inr, ℕ, ◌+◌, ◌-◌, ◌<◌, ◌≤◌, Bool, true, false, refl, sym, ap, subst, ◌∙◌, arith, Option, Some, None, List, length, option_map, nat_lt, nat_le, IfSome, ◌*◌}
 use Rattle.std.specs.Prelude.{◌&&◌, if◌then◌else◌, slice_index}
 use Rattle.std.proofs.lemmas.Bool.Decides.{nat_tests}
 use Rattle.cs_word.specs.declared.Oop.{Oop}
@@ -15,7 +15,7 @@ use Rattle.cs_model.specs.Operation.{set_pc_of}
 use Rattle.cs_model.specs.Decode.{decode_at, len_of, op_of}
 use Rattle.cs_model.specs.Exec.{exec}
 use Rattle.cs_model.specs.End as ends
-use Rattle.cs_model.specs.End.{Count, End, Out, stop}
+use Rattle.cs_model.specs.End.{Count, End, stop}
 use Rattle.cs_model.specs.Step.{birth_limit, instruction_at}
 use Rattle.cs_model.specs.Built.{is_built_op}
 use Rattle.cs_model.proofs.Building.{is_built_op_same}
@@ -31,7 +31,7 @@ use Rattle.cs_acts.specs.Names.{IsNamed, Store, name_of}
 use Rattle.cs_acts.specs.Ready.{Holds}
 use Rattle.cs_acts.proofs.Held.{named_held}
 use Rattle.cs_code.specs.Built.{built_exec}
-use Rattle.cs_code.specs.Gives.{Refuses}
+use Rattle.cs_code.specs.Gives.{IsMade, Refuses}
 use Rattle.cs_core.proofs.Laying.{state_words_kept}
 use Rattle.cs_core.proofs.Turning.{effect, past}
 
@@ -124,10 +124,10 @@ executed k u v i pc e at moved closed end keeps = go (is_built_op i.op u) refl e
     go true h end keeps = did (built ∙ h) (sym a.end ∙ sym end) (Keeps-trans keeps a.keeps)
     go false h end keeps = did_not (built ∙ h) end
 
--- it is built and done in the model, and the heap has no room for what it looks at
+-- it is built, and done in the model or stopped behind what it makes, and the heap has no room for what it makes or looks at
 pub record Refused (s : Store) (l : Option Layout) (k : Kept) (i : Instr) (why : Why) : Type 0 where
   pub op : is_built_op i.op (past k i) ≡ true
-  pub end : (effect k i).end ≡ ends.Done
+  pub made : IsMade (effect k i)
   pub heap : why ≡ Heap
   pub cause : CausesFull s l k (effect k i).count.objects (effect k i).state Heap
 
@@ -151,14 +151,22 @@ refused s l k u i pc reason at moved closed h = go (is_built_op i.op u) refl h
       room = subst (λ n. IfSome l (λ laid. s.memory.limit < used s.memory.objects + n + 26304 * laid.most)) made c.room;
     }
 
+    made_too : IsMade (exec i.op u) → IsMade (effect k i)
+    made_too (inl end) = inl (sym a.end ∙ end)
+    made_too (inr (end, some)) = inr (sym a.end ∙ end, omega (arith, some, made))
+
+    nothing_made : IsMade (stop why.NotBuilt u) → ⊥
+    nothing_made (inl end) = absurd (let no : ends.Stopped why.NotBuilt ≡ ends.Done = end in cc)
+    nothing_made (inr (end, some)) = absurd (omega (arith, some))
+
     go : (b : Bool) → is_built_op i.op u ≡ b → Refuses s l u (if b then exec i.op u else stop why.NotBuilt u) reason → Refused s l k i reason
     go true op r = record {
       op = equal (is_built_op_same start i.op) ∙ op;
-      end = sym a.end ∙ r.end;
+      made = made_too r.end;
       heap = r.heap_alone;
       cause = cause (subst (CausesFull s l u (exec i.op u).count.objects (exec i.op u).state) r.heap_alone r.cause);
     }
-    go false op r = absurd (let no : ends.Stopped why.NotBuilt ≡ ends.Done = r.end in cc)
+    go false op r = absurd (nothing_made r.end)
 
 -- ---- what a message names
 

@@ -1,17 +1,16 @@
 -- The frames of a world have begun in the run, and where they need too many words the run is deep.
-use Rattle.std.proofs.Common.{◌≡◌, inl, inr, ℕ, ◌+◌, refl, sym, ap, subst, ◌∙◌, arith, Option, Some, None, IsSomeAnd}
+use Rattle.std.proofs.Common.{◌≡◌, inl, inr, ℕ, ◌+◌, refl, sym, ap, subst, ◌∙◌, arith, Option, Some, None, IsSomeAnd, ◌<◌, List, [], ◌∷◌, ◌++◌}
 use Rattle.std.specs.List.{concat}
 use Rattle.cs_model.specs.State.{Kept, Rest}
 use Rattle.cs_model.specs.Keeps.{Keeps}
 use Rattle.cs_model.specs.Step.{run_by}
-use Rattle.cs_acts.specs.Full.{IsFullStack}
-use Rattle.cs_acts.specs.Layout.{IsFresh, Layout}
+use Rattle.cs_acts.specs.Layout.{IsApart, IsFresh, Layout, first_page, page_words}
 use Rattle.cs_acts.specs.Names.{Store}
 use Rattle.cs_acts.specs.Ready.{IsReady}
 use Rattle.cs_core.specs.Deep.{AllBegun, WasActive, IsDeep, most_of, state_of}
 use Rattle.cs_core.specs.Stacked.{IsStacked}
-use Rattle.cs_core.specs.Stepped.{FramesFrom}
-use Rattle.cs_core.proofs.Chaining.{all_by, frame_of_all}
+use Rattle.cs_core.specs.Stepped.{FramesFrom, IsFilled, least_of_return}
+use Rattle.cs_core.proofs.Chaining.{all_by, frame_of_all, off_both}
 use Rattle.cs_core.proofs.Laying.{page_words_kept}
 use Rattle.cs_core.proofs.Stacking.{stack_active, stack_called, stack_words}
 
@@ -45,8 +44,16 @@ most_stays (Some l) (Some n) w frames = ap Some frames.0
 
 -- ---- pages that are full
 
+first_apart : (pages : List (List ℕ)) → IsApart (concat pages) → IsApart (first_page pages)
+first_apart [] h = tt
+first_apart (page ∷ pages) h = go page h
+  where
+    go : (is : List ℕ) → IsApart (is ++ concat pages) → IsApart is
+    go [] h = tt
+    go (i ∷ is) h = ((off_both i is (concat pages) h.0).0, go is h.1)
+
 -- the frames of the pages are the contexts that await a return
-pub is_deep : (k : Kept) (s : Store) (v : Kept) (n : ℕ) (l : Option Layout) → Keeps v (state_of k n) → IsReady s v → IsStacked v l → AllBegun k n l → IsFullStack v l → IsSomeAnd (most_of l) (λ most. IsDeep most k n)
+pub is_deep : (k : Kept) (s : Store) (v : Kept) (n : ℕ) (l : Option Layout) → Keeps v (state_of k n) → IsReady s v → IsStacked v l → AllBegun k n l → IsFilled v l least_of_return → IsSomeAnd (most_of l) (λ most. IsDeep most k n)
 is_deep k s v n None keeps ready stack begun full = absurd full
 is_deep k s v n (Some l) keeps ready stack begun full = record {
   contexts = concat l.pages;
@@ -54,5 +61,8 @@ is_deep k s v n (Some l) keeps ready stack begun full = record {
   called = stack_called v (state_of k n) keeps ready.running l.pages stack;
   apart = stack.apart;
   begun = all_by (WasActive k n) (concat l.pages) (λ i on. begun i (frame_of_all i l.pages ∙ on));
-  words = omega (arith, stack_words v l.pages l.most ready.running stack full.0 full.1, page_words_kept v (state_of k n) keeps (concat l.pages));
+  words = omega (arith, stack_words v l.pages l.most ready.running stack full.0 (filled (full.1 (first_apart l.pages stack.apart))), page_words_kept v (state_of k n) keeps (concat l.pages));
 }
+  where
+    filled : least_of_return < page_words v (first_page l.pages) → 3900 < page_words v (first_page l.pages)
+    filled h = omega (arith, h)

@@ -1,23 +1,23 @@
 -- What a run has written stays in front of what it writes later.
-use Rattle.std.proofs.Common.{◌≡◌, ℕ, zero, suc, ◌+◌, ◌<◌, ◌≤◌, Bool, true, false, refl, sym, ap, subst, ◌∙◌, arith, Option, Some, None, List, length, [], ◌∷◌, ◌++◌, nat_lt, option_and_then}
-use Rattle.std.specs.Prelude.{◌==◌, ◌&&◌, ◌||◌, if◌then◌else◌, not}
+use Rattle.std.proofs.Common.{◌≡◌, ℕ, zero, suc, ◌+◌, ◌<◌, ◌≤◌, Bool, true, false, refl, sym, ap, subst, ◌∙◌, arith, Option, Some, None, List, length, [], ◌++◌, nat_lt, option_and_then}
+use Rattle.std.specs.Prelude.{◌==◌, ◌&&◌, ◌||◌, if◌then◌else◌}
 use Rattle.std.proofs.lemmas.List.{append-nil, append_assoc, length-append, take-append-le}
 use Rattle.cs_shelf.specs.Outside.{Appends, AppendsPart}
 use Rattle.cs_model.specs.declared.stop.Stop.{Stop}
 use Rattle.cs_model.specs.declared.stop.Stop.TheVariants as why
 use Rattle.cs_model.specs.declared.instruction.Instr.{Instr}
 use Rattle.cs_model.specs.Ref.{Ref}
-use Rattle.cs_model.specs.Obj.{argument_count, bytecodes_in, context_in, header_in, primitive_number}
-use Rattle.cs_model.specs.State.{Kept, Run, State, object_at, object_of}
-use Rattle.cs_model.specs.Read.{active_birth, depth_of, pc_of}
-use Rattle.cs_model.specs.Operation.{cut_to_of, set_pc_of}
+use Rattle.cs_model.specs.Obj.{argument_count, bytecodes_in, header_in, primitive_number}
+use Rattle.cs_model.specs.State.{Kept, Run, State, object_of, special_at}
+use Rattle.cs_model.specs.Read.{depth_of, pc_of}
+use Rattle.cs_model.specs.Operation.{set_pc_of}
 use Rattle.cs_model.specs.Exec.{exec, small_operands}
 use Rattle.cs_model.specs.Lookup.{Sought}
 use Rattle.cs_model.specs.Lookup as sought
 use Rattle.cs_model.specs.Send.{begins_at, enter_out, invoke, look_from, offer, send, send_found}
-use Rattle.cs_model.specs.Return.{arrive, back, cannot_return_out, has_room, is_live, local_out, sender_birth}
+use Rattle.cs_model.specs.Return.{back}
 use Rattle.cs_model.specs.End as ends
-use Rattle.cs_model.specs.End.{Count, End, Out, done, given, made_context, no_count, stop}
+use Rattle.cs_model.specs.End.{End, Out, given, made_context, no_count, stop}
 use Rattle.cs_model.specs.PrimAnswer.{answer, answer_if, argument, fail, receiver}
 use Rattle.cs_model.specs.Number.{number_result}
 use Rattle.cs_model.specs.PrimRun.{Result, bytes_to_write, fails, result, write_prim, written}
@@ -27,9 +27,11 @@ use Rattle.cs_model.specs.Context.{is_context_ref}
 use Rattle.cs_model.specs.Due.{due, due_of, happened, is_idle, with_events}
 use Rattle.cs_model.specs.Step as step
 use Rattle.cs_model.specs.Step.{Steps, Quit, Idle, Stopped, add_count, bytecode, call_in, do_call, do_return, go_on, idle, obey, run_by, saved_fault, step}
-use Rattle.cs_model.specs.Step.{Ending, Message, Step, birth_limit, completed, do_send, ends_with, finish, finish_of, followed, instruction_at, is_fail, message_in, next_step, or_enter, primitive_in, return_in, sent, shape_fault, stops, with_kept, arguments_of, tried, try_performed, try_primitive}
-use Rattle.cs_model.specs.Built.{built_run, built_step, is_built, is_built_bytecode, is_built_found, is_built_from, is_built_method, is_built_number, is_built_op, is_built_out, is_built_return, is_built_send, is_built_target}
-use Rattle.cs_core.proofs.Laying.{is_same}
+use Rattle.cs_model.specs.Step.{Ending, Message, birth_limit, completed, do_send, ends_with, finish, finish_of, followed, instruction_at, is_fail, message_in, or_enter, primitive_in, return_in, sent, shape_fault, stops, with_kept, arguments_of, tried, try_performed, try_primitive}
+use Rattle.cs_model.specs.Built.{built_run, built_step, evaluates, is_about_marks, is_built, is_built_bytecode, is_built_call, is_built_found, is_built_from, is_built_method, is_built_number, is_built_op, is_built_out, is_built_return, is_built_send}
+use Rattle.cs_unwind.specs.Primitive.{unwinds}
+use Rattle.cs_core.proofs.Laying.{is_same, left_true, right_true}
+use Rattle.cs_core.proofs.Unwinding.{unwind_leaves}
 use Rattle.cs_core.proofs.Replying.{ReadsBy, reads_73, reads_210, reads_212, reply_last}
 
 -- a run that has written more, and has the same events left
@@ -93,17 +95,23 @@ read_leaves s args number p = record {
   writes = subst (λ (q : Result). Writes s.run q.run) (sym p.is) (writes_none s.run);
 }
 
+-- those that evaluate closures or look for marks
+unwinds_leaves : (s : State) (args number : ℕ) → unwinds number ≡ true → Leaves s (prim number args s)
+unwinds_leaves s args number h = let l = unwind_leaves s args number h in record { last = l.0; writes = subst (Writes s.run) (sym l.1) (writes_none s.run) }
+
 built_leaves : (s : State) (args number : ℕ) → is_built_number s.kept args (Some number) ≡ true → Leaves s (prim number args s)
-built_leaves s args number h = go (number == 1) (number == 210) (number == 212) (number == 900) (number == 73) refl refl refl refl refl h
+built_leaves s args number h = go (number == 1) (is_about_marks number) (evaluates number) (number == 210) (number == 212) (number == 900) (number == 73) refl refl refl refl refl refl refl h
   where
-    go : (a b c d e : Bool) → (number == 1) ≡ a → (number == 210) ≡ b → (number == 212) ≡ c → (number == 900) ≡ d → (number == 73) ≡ e
-        → ((a || b || c || d) || (e && is_context_ref s.kept (receiver s.kept args))) ≡ true → Leaves s (prim number args s)
-    go true b c d e p q r u w t = subst (λ n. Leaves s (prim n args s)) (sym (is_same number 1 p)) (record { last = prim_1_last args s; writes = subst (Writes s.run) (sym (prim_1_run args s)) (writes_none s.run) })
-    go false true c d e p q r u w t = subst (λ n. Leaves s (prim n args s)) (sym (is_same number 210 q)) (read_leaves s args 210 (reads_210 s args))
-    go false false true d e p q r u w t = subst (λ n. Leaves s (prim n args s)) (sym (is_same number 212 r)) (read_leaves s args 212 (reads_212 s args))
-    go false false false true e p q r u w t = subst (λ n. Leaves s (prim n args s)) (sym (is_same number 900 u)) (record { last = prim_900_last args s; writes = prim_900_writes args s })
-    go false false false false true p q r u w t = subst (λ n. Leaves s (prim n args s)) (sym (is_same number 73 w)) (read_leaves s args 73 (reads_73 s args))
-    go false false false false false p q r u w t = absurd (cc)
+    go : (a m v b c d e : Bool) → (number == 1) ≡ a → is_about_marks number ≡ m → evaluates number ≡ v → (number == 210) ≡ b → (number == 212) ≡ c → (number == 900) ≡ d → (number == 73) ≡ e
+        → ((a || m || v || b || c || d) || (e && is_context_ref s.kept (receiver s.kept args))) ≡ true → Leaves s (prim number args s)
+    go true m v b c d e p x y q r u w t = subst (λ n. Leaves s (prim n args s)) (sym (is_same number 1 p)) (record { last = prim_1_last args s; writes = subst (Writes s.run) (sym (prim_1_run args s)) (writes_none s.run) })
+    go false true v b c d e p x y q r u w t = unwinds_leaves s args number (left_true (is_about_marks number) (evaluates number) x)
+    go false false true b c d e p x y q r u w t = unwinds_leaves s args number (right_true (is_about_marks number) (evaluates number) y)
+    go false false false true c d e p x y q r u w t = subst (λ n. Leaves s (prim n args s)) (sym (is_same number 210 q)) (read_leaves s args 210 (reads_210 s args))
+    go false false false false true d e p x y q r u w t = subst (λ n. Leaves s (prim n args s)) (sym (is_same number 212 r)) (read_leaves s args 212 (reads_212 s args))
+    go false false false false false true e p x y q r u w t = subst (λ n. Leaves s (prim n args s)) (sym (is_same number 900 u)) (record { last = prim_900_last args s; writes = prim_900_writes args s })
+    go false false false false false false true p x y q r u w t = subst (λ n. Leaves s (prim n args s)) (sym (is_same number 73 w)) (read_leaves s args 73 (reads_73 s args))
+    go false false false false false false false p x y q r u w t = absurd (cc)
 
 -- ---- a send
 
@@ -152,34 +160,32 @@ send_writes r k m h = go (nat_lt m.args (depth_of k)) (look_from k m.selector (b
 
 -- ---- a return
 
--- a built one calls nothing
-arrives_last : (k : Kept) (x : Ref) (o : Option ℕ) → is_built_target k o ≡ true → call_in (arrive k x (active_birth k ∷ []) o).end ≡ None
-arrives_last k x None h = absurd (cc)
-arrives_last k x (Some target) h = go (is_live k target) (target == active_birth k) (has_room (context_in (object_at k target))) h
+-- it writes what the message writes that tells of it, if any
+call_writes : (r : Run) (k : Kept) (special args : ℕ) → is_built_call k special args ≡ true → Writes r (do_call r k special args).run
+call_writes r k special args h = go (special_at k special) h
   where
-    go : (live same room : Bool) → (live && not same) ≡ true
-        → call_in (if live && not (same || false) then (if room then done (cut_to_of k (active_birth k ∷ []) target x) else stop why.StackOver k) else cannot_return_out k x).end ≡ None
-    go true false true h = refl
-    go true false false h = refl
-    go true true room h = absurd (cc)
-    go false same room h = absurd (cc)
+    go : (o : Option Ref) → given o true (λ selector. is_built_send k (record { selector = selector; args = args; above = None })) ≡ true
+        → Writes r (given o (result (stop why.BadSpecial k) r) (λ selector. do_send r k selector args None)).run
+    go None t = writes_none r
+    go (Some selector) t = send_writes r k (record { selector = selector; args = args; above = None }) t
 
-back_last : (k : Kept) (x : Ref) (local : Bool) → is_built_return k local ≡ true → call_in (back k x local).end ≡ None
-unfolding back local_out
-back_last k x true h = arrives_last k x (sender_birth k (active_birth k)) h
-back_last k x false h = absurd (cc)
-
-return_writes : (r : Run) (k : Kept) (x : Ref) (local : Bool) → is_built_return k local ≡ true → Writes r (do_return r k x local).run
+return_writes : (r : Run) (k : Kept) (x : Ref) (local : Bool) → is_built_return k x local ≡ true → Writes r (do_return r k x local).run
 unfolding do_return
-return_writes r k x local h =
-    subst (λ (o : Option (ℕ × ℕ)). Writes r (given o (result (back k x local) r) (λ c. step.counting (back k x local).count (do_call r (back k x local).state c.0 c.1))).run) (sym (back_last k x local h)) (writes_none r)
+return_writes r k x local h = go (call_in (back k x local).end) h
+  where
+    o : Out
+    o = back k x local
+
+    go : (c : Option (ℕ × ℕ)) → given c true (λ c. is_built_call o.state c.0 c.1) ≡ true → Writes r (given c (result o r) (λ c. step.counting o.count (do_call r o.state c.0 c.1))).run
+    go None t = writes_none r
+    go (Some c) t = call_writes r o.state c.0 c.1 t
 
 -- ---- a step
 
 followed_writes : (r : Run) (o : Out) → is_built_out o ≡ true → Writes r (followed r o).run
 followed_writes r o h = go (message_in o.end) (return_in o.end) h
   where
-    go : (m : Option Message) (p : Option (Ref × Bool)) → given m (given p true (λ p. is_built_return o.state p.1)) (λ m. is_built_send o.state m) ≡ true
+    go : (m : Option Message) (p : Option (Ref × Bool)) → given m (given p true (λ p. is_built_return o.state p.0 p.1)) (λ m. is_built_send o.state m) ≡ true
         → Writes r (given m (given p (result o r) (λ p. step.counting o.count (do_return r o.state p.0 p.1))) (λ m. step.counting o.count (do_send r o.state m.selector m.args m.above))).run
     go None None t = writes_none r
     go None (Some p) t = return_writes r o.state p.0 p.1 t

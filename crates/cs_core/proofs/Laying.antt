@@ -4,27 +4,24 @@ use Rattle.std.specs.Prelude.{◌==◌, ◌||◌, if◌then◌else◌, not}
 use Rattle.std.specs.List.{filter}
 use Rattle.std.proofs.lemmas.Bool.Decides.{nat_tests}
 use Rattle.std.proofs.lemmas.List.Folds.{list_any-append}
-use Rattle.cs_model.specs.Ref.{Ref}
 use Rattle.cs_model.specs.Obj.{Obj, context_in}
 use Rattle.cs_model.specs.State.{Kept, Rest, object_at}
 use Rattle.cs_model.specs.Keeps.{Keeps}
 use Rattle.cs_model.specs.End as ends
-use Rattle.cs_model.specs.End.{End, Out, made_context}
-use Rattle.cs_model.specs.Operation.{enter_of, enter_with}
-use Rattle.cs_model.specs.Send.{enter_out}
+use Rattle.cs_model.specs.End.{End, Out}
 use Rattle.cs_acts.specs.Full.{CausesFull}
 use Rattle.cs_acts.specs.declared.act.Full.{Full as Why}
 use Rattle.cs_acts.specs.declared.act.Full.TheVariants.{Heap, Stack}
-use Rattle.cs_acts.specs.Layout.{LaidBy, Layout, depth_in, entered, first_page, frame_words, is_frame, is_on, left, page_words, touched}
+use Rattle.cs_acts.specs.Layout.{IsApart, LaidBy, Layout, depth_in, entered, first_page, frame_words, is_frame, is_on, left, page_words, touched}
 use Rattle.cs_acts.specs.Names.{Store}
 use Rattle.cs_heap.specs.Object.{used}
 use Rattle.cs_model.specs.Demand.{words_at, words_below, words_in}
 use Rattle.cs_send.specs.Sent.{Refuses}
-use Rattle.cs_core.specs.Stepped.{EndsWithout, FramesFrom, IsOver, Overfills}
+use Rattle.cs_core.specs.Stepped.{CausesNoRoom, EndsWithout, FramesFrom, IsOver, Needs, whole, Overfills, Turn}
 
 -- ---- frames
 
-either : (a b : Bool) → (a || b) ≡ true → (a ≡ true) ⊎ (b ≡ true)
+pub either : (a b : Bool) → (a || b) ≡ true → (a ≡ true) ⊎ (b ≡ true)
 either true b h = inl refl
 either false b h = inr h
 
@@ -36,7 +33,7 @@ right_true true b h = refl
 right_true false b h = h
 
 -- a frame of pages with one more frame in front, or with one page more, is that frame or one of the others
-abbrev FromPages : List (List ℕ) → List (List ℕ) → ℕ → Type 0
+abbrev pub FromPages : List (List ℕ) → List (List ℕ) → ℕ → Type 0
 FromPages old new active = (i : ℕ) → is_frame i new ≡ true → (is_frame i old ≡ true) ⊎ (i ≡ active)
 
 pub is_same : (i j : ℕ) → (i == j) ≡ true → i ≡ j
@@ -74,7 +71,7 @@ filtered i test (page ∷ pages) h = go (λ e. filtered i test pages e) (test pa
     go rest true h = elim (either (is_on i page) (is_frame i (filter test pages)) h) [ inl e ↦ left_true (is_on i page) (is_frame i pages) e | inr e ↦ right_true (is_on i page) (is_frame i pages) (rest e) ]
     go rest false h = right_true (is_on i page) (is_frame i pages) (rest h)
 
-touched_from : (target : ℕ) (pages : List (List ℕ)) → FromPages pages (touched target pages) target
+pub touched_from : (target : ℕ) (pages : List (List ℕ)) → FromPages pages (touched target pages) target
 touched_from target pages i h = go (is_frame target pages) h
   where
     go : (b : Bool) → is_frame i (if b then filter (is_on target) pages ++ filter (λ page. not (is_on target page)) pages else (target ∷ []) ∷ pages) ≡ true → (is_frame i pages ≡ true) ⊎ (i ≡ target)
@@ -97,7 +94,7 @@ left_from target ((i ∷ j ∷ is) ∷ pages) = λ b h. elim (either (is_on b (j
   | inr e ↦ inl (right_true (is_on b (i ∷ j ∷ is)) (is_frame b pages) e)
 ]
 
-laid_from : (f : List (List ℕ) → List (List ℕ)) (active : ℕ) → ((pages : List (List ℕ)) → FromPages pages (f pages) active) → (old new : Option Layout) (v : Kept) → v.rest.active ≡ Some active → LaidBy f old new → FramesFrom old new v
+pub laid_from : (f : List (List ℕ) → List (List ℕ)) (active : ℕ) → ((pages : List (List ℕ)) → FromPages pages (f pages) active) → (old new : Option Layout) (v : Kept) → v.rest.active ≡ Some active → LaidBy f old new → FramesFrom old new v
 laid_from f active h None new v is laid = laid
 laid_from f active h (Some l) new v is laid =
     subst (λ n. FramesFrom (Some l) n v) (sym laid) (refl, λ i e. elim (h l.pages i e) [ inl a ↦ inl a | inr a ↦ inr (is ∙ ap Some (sym a)) ])
@@ -107,14 +104,6 @@ entered_frames k v active old new is laid = laid_from (entered k active) active 
 
 pub left_frames : (v : Kept) (target : ℕ) (old new : Option Layout) → v.rest.active ≡ Some target → LaidBy (left target) old new → FramesFrom old new v
 left_frames v target old new is laid = laid_from (left target) target (left_from target) old new v is laid
-
--- entering makes the next birth active
-enter_active : (k : Kept) (x : Ref) (args : ℕ) (skip : Bool) → (enter_out k x args skip).state.rest.active ≡ Some k.rest.next
-unfolding enter_out made_context enter_of enter_with
-enter_active k x args skip = refl
-
-pub entered_active : (k v : Kept) (x : Ref) (args : ℕ) (skip : Bool) → Keeps v (enter_out k x args skip).state → v.rest.active ≡ Some k.rest.next
-entered_active k v x args skip h = ap (λ (r : Rest). r.active) h.rest ∙ enter_active k x args skip
 
 same_frames : (l : Option Layout) (v : Kept) → FramesFrom l l v
 same_frames None v = refl
@@ -164,13 +153,38 @@ more_room : (s : Store) (l : Option Layout) (a b : ℕ) → a ≤ b → IfSome l
 more_room s None a b more h = tt
 more_room s (Some l) a b more h = omega (arith, more, h)
 
--- the cause of a refusal is one from a state with no fewer words, for a call that makes no fewer and leads to no fewer
-pub causes_more : (s : Store) (l : Option Layout) (u k t x : Kept) (a b : ℕ) (why : Why) → ((page : List ℕ) → page_words u page ≤ page_words k page) → words_in t ≤ words_in x → a ≤ b → CausesFull s l u a t why → CausesFull s l k b x why
-causes_more s l u k t x a b Heap pages words more h = record { words = omega (arith, words, h.words); room = more_room s l a b more h.room }
-causes_more s None u k t x a b Stack pages words more h = h
-causes_more s (Some l) u k t x a b Stack pages words more h = (h.0, omega (arith, pages (first_page l.pages), h.1))
+-- a page that a state fills beyond these words is one that another state fills beyond those
+abbrev pub FillsToo : Kept → ℕ → Kept → ℕ → Type 0
+FillsToo u least k floor = (page : List ℕ) → IsApart page → least < page_words u page → floor < page_words k page
+
+-- from no fewer words to as many
+pub fills_by_words : (u k : Kept) (least floor : ℕ) → ((page : List ℕ) → page_words u page ≤ page_words k page) → floor ≤ least → FillsToo u least k floor
+fills_by_words u k least floor words low page apart h = omega (arith, words page, low, h)
+
+-- the cause of a refusal is that of a part of a step that comes to no fewer words and makes no fewer
+pub causes_more : (s : Store) (l : Option Layout) (u k t : Kept) (o : Out) (made least : ℕ) (why : Why) → FillsToo u 4030 k least → words_in t ≤ words_in o.state → made ≤ o.count.objects → CausesFull s l u made t why
+    → CausesNoRoom s l k least o why
+causes_more s l u k t o made least Heap pages words more h = record { words = omega (arith, words, h.words); room = more_room s l made o.count.objects more h.room }
+causes_more s None u k t o made least Stack pages words more h = h
+causes_more s (Some l) u k t o made least Stack pages words more h = (h.0, λ apart. pages (first_page l.pages) apart (omega (arith, h.1)))
+
+-- and so is the cause of another part
+pub causes_too : (s : Store) (l : Option Layout) (u k : Kept) (a b : Out) (least floor : ℕ) (why : Why) → FillsToo u least k floor → words_in a.state ≤ words_in b.state → a.count.objects ≤ b.count.objects → CausesNoRoom s l u least a why
+    → CausesNoRoom s l k floor b why
+causes_too s l u k a b least floor Heap pages words more h = record { words = omega (arith, words, h.words); room = more_room s l a.count.objects b.count.objects more h.room }
+causes_too s None u k a b least floor Stack pages words more h = h
+causes_too s (Some l) u k a b least floor Stack pages words more h = (h.0, λ apart. pages (first_page l.pages) apart (h.1 apart))
+
+-- a part of a step that is built and comes to this has no room for it
+pub overfills_whole : (s : Store) (l : Option Layout) (k u t : Kept) (a : Turn) (o : Out) (made : ℕ) (why : Why) → a.built ≡ true → a.result.out ≡ o → EndsWithout why o.end → FillsToo u 4030 k a.least → words_in t ≤ words_in o.state → made ≤ o.count.objects
+    → CausesFull s l u made t why → Overfills s l k a why
+overfills_whole s l k u t a o made why built is end pages words more h = record {
+  out = o;
+  needs = subst (Needs a why) is (whole built (subst (λ (p : Out). EndsWithout why p.end) (sym is) end));
+  cause = causes_more s l u k t o made a.least why pages words more h;
+}
 
 -- a refusal to enter a method
-pub refused : (s : Store) (l : Option Layout) (k : Kept) (o : Out) (why : Why) → Refuses s l k o why → Overfills s l k o why
-refused s l k o why h =
-    record { end = entered_without why o.end h.end; cause = causes_more s l k k o.state o.state 0 o.count.objects why (λ page. omega arith) (omega arith) (omega arith) h.cause }
+pub refused : (s : Store) (l : Option Layout) (k : Kept) (a : Turn) (o : Out) (why : Why) → a.built ≡ true → a.result.out ≡ o → a.least ≤ 4030 → Refuses s l k o why → Overfills s l k a why
+refused s l k a o why built is low h =
+    overfills_whole s l k k o.state a o 0 why built is (entered_without why o.end h.end) (fills_by_words k k 4030 a.least (λ page. omega arith) low) (omega arith) (omega arith) h.cause

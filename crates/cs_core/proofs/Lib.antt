@@ -7,10 +7,14 @@ pub mod Laying
 mod Chaining
 mod Settling
 pub mod Stacking
+pub mod Cutting
+mod Coming
+pub mod Unwinding
 pub mod Turning
 pub mod Carrying
 pub mod Resolving
 pub mod Returning
+pub mod Calling
 pub mod Trying
 pub mod Asking
 pub mod Places

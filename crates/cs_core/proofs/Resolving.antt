@@ -27,12 +27,12 @@ use Rattle.cs_send.specs.Resolved as resolved
 use Rattle.cs_send.specs.Sent.{Enters, Halts, IsPlain, Offers, Refuses, found}
 use Rattle.cs_send.specs.Sent as send
 use Rattle.cs_send.proofs.Sends.{send-plain}
-use Rattle.cs_core.specs.Stepped.{DoneIn, EndsBy, IsOver, Lays, Overfills, TurnGives, unbuilt, stopped, run_at, sending, state_at, trying}
+use Rattle.cs_core.specs.Stepped.{DoneIn, EndsBy, IsOver, Lays, TurnGives, unbuilt, stopped, run_at, sending, state_at, trying}
 use Rattle.cs_core.specs.declared.step.StepEnd.{StepEnd}
 use Rattle.cs_core.specs.declared.step.StepEnd.TheVariants.{Stopped as Stop, Full}
-use Rattle.cs_core.proofs.Carrying.{SameIn}
+use Rattle.cs_core.proofs.Carrying.{SameIn, tells_nothing}
 use Rattle.cs_core.proofs.Laying.{is_same, refused}
-use Rattle.cs_core.proofs.Stacking.{entered_lays, few_arguments}
+use Rattle.cs_core.proofs.Stacking.{few_arguments, method_lays}
 use Rattle.cs_core.proofs.Turning.{ends_quietly}
 
 -- ---- whether it is built, by what it finds
@@ -106,7 +106,7 @@ arguments_found k m method h = go (nat_lt m.args (depth_of k)) (look_from k m.se
 lays_behind : (k v : Kept) (m : Message) (l n : Option Layout) (s : Store) → IsPlain (found k m) → Keeps v (send.sent k m).state → IsRunning k → IsRunning v → LaidBy (entered k k.rest.next) l n → Lays k l s v n
 lays_behind k v m l n s plain keeps runs running laid =
     let p = plain_in (found k m) plain in
-    entered_lays k v p.0 m.args false (subst (λ (o : Out). Keeps v o.state) (send-plain k m.selector m.args m.above p.0 p.1) keeps) runs running (few_arguments k p.0 m.args (arguments_found k m p.0 p.1)) l n s laid
+    method_lays k v p.0 m.args false (subst (λ (o : Out). Keeps v o.state) (send-plain k m.selector m.args m.above p.0 p.1) keeps) runs running (few_arguments k p.0 m.args (arguments_found k m p.0 p.1)) l n s laid
 
 pub entered_gives : (k v : Kept) (m : Message) (l n : Option Layout) (told : Option (List ℕ)) (old s : Store) (e : StepEnd) → IsRunning k → IsPlain (found k m) → Enters old s l n k v (send.sent k m) → EndsBy v e
     → TurnGives (sending k m) k l told told s v n e
@@ -128,7 +128,7 @@ refused_gives k v m l n told s why plain h = (
   refl,
   λ output steps.
       let is = does_send (run_at output steps) k m (ap primitive_in h.end) in
-      (built_found k m ∙ built_plain k m.args (found k m) plain, subst (λ (p : Result). Overfills s l k p.out why) (sym is) (refused s l k (send.sent k m) why h)),
+      refused s l k (sending k m output steps) (send.sent k m) why (built_found k m ∙ built_plain k m.args (found k m) plain) (ap (λ (p : Result). p.out) is) (omega arith) h,
 )
 
 -- ---- it stops
@@ -169,4 +169,5 @@ offered_same s k m o number h output steps =
       words = subst (λ (p : Result). IsNoLess (try_primitive (state_at k output steps) x number) p) (sym is) (none_less (try_primitive (state_at k output steps) x number));
       made = subst (λ (p : Result). MakesNoLess (try_primitive (state_at k output steps) x number) p) (sym is) (omega arith);
       run = ap (λ (p : Result). p.run) is;
+      told = tells_nothing None;
     }

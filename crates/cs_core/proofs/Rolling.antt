@@ -11,8 +11,8 @@ use Rattle.cs_model.specs.declared.stop.Stop.TheVariants as why
 use Rattle.cs_model.specs.State.{Kept, Rest, Run, State}
 use Rattle.cs_model.specs.Read.{IsRunning}
 use Rattle.cs_model.specs.Keeps.{Keeps}
-use Rattle.cs_model.specs.Alike.{AlikeResult, AlikeStep}
-use Rattle.cs_model.specs.End.{Count, End, given, no_count}
+use Rattle.cs_model.specs.Alike.{AlikeStep}
+use Rattle.cs_model.specs.End.{End, Out, given, no_count}
 use Rattle.cs_model.specs.End as ends
 use Rattle.cs_model.specs.PrimRun.{Result}
 use Rattle.cs_model.specs.Due.{Happened, due, due_of, happened, is_idle}
@@ -21,27 +21,26 @@ use Rattle.cs_model.specs.Built.{built_step, is_built, is_built_bytecode}
 use Rattle.cs_model.specs.Report.{no_place, place_of}
 use Rattle.cs_model.proofs.Keeping.{Keeps-trans}
 use Rattle.cs_model.proofs.Building.{built_step_alike}
-use Rattle.cs_model.proofs.Stepping.{bytecode_alike}
 use Rattle.cs_model.proofs.Agreeing.{place_of-kept, is_idle-kept}
 use Rattle.cs_acts.specs.declared.act.Full.{Full as Why}
 use Rattle.cs_acts.specs.declared.act.Full.TheVariants.{Heap, Stack}
 use Rattle.cs_acts.specs.Layout.{IsFresh, IsLaidOut, Layout}
-use Rattle.cs_model.specs.Demand.{words_in}
 use Rattle.cs_acts.specs.Names.{Store}
 use Rattle.cs_heap.specs.Object.{used}
 use Rattle.cs_acts.specs.Ready.{IsReady, IsSound}
 use Rattle.cs_core.specs.declared.step.StepEnd.TheVariants as how
 use Rattle.cs_core.specs.declared.run.Ran.{Ran as Report}
-use Rattle.cs_core.specs.Stepped.{IsNext, IsOver, Overfills, StepGives, run_at, state_at, step_at}
+use Rattle.cs_core.specs.Stepped.{CausesNoRoom, IsNext, Needs, whole, unheld, untold, Overfills, StepGives, Turn, least_of_return, next_turn, run_at, state_at, step_at}
 use Rattle.cs_core.proofs.Growing.{part_of_more, run_writes}
 use Rattle.cs_core.specs.declared.run.RunError.TheVariants.{Full, WriteFault}
 use Rattle.cs_core.specs.Deep.{AllBegun, IsDeep, most_of, run_of}
 use Rattle.cs_core.specs.Stacked.{IsStacked}
 use Rattle.cs_core.specs.Running.{HasNoRoom, RunGives, RunFails, ending_of, ending_at_rest, place_by}
+use Rattle.cs_core.proofs.Carrying.{overfills_too}
 use Rattle.cs_core.proofs.Deepening.{begun_at_start, begun_on, is_deep}
-use Rattle.cs_core.proofs.Laying.{state_words_kept}
+use Rattle.cs_core.proofs.Laying.{fills_by_words, page_words_kept}
 use Rattle.cs_core.proofs.Stacking.{fresh_stacked}
-use Rattle.cs_core.proofs.Nexting.{next_kept}
+use Rattle.cs_core.proofs.Nexting.{next_kept, next_same}
 use Rattle.cs_core.proofs.Places.{idle_place}
 
 -- ---- a run that has ended stays
@@ -343,6 +342,9 @@ deep_by_most : (k : Kept) (n : ℕ) (l : Option Layout) → IsSomeAnd (most_of l
 deep_by_most k n None h = h
 deep_by_most k n (Some l) h = h
 
+abbrev IsBuiltEnd : Turn → Type 0
+IsBuiltEnd t = (t.built ≡ true) × (t.result.out.end ≡ ends.Entered)
+
 pub fills : {k : Kept} {old now new : Option (List ℕ)} {i : ℕ} {s : Store} {v : Kept} {l : Option Layout} (t : Store) (w : Kept) (b first : Option Layout) (n : ℕ) (why : Why) → most_of l ≡ most_of first → i < n → Stands k old now i s v l → IsLaidOut s v l → StepGives v l now new t w b (how.Full why)
     → RunFails k t first old new n (Full why)
 fills {k = k} {old = old} {now = now} {i = i} {s = s} {v = v} {l = l} t w b first n why most below h laid g = record {
@@ -350,7 +352,7 @@ fills {k = k} {old = old} {now = now} {i = i} {s = s} {v = v} {l = l} t w b firs
   fewer = below;
   ending = h.ending;
   written = subst (λ (o : Option (List ℕ)). Appends old o (run_of k i).state.run.output) (sym g.0) (subst (λ (bytes : List ℕ). Appends old now bytes) (sym (ap (λ (q : Run). q.output) h.run)) h.written);
-  room = room why (g.2 h.output i);
+  room = room why lacks (g.2 h.output i).cause;
 }
   where
     m : State
@@ -359,29 +361,29 @@ fills {k = k} {old = old} {now = now} {i = i} {s = s} {v = v} {l = l} t w b firs
     next : IsNext m.kept
     next = next_kept v m.kept h.keeps g.1
 
-    a : AlikeResult v (bytecode (state_at v h.output i)) (bytecode (with_kept m.kept (run_at h.output i)))
-    a = bytecode_alike h.keeps (run_at h.output i)
+    -- what v has no room for, the state of the run has none for
+    lacks : Overfills t l m.kept (next_turn m) why
+    lacks = subst (λ (r : Run). Overfills t l m.kept (next_turn (with_kept m.kept r)) why) (sym h.run)
+        (overfills_too t l v m.kept (next_turn (state_at v h.output i)) (next_turn (state_at m.kept h.output i)) why (fills_by_words v m.kept least_of_return least_of_return (page_words_kept v m.kept h.keeps) (omega arith)) (next_same v m.kept (run_at h.output i) h.keeps) (g.2 h.output i))
 
-    end : (bytecode m).out.end ≡ (bytecode (state_at v h.output i)).out.end
-    end = ap (λ (r : Run). (bytecode (with_kept m.kept r)).out.end) h.run ∙ sym a.out.end
+    entered : (o : Out) → Needs (next_turn m) Stack o → IsBuiltEnd (next_turn m)
+    entered _ (whole built end) = (built, end)
+    entered _ (unheld built heap stops) = absurd (cc)
+    entered o (untold told is asks heap) = absurd (cc)
 
-    made : (bytecode m).out.count.objects ≡ (bytecode (state_at v h.output i)).out.count.objects
-    made = ap (λ (r : Run). (bytecode (with_kept m.kept r)).out.count.objects) h.run ∙ sym (ap (λ (c : Count). c.objects) a.out.count)
-
-    room : (why : Why) → Overfills t l v (bytecode (state_at v h.output i)).out why → HasNoRoom k t first i why
-    room Heap c =
-        let more : words_in (bytecode (state_at v h.output i)).out.state ≤ words_in (bytecode (with_kept m.kept (run_at h.output i))).out.state = state_words_kept _ _ a.out.keeps in
-        record {
-          next = next;
-          over = subst IsOver (sym end) c.end;
-          words = subst (λ (r : Run). t.memory.limit < words_in (bytecode (with_kept m.kept r)).out.state) (sym h.run) (omega (arith, c.cause.words, more));
-          room = subst (λ made. IfSome first (λ laid. t.memory.limit < used t.memory.objects + made + 26304 * laid.most)) (sym made)
-              (by_most t first _ (subst (λ o. IfSome o (λ n. t.memory.limit < used t.memory.objects + (bytecode (state_at v h.output i)).out.count.objects + 26304 * n)) most (most_room t l _ c.cause.room)));
-        }
-    room Stack c = record {
+    room : (why : Why) → Overfills t l m.kept (next_turn m) why → CausesNoRoom t l v least_of_return (g.2 h.output i).out why → HasNoRoom k t first i why
+    room Heap c full = record {
       next = next;
-      entered = end ∙ c.end;
-      deep = deep_by_most k i first (subst (λ o. IsSomeAnd o (λ most. IsDeep most k i)) most (is_deep k s v i l h.keeps h.ready (h.stacked laid) h.begun c.cause));
+      out = c.out;
+      needs = c.needs;
+      words = c.cause.words;
+      room = by_most t first c.out.count.objects (subst (λ o. IfSome o (λ n. t.memory.limit < used t.memory.objects + c.out.count.objects + 26304 * n)) most (most_room t l c.out.count.objects c.cause.room));
+    }
+    room Stack c full = record {
+      next = next;
+      built = (entered c.out c.needs).0;
+      entered = (entered c.out c.needs).1;
+      deep = deep_by_most k i first (subst (λ o. IsSomeAnd o (λ most. IsDeep most k i)) most (is_deep k s v i l h.keeps h.ready (h.stacked laid) h.begun full));
     }
 
 -- ---- faults

@@ -1,30 +1,34 @@
 -- An instruction leaves the senders of all contexts as they are, and the stacks of all but the active one.
-use Rattle.std.proofs.Common.{◌≡◌, ℕ, ◌+◌, Bool, true, false, refl, sym, ap, ◌∙◌, Option, Some, None, length, nat_lt, is_some, option_map, option_and_then, unwrap_or, inl, inr}
+use Rattle.std.proofs.Common.{◌≡◌, ℕ, ◌+◌, ◌<◌, ◌≤◌, arith, nat_le, Bool, true, false, refl, sym, ap, ◌∙◌, Option, Some, None, length, nat_lt, is_some, option_map, option_and_then, unwrap_or, inl, inr}
 use Rattle.std.specs.Prelude.{ℤ, pos, ◌==◌, ◌*◌, ◌-◌, not, if◌then◌else◌, slice_get}
 use Rattle.std.proofs.lemmas.Bool.Decides.{eqb_tells}
 use Rattle.cs_model.specs.declared.instruction.Op.{Op}
 use Rattle.cs_model.specs.declared.instruction.Op.TheVariants as op
-use Rattle.cs_model.specs.Ref.{Ref, Small, Char, birth_of, same_ref}
+use Rattle.cs_model.specs.Ref.{Ref, Small, Char, same_ref}
 use Rattle.cs_model.specs.Ref as ref
 use Rattle.cs_model.specs.Obj.{Obj, Context, Ptr, Raw, Method, Ctx, context_in, popped, pushed, stored, with_pc}
-use Rattle.cs_model.specs.State.{Kept, Rest, object_at, object_of, special_at}
+use Rattle.cs_model.specs.State.{Kept, Rest, put, object_at, object_of, special_at}
 use Rattle.cs_model.specs.Read.{active_birth, active_context, blank, depth_of, from_top, literals_of, receiver_of, size_of, stack_of}
-use Rattle.cs_model.specs.Operation.{drop_of, edit_active, edit_found, nil_of, pop_of, push_of, set_pc_of, set_stack_of, store_of, with_slot}
+use Rattle.cs_model.specs.Operation.{add_of, next_ref, drop_of, edit_active, edit_found, nil_of, pop_of, push_of, set_pc_of, set_stack_of, store_of, with_slot, with_next}
 use Rattle.cs_model.specs.Context.{context_get, is_context_ref}
 use Rattle.cs_model.specs.Number.{boolean}
 use Rattle.cs_model.specs.End as ends
-use Rattle.cs_model.specs.End.{End, Out, given, done, stop, looked}
-use Rattle.cs_model.specs.Exec.{argument_count_in, literal_at, selector_pair, top_of, variable_value, vector_at, vector_slot, at_once, pc_after, class_out, common_out, dup_out, exec, jump_if_out, jump_out, pop_into, pop_out, push_field, push_literal_out, push_out, push_receiver_out, push_temp_out, push_variable_out, push_vector_out, same_out, send_literal_out, send_selector_out, send_super_out, special_out, special_send_out, store_field, store_into, store_receiver_out, store_temp_out, store_variable_out, store_vector_out, this_context_out}
+use Rattle.cs_model.specs.End.{End, Out, given, done, looked, made, and_then, is_done}
+use Rattle.cs_model.specs.Exec.{closure_out, new_closure, argument_count_in, literal_at, selector_pair, top_of, variable_value, vector_at, vector_slot, at_once, pc_after, class_out, common_out, dup_out, exec, jump_if_out, jump_out, pop_into, pop_out, push_field, push_literal_out, push_out, push_receiver_out, push_temp_out, push_variable_out, push_vector_out, same_out, send_literal_out, send_selector_out, send_super_out, special_out, special_send_out, store_field, store_into, store_receiver_out, store_temp_out, store_variable_out, store_vector_out, this_context_out}
 use Rattle.cs_model.specs.Built.{is_built_op}
 use Rattle.cs_model.proofs.Editing.{active_context-put}
 use Rattle.cs_model.proofs.Objects.{object_at-put_other, object_at-put_same, rest-put}
 use Rattle.cs_acts.specs.Layout.{depth_in}
+use Rattle.cs_acts.specs.Names.{Store}
+use Rattle.cs_acts.specs.Ready.{IsSound}
 use Rattle.cs_core.proofs.Chaining.{sender_in}
 
 -- ---- what stays
 
+-- of the rest nothing changes but the next birth, which doesn't fall
 pub record Stays (k t : Kept) : Type 0 where
-  pub rest : t.rest ≡ k.rest
+  pub rest : with_next 0 t.rest ≡ with_next 0 k.rest
+  pub next : k.rest.next ≤ t.rest.next
   pub sender : (i : ℕ) → sender_in (object_at t i) ≡ sender_in (object_at k i)
   pub depth : (i : ℕ) → (i ≡ active_birth k → ⊥) → depth_in (context_in (object_at t i)) ≡ depth_in (context_in (object_at k i))
 
@@ -32,8 +36,12 @@ pub record Stays (k t : Kept) : Type 0 where
 abbrev pub Runs : Kept → Type 0
 Runs k = context_in (object_at k (active_birth k)) ≡ Some (active_context k)
 
+-- no context has the next birth
+abbrev pub IsFree : Kept → Type 0
+IsFree k = context_in (object_at k k.rest.next) ≡ None
+
 pub stays_itself : (k : Kept) → Stays k k
-stays_itself k = record { rest = refl; sender = λ i. refl; depth = λ i h. refl }
+stays_itself k = record { rest = refl; next = omega arith; sender = λ i. refl; depth = λ i h. refl }
 
 active_stays : (k t : Kept) → Stays k t → active_birth t ≡ active_birth k
 active_stays k t s = ap (λ (r : Rest). unwrap_or r.active r.nil) s.rest
@@ -41,6 +49,7 @@ active_stays k t s = ap (λ (r : Rest). unwrap_or r.active r.nil) s.rest
 pub stays_on : (k t u : Kept) → Stays k t → Stays t u → Stays k u
 stays_on k t u a b = record {
   rest = b.rest ∙ a.rest;
+  next = omega (arith, a.next, b.next);
   sender = λ i. b.sender i ∙ a.sender i;
   depth = λ i h. b.depth i (λ e. h (e ∙ active_stays k t a)) ∙ a.depth i h;
 }
@@ -60,11 +69,30 @@ runs_on k t s r =
     ap (λ n. sender_in (object_at t n)) (active_stays k t s) ∙ s.sender (active_birth k) ∙ ap (option_map (λ (c : Context). c.sender)) r in
     context_there t (active_birth t) (active_context k).sender is
 
+-- births are below the next one
+pub free_next : (s : Store) (k : Kept) → IsSound s k → IsFree k
+free_next s k h = go (object_at k k.rest.next) refl
+  where
+    go : (o : Option Obj) → object_at k k.rest.next ≡ o → context_in o ≡ None
+    go None e = refl
+    go (Some o) e = let below : k.rest.next < k.rest.next = h.births k.rest.next o e in absurd (omega (arith, below))
+
+pub free_on : (k t : Kept) → Stays k t → t.rest.next ≡ k.rest.next → IsFree k → IsFree t
+free_on k t s same free = none (context_in (object_at t t.rest.next)) (ap (λ n. sender_in (object_at t n)) same ∙ s.sender k.rest.next ∙ ap (option_map (λ (c : Context). c.sender)) free)
+  where
+    none : (c : Option Context) → option_map (λ (c : Context). c.sender) c ≡ None → c ≡ None
+    none None e = refl
+    none (Some c) e = absurd (cc)
+
 -- ---- the writes
+
+next_put : (k : Kept) (i : ℕ) (o : Obj) → k.rest.next ≤ (put k i o).rest.next
+next_put k i o = omega (arith, ap (λ (r : Rest). r.next) (rest-put k i o))
 
 pub edit_stays : (k : Kept) (f : Context → Context) → Runs k → (f (active_context k)).sender ≡ (active_context k).sender → Stays k (edit_active k f)
 edit_stays k f runs same = record {
-  rest = rest-put k (active_birth k) (Ctx (f (active_context k)));
+  rest = ap (with_next 0) (rest-put k (active_birth k) (Ctx (f (active_context k))));
+  next = next_put k (active_birth k) (Ctx (f (active_context k)));
   sender = λ i. elim (eqb_tells i (active_birth k)) [
     | inl e ↦ ap (λ n. sender_in (object_at (edit_active k f) n)) e.1 ∙ ap sender_in (object_at-put_same k (active_birth k) (Ctx (f (active_context k)))) ∙ ap Some same
         ∙ sym (ap (λ n. sender_in (object_at k n)) e.1 ∙ ap (option_map (λ (c : Context). c.sender)) runs)
@@ -99,7 +127,8 @@ slot_alone i v (Ctx c) = refl
 found_stays : (k : Kept) (i j : ℕ) (v : Ref) (o : Option Obj) → object_at k j ≡ o → Stays k (edit_found (with_slot i v) j o k)
 found_stays k i j v None e = stays_itself k
 found_stays k i j v (Some o) e = record {
-  rest = rest-put k j (with_slot i v o);
+  rest = ap (with_next 0) (rest-put k j (with_slot i v o));
+  next = next_put k j (with_slot i v o);
   sender = λ n. ap (option_map (λ (c : Context). c.sender)) (same n);
   depth = λ n h. ap depth_in (same n);
 }
@@ -116,6 +145,22 @@ unfolding store_of
 store_stays k (Small a) i v = stays_itself k
 store_stays k (Char c) i v = stays_itself k
 store_stays k (ref.Obj j) i v = found_stays k i j v (object_at k j) refl
+
+-- what is new and no context stands where no context stood
+pub add_stays : (k : Kept) (o : Obj) → context_in (Some o) ≡ None → IsFree k → Stays k (add_of k o)
+unfolding add_of
+add_stays k o none free = record {
+  rest = refl;
+  next = omega arith;
+  sender = λ i. ap (option_map (λ (c : Context). c.sender)) (same i);
+  depth = λ i h. ap depth_in (same i);
+}
+  where
+    same : (i : ℕ) → context_in (object_at (put k k.rest.next o) i) ≡ context_in (object_at k i)
+    same i = elim (eqb_tells i k.rest.next) [
+      | inl e ↦ ap (λ n. context_in (object_at (put k k.rest.next o) n)) e.1 ∙ ap context_in (object_at-put_same k k.rest.next o) ∙ none ∙ sym (ap (λ n. context_in (object_at k n)) e.1 ∙ free)
+      | inr e ↦ ap context_in (object_at-put_other k k.rest.next i o e.1)
+    ]
 
 -- ---- what instructions lead to
 
@@ -142,6 +187,14 @@ if_settles k false x y s t = t
 looked_settles : (k : Kept) (o : Out) → Settles k o → Settles k (looked o)
 unfolding looked
 looked_settles k o h = record { stays = h.stays }
+
+made_settles : (k : Kept) (words : ℕ) (o : Out) → Settles k o → Settles k (made words o)
+unfolding made
+made_settles k words o h = record { stays = h.stays }
+
+then_settles : (k : Kept) (o : Out) (next : Kept → Out) → Settles k o → ((t : Kept) → Settles t (next t)) → Settles k (and_then o next)
+unfolding and_then
+then_settles k o next h n = if_settles k (is_done o.end) _ _ (record { stays = (behind k o.state (next o.state) h.stays (n o.state)).stays }) h
 
 push_settles : (k : Kept) (x : Ref) → Settles k (push_out k x)
 unfolding push_out
@@ -264,6 +317,21 @@ common_settles : (k : Kept) (i : ℕ) → Settles k (common_out k i)
 unfolding common_out
 common_settles k i = if_settles k (i == 6) _ _ (same_settles k) (if_settles k (i == 7) _ _ (class_settles k) (selector_settles k (16 + i)))
 
+closure_settles : (k : Kept) (copied args size : ℕ) → IsFree k → Settles k (closure_out k copied args size)
+unfolding closure_out
+closure_settles k copied args size free =
+    given_settles k (pc_after k (pos size)) _ _ still (λ pc. if_settles k (nat_le copied (depth_of k)) _ _
+    (looked_settles k _ (made_settles k _ _ (then_settles k _ _ (behind k (drop_of added copied) _ copied_out (push_settles (drop_of added copied) (next_ref k))) (λ t. to (set_pc_stays t pc))))) still)
+  where
+    added : Kept
+    added = add_of k (new_closure k copied args)
+
+    is_added : Stays k added
+    is_added = add_stays k (new_closure k copied args) refl free
+
+    copied_out : Runs k → Stays k (drop_of added copied)
+    copied_out runs = stays_on k added (drop_of added copied) is_added (drop_stays added copied (runs_on k added is_added runs))
+
 -- ---- all of them
 
 no_context : (k : Kept) → not (is_context_ref k (receiver_of k)) ≡ true → is_context_ref k (receiver_of k) ≡ false
@@ -297,43 +365,43 @@ popped_no_context k runs h = context_same k (pop_of k) (drop_stays k 1 runs) (re
 running : (k : Kept) (o : Out) → (Runs k → Settles k o) → Settles k o
 running k o h = record { stays = λ runs. (h runs).stays runs }
 
-pub exec_settles : (o : Op) (k : Kept) → is_built_op o k ≡ true → Settles k (exec o k)
+pub exec_settles : (o : Op) (k : Kept) → is_built_op o k ≡ true → IsFree k → Settles k (exec o k)
 unfolding exec
-exec_settles (op.PushRcvr i) k h = receiver_settles k i
-exec_settles (op.PushTemp i) k h = temp_settles k i
-exec_settles (op.PushLit i) k h = literal_settles k i
-exec_settles (op.PushLitVar i) k h = variable_settles k i
-exec_settles (op.PopRcvr i) k h = running k _ (λ runs. pop_into_settles k _ (λ x. store_receiver_settles (pop_of k) i x (popped_no_context k runs h)))
-exec_settles (op.PopTemp i) k h = pop_into_settles k _ (λ x. store_temp_settles (pop_of k) i x)
-exec_settles (op.PopLitVar i) k h = pop_into_settles k _ (λ x. store_variable_settles (pop_of k) i x)
-exec_settles (op.StoreRcvr i) k h = store_into_settles k _ (λ x. store_receiver_settles k i x (no_context k h))
-exec_settles (op.StoreTemp i) k h = store_into_settles k _ (λ x. store_temp_settles k i x)
-exec_settles (op.StoreLitVar i) k h = store_into_settles k _ (λ x. store_variable_settles k i x)
-exec_settles op.PushSelf k h = push_settles k _
-exec_settles op.PushTrue k h = push_settles k _
-exec_settles op.PushFalse k h = push_settles k _
-exec_settles op.PushNil k h = push_settles k _
-exec_settles (op.PushInt z) k h = push_settles k _
-exec_settles op.ReturnSelf k h = still
-exec_settles op.ReturnTrue k h = still
-exec_settles op.ReturnFalse k h = still
-exec_settles op.ReturnNil k h = still
-exec_settles op.ReturnTop k h = given_settles k (top_of k) _ _ still (λ x. to (drop_stays k 1))
-exec_settles op.BlockReturn k h = given_settles k (top_of k) _ _ still (λ x. to (drop_stays k 1))
-exec_settles (op.Send lit args) k h = send_literal_settles k lit args
-exec_settles (op.SendSuper lit args) k h = send_super_settles k lit args
-exec_settles op.Pop k h = pop_settles k
-exec_settles op.Dup k h = dup_settles k
-exec_settles op.ThisContext k h = this_settles k
-exec_settles (op.NewArray n) k h = absurd (cc)
-exec_settles (op.PopArray n) k h = absurd (cc)
-exec_settles (op.Prim i j) k h = still
-exec_settles (op.PushVec i j) k h = vector_settles k i j
-exec_settles (op.StoreVec i j) k h = store_into_settles k _ (λ x. store_vector_settles k i j x)
-exec_settles (op.PopVec i j) k h = pop_into_settles k _ (λ x. store_vector_settles (pop_of k) i j x)
-exec_settles (op.Closure copied args size) k h = absurd (cc)
-exec_settles (op.Jump offset) k h = jump_settles k offset
-exec_settles (op.JumpTrue offset) k h = jump_if_settles k true offset
-exec_settles (op.JumpFalse offset) k h = jump_if_settles k false offset
-exec_settles (op.Special i) k h = special_settles k i
-exec_settles (op.Common i) k h = common_settles k i
+exec_settles (op.PushRcvr i) k h free = receiver_settles k i
+exec_settles (op.PushTemp i) k h free = temp_settles k i
+exec_settles (op.PushLit i) k h free = literal_settles k i
+exec_settles (op.PushLitVar i) k h free = variable_settles k i
+exec_settles (op.PopRcvr i) k h free = running k _ (λ runs. pop_into_settles k _ (λ x. store_receiver_settles (pop_of k) i x (popped_no_context k runs h)))
+exec_settles (op.PopTemp i) k h free = pop_into_settles k _ (λ x. store_temp_settles (pop_of k) i x)
+exec_settles (op.PopLitVar i) k h free = pop_into_settles k _ (λ x. store_variable_settles (pop_of k) i x)
+exec_settles (op.StoreRcvr i) k h free = store_into_settles k _ (λ x. store_receiver_settles k i x (no_context k h))
+exec_settles (op.StoreTemp i) k h free = store_into_settles k _ (λ x. store_temp_settles k i x)
+exec_settles (op.StoreLitVar i) k h free = store_into_settles k _ (λ x. store_variable_settles k i x)
+exec_settles op.PushSelf k h free = push_settles k _
+exec_settles op.PushTrue k h free = push_settles k _
+exec_settles op.PushFalse k h free = push_settles k _
+exec_settles op.PushNil k h free = push_settles k _
+exec_settles (op.PushInt z) k h free = push_settles k _
+exec_settles op.ReturnSelf k h free = still
+exec_settles op.ReturnTrue k h free = still
+exec_settles op.ReturnFalse k h free = still
+exec_settles op.ReturnNil k h free = still
+exec_settles op.ReturnTop k h free = given_settles k (top_of k) _ _ still (λ x. to (drop_stays k 1))
+exec_settles op.BlockReturn k h free = given_settles k (top_of k) _ _ still (λ x. to (drop_stays k 1))
+exec_settles (op.Send lit args) k h free = send_literal_settles k lit args
+exec_settles (op.SendSuper lit args) k h free = send_super_settles k lit args
+exec_settles op.Pop k h free = pop_settles k
+exec_settles op.Dup k h free = dup_settles k
+exec_settles op.ThisContext k h free = this_settles k
+exec_settles (op.NewArray n) k h free = absurd (cc)
+exec_settles (op.PopArray n) k h free = absurd (cc)
+exec_settles (op.Prim i j) k h free = still
+exec_settles (op.PushVec i j) k h free = vector_settles k i j
+exec_settles (op.StoreVec i j) k h free = store_into_settles k _ (λ x. store_vector_settles k i j x)
+exec_settles (op.PopVec i j) k h free = pop_into_settles k _ (λ x. store_vector_settles (pop_of k) i j x)
+exec_settles (op.Closure copied args size) k h free = closure_settles k copied args size free
+exec_settles (op.Jump offset) k h free = jump_settles k offset
+exec_settles (op.JumpTrue offset) k h free = jump_if_settles k true offset
+exec_settles (op.JumpFalse offset) k h free = jump_if_settles k false offset
+exec_settles (op.Special i) k h free = special_settles k i
+exec_settles (op.Common i) k h free = common_settles k i

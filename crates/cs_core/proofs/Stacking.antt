@@ -5,7 +5,7 @@ use Rattle.std.specs.List.{AllByRecursion, concat, filter}
 use Rattle.std.proofs.lemmas.Bool.{false≢true}
 use Rattle.std.proofs.lemmas.Bool.Decides.{eqb_tells, nat_tests}
 use Rattle.std.proofs.lemmas.List.{append-nil}
-use Rattle.cs_model.specs.Ref.{Ref, birth_of}
+use Rattle.cs_model.specs.Ref.{Ref}
 use Rattle.cs_model.specs.Ref as ref
 use Rattle.cs_model.specs.Obj.{Context, Ctx, context_in, dead, popped}
 use Rattle.cs_model.specs.State.{Kept, Rest, object_at}
@@ -26,7 +26,7 @@ use Rattle.cs_acts.specs.Names.{Store}
 use Rattle.cs_core.specs.Stacked.{IsStack, IsStacked}
 use Rattle.cs_core.specs.Stepped.{Lays}
 use Rattle.cs_core.proofs.Chaining.{ContextsStay, HasChain, all_on, apart_from, called_stays, chain_kept, filled_same, frame_kept, frame_of_all, off_both, on_first, on_later, on_left, on_right, page_same, page_words_of, sender_in}
-use Rattle.cs_core.proofs.Laying.{entered_active, entered_frames, frames_stay, left_frames}
+use Rattle.cs_core.proofs.Laying.{entered_frames, frames_stay, left_frames}
 use Rattle.cs_core.proofs.Settling.{Runs, Stays, drop_stays, push_stays}
 
 -- ---- the shape of a stack
@@ -68,7 +68,7 @@ module _ (k t v : Kept) (keeps : Keeps v t) (stay : ContextsStay k t) where
 
 -- ---- what leaves all of them
 
-stay_by_senders : (k t : Kept) → ((i : ℕ) → sender_in (object_at t i) ≡ sender_in (object_at k i)) → ContextsStay k t
+pub stay_by_senders : (k t : Kept) → ((i : ℕ) → sender_in (object_at t i) ≡ sender_in (object_at k i)) → ContextsStay k t
 stay_by_senders k t h i is = go (context_in (object_at k i)) (context_in (object_at t i)) (h i) is
   where
     go : (a b : Option Context) → option_map (λ (c : Context). c.sender) b ≡ option_map (λ (c : Context). c.sender) a → is_some a ≡ true → is_some b ≡ true
@@ -80,10 +80,10 @@ pub settled_stack : (k t v : Kept) → Stays k t → Keeps v t → IsRunning v �
 settled_stack k t v s keeps running pages h = go pages (top (active_birth v) pages (h.active ∙ sym same ∙ running.known)) h
   where
     same : v.rest.active ≡ k.rest.active
-    same = ap (λ (r : Rest). r.active) (keeps.rest ∙ s.rest)
+    same = ap (λ (r : Rest). r.active) keeps.rest ∙ ap (λ (r : Rest). r.active) s.rest
 
     at : active_birth v ≡ active_birth k
-    at = ap (λ (r : Rest). unwrap_or r.active r.nil) (keeps.rest ∙ s.rest)
+    at = ap (λ (r : Rest). unwrap_or r.active r.nil) keeps.rest ∙ ap (λ (r : Rest). unwrap_or r.active r.nil) s.rest
 
     go : (pages : List (List ℕ)) → Topped (active_birth v) pages → IsStack k pages → IsStack v pages
     go _ (topped is rest) h =
@@ -94,63 +94,82 @@ pub settled_stacked : (k t v : Kept) (l : Option Layout) → Stays k t → Keeps
 settled_stacked k t v None s keeps running h = tt
 settled_stacked k t v (Some l) s keeps running h = settled_stack k t v s keeps running l.pages h
 
+-- the stack is one of the state behind, too
+stays_stack : (k t : Kept) → Stays k t → IsRunning k → (pages : List (List ℕ)) → IsStack k pages → IsStack t pages
+stays_stack k t s running pages h = go pages (top (active_birth k) pages (h.active ∙ running.known)) h
+  where
+    go : (pages : List (List ℕ)) → Topped (active_birth k) pages → IsStack k pages → IsStack t pages
+    go _ (topped is rest) h = record {
+      active = h.active ∙ sym (ap (λ (r : Rest). r.active) s.rest);
+      called = called_stays k t (stay_by_senders k t s.sender) (active_birth k ∷ is ++ concat rest) (λ i on. s.sender i) h.called;
+      apart = h.apart;
+      filled = filled_same t k rest (λ i on. ap (λ n. 10 + n) (s.depth i (apart_from (active_birth k) i (concat rest) (off_both (active_birth k) is (concat rest) h.apart.0).1 on))) h.filled;
+    }
+
+pub stays_stacked : (k t : Kept) (l : Option Layout) → Stays k t → IsRunning k → IsStacked k l → IsStacked t l
+stays_stacked k t None s running h = tt
+stays_stacked k t (Some l) s running h = stays_stack k t s running l.pages h
+
 -- ---- entering
 
-module _ (k v : Kept) (x : Ref) (args : ℕ) (skip : Bool) (keeps : Keeps v (enter_of k x args skip)) (runs : IsRunning k) where
+-- a context that the active one sends is entered
+module _ (k v : Kept) (args : ℕ) (new : Context → Context) (keeps : Keeps v (enter_with k args new)) (known : k.rest.active ≡ Some (active_birth k)) (found : object_at k (active_birth k) ≡ Some (Ctx (active_context k)))
+    (by : (new (active_context k)).sender ≡ ref.Obj (active_birth k)) where
   -- receiver and arguments are popped, and a context is put at the next birth
-  new_there : object_at (enter_of k x args skip) k.rest.next ≡ Some (Ctx (method_context k x args skip (active_context k)))
-  unfolding enter_of enter_with
-  new_there = object_at-put_same (drop_of k (args + 1)) k.rest.next (Ctx (method_context k x args skip (active_context k)))
+  new_there : object_at (enter_with k args new) k.rest.next ≡ Some (Ctx (new (active_context k)))
+  unfolding enter_with
+  new_there = object_at-put_same (drop_of k (args + 1)) k.rest.next (Ctx (new (active_context k)))
 
-  others_there : (i : ℕ) → (i ≡ k.rest.next → ⊥) → object_at (enter_of k x args skip) i ≡ object_at (drop_of k (args + 1)) i
-  unfolding enter_of enter_with
-  others_there i other = object_at-put_other (drop_of k (args + 1)) k.rest.next i (Ctx (method_context k x args skip (active_context k))) other
+  others_there : (i : ℕ) → (i ≡ k.rest.next → ⊥) → object_at (enter_with k args new) i ≡ object_at (drop_of k (args + 1)) i
+  unfolding enter_with
+  others_there i other = object_at-put_other (drop_of k (args + 1)) k.rest.next i (Ctx (new (active_context k))) other
 
-  new_active : v.rest.active ≡ Some k.rest.next
-  unfolding enter_of enter_with
+  pub new_active : v.rest.active ≡ Some k.rest.next
+  unfolding enter_with
   new_active = ap (λ (r : Rest). r.active) keeps.rest
 
   dropped : Stays k (drop_of k (args + 1))
-  dropped = drop_stays k (args + 1) (ap context_in runs.found)
+  dropped = drop_stays k (args + 1) (ap context_in found)
 
-  sender_there : (i : ℕ) → (i ≡ k.rest.next → ⊥) → sender_in (object_at (enter_of k x args skip) i) ≡ sender_in (object_at k i)
+  sender_there : (i : ℕ) → (i ≡ k.rest.next → ⊥) → sender_in (object_at (enter_with k args new) i) ≡ sender_in (object_at k i)
   sender_there i other = ap sender_in (others_there i other) ∙ dropped.sender i
 
-  contexts_stay : ContextsStay k (enter_of k x args skip)
+  contexts_stay : ContextsStay k (enter_with k args new)
   contexts_stay i h = elim (eqb_tells i k.rest.next) [
-    | inl e ↦ ap (λ n. is_some (context_in (object_at (enter_of k x args skip) n))) e.1 ∙ ap (λ o. is_some (context_in o)) new_there
+    | inl e ↦ ap (λ n. is_some (context_in (object_at (enter_with k args new) n))) e.1 ∙ ap (λ o. is_some (context_in o)) new_there
     | inr e ↦ ap (λ o. is_some (context_in o)) (others_there i e.1) ∙ stay_by_senders k (drop_of k (args + 1)) dropped.sender i h
   ]
 
-  old_there : (active_birth k ≡ k.rest.next → ⊥) → object_at (enter_of k x args skip) (active_birth k) ≡ Some (Ctx (popped (args + 1) (active_context k)))
+  old_there : (active_birth k ≡ k.rest.next → ⊥) → object_at (enter_with k args new) (active_birth k) ≡ Some (Ctx (popped (args + 1) (active_context k)))
   unfolding drop_of
   old_there other = others_there (active_birth k) other ∙ object_at-put_same k (active_birth k) (Ctx (popped (args + 1) (active_context k)))
 
-  linked : (active_birth k ≡ k.rest.next → ⊥) → sender_birth (enter_of k x args skip) k.rest.next ≡ Some (active_birth k)
+  linked : (active_birth k ≡ k.rest.next → ⊥) → sender_birth (enter_with k args new) k.rest.next ≡ Some (active_birth k)
   linked other =
-      ap (λ o. option_and_then (λ c. context_birth (enter_of k x args skip) c.sender) (context_in o)) new_there
+      ap (λ o. option_and_then (λ c. context_birth (enter_with k args new) c.sender) (context_in o)) new_there
+      ∙ ap (context_birth (enter_with k args new)) by
       ∙ ap (λ o. option_and_then (λ (c : Context). Some (active_birth k)) (context_in o)) (old_there other)
 
-  -- the caller's frame has at most 16 values fewer, and every other one as many as before
-  caller_words : (active_birth k ≡ k.rest.next → ⊥) → args < 16 → frame_words k (active_birth k) ≤ frame_words (enter_of k x args skip) (active_birth k) + 16
+  -- the caller's frame has at most 57 values fewer, and every other one as many as before
+  caller_words : (active_birth k ≡ k.rest.next → ⊥) → args < 57 → frame_words k (active_birth k) ≤ frame_words (enter_with k args new) (active_birth k) + 57
   caller_words other few =
-      let new : frame_words (enter_of k x args skip) (active_birth k) ≡ 10 + length (popped (args + 1) (active_context k)).stack = ap (λ o. 10 + depth_in (context_in o)) (old_there other) in
-      let old : frame_words k (active_birth k) ≡ 10 + depth_of k = ap (λ o. 10 + depth_in (context_in o)) runs.found in
+      let new : frame_words (enter_with k args new) (active_birth k) ≡ 10 + length (popped (args + 1) (active_context k)).stack = ap (λ o. 10 + depth_in (context_in o)) (old_there other) in
+      let old : frame_words k (active_birth k) ≡ 10 + depth_of k = ap (λ o. 10 + depth_in (context_in o)) found in
       omega (arith, few, new, old, length-take (depth_of k - (args + 1)) (stack_of k))
 
-  other_words : (i : ℕ) → (i ≡ k.rest.next → ⊥) → (i ≡ active_birth k → ⊥) → frame_words (enter_of k x args skip) i ≡ frame_words k i
+  other_words : (i : ℕ) → (i ≡ k.rest.next → ⊥) → (i ≡ active_birth k → ⊥) → frame_words (enter_with k args new) i ≡ frame_words k i
   other_words i new old = ap (λ n. 10 + n) (ap (λ o. depth_in (context_in o)) (others_there i new) ∙ dropped.depth i old)
 
-  page_there : (is : List ℕ) → (active_birth k ≡ k.rest.next → ⊥) → ((i : ℕ) → is_on i is ≡ true → frame_words (enter_of k x args skip) i ≡ frame_words k i) → args < 16
-      → 4096 < page_words k (active_birth k ∷ is) + 66 → 3900 < page_words (enter_of k x args skip) (active_birth k ∷ is)
+  page_there : (is : List ℕ) → (active_birth k ≡ k.rest.next → ⊥) → ((i : ℕ) → is_on i is ≡ true → frame_words (enter_with k args new) i ≡ frame_words k i) → args < 57
+      → 4096 < page_words k (active_birth k ∷ is) + 66 → 3900 < page_words (enter_with k args new) (active_birth k ∷ is)
   unfolding page_words
-  page_there is other words few full = omega (arith, full, caller_words other few, page_same (enter_of k x args skip) k is words)
+  page_there is other words few full = omega (arith, full, caller_words other few, page_same (enter_with k args new) k is words)
 
-  entered_stack : IsRunning v → args < 16 → (pages : List (List ℕ)) → IsStack k pages → IsApart (concat (entered k k.rest.next pages)) → IsStack v (entered k k.rest.next pages)
-  entered_stack ready few pages h apart = go pages (top (active_birth k) pages (h.active ∙ runs.known)) h apart
+  entered_stack : IsRunning v → args < 57 → (pages : List (List ℕ)) → IsStack k pages → IsApart (concat (entered k k.rest.next pages)) → IsStack v (entered k k.rest.next pages)
+  entered_stack ready few pages h apart = go pages (top (active_birth k) pages (h.active ∙ known)) h apart
     where
       go : (pages : List (List ℕ)) → Topped (active_birth k) pages → IsStack k pages → IsApart (concat (entered k k.rest.next pages)) → IsStack v (entered k k.rest.next pages)
-      go _ (topped is rest) h apart = by (nat_le (page_words k (active_birth k ∷ is) + 66) 4096) refl apart
+      go _ (topped is rest) h apart = fits (nat_le (page_words k (active_birth k ∷ is) + 66) 4096) refl apart
         where
           all : List ℕ
           all = active_birth k ∷ is ++ concat rest
@@ -158,32 +177,32 @@ module _ (k v : Kept) (x : Ref) (args : ℕ) (skip : Bool) (keeps : Keeps v (ent
           fresh : IsApart (k.rest.next ∷ all) → (i : ℕ) → is_on i all ≡ true → i ≡ k.rest.next → ⊥
           fresh a i on = apart_from k.rest.next i all a.0 on
 
-          words : IsApart (k.rest.next ∷ all) → (i : ℕ) → is_on i (is ++ concat rest) ≡ true → frame_words (enter_of k x args skip) i ≡ frame_words k i
+          words : IsApart (k.rest.next ∷ all) → (i : ℕ) → is_on i (is ++ concat rest) ≡ true → frame_words (enter_with k args new) i ≡ frame_words k i
           words a i on = other_words i (fresh a i (on_later i (active_birth k) (is ++ concat rest) on)) (apart_from (active_birth k) i (is ++ concat rest) h.apart.0 on)
 
-          called : IsApart (k.rest.next ∷ all) → IsCalled (enter_of k x args skip) (k.rest.next ∷ all)
+          called : IsApart (k.rest.next ∷ all) → IsCalled (enter_with k args new) (k.rest.next ∷ all)
           called a = (
             linked (fresh a (active_birth k) (on_first (active_birth k) (is ++ concat rest))),
-            called_stays k (enter_of k x args skip) contexts_stay all (λ i on. sender_there i (fresh a i on)) h.called,
+            called_stays k (enter_with k args new) contexts_stay all (λ i on. sender_there i (fresh a i on)) h.called,
           )
 
-          filled : IsApart (k.rest.next ∷ all) → AllByRecursion (λ page. 3900 < page_words (enter_of k x args skip) page) rest
-          filled a = filled_same (enter_of k x args skip) k rest (λ i on. words a i (on_right i is (concat rest) on)) h.filled
+          filled : IsApart (k.rest.next ∷ all) → AllByRecursion (λ page. 3900 < page_words (enter_with k args new) page) rest
+          filled a = filled_same (enter_with k args new) k rest (λ i on. words a i (on_right i is (concat rest) on)) h.filled
 
           has : Has v k.rest.next
           has = running_has v k.rest.next ready new_active
 
-          by : (b : Bool) → nat_le (page_words k (active_birth k ∷ is) + 66) 4096 ≡ b
+          fits : (b : Bool) → nat_le (page_words k (active_birth k ∷ is) + 66) 4096 ≡ b
               → IsApart (concat (if b then (k.rest.next ∷ active_birth k ∷ is) ∷ rest else (k.rest.next ∷ []) ∷ (active_birth k ∷ is) ∷ rest))
               → IsStack v (if b then (k.rest.next ∷ active_birth k ∷ is) ∷ rest else (k.rest.next ∷ []) ∷ (active_birth k ∷ is) ∷ rest)
-          by true fits a =
-              stack_on (enter_of k x args skip) (enter_of k x args skip) v keeps (λ i h. h) k.rest.next (active_birth k ∷ is) rest new_active has (called a) a (λ i on. refl) (λ i on. refl) (filled a)
-          by false fits a =
-              let full : 4096 < page_words k (active_birth k ∷ is) + 66 = grind (arith, nat_tests, fits) in
+          fits true e a =
+              stack_on (enter_with k args new) (enter_with k args new) v keeps (λ i h. h) k.rest.next (active_birth k ∷ is) rest new_active has (called a) a (λ i on. refl) (λ i on. refl) (filled a)
+          fits false e a =
+              let full : 4096 < page_words k (active_birth k ∷ is) + 66 = grind (arith, nat_tests, e) in
               let page = page_there is (fresh a (active_birth k) (on_first (active_birth k) (is ++ concat rest))) (λ i on. words a i (on_left i is (concat rest) on)) few full in
-              stack_on (enter_of k x args skip) (enter_of k x args skip) v keeps (λ i h. h) k.rest.next [] ((active_birth k ∷ is) ∷ rest) new_active has (called a) a (λ i on. refl) (λ i on. refl) (page, filled a)
+              stack_on (enter_with k args new) (enter_with k args new) v keeps (λ i h. h) k.rest.next [] ((active_birth k ∷ is) ∷ rest) new_active has (called a) a (λ i on. refl) (λ i on. refl) (page, filled a)
 
-  pub entered_stacked : IsRunning v → args < 16 → (old new : Option Layout) (s : Store) → LaidBy (entered k k.rest.next) old new → IsStacked k old → IsLaidOut s v new → IsStacked v new
+  pub entered_stacked : IsRunning v → args < 57 → (old new : Option Layout) (s : Store) → LaidBy (entered k k.rest.next) old new → IsStacked k old → IsLaidOut s v new → IsStacked v new
   entered_stacked ready few None new s laid h there = subst (IsStacked v) (sym laid) tt
   entered_stacked ready few (Some l) new s laid h there =
       subst (λ n. IsLaidOut s v n → IsStacked v n) (sym laid) (λ there. entered_stack ready few l.pages h there.apart) there
@@ -201,7 +220,7 @@ none_on i (page ∷ pages) h =
     )
 
 -- the last frame of the first page is touched where it is
-touched_first : (i : ℕ) (is : List ℕ) (pages : List (List ℕ)) → is_on i (concat pages) ≡ false → touched i ((i ∷ is) ∷ pages) ≡ (i ∷ is) ∷ pages
+pub touched_first : (i : ℕ) (is : List ℕ) (pages : List (List ℕ)) → is_on i (concat pages) ≡ false → touched i ((i ∷ is) ∷ pages) ≡ (i ∷ is) ∷ pages
 touched_first i is pages h =
     let rest = none_on i pages h in
     go (is_on i (i ∷ is)) (on_first i is) rest.0 rest.1
@@ -260,7 +279,7 @@ module _ (k v : Kept) (target : ℕ) (x : Ref) (keeps : Keeps v (cut_to_of k (ac
 
   cut_active : v.rest.active ≡ Some target
   unfolding resume_of killed
-  cut_active = ap (λ (r : Rest). r.active) (keeps.rest ∙ cut_stays.rest)
+  cut_active = ap (λ (r : Rest). r.active) keeps.rest ∙ ap (λ (r : Rest). r.active) cut_stays.rest
 
   cut_sender : (i : ℕ) → (i ≡ active_birth k → ⊥) → sender_in (object_at (cut_to_of k (active_birth k ∷ []) target x) i) ≡ sender_in (object_at k i)
   cut_sender i apart = cut_stays.sender i ∙ ap sender_in (others_stay i apart)
@@ -368,17 +387,23 @@ stays_lays k t v stays keeps running old new still s = record {
   stacked = λ h there. subst (IsStacked v) (sym still) (settled_stacked k t v old stays keeps running h);
 }
 
+-- a context that the active one sends, where at most 56 arguments leave with their receiver
+pub entered_lays : (k v : Kept) (args : ℕ) (new : Context → Context) → Keeps v (enter_with k args new) → k.rest.active ≡ Some (active_birth k) → object_at k (active_birth k) ≡ Some (Ctx (active_context k))
+    → (new (active_context k)).sender ≡ ref.Obj (active_birth k) → IsRunning v → args < 57 → (old new_layout : Option Layout) (s : Store) → LaidBy (entered k k.rest.next) old new_layout → Lays k old s v new_layout
+entered_lays k v args new keeps known found by running few old next s laid = record {
+  frames = entered_frames k v k.rest.next old next (new_active k v args new keeps known found by) laid;
+  stacked = entered_stacked k v args new keeps known found by running few old next s laid;
+}
+
 -- the state that entering a method leaves
-entering : (k : Kept) (x : Ref) (args : ℕ) (skip : Bool) → (enter_out k x args skip).state ≡ enter_of k x args skip
-unfolding enter_out made_context
+entering : (k : Kept) (x : Ref) (args : ℕ) (skip : Bool) → (enter_out k x args skip).state ≡ enter_with k args (method_context k x args skip)
+unfolding enter_out made_context enter_of
 entering k x args skip = refl
 
-pub entered_lays : (k v : Kept) (x : Ref) (args : ℕ) (skip : Bool) → Keeps v (enter_out k x args skip).state → IsRunning k → IsRunning v → args < 16 → (old new : Option Layout) (s : Store)
+pub method_lays : (k v : Kept) (x : Ref) (args : ℕ) (skip : Bool) → Keeps v (enter_out k x args skip).state → IsRunning k → IsRunning v → args < 16 → (old new : Option Layout) (s : Store)
     → LaidBy (entered k k.rest.next) old new → Lays k old s v new
-entered_lays k v x args skip keeps runs running few old new s laid = record {
-  frames = entered_frames k v k.rest.next old new (entered_active k v x args skip keeps) laid;
-  stacked = entered_stacked k v x args skip (subst (Keeps v) (entering k x args skip) keeps) runs running few old new s laid;
-}
+method_lays k v x args skip keeps runs running few old new s laid =
+    entered_lays k v args (method_context k x args skip) (subst (Keeps v) (entering k x args skip) keeps) runs.known runs.found refl running (omega (arith, few)) old new s laid
 
 pub left_lays : (k v : Kept) (target : ℕ) (x : Ref) → Keeps v (cut_to_of k (active_birth k ∷ []) target x) → IsRunning k → sender_birth k (active_birth k) ≡ Some target → (target ≡ active_birth k → ⊥) → IsRunning v
     → (old new : Option Layout) (s : Store) → LaidBy (left target) old new → Lays k old s v new
@@ -405,10 +430,10 @@ unfolding page_words
 rest_words v [] h = omega arith
 rest_words v (page ∷ pages) h = omega (arith, h.0, rest_words v pages h.1, page_words_of v page (concat pages))
 
-pub stack_words : (v : Kept) (pages : List (List ℕ)) (most : ℕ) → IsRunning v → IsStack v pages → length pages ≡ most → 4096 < page_words v (first_page pages) + 66 → 3900 * most < page_words v (concat pages)
+pub stack_words : (v : Kept) (pages : List (List ℕ)) (most : ℕ) → IsRunning v → IsStack v pages → length pages ≡ most → 3900 < page_words v (first_page pages) → 3900 * most < page_words v (concat pages)
 stack_words v pages most running h count full = go pages (top (active_birth v) pages (h.active ∙ running.known)) h count full
   where
-    go : (pages : List (List ℕ)) → Topped (active_birth v) pages → IsStack v pages → length pages ≡ most → 4096 < page_words v (first_page pages) + 66 → 3900 * most < page_words v (concat pages)
+    go : (pages : List (List ℕ)) → Topped (active_birth v) pages → IsStack v pages → length pages ≡ most → 3900 < page_words v (first_page pages) → 3900 * most < page_words v (concat pages)
     go _ (topped is rest) h count full = omega (arith, count, full, rest_words v rest h.filled, page_words_of v (active_birth v ∷ is) (concat rest))
 
 -- the chain of all frames, in a state that is kept

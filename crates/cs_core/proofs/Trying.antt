@@ -13,7 +13,6 @@ use Rattle.cs_model.specs.Operation.{drop_of, nil_of, push_of}
 use Rattle.cs_model.specs.Exec.{small_operands}
 use Rattle.cs_model.specs.Number.{number_result}
 use Rattle.cs_model.specs.End as ends
-use Rattle.cs_model.specs.End.{Out, made_context}
 use Rattle.cs_model.specs.PrimAnswer.{answer, argument, fail, receiver}
 use Rattle.cs_model.specs.PrimNumber.{number_prim}
 use Rattle.cs_model.specs.PrimRun.{Result, bytes_to_write, fails, result, write_prim}
@@ -26,11 +25,11 @@ use Rattle.cs_acts.specs.Layout.{Layout}
 use Rattle.cs_acts.specs.Names.{Store}
 use Rattle.cs_acts.specs.Ready.{IsReady}
 use Rattle.cs_send.specs.Sent.{Enters, Refuses}
-use Rattle.cs_core.specs.Stepped.{CausedByFault, DoneIn, EndsBy, Fails, IsOver, Lays, Overfills, lost, TurnGives, run_at, state_at, trying}
+use Rattle.cs_core.specs.Stepped.{CausedByFault, DoneIn, EndsBy, Fails, IsOver, Lays, lost, TurnGives, run_at, state_at, trying}
 use Rattle.cs_core.specs.declared.step.StepEnd.{StepEnd}
 use Rattle.cs_core.specs.declared.step.StepEnd.TheVariants.{Active, Idle, Stopped as Stop, Full, WriteFault}
 use Rattle.cs_core.proofs.Laying.{refused}
-use Rattle.cs_core.proofs.Stacking.{entered_lays, few_arguments}
+use Rattle.cs_core.proofs.Stacking.{few_arguments, method_lays}
 use Rattle.cs_core.proofs.Turning.{ends_by, ends_quietly, shape_kept}
 
 -- ---- what trying comes to
@@ -60,7 +59,7 @@ failed k x number args output steps count h =
 pub enters_behind : (k v : Kept) (x : Ref) (args number : ℕ) (l n : Option Layout) (told : Option (List ℕ)) (old s : Store) (e : StepEnd) → IsRunning k → arguments_of k x ≡ args → Fails k x number → Enters old s l n k v (enter_out k x args true) → EndsBy v e
     → TurnGives (trying k x number) k l told told s v n e
 enters_behind k v x args number l n told old s e running count f h by =
-    ends_quietly (trying k x number) k v l n told s e done h.ready (entered_lays k v x args true h.state running h.ready.running (few_arguments k x args count) l n s h.laid) by
+    ends_quietly (trying k x number) k v l n told s e done h.ready (method_lays k v x args true h.state running h.ready.running (few_arguments k x args count) l n s h.laid) by
   where
     done : DoneIn (trying k x number) v []
     done output steps =
@@ -75,7 +74,7 @@ enters_behind k v x args number l n told old s e running count f h by =
 pub full_behind : (k v : Kept) (x : Ref) (args number : ℕ) (l n : Option Layout) (told : Option (List ℕ)) (s : Store) (why : Why) → arguments_of k x ≡ args → Fails k x number → Refuses s l k (enter_out k x args true) why
     → TurnGives (trying k x number) k l told told s v n (Full why)
 full_behind k v x args number l n told s why count f h =
-    (refl, λ output steps. (f.built, subst (λ (p : Result). Overfills s l k p.out why) (sym (failed k x number args output steps count (f.end (run_at output steps)))) (refused s l k (enter_out k x args true) why h)))
+    (refl, λ output steps. refused s l k (trying k x number output steps) (enter_out k x args true) why f.built (ap (λ (p : Result). p.out) (failed k x number args output steps count (f.end (run_at output steps)))) (omega arith) h)
 
 -- ---- the sum
 

@@ -13,7 +13,7 @@ use Rattle.cs_model.specs.Read.{pc_of}
 use Rattle.cs_model.specs.Operation.{set_pc_of, suspend_of}
 use Rattle.cs_model.specs.Exec.{exec}
 use Rattle.cs_model.specs.End as ends
-use Rattle.cs_model.specs.End.{End, Out, no_count}
+use Rattle.cs_model.specs.End.{Out, no_count}
 use Rattle.cs_model.specs.PrimRun.{Result}
 use Rattle.cs_model.specs.Due.{due, due_of, is_idle, is_left, without_context}
 use Rattle.cs_model.proofs.Same.{equal, option_equal}
@@ -24,7 +24,7 @@ use Rattle.cs_model.specs.Built.{built_step, is_built, is_built_bytecode, is_bui
 use Rattle.cs_acts.specs.Layout.{Layout}
 use Rattle.cs_acts.specs.Names.{Store}
 use Rattle.cs_acts.specs.Ready.{IsReady}
-use Rattle.cs_core.specs.Stepped.{Completes, DoneIn, EndsBy, IsDone, Lays, IsOver, Overfills, LeadsTo, LeadsToNone, StepGives, Turn, TurnStops, unbuilt, stopped, lost, Turns, TurnGives, run_at, state_at, step_at}
+use Rattle.cs_core.specs.Stepped.{Completes, DoneIn, EndsBy, IsDone, Lays, IsOver, Overfills, LeadsTo, LeadsToNone, StepGives, Turn, TurnStops, least_of_return, next_turn, told_by, unbuilt, stopped, lost, Turns, TurnGives, run_at, state_at, step_at}
 use Rattle.cs_core.specs.declared.step.StepEnd.{StepEnd}
 use Rattle.cs_core.specs.declared.step.StepEnd.TheVariants.{Active, Idle, Stopped as Stop, Full, WriteFault}
 
@@ -53,7 +53,7 @@ ended s t = if t.built then add_count no_count (finish_of s t.result) else stops
 
 -- the turn that the model's step from k takes with the instruction i
 abbrev pub model_turn : Kept → Instr → Turns
-model_turn k i output steps = record { built = is_built_from (past k i) i.op; result = followed (run_at output steps) (effect k i) }
+model_turn k i output steps = record { built = is_built_from (past k i) i.op; result = followed (run_at output steps) (effect k i); told = told_by (effect k i); least = least_of_return }
 
 step_done : (k : Kept) (i : Instr) (output : List ℕ) (steps : ℕ) → Begins k i → step (state_at k output steps) ≡ add_count no_count (finish_of (state_at k output steps) (followed (run_at output steps) (effect k i)))
 unfolding step due due_of bytecode
@@ -64,13 +64,10 @@ unfolding built_step
 begun k i output steps h =
     ap₂ (λ b t. if b then t else stops (state_at k output steps) no_count why.NotBuilt) (built_at k i (run_at output steps) h) (step_done k i output steps h)
 
-built_next : (k : Kept) (i : Instr) → Begins k i → is_built_bytecode k ≡ is_built_from (past k i) i.op
-unfolding is_built_bytecode
-built_next k i h = rw h.instruction
-
-does : (k : Kept) (i : Instr) (output : List ℕ) (steps : ℕ) → Begins k i → bytecode (state_at k output steps) ≡ followed (run_at output steps) (effect k i)
-unfolding bytecode
-does k i output steps h = rw h.instruction
+-- which is the next one
+next_is : (k : Kept) (i : Instr) (output : List ℕ) (steps : ℕ) → Begins k i → next_turn (state_at k output steps) ≡ model_turn k i output steps
+unfolding is_built_bytecode bytecode
+next_is k i output steps h = rw h.instruction
 
 -- ---- how it ends
 
@@ -177,8 +174,8 @@ turn_gives k i l n old new s v (Stop reason) h (none, f) =
     (none, λ output steps. ap (λ (p : Step). p.ending) (begun k i output steps h) ∙ ended_stops (state_at k output steps) (model_turn k i output steps) reason (f output steps))
 turn_gives k i l n old new s v (Full why) h (none, f) = (
   none,
-  record { births = h.births; active = h.active; built = built_next k i h ∙ (f [] 0).0 },
-  λ output steps. subst (λ (r : Result). Overfills s l k r.out why) (sym (does k i output steps h)) (f output steps).1,
+  record { births = h.births; active = h.active },
+  λ output steps. subst (λ t. Overfills s l k t why) (sym (next_is k i output steps h)) (f output steps),
 )
 turn_gives k i l n old new s v WriteFault h (bytes, told, d, shape) = (bytes, told, completes k i v bytes h d shape)
 

@@ -10,7 +10,7 @@ behind_first (page ∷ pages) = pages
 
 -- The active context is the last frame of the first page. The frames of all pages, those of the first page first, are one chain of
 -- senders, and none is there twice. Each page behind the first one has more than 3,900 words: a page is taken where fewer than 66
--- words are free, entering takes at most 16 values off the last frame there, and then its frames stay as they are.
+-- words are free, entering takes at most 57 values off the last frame there, and then its frames stay as they are.
 pub record IsStack (k : Kept) (pages : List (List ℕ)) : Type 0 where
   pub active : last_frame (first_page pages) ≡ k.rest.active
   pub called : IsCalled k (concat pages)

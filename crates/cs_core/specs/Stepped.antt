@@ -21,7 +21,7 @@ use Rattle.cs_model.specs.Built.{built_step, is_built_bytecode, is_built_call, i
 use Rattle.cs_acts.specs.declared.act.Full.{Full as Why}
 use Rattle.cs_acts.specs.declared.act.Full.TheVariants.{Heap, Stack}
 use Rattle.cs_acts.specs.Full.{IsFullHeap}
-use Rattle.cs_acts.specs.Layout.{IsLaidOut, Layout, first_page, is_frame, page_words}
+use Rattle.cs_acts.specs.Layout.{IsApart, IsLaidOut, Layout, first_page, is_frame, page_words}
 use Rattle.cs_acts.specs.Names.{Store}
 use Rattle.cs_acts.specs.Ready.{IsReady, IsSound}
 use Rattle.cs_unwind.specs.Back.{Asks}
@@ -137,10 +137,10 @@ pub data Needs (t : Turn) (full : Why) : Out → Type 0 where
   unheld : t.built ≡ true → full ≡ Heap → IsUnheld t.result.out → Needs t full t.result.out
   untold : (o : Out) → t.told ≡ Some o → Asks o.end → full ≡ Heap → Needs t full o
 
--- every page is used, and the active one has more words than these
+-- every page is used, and the active one, as far as no context stands there twice, has more words than these
 abbrev pub IsFilled : Kept → Option Layout → ℕ → Type 0
 IsFilled k None least = ⊥
-IsFilled k (Some l) least = (length l.pages ≡ l.most) × (least < page_words k (first_page l.pages))
+IsFilled k (Some l) least = (length l.pages ≡ l.most) × (IsApart (first_page l.pages) → least < page_words k (first_page l.pages))
 
 abbrev pub CausesNoRoom : Store → Option Layout → Kept → ℕ → Out → Why → Type 0
 CausesNoRoom s l k least o Heap = IsFullHeap s l o.count.objects o.state

@@ -1,5 +1,5 @@
 use Rattle.cs_acts.specs.Names.{name_of}
-use Rattle.cs_core.proofs.Viewing.{fails_still, not_stopped, read_fails, read_full, read_over, turn_still}
+use Rattle.cs_core.proofs.Viewing.{fails_still, read_fails, read_full, read_over, read_stops, turn_still}
 use Rattle.cs_core.proofs.step.read_or_enter.Goals as goal
 
 pub returns-in-Answer-clause-gives : goal.returns-in-Answer-clause-gives
@@ -19,9 +19,11 @@ returns-in-Fail-clause-gives g c = λ told.
     (c.enter_behind.ensures.gives told c.args.number (fails_still k u x y c.args.number e.gives.1 named (read_fails k x c.args.number c.args.args c.requires.enters.count c.requires.reads e.gives.0)))
 
 pub returns-in-Stop-clause-gives : goal.returns-in-Stop-clause-gives
-returns-in-Stop-clause-gives g c = absurd (not_stopped (g.W.World.view c.args.w.now) (name_of (g.W.World.stored c.args.w.now) c.args.method) c.args.number c.args.args c.requires.enters.count c.requires.reads c.in-Stop.reason c.in-Stop.ensures.gives)
+returns-in-Stop-clause-gives g c = λ told.
+    read_stops (g.W.World.view c.args.w.now) (name_of (g.W.World.stored c.args.w.now) c.args.method) c.args.number c.args.args c.requires.enters.count c.requires.reads (g.W.World.view c.primitive.new.w) (g.W.World.layout c.args.w.now) (g.W.World.layout c.primitive.new.w) told
+    (g.W.World.stored c.primitive.new.w) c.in-Stop.reason c.in-Stop.ensures.gives
 
 pub returns-in-Full-clause-gives : goal.returns-in-Full-clause-gives
 returns-in-Full-clause-gives g c = λ told.
     read_full (g.W.World.view c.args.w.now) (name_of (g.W.World.stored c.args.w.now) c.args.method) c.args.number c.args.args c.requires.enters.count c.requires.reads (g.W.World.view c.primitive.new.w) (g.W.World.layout c.args.w.now) (g.W.World.layout c.primitive.new.w) told
-    (g.W.World.stored c.args.w.now) (g.W.World.stored c.primitive.new.w) c.in-Full.why c.in-Full.ensures.gives
+    (g.W.World.stored c.args.w.now) (g.W.World.stored c.primitive.new.w) c.in-Full.why c.requires.ready.running c.in-Full.ensures.gives

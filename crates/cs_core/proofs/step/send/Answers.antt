@@ -1,4 +1,4 @@
-use Rattle.std.proofs.Common.{arith, subst}
+use Rattle.std.proofs.Common.{subst}
 use Rattle.cs_acts.specs.Names.{name_of}
 use Rattle.cs_send.specs.Sent.{Offers, message_of}
 use Rattle.cs_core.proofs.Carrying.{carried}
@@ -13,7 +13,7 @@ returns-in-Entered-clause-gives g c =
 pub returns-in-Primitive-clause-gives : goal.returns-in-Primitive-clause-gives
 returns-in-Primitive-clause-gives g c =
     carried (trying (g.W.World.view c.args.w.now) (name_of (g.W.World.stored c.args.w.now) c.in-Primitive.method) c.in-Primitive.number) (sending (g.W.World.view c.args.w.now) (message_of (g.W.World.stored c.args.w.now) c.args.selector c.args.args c.args.above)) (g.W.World.view c.args.w.now) (g.W.World.view c.args.w.now) (g.W.World.layout c.args.w.now) (g.W.World.layout c.try_primitive.new.w) (g.K.Sink.taken c.args.out.now) (g.K.Sink.taken c.try_primitive.new.out) (g.W.World.stored c.try_primitive.new.w) (g.W.World.view c.try_primitive.new.w) c.try_primitive.result
-    (offered_same (g.W.World.stored c.args.w.now) (g.W.World.view c.args.w.now) (message_of (g.W.World.stored c.args.w.now) c.args.selector c.args.args c.args.above) c.in-Primitive.method c.in-Primitive.number (subst (λ w. Offers (g.W.World.stored w) (g.W.World.view c.args.w.now) (message_of (g.W.World.stored c.args.w.now) c.args.selector c.args.args c.args.above) c.in-Primitive.method c.in-Primitive.number) c.in-Primitive.ensures.still c.in-Primitive.ensures.sent)) (λ page. omega arith) (λ stack. stack)
+    (offered_same (g.W.World.stored c.args.w.now) (g.W.World.view c.args.w.now) (message_of (g.W.World.stored c.args.w.now) c.args.selector c.args.args c.args.above) c.in-Primitive.method c.in-Primitive.number (subst (λ w. Offers (g.W.World.stored w) (g.W.World.view c.args.w.now) (message_of (g.W.World.stored c.args.w.now) c.args.selector c.args.args c.args.above) c.in-Primitive.method c.in-Primitive.number) c.in-Primitive.ensures.still c.in-Primitive.ensures.sent)) (λ output steps page apart full. full) (λ stack. stack)
     (subst (λ w. TurnGives (trying (g.W.World.view w) (name_of (g.W.World.stored w) c.in-Primitive.method) c.in-Primitive.number) (g.W.World.view w) (g.W.World.layout w) (g.K.Sink.taken c.args.out.now) (g.K.Sink.taken c.try_primitive.new.out) (g.W.World.stored c.try_primitive.new.w) (g.W.World.view c.try_primitive.new.w) (g.W.World.layout c.try_primitive.new.w) c.try_primitive.result)
     c.in-Primitive.ensures.still c.try_primitive.ensures.gives)
 

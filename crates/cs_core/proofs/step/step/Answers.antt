@@ -7,7 +7,8 @@ use Rattle.cs_code.specs.Built.{built_exec}
 use Rattle.cs_code.specs.Gives.{IsNamedEnd, Refuses, end_of, is_refused}
 use Rattle.cs_send.specs.Sent.{message_of}
 use Rattle.cs_core.proofs.Beginning.{Executed, births_beyond, births_left, executed, held_above, lies_behind, refused}
-use Rattle.cs_core.proofs.Stepping.{births_few, done_gives, full_gives, return_gives, send_gives, stop_gives}
+use Rattle.cs_core.proofs.Settling.{free_next}
+use Rattle.cs_core.proofs.Stepping.{births_back, births_few, births_past, done_gives, full_gives, return_gives, send_gives, stop_gives}
 use Rattle.cs_core.proofs.Turning.{Begins, births_used, no_instruction}
 use Rattle.cs_core.proofs.step.step.Goals as goal
 
@@ -25,6 +26,10 @@ set_pc-requires-clause-lies g c =
     ap₂ (λ a b. lies_in (method_of (g.W.World.view c.args.w.now)) (a + b)) c.pc.ensures c.from.ensures
     ∙ lies_behind (g.W.World.view c.args.w.now) c.in-Some.instruction c.requires.ready.running (sym c.instruction.ensures.value ∙ c.in-Some.is)
 
+pub exec-requires-clause-births : goal.exec-requires-clause-births
+exec-requires-clause-births g c =
+    births_past (g.W.World.view c.args.w.now) (g.W.World.view c.set_pc.new.self) c.next_birth.result _ c.set_pc.ensures.state c.requires.ready.sound.closed c.next_birth.ensures c.if-next_birth-gt-BIRTH_LIMIT.false
+
 pub returns-in-Done-clause-gives : goal.returns-in-Done-clause-gives
 returns-in-Done-clause-gives g c =
     let begins : Begins (g.W.World.view c.args.w.now) c.in-Some.instruction = record {
@@ -34,7 +39,7 @@ returns-in-Done-clause-gives g c =
     } in
     let x = executed (g.W.World.view c.args.w.now) (g.W.World.view c.set_pc.new.self) (g.W.World.view c.exec.new.w) c.in-Some.instruction (c.pc.result + c.from.result) _ (ap₂ (λ a b. a + b) c.pc.ensures c.from.ensures) c.set_pc.ensures.state c.requires.ready.sound.closed
     (c.exec.ensures.gives (ap is_refused c.in-Done.is)).end (c.exec.ensures.gives (ap is_refused c.in-Done.is)).state in
-    done_gives (g.W.World.view c.args.w.now) c.in-Some.instruction (g.W.World.layout c.args.w.now) (g.W.World.layout c.exec.new.w) (g.W.World.stored c.exec.new.w) (g.W.World.view c.exec.new.w) begins _ c.finish.result c.requires.ready.running (subst (Executed (g.W.World.view c.args.w.now) c.in-Some.instruction (g.W.World.view c.exec.new.w)) (ap (end_of (g.W.World.stored c.exec.new.w)) c.in-Done.is) x) (c.exec.ensures.gives (ap is_refused c.in-Done.is)).ready
+    done_gives (g.W.World.view c.args.w.now) c.in-Some.instruction (g.W.World.layout c.args.w.now) (g.W.World.layout c.exec.new.w) (g.W.World.stored c.exec.new.w) (g.W.World.view c.exec.new.w) begins _ c.finish.result c.requires.ready.running (free_next (g.W.World.stored c.args.w.now) (g.W.World.view c.args.w.now) c.requires.ready.sound) (subst (Executed (g.W.World.view c.args.w.now) c.in-Some.instruction (g.W.World.view c.exec.new.w)) (ap (end_of (g.W.World.stored c.exec.new.w)) c.in-Done.is) x) (c.exec.ensures.gives (ap is_refused c.in-Done.is)).ready
     (c.exec.ensures.layout (ap is_refused c.in-Done.is) ∙ c.set_pc.ensures.layout) c.finish.ensures
 
 pub send-requires-clause-births : goal.send-requires-clause-births
@@ -54,9 +59,15 @@ returns-in-Send-clause-gives g c =
     (c.exec.ensures.gives (ap is_refused c.in-Send.is)).end (c.exec.ensures.gives (ap is_refused c.in-Send.is)).state in
     let named = subst (IsNamedEnd (g.W.World.stored c.exec.new.w)) c.in-Send.is (c.exec.ensures.gives (ap is_refused c.in-Send.is)).named in
     send_gives (g.W.World.view c.args.w.now) c.in-Some.instruction (g.W.World.layout c.args.w.now) (g.W.World.layout c.send.new.w) (g.W.World.stored c.send.new.w) (g.W.World.view c.send.new.w) begins (g.W.World.view c.exec.new.w) (message_of (g.W.World.stored c.exec.new.w) c.in-Send.selector c.in-Send.args c.in-Send.above) (g.W.World.layout c.exec.new.w) _ _ c.send.result
-    c.requires.ready.running (c.exec.ensures.gives (ap is_refused c.in-Send.is)).ready.running (subst (Executed (g.W.World.view c.args.w.now) c.in-Some.instruction (g.W.World.view c.exec.new.w)) (ap (end_of (g.W.World.stored c.exec.new.w)) c.in-Send.is) x)
+    c.requires.ready.running (free_next (g.W.World.stored c.args.w.now) (g.W.World.view c.args.w.now) c.requires.ready.sound) (c.exec.ensures.gives (ap is_refused c.in-Send.is)).ready.running (subst (Executed (g.W.World.view c.args.w.now) c.in-Some.instruction (g.W.World.view c.exec.new.w)) (ap (end_of (g.W.World.stored c.exec.new.w)) c.in-Send.is) x)
     (named_held (g.W.World.stored c.exec.new.w) (g.W.World.view c.exec.new.w) c.in-Send.selector (c.exec.ensures.gives (ap is_refused c.in-Send.is)).ready.sound.holds named.0, held_above (g.W.World.stored c.exec.new.w) (g.W.World.view c.exec.new.w) c.in-Send.above (c.exec.ensures.gives (ap is_refused c.in-Send.is)).ready.sound.holds named.1)
     (c.exec.ensures.layout (ap is_refused c.in-Send.is) ∙ c.set_pc.ensures.layout) c.send.ensures.gives
+
+pub give_back-requires-clause-births : goal.give_back-requires-clause-births
+give_back-requires-clause-births g c =
+    let x = executed (g.W.World.view c.args.w.now) (g.W.World.view c.set_pc.new.self) (g.W.World.view c.exec.new.w) c.in-Some.instruction (c.pc.result + c.from.result) _ (ap₂ (λ a b. a + b) c.pc.ensures c.from.ensures) c.set_pc.ensures.state c.requires.ready.sound.closed
+    (c.exec.ensures.gives (ap is_refused c.in-Return.is)).end (c.exec.ensures.gives (ap is_refused c.in-Return.is)).state in
+    births_back (g.W.World.stored c.args.w.now) (g.W.World.view c.args.w.now) (g.W.World.view c.exec.new.w) c.in-Some.instruction c.next_birth.result _ _ c.requires.ready c.next_birth.ensures c.if-next_birth-gt-BIRTH_LIMIT.false (subst (Executed (g.W.World.view c.args.w.now) c.in-Some.instruction (g.W.World.view c.exec.new.w)) (ap (end_of (g.W.World.stored c.exec.new.w)) c.in-Return.is) x)
 
 pub returns-in-Return-clause-gives : goal.returns-in-Return-clause-gives
 returns-in-Return-clause-gives g c =
@@ -68,12 +79,9 @@ returns-in-Return-clause-gives g c =
     let x = executed (g.W.World.view c.args.w.now) (g.W.World.view c.set_pc.new.self) (g.W.World.view c.exec.new.w) c.in-Some.instruction (c.pc.result + c.from.result) _ (ap₂ (λ a b. a + b) c.pc.ensures c.from.ensures) c.set_pc.ensures.state c.requires.ready.sound.closed
     (c.exec.ensures.gives (ap is_refused c.in-Return.is)).end (c.exec.ensures.gives (ap is_refused c.in-Return.is)).state in
     let named = subst (IsNamedEnd (g.W.World.stored c.exec.new.w)) c.in-Return.is (c.exec.ensures.gives (ap is_refused c.in-Return.is)).named in
-    return_gives (g.W.World.view c.args.w.now) c.in-Some.instruction (g.W.World.layout c.args.w.now) (g.W.World.layout c.give_back.new.w) (g.W.World.stored c.give_back.new.w) (g.W.World.view c.give_back.new.w) begins (g.W.World.view c.exec.new.w) (name_of (g.W.World.stored c.exec.new.w) c.in-Return.value) c.in-Return.local (g.W.World.layout c.exec.new.w) (g.K.Sink.taken c.args.out.now) c.give_back.result
-    c.requires.ready.running (c.exec.ensures.gives (ap is_refused c.in-Return.is)).ready.running (subst (Executed (g.W.World.view c.args.w.now) c.in-Some.instruction (g.W.World.view c.exec.new.w)) (ap (end_of (g.W.World.stored c.exec.new.w)) c.in-Return.is) x) (named_held (g.W.World.stored c.exec.new.w) (g.W.World.view c.exec.new.w) c.in-Return.value (c.exec.ensures.gives (ap is_refused c.in-Return.is)).ready.sound.holds named)
-    (c.exec.ensures.layout (ap is_refused c.in-Return.is) ∙ c.set_pc.ensures.layout) (c.give_back.ensures.gives (g.K.Sink.taken c.args.out.now))
-
-pub returns-in-Return-clause-cause : goal.returns-in-Return-clause-cause
-returns-in-Return-clause-cause g c = c.give_back.ensures.cause (g.K.Sink.fault_count c.args.out.now)
+    return_gives (g.W.World.view c.args.w.now) c.in-Some.instruction (g.W.World.layout c.args.w.now) (g.W.World.layout c.give_back.new.w) (g.W.World.stored c.give_back.new.w) (g.W.World.view c.give_back.new.w) begins (g.W.World.view c.exec.new.w) (name_of (g.W.World.stored c.exec.new.w) c.in-Return.value) c.in-Return.local (g.W.World.layout c.exec.new.w) (g.K.Sink.taken c.args.out.now) (g.K.Sink.taken c.give_back.new.out) c.give_back.result
+    c.requires.ready.running (free_next (g.W.World.stored c.args.w.now) (g.W.World.view c.args.w.now) c.requires.ready.sound) (c.exec.ensures.gives (ap is_refused c.in-Return.is)).ready.running (subst (Executed (g.W.World.view c.args.w.now) c.in-Some.instruction (g.W.World.view c.exec.new.w)) (ap (end_of (g.W.World.stored c.exec.new.w)) c.in-Return.is) x) (named_held (g.W.World.stored c.exec.new.w) (g.W.World.view c.exec.new.w) c.in-Return.value (c.exec.ensures.gives (ap is_refused c.in-Return.is)).ready.sound.holds named)
+    (c.exec.ensures.layout (ap is_refused c.in-Return.is) ∙ c.set_pc.ensures.layout) c.give_back.ensures.gives
 
 pub returns-in-Stop-clause-gives : goal.returns-in-Stop-clause-gives
 returns-in-Stop-clause-gives g c =
