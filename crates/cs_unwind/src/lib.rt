@@ -14,6 +14,9 @@ ghost use Rattle.cs_unwind.specs.Back.{BackExact, BackGives, BackLaid, BackMakes
 ghost use Rattle.cs_unwind.specs.Primitive.{entered_from, unwinds};
 
 mod end;
+mod marks;
+mod returns;
+mod search;
 
 use cs_acts::{PrimEnd, World};
 use cs_model::Stop;
@@ -37,7 +40,11 @@ pub fn give_back<W: World>(w: &mut W, value: Oop, local: bool) -> BackEnd
     ensures limit { (W.stored w.new).memory.limit ≡ (W.stored w.old).memory.limit }
     ensures contexts { BackMakes result (W.layout w.old) (W.stored w.old) (W.stored w.new) }
 {
-    BackEnd::Stop(Stop::NotBuilt)
+    if local {
+        returns::to_sender(w, value)
+    } else {
+        returns::from_home(w, value)
+    }
 }
 
 /// Does the primitive of this number, with so many arguments.
