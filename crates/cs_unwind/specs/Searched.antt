@@ -45,7 +45,7 @@ behind (i ∷ is) found = passing i (behind is found)
 -- what is seen of the contexts that were passed: the first one that is marked, and whether the target is one of them
 pub record Sees (act : Act → Option ℕ) (k : Kept) (target : Option Act) (births : List ℕ) (passed : Passed) : Type 0 where
   pub mark : Stands act passed.mark (first_marked k unwind_mark births)
-  pub target : (i : ℕ) → Stands act target (Some i) → passed.target ≡ is_among i births
+  pub meets : (i : ℕ) → Stands act target (Some i) → passed.target ≡ is_among i births
 
 pub record MeetsHome (act : Act → Option ℕ) (k : Kept) (goal : ℕ) (target : Option Act) (passed : Passed) : Type 0 where
   pub births : List ℕ
@@ -75,5 +75,5 @@ pub record IsUnmarked (act : Act → Option ℕ) (k : Kept) (a : Act) (target : 
   pub births : List ℕ
   pub met : senders_to k (active_birth k) home.birth ≡ model.Met births
   pub unmarked : first_marked k unwind_mark births ≡ None
-  pub target : Stands act target (sender_birth k home.birth)
-  pub dies : (i : ℕ) → sender_birth k home.birth ≡ Some i → dies ≡ is_among i (active_birth k ∷ births ++ home.birth ∷ [])
+  pub leads : Stands act target (sender_birth k home.birth)
+  pub doomed : (i : ℕ) → sender_birth k home.birth ≡ Some i → dies ≡ is_among i (active_birth k ∷ births ++ home.birth ∷ [])

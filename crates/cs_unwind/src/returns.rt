@@ -1,6 +1,6 @@
 //! Returns: to the sender of the active context, and past its home.
-ghost use Rattle.std.specs.Prelude.{◌≡◌, ◌<◌, ◌+◌, Bool, ℕ, false, IfSome, IsSome, nat_le, Option, Some, true};
-ghost use Rattle.cs_model.specs.Read.{depth_of, size_of};
+ghost use Rattle.std.specs.Prelude.{◌≡◌, ◌==◌, ◌||◌, ◌+◌, Bool, ℕ, false, IfSome, IsSome, nat_le, Option, Some, true};
+ghost use Rattle.cs_model.specs.Read.{active_birth, depth_of, size_of};
 ghost use Rattle.cs_model.specs.Return.{cannot_return_out, local_out, nonlocal_out, unwind_out};
 ghost use Rattle.cs_acts.specs.Names.{IsNamed, name_of};
 ghost use Rattle.cs_acts.specs.Ready.{IsReady, IsSound};
@@ -74,13 +74,23 @@ fn past_marks<W: World>(w: &mut W, value: Oop, home: Act) -> BackEnd
         Way::Met(passed) => match passed.mark {
             Some(mark) => about_to_return(w, value, mark),
             None => {
-                let dies = passed.target || is(w, target, active(w)) || is(w, target, home);
+                let dies = dies(w, target, passed.target, home);
                 past_home(w, value, home, target, dies)
             }
         },
         Way::Ended => cannot_return(w, value),
         Way::TooLong => BackEnd::Stop(Stop::ChainTooLong),
     }
+}
+
+/// Whether a target was passed on the way to a home, or is the active context or the home.
+fn dies<W: World>(w: &W, target: Option<Act>, passed: bool, home: Act) -> bool
+    requires ready { IsReady (W.stored w.now) (W.view w.now) }
+    requires stands { IfSome target (λ t. IsSome (W.act w.now t)) }
+    requires home { IsSome (W.act w.now home) }
+    ensures { (i j : ℕ) → Stands (W.act w.now) target (Some i) → W.act w.now home ≡ Some j → result ≡ (passed || (i == active_birth (W.view w.now)) || (i == j)) }
+{
+    passed || is(w, target, active(w)) || is(w, target, home)
 }
 
 /// Returns a value past a home that is met, where no mark is before it.

@@ -1,8 +1,7 @@
 //! Searches along contexts: for the home of the active one along outer contexts, and for a home along the senders.
-ghost use Rattle.std.specs.Prelude.{◌≡◌, ◌==◌, ◌∷◌, ◌++◌, ℕ, IfSome, IsSome, List, [], Some};
-ghost use Rattle.cs_model.specs.Operation.{nil_of};
+ghost use Rattle.std.specs.Prelude.{◌≡◌, ◌==◌, ◌∷◌, ◌++◌, ◌||◌, ℕ, IfSome, IsSome, List, [], Some};
 ghost use Rattle.cs_model.specs.Read.{active_birth};
-ghost use Rattle.cs_model.specs.Return.{closure_at, outer_birth, sender_birth};
+ghost use Rattle.cs_model.specs.Return.{closure_at, first_marked, outer_birth, sender_birth, unwind_mark};
 ghost use Rattle.cs_model.specs.State.{is_nil};
 ghost use Rattle.cs_acts.specs.Names.{IsNamed, name_of};
 ghost use Rattle.cs_acts.specs.Ready.{IsReady, IsSound};
@@ -139,6 +138,31 @@ pub(crate) fn home<W: World>(w: &W) -> HomeEnd
     }
 }
 
+/// The first of these contexts that is marked, with one context more.
+fn first_mark<W: World>(w: &W, mark: Option<Act>, act: Act) -> Option<Act>
+    requires sound { IsSound (W.stored w.now) (W.view w.now) }
+    requires stands { IsSome (W.act w.now act) }
+    ensures { (births : List ℕ) (birth : ℕ) → W.act w.now act ≡ Some birth → Stands (W.act w.now) mark (first_marked (W.view w.now) unwind_mark births) → Stands (W.act w.now) result (first_marked (W.view w.now) unwind_mark (births ++ birth ∷ [])) }
+{
+    if mark.is_some() {
+        mark
+    } else if is_marked(w, act, UNWIND_MARK) {
+        Some(act)
+    } else {
+        None
+    }
+}
+
+/// Whether the target was passed before, or is this context.
+fn is_passed<W: World>(w: &W, passed: bool, act: Act, target: Option<Act>) -> bool
+    requires sound { IsSound (W.stored w.now) (W.view w.now) }
+    requires stands { IsSome (W.act w.now act) }
+    requires target { IfSome target (λ t. IsSome (W.act w.now t)) }
+    ensures { (i j : ℕ) → Stands (W.act w.now) target (Some i) → W.act w.now act ≡ Some j → result ≡ (passed || (i == j)) }
+{
+    passed || is(w, target, act)
+}
+
 /// What is seen with one context more.
 fn pass<W: World>(w: &W, passed: Passed, act: Act, target: Option<Act>) -> Passed
     requires sound { IsSound (W.stored w.now) (W.view w.now) }
@@ -146,14 +170,9 @@ fn pass<W: World>(w: &W, passed: Passed, act: Act, target: Option<Act>) -> Passe
     requires target { IfSome target (λ t. IsSome (W.act w.now t)) }
     ensures { (births : List ℕ) (birth : ℕ) → W.act w.now act ≡ Some birth → Sees (W.act w.now) (W.view w.now) target births passed → Sees (W.act w.now) (W.view w.now) target (births ++ birth ∷ []) result }
 {
-    let mark = if passed.mark.is_none() && is_marked(w, act, UNWIND_MARK) {
-        Some(act)
-    } else {
-        passed.mark
-    };
     Passed {
-        mark,
-        target: passed.target || is(w, target, act),
+        mark: first_mark(w, passed.mark, act),
+        target: is_passed(w, passed.target, act, target),
     }
 }
 
@@ -162,7 +181,7 @@ pub(crate) fn senders_to<W: World>(w: &W, home: Act, target: Option<Act>) -> Way
     requires ready { IsReady (W.stored w.now) (W.view w.now) }
     requires stands { IsSome (W.act w.now home) }
     requires target { IfSome target (λ t. IsSome (W.act w.now t)) }
-    ensures { IfSome (W.act w.now home) (λ goal. FindsWay (W.act w.now) (W.view w.now) goal target result) }
+    ensures { (goal : ℕ) → W.act w.now home ≡ Some goal → FindsWay (W.act w.now) (W.view w.now) goal target result }
 {
     let goal = w.act_birth(home);
     let mut passed = Passed {
