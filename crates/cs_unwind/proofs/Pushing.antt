@@ -139,12 +139,11 @@ words_pushed k x running =
 
 -- ---- several values
 
-pub unfoldable with_all : List Ref → Kept → Kept
+abbrev pub with_all : List Ref → Kept → Kept
 with_all [] k = k
 with_all (x ∷ xs) k = with_all xs (push_of k x)
 
 words_all : (xs : List Ref) (k : Kept) → IsRunning k → words_in (with_all xs k) ≡ words_in k
-unfolding with_all
 words_all [] k running = refl
 words_all (x ∷ xs) k running = words_all xs (push_of k x) (running_pushed k x running) ∙ words_pushed k x running
 
@@ -176,7 +175,7 @@ looked_ends o e t h = record { end = h.end; state = h.state; objects = omega (ar
 
 -- values that fit are pushed, and what follows is done
 all_fit : (xs : List Ref) (k : Kept) → depth_of k + length xs ≤ size_of k → EndsAs (push_all xs k) ends.Done (with_all xs k)
-unfolding push_all with_all
+unfolding push_all
 all_fit [] k room = record { end = refl; state = refl; objects = refl }
 all_fit (x ∷ xs) k room =
     let one : depth_of k < size_of k = omega (arith, room) in
@@ -195,15 +194,15 @@ then_stops k next r h = h
 all_over : (xs : List Ref) (k : Kept) → depth_of k ≤ size_of k → size_of k < depth_of k + length xs → (push_all xs k).end ≡ ends.Stopped why.StackOver
 unfolding push_all
 all_over [] k fits over = absurd (omega (arith, fits, over))
-all_over (x ∷ xs) k fits over = go (nat_lt (depth_of k) (size_of k)) refl
+all_over (x ∷ xs) k fits over = go (λ t f o. all_over xs t f o) (nat_lt (depth_of k) (size_of k)) refl
   where
-    go : (b : Bool) → nat_lt (depth_of k) (size_of k) ≡ b → (and_then (push_out k x) (λ t. push_all xs t)).end ≡ ends.Stopped why.StackOver
-    go true e =
+    go : ((t : Kept) → depth_of t ≤ size_of t → size_of t < depth_of t + length xs → (push_all xs t).end ≡ ends.Stopped why.StackOver) → (b : Bool) → nat_lt (depth_of k) (size_of k) ≡ b → (and_then (push_out k x) (λ t. push_all xs t)).end ≡ ends.Stopped why.StackOver
+    go deeper true e =
         let one : depth_of k < size_of k = grind (arith, nat_tests) in
         let few : depth_of (push_of k x) ≤ size_of (push_of k x) = omega (arith, one, depth_pushed k x, size_pushed k x) in
         let many : size_of (push_of k x) < depth_of (push_of k x) + length xs = omega (arith, over, depth_pushed k x, size_pushed k x) in
-        subst (λ o. (and_then o (λ t. push_all xs t)).end ≡ ends.Stopped why.StackOver) (sym (push_fits k x one)) (then_stops (push_of k x) (λ t. push_all xs t) why.StackOver (all_over xs (push_of k x) few many))
-    go false e =
+        subst (λ o. (and_then o (λ t. push_all xs t)).end ≡ ends.Stopped why.StackOver) (sym (push_fits k x one)) (then_stops (push_of k x) (λ t. push_all xs t) why.StackOver (deeper (push_of k x) few many))
+    go deeper false e =
         let none : size_of k ≤ depth_of k = grind (arith, nat_tests) in
         stops_then (push_out k x) (λ t. push_all xs t) why.StackOver (ap (λ (o : Out). o.end) (push_over k x none))
 
@@ -217,9 +216,6 @@ ends_then o next e t u h n =
 -- ---- a message
 
 module _ (k : Kept) (special args : ℕ) (values : List Ref) where
-  all_values : List Ref
-  all_values = ref.Obj (active_birth k) ∷ values
-
   pub call_ends : depth_of k + (length values + 1) ≤ size_of k → EndsAs (call_with k special args values) (ends.Call special args) (with_all (ref.Obj (active_birth k) ∷ values) k)
   call_ends room =
       ends_then (push_all (ref.Obj (active_birth k) ∷ values) k) (λ t. looked (out (ends.Call special args) t)) (ends.Call special args) (with_all (ref.Obj (active_birth k) ∷ values) k) (with_all (ref.Obj (active_birth k) ∷ values) k)
@@ -228,6 +224,12 @@ module _ (k : Kept) (special args : ℕ) (values : List Ref) where
 
   pub call_over : depth_of k ≤ size_of k → size_of k < depth_of k + (length values + 1) → (call_with k special args values).end ≡ ends.Stopped why.StackOver
   call_over fits over = stops_then (push_all (ref.Obj (active_birth k) ∷ values) k) (λ t. looked (out (ends.Call special args) t)) why.StackOver (all_over (ref.Obj (active_birth k) ∷ values) k fits (omega (arith, over)))
+
+pub there_is_room : (depth size n : ℕ) (b : Bool) → b ≡ nat_le (depth + n) size → b ≡ true → depth + n ≤ size
+there_is_room depth size n b e h = let f : nat_le (depth + n) size ≡ true = sym e ∙ h in grind (arith, nat_tests)
+
+pub there_is_none : (depth size n : ℕ) (b : Bool) → b ≡ nat_le (depth + n) size → b ≡ false → size < depth + n
+there_is_none depth size n b e h = let f : nat_le (depth + n) size ≡ false = sym e ∙ h in grind (arith, nat_tests)
 
 -- ---- what is given
 
@@ -268,3 +270,7 @@ module _ (k : Kept) (special args : ℕ) (values : List Ref) (local : Bool) wher
       go Heap e f =
           subst (λ n. CausesFull b l k n (call_with k special args values).state Heap) (sym (call_ends k special args values room).objects)
           (record { words = subst (λ n. b.memory.limit < n) (sym words) f.words; room = f.room })
+
+-- a cause at the same view and layout
+pub cause_at : (s : Store) (l m : Option Layout) (k v : Kept) (why : Why) → m ≡ l → v ≡ k → CausesFull s m v 0 v why → CausesFull s l k 0 k why
+cause_at s l m k v why layout same cause = subst (λ n. CausesFull s n k 0 k why) layout (subst (λ t. CausesFull s m t 0 t why) same cause)

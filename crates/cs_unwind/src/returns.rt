@@ -1,5 +1,5 @@
 //! Returns: to the sender of the active context, and past its home.
-ghost use Rattle.std.specs.Prelude.{◌≡◌, ◌==◌, ◌||◌, ◌+◌, Bool, ℕ, false, IfSome, IsSome, nat_le, Option, Some, true};
+ghost use Rattle.std.specs.Prelude.{◌≡◌, ◌≤◌, ◌==◌, ◌||◌, ◌+◌, Bool, ℕ, false, IfSome, IsSome, nat_le, Option, Some, true};
 ghost use Rattle.cs_model.specs.Read.{active_birth, depth_of, size_of};
 ghost use Rattle.cs_model.specs.Return.{cannot_return_out, local_out, nonlocal_out, unwind_out};
 ghost use Rattle.cs_acts.specs.Names.{IsNamed, name_of};
@@ -137,7 +137,8 @@ fn may_arrive<W: World>(w: &W, target: Option<Act>, dies: bool) -> Arrival
 /// Whether the active stack has room for so many values.
 fn fits<W: World>(w: &W, count: u32) -> bool
     requires { IsReady (W.stored w.now) (W.view w.now) }
-    ensures { result ≡ nat_le (depth_of (W.view w.now) + count) (size_of (W.view w.now)) }
+    ensures value { result ≡ nat_le (depth_of (W.view w.now) + count) (size_of (W.view w.now)) }
+    ensures within { depth_of (W.view w.now) ≤ size_of (W.view w.now) }
 {
     count <= w.size() - w.depth()
 }
