@@ -6,3 +6,4 @@ pub mod Sizes
 pub mod Lookups
 pub mod Named
 pub mod Ahead
+pub mod Headers

@@ -14,6 +14,7 @@ ghost use Rattle.cs_unwind.specs.Back.{BackExact, BackGives, BackLaid, BackMakes
 ghost use Rattle.cs_unwind.specs.Primitive.{entered_from, unwinds};
 
 mod end;
+mod marks;
 
 use cs_acts::{PrimEnd, World};
 use cs_model::Stop;

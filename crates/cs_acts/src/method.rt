@@ -1,27 +1,22 @@
-//! What a send reads of a method: the number of its arguments, and its primitive.
+//! What is read of a method: the number of its arguments, and its primitive.
 ghost use Rattle.std.specs.Prelude.{◌≡◌, ◌<◌, ◌≤◌, ◌+◌, ◌*◌, ◌-◌, IsSome, IsTrue, Some};
-ghost use Rattle.cs_heap.specs.Format.{is_method};
-ghost use Rattle.cs_heap.specs.Object.{format_of, is_object, slot_count_of};
-ghost use Rattle.cs_classes.specs.Meaning.{count_of, unused_bytes};
+ghost use Rattle.cs_heap.specs.Object.{slot_count_of};
 ghost use Rattle.cs_model.specs.Obj.{argument_count, bytecodes_in, header_in, literal_count, number_in, primitive_number};
 ghost use Rattle.cs_model.specs.State.{object_of};
 ghost use Rattle.cs_acts.specs.Names.{name_of};
 ghost use Rattle.cs_acts.specs.Ready.{IsSound};
-ghost use Rattle.cs_send.specs.Primitive.{number_between};
-ghost use Rattle.cs_send.specs.Resolved.{IsMethodNamed};
+ghost use Rattle.cs_acts.specs.Reading.{IsMethodNamed, number_between};
 
-use cs_acts::World;
+use crate::World;
+use crate::words::{byte_count, count};
 use cs_heap::Heap;
-use cs_word::{Kind, Oop};
+use cs_word::Oop;
 
 /// The bytecode that a method with a primitive begins with.
 const CALL_PRIMITIVE: u8 = 139;
 
-/// The format of a method whose last slot has no unused byte. The three formats above it say how many it has, 1 to 3.
-const METHOD: u32 = 24;
-
 /// How many arguments a method takes: bits 24 to 27 of its header.
-pub(crate) fn argument_count<W: World>(w: &W, method: Oop) -> u32
+pub fn argument_count<W: World>(w: &W, method: Oop) -> u32
     requires sound { IsSound (W.stored w.now) (W.view w.now) }
     requires method { IsMethodNamed (W.stored w.now) (W.view w.now) method }
     ensures { result ≡ argument_count (header_in (object_of (W.view w.now) (name_of (W.stored w.now) method))) }
@@ -30,7 +25,7 @@ pub(crate) fn argument_count<W: World>(w: &W, method: Oop) -> u32
 }
 
 /// The primitive of a method; None exactly where bit 16 of its header isn't set, or its bytecodes begin with none.
-pub(crate) fn primitive<W: World>(w: &W, method: Oop) -> Option<u32>
+pub fn primitive<W: World>(w: &W, method: Oop) -> Option<u32>
     requires sound { IsSound (W.stored w.now) (W.view w.now) }
     requires method { IsMethodNamed (W.stored w.now) (W.view w.now) method }
     ensures { result ≡ primitive_number (header_in (object_of (W.view w.now) (name_of (W.stored w.now) method))) (bytecodes_in (object_of (W.view w.now) (name_of (W.stored w.now) method))) }
@@ -69,16 +64,6 @@ fn number_between(heap: &Heap, method: Oop, first: u32, end: u32) -> Option<u32>
     }
 }
 
-/// How many bytes a method has, its header and literals included.
-fn byte_count(heap: &Heap, method: Oop) -> u32
-    requires object { IsTrue (is_object heap.now.objects method.0) }
-    requires slots { 0 < slot_count_of heap.now.objects method.0 }
-    requires format { IsTrue (is_method (format_of heap.now.objects method.0)) }
-    ensures { result ≡ 4 * slot_count_of heap.now.objects method.0 - unused_bytes (format_of heap.now.objects method.0) }
-{
-    4 * heap.slot_count(method) - (u32::from(heap.format(method)) - METHOD)
-}
-
 /// The header of a method, which its first slot holds.
 fn header<W: World>(w: &W, method: Oop) -> u32
     requires sound { IsSound (W.stored w.now) (W.view w.now) }
@@ -86,16 +71,4 @@ fn header<W: World>(w: &W, method: Oop) -> u32
     ensures { result ≡ header_in (object_of (W.view w.now) (name_of (W.stored w.now) method)) }
 {
     count(w.heap().slot(method, 0))
-}
-
-/// The number that a word is, where it is a SmallInteger that isn't negative.
-#[tactic(auto, unfolding(cs_classes::specs::Meaning::count_of))]
-fn count(word: Oop) -> u32
-    requires { IsSome (count_of word.0) }
-    ensures { count_of word.0 ≡ Some result }
-{
-    let Kind::Small(number) = word.kind() else {
-        unreachable!();
-    };
-    number as u32
 }
