@@ -1,7 +1,8 @@
 //! Marks: contexts without a closure whose method has primitive 198 or 199, and the search for them along the senders.
-ghost use Rattle.std.specs.Prelude.{◌≡◌, IfSome, IsSome};
+ghost use Rattle.std.specs.Prelude.{◌≡◌, IfSome, IsSome, true};
+ghost use Rattle.cs_model.specs.Obj.{is_context_at};
 ghost use Rattle.cs_model.specs.Return.{is_marked, is_number, method_primitive};
-ghost use Rattle.cs_model.specs.State.{object_of};
+ghost use Rattle.cs_model.specs.State.{object_at, object_of};
 ghost use Rattle.cs_acts.specs.Names.{IsNamed, name_of};
 ghost use Rattle.cs_acts.specs.Ready.{IsSound};
 
@@ -10,9 +11,12 @@ use cs_acts::{Act, World, method};
 use cs_word::Oop;
 
 /// Whether a context is marked by a number: it has no closure, and that is the primitive of its method.
+///
+/// A world doesn't say that what an act stands for is a context; whoever was led to it along the senders knows.
 pub(crate) fn is_marked<W: World>(w: &W, a: Act, number: u32) -> bool
     requires sound { IsSound (W.stored w.now) (W.view w.now) }
     requires stands { IsSome (W.act w.now a) }
+    requires context { IfSome (W.act w.now a) (λ birth. is_context_at (object_at (W.view w.now) birth) ≡ true) }
     ensures { IfSome (W.act w.now a) (λ birth. result ≡ is_marked (W.view w.now) number birth) }
 {
     let method = w.act_method(a);
