@@ -1,12 +1,12 @@
 -- Marks, as the code reads them, and what is known of a birth to which senders led.
-use Rattle.std.proofs.Common.{◌≡◌, ◌∙◌, ℕ, Bool, true, false, refl, sym, ap, subst, Option, Some, None, IfSome, option_and_then}
+use Rattle.std.proofs.Common.{◌≡◌, ◌∙◌, ℕ, Bool, true, false, refl, sym, ap, Option, Some, None, IfSome, option_and_then}
 use Rattle.std.specs.Prelude.{◌&&◌}
 use Rattle.cs_model.specs.Ref.{Ref, Small, Char, birth_of}
 use Rattle.cs_model.specs.Ref as ref
 use Rattle.cs_model.specs.Obj.{Obj, Context, Ptr, Raw, Method, Ctx, context_in, is_context_at, is_method}
 use Rattle.cs_model.specs.State.{Kept, is_nil, object_at, object_of}
 use Rattle.cs_model.specs.Operation.{nil_of}
-use Rattle.cs_model.specs.Read.{IsRunning, active_birth, active_context}
+use Rattle.cs_model.specs.Read.{IsRunning, active_birth}
 use Rattle.cs_model.specs.Return.{closure_at, closure_in, context_birth, is_marked, is_marked_context, is_number, method_primitive, sender_birth}
 use Rattle.cs_word.specs.declared.Oop.{Oop}
 use Rattle.cs_acts.specs.Names.{Names, Store, name_of}
@@ -67,9 +67,9 @@ pub unmarked : (k : Kept) (s : Store) (number : ℕ) (o : Option ℕ) (closure :
     → IfSome o (λ i. Names s closure (closure_at k i)) → closed ≡ is_nil k (name_of s closure) → closed ≡ false
     → IfSome o (λ i. closed ≡ is_marked k number i)
 unfolding is_marked
-unmarked k s number None closure closed context a c open = tt
-unmarked k s number (Some i) closure closed context a c open =
-    open ∙ marked_by k number (object_at k i) false _ context (sym open ∙ c ∙ ap (is_nil k) a.is) refl
+unmarked k s number None closure closed context a c other = tt
+unmarked k s number (Some i) closure closed context a c other =
+    other ∙ marked_by k number (object_at k i) false _ context (sym other ∙ c ∙ ap (is_nil k) a.is) refl
 
 -- what is no method has no primitive
 pub without_primitive : (number : ℕ) (o : Option Obj) → is_method o ≡ false → false ≡ is_number number (method_primitive o)

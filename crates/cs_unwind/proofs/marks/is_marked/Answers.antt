@@ -1,7 +1,6 @@
-use Rattle.std.proofs.Common.{◌≡◌, ◌∙◌, true, Bool, ap, sym, subst, IfSome}
+use Rattle.std.proofs.Common.{◌≡◌, ◌∙◌, Bool, ap, subst, IfSome}
 use Rattle.std.specs.Prelude.{◌&&◌}
 use Rattle.cs_model.specs.Return.{is_marked}
-use Rattle.cs_model.specs.State.{is_nil}
 use Rattle.cs_model.specs.Ref.{same_ref}
 use Rattle.cs_acts.specs.Names.{name_of}
 use Rattle.cs_unwind.proofs.Marked.{marked, unmarked}
