@@ -1,6 +1,6 @@
 -- A method that a word names, as it lies in the heap.
-use Rattle.std.proofs.Common.{◌≡◌, ℕ, ◌+◌, ◌-◌, ◌*◌, ◌<◌, ◌≤◌, Bool, true, false, refl, sym, ap, subst, ◌∙◌, arith, Option, Some, None, is_some, List, [], ◌∷◌, length, get_or, nat_le}
-use Rattle.std.specs.Prelude.{slice_index, unwrap_or, ◌==◌, ◌&&◌, if◌then◌else◌}
+use Rattle.std.proofs.Common.{◌≡◌, ℕ, ◌+◌, ◌-◌, ◌*◌, ◌<◌, ◌≤◌, Bool, true, false, refl, sym, ap, subst, ◌∙◌, arith, Option, Some, None, List, [], ◌∷◌, length, get_or, nat_le}
+use Rattle.std.specs.Prelude.{unwrap_or, ◌==◌, ◌&&◌, if◌then◌else◌}
 use Rattle.std.proofs.lemmas.Bool.{false≢true}
 use Rattle.std.proofs.lemmas.Bool.Decides.{nat_tests}
 use Rattle.cs_word.specs.declared.Oop.{Oop}
@@ -16,7 +16,7 @@ use Rattle.cs_acts.specs.Names.{Store, name_of}
 use Rattle.cs_acts.specs.Ready.{Holds}
 use Rattle.cs_acts.specs.Reading.{IsMethodNamed, is_method_at, number_between, object_named}
 use Rattle.cs_acts.proofs.Held.{Says, says}
-use Rattle.cs_acts.proofs.Methods.{IsMethodAt, code_byte, end_is, field_is, header_is, parts}
+use Rattle.cs_acts.proofs.Methods.{IsMethodAt, code_byte, end_is, header_is}
 use Rattle.cs_acts.proofs.Named.{Place, There, Nowhere, field_at, method_read, place}
 
 both : (a b : Bool) → (a && b) ≡ true → b ≡ true

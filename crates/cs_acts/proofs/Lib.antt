@@ -7,3 +7,5 @@ pub mod Lookups
 pub mod Named
 pub mod Ahead
 pub mod Headers
+pub mod Dropping
+pub mod Leading

@@ -5,6 +5,7 @@
 #![tactic(auto)]
 
 mod act;
+pub mod answer;
 pub mod method;
 mod prim;
 pub mod read;
