@@ -9,3 +9,4 @@ pub mod Ahead
 pub mod Headers
 pub mod Dropping
 pub mod Leading
+pub mod Filling

@@ -1,14 +1,14 @@
-//! What is read of a method: the number of its arguments, and its primitive.
+//! What is read of a method: the number of its arguments, its primitive, the size of its contexts, and which pcs lie in it.
 ghost use Rattle.std.specs.Prelude.{◌≡◌, ◌<◌, ◌≤◌, ◌+◌, ◌*◌, ◌-◌, IsSome, IsTrue, Some};
 ghost use Rattle.cs_heap.specs.Object.{slot_count_of};
-ghost use Rattle.cs_model.specs.Obj.{argument_count, bytecodes_in, header_in, literal_count, number_in, primitive_number};
+ghost use Rattle.cs_model.specs.Obj.{argument_count, bytecodes_in, context_size, header_in, lies_in, literal_count, number_in, primitive_number};
 ghost use Rattle.cs_model.specs.State.{object_of};
 ghost use Rattle.cs_acts.specs.Names.{name_of};
 ghost use Rattle.cs_acts.specs.Ready.{IsSound};
 ghost use Rattle.cs_acts.specs.Reading.{IsMethodNamed, number_between};
 
 use crate::World;
-use crate::words::{byte_count, count};
+use crate::words::{byte_count, count, count_of_literals, is_between};
 use cs_heap::Heap;
 use cs_word::Oop;
 
@@ -36,6 +36,31 @@ pub fn primitive<W: World>(w: &W, method: Oop) -> Option<u32>
     } else {
         None
     }
+}
+
+/// How many values the stack of a method's contexts may hold: 56 where bit 17 of its header is set, else 16.
+pub fn context_size<W: World>(w: &W, method: Oop) -> u32
+    requires sound { IsSound (W.stored w.now) (W.view w.now) }
+    requires method { IsMethodNamed (W.stored w.now) (W.view w.now) method }
+    ensures { result ≡ context_size (header_in (object_of (W.view w.now) (name_of (W.stored w.now) method))) }
+{
+    if header(w, method) / (1 << 17) % 2 == 1 {
+        56
+    } else {
+        16
+    }
+}
+
+/// Whether a pc lies in a method: from its first bytecode to the one behind its last.
+pub fn lies<W: World>(w: &W, method: Oop, pc: u32) -> bool
+    requires sound { IsSound (W.stored w.now) (W.view w.now) }
+    requires method { IsMethodNamed (W.stored w.now) (W.view w.now) method }
+    ensures { result ≡ lies_in (object_of (W.view w.now) (name_of (W.stored w.now) method)) pc }
+{
+    let heap = w.heap();
+    let first = 4 * (count_of_literals(heap, method) + 1) + 1;
+    let end = byte_count(heap, method) + 1;
+    is_between(first, end, u64::from(pc))
 }
 
 /// The primitive that the bytecodes of a method begin with; `first` is their first byte, behind the header and the literals.
