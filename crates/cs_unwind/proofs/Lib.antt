@@ -1,3 +1,4 @@
+pub mod Marked
 mod Walking
 mod Pushing
 mod Arriving

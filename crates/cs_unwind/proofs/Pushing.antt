@@ -31,36 +31,23 @@ use Rattle.cs_acts.specs.Layout.{Layout}
 use Rattle.cs_acts.specs.Made.{MakesAtMost}
 use Rattle.cs_acts.specs.Names.{KeepsNames, Names, Store, name_of}
 use Rattle.cs_acts.specs.Ready.{IsReady, IsSound}
+use Rattle.cs_acts.specs.Led.{Leads}
+use Rattle.cs_acts.proofs.Leading.{along, then}
 use Rattle.cs_acts.proofs.Running.{active_context-put_active, running-edit}
-use Rattle.cs_unwind.specs.Returned.{Pushes, Returns}
+use Rattle.cs_unwind.specs.Returned.{Returns}
 use Rattle.cs_unwind.specs.declared.end.BackEnd.TheVariants as back
 
 -- ---- one call behind another
 
-pub same_equal : (a b : Kept) → SameKept a b → a ≡ b
-same_equal a b s = ap₂ (λ (m : FinMap nat_cmp Obj) (r : Rest). let k : Kept = record { objects = m; rest = r } in k) (same_map nat_cmp_total nat_cmp-IsAntisymmetric a.objects b.objects s.objects) s.rest
-
 pub same_itself : (a : Kept) → SameKept a a
 same_itself a = record { objects = λ i. refl; rest = refl }
-
-pub names_on : (a b c : Store) → KeepsNames a b → KeepsNames b c → KeepsNames a c
-names_on a b c f g = λ o named. let h = f o named in let i = g o h.sound in record { sound = i.sound; is = i.is ∙ h.is }
-
-pub names_stay : (a : Store) → KeepsNames a a
-names_stay a = λ o named. record { sound = named; is = refl }
-
-pub makes_on : (l m : Option Layout) (a b c : Store) (i j : ℕ) → m ≡ l → MakesAtMost i l a b → MakesAtMost j m b c → MakesAtMost (i + j) l a c
-makes_on None m a b c i j e f g = tt
-makes_on (Some l) m a b c i j e f g =
-    let h : MakesAtMost j (Some l) b c = subst (λ o. MakesAtMost j o b c) e g in
-    omega (arith, f, h)
 
 pub makes_none : (l : Option Layout) (a : Store) (i : ℕ) → MakesAtMost i l a a
 makes_none None a i = tt
 makes_none (Some l) a i = omega arith
 
 -- a context was made, and the view is the same
-pub context_made : (a b : Store) (l m : Option Layout) (k v : Kept) (i : ℕ) → v ≡ k → m ≡ l → b.memory.limit ≡ a.memory.limit → MakesAtMost i l a b → IsSound b v → IsRunning k → KeepsNames a b → Pushes a b l m v k i
+pub context_made : (a b : Store) (l m : Option Layout) (k v : Kept) (i : ℕ) → v ≡ k → m ≡ l → b.memory.limit ≡ a.memory.limit → MakesAtMost i l a b → IsSound b v → IsRunning k → KeepsNames a b → Leads a b l m v k i
 context_made a b l m k v i same layout limit made sound running names = record {
   state = subst (Keeps v) same sound.closed;
   exact = λ none. subst (SameKept v) same (same_itself v);
@@ -72,30 +59,18 @@ context_made a b l m k v i same layout limit made sound running names = record {
 }
 
 -- and another one
-pub contexts_made : (a b c : Store) (l m n : Option Layout) (k v w : Kept) (i j : ℕ) → v ≡ k → Pushes a b l m v k i → Pushes b c m n w v j → Pushes a c l n w k (i + j)
-contexts_made a b c l m n k v w i j same first next = record {
-  state = subst (Keeps w) same next.state;
-  exact = λ none. subst (SameKept w) same (next.exact (first.layout ∙ none));
-  layout = next.layout ∙ first.layout;
-  limit = next.limit ∙ first.limit;
-  contexts = makes_on l m a b c i j first.layout first.contexts next.contexts;
-  ready = next.ready;
-  names = names_on a b c first.names next.names;
-}
+pub contexts_made : (a b c : Store) (l m n : Option Layout) (k v w : Kept) (i j : ℕ) → v ≡ k → Leads a b l m v k i → Leads b c m n w v j → Leads a c l n w k (i + j)
+contexts_made a b c l m n k v w i j same first next =
+    subst (λ u. Leads a c l n w u (i + j)) same (along a b c l m n v w v i j (subst (λ u. Leads a b l m v u i) (sym same) first) next)
 
 -- a value was pushed
-pub value_pushed : (a b c : Store) (l m n : Option Layout) (v w t : Kept) (i : ℕ) (o : Oop) (x : Ref) → Pushes a b l m v t i → name_of b o ≡ x
+pub value_pushed : (a b c : Store) (l m n : Option Layout) (v w t : Kept) (i : ℕ) (o : Oop) (x : Ref) → Leads a b l m v t i → name_of b o ≡ x
     → ((u : Kept) → Keeps v u → Keeps w (push_of u (name_of b o))) → (m ≡ None → SameKept w (push_of v (name_of b o))) → n ≡ m → c.memory.limit ≡ b.memory.limit → MakesAtMost 0 m b c → IsReady c w → KeepsNames b c
-    → Pushes a c l n w (push_of t x) i
-value_pushed a b c l m n v w t i o x led is state exact layout limit made ready names = record {
-  state = subst (λ y. Keeps w (push_of t y)) is (state t led.state);
-  exact = λ none. subst (λ u. SameKept w (push_of u x)) (same_equal v t (led.exact none)) (subst (λ y. SameKept w (push_of v y)) is (exact (led.layout ∙ none)));
-  layout = layout ∙ led.layout;
-  limit = limit ∙ led.limit;
-  contexts = subst (λ n. MakesAtMost n l a c) (omega arith) (makes_on l m a b c i 0 led.layout led.contexts made);
-  ready = ready;
-  names = names_on a b c led.names names;
-}
+    → Leads a c l n w (push_of t x) i
+value_pushed a b c l m n v w t i o x led is state exact layout limit made ready names =
+    let count : i + 0 ≡ i = omega arith in
+    subst (λ y. Leads a c l n w (push_of t y) i) is
+    (subst (λ j. Leads a c l n w (push_of t (name_of b o)) j) count (then a b c l m n v w t i 0 (λ u. push_of u (name_of b o)) led state exact layout limit made ready names))
 
 -- ---- room
 
@@ -237,7 +212,7 @@ pub stopped : (s : Store) (l : Option Layout) (k : Kept) (local : Bool) (reason 
 stopped s l k local reason o end = record { gives = end; exact = tt; layout = refl; limit = refl; contexts = makes_none l s 0 }
 
 module _ (k : Kept) (special args : ℕ) (values : List Ref) (local : Bool) where
-  pub called : (a b : Store) (l m : Option Layout) (v : Kept) → depth_of k + (length values + 1) ≤ size_of k → Pushes a b l m v (with_all (ref.Obj (active_birth k) ∷ values) k) args
+  pub called : (a b : Store) (l m : Option Layout) (v : Kept) → depth_of k + (length values + 1) ≤ size_of k → Leads a b l m v (with_all (ref.Obj (active_birth k) ∷ values) k) args
       → Returns a b l m k v local (back.Call special args) (call_with k special args values)
   called a b l m v room led =
       let h = call_ends k special args values room in

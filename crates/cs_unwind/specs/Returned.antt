@@ -1,14 +1,11 @@
--- What is said of a world behind a return, and behind a part of one.
+-- What is said of a world behind a return.
 use Rattle.std.specs.Prelude.{◌≡◌, ℕ, ◌&&◌, Bool, not, if◌then◌else◌, Option, Some, None}
 use Rattle.cs_model.specs.State.{Kept, object_at}
 use Rattle.cs_model.specs.Obj.{context_in}
-use Rattle.cs_model.specs.Keeps.{Keeps, SameKept}
 use Rattle.cs_model.specs.Return.{has_room, is_live}
 use Rattle.cs_model.specs.End.{Out}
 use Rattle.cs_acts.specs.Layout.{Layout}
-use Rattle.cs_acts.specs.Made.{MakesAtMost}
-use Rattle.cs_acts.specs.Names.{Store, KeepsNames}
-use Rattle.cs_acts.specs.Ready.{IsReady}
+use Rattle.cs_acts.specs.Names.{Store}
 use Rattle.cs_unwind.specs.Back.{BackExact, BackGives, BackLaid, BackMakes}
 use Rattle.cs_unwind.specs.declared.end.BackEnd.{BackEnd}
 use Rattle.cs_unwind.specs.declared.returns.Arrival.{Arrival}
@@ -21,17 +18,6 @@ pub record Returns (old new : Store) (before after : Option Layout) (k v : Kept)
   pub layout : BackLaid k local found before after
   pub limit : new.memory.limit ≡ old.memory.limit
   pub contexts : BackMakes found before old new
-
--- A world of this store and layout was led to the state t: its view v keeps t, and is t where it tells no layout; it tells the
--- same layout, it has made at most so many contexts, it is ready, and what had a name has it still.
-pub record Pushes (old new : Store) (before after : Option Layout) (v t : Kept) (made : ℕ) : Type 0 where
-  pub state : Keeps v t
-  pub exact : before ≡ None → SameKept v t
-  pub layout : after ≡ before
-  pub limit : new.memory.limit ≡ old.memory.limit
-  pub contexts : MakesAtMost made before old new
-  pub ready : IsReady new v
-  pub names : KeepsNames old new
 
 -- whether a value can arrive at a target, where it is told whether that dies
 abbrev pub arrival_of : Kept → Bool → Option ℕ → Arrival

@@ -5,7 +5,8 @@ use Rattle.cs_model.specs.Ref as ref
 use Rattle.cs_model.specs.Read.{active_birth, depth_of, size_of}
 use Rattle.cs_model.specs.State.{Kept}
 use Rattle.cs_acts.specs.Names.{Names, name_of}
-use Rattle.cs_unwind.proofs.Pushing.{call_over, call_refused, called, cause_at, context_made, contexts_made, depth_kept, depth_pushed, names_on, size_kept, size_pushed, stopped, there_is_none, there_is_room, value_pushed}
+use Rattle.cs_acts.proofs.Leading.{names-trans}
+use Rattle.cs_unwind.proofs.Pushing.{call_over, call_refused, called, cause_at, context_made, contexts_made, depth_kept, depth_pushed, size_kept, size_pushed, stopped, there_is_none, there_is_room, value_pushed}
 use Rattle.cs_unwind.proofs.Walking.{told}
 use Rattle.cs_unwind.proofs.returns.about_to_return.Goals as goal
 
@@ -111,7 +112,7 @@ returns g c local birth at =
     let one = value_pushed s t u o m n v w k 2 c.in-Ok-this_context.context me here (e.value.is ∙ ap (λ (b : Kept). ref.Obj (active_birth b)) d.view) p.state p.exact p.layout p.limit p.contexts p.ready p.names in
     let two = value_pushed s u z o n i w y _ 2 c.args.value x one (one.names c.args.value c.requires.named).is q.state q.exact q.layout q.limit q.contexts q.ready q.names in
     let mark : Names r c.in-Ok.mark (ref.Obj birth) = told _ d.value at in
-    let stays = names_on r t z e.names (names_on t u z p.names q.names) in
+    let stays = names-trans r t z e.names (names-trans t u z p.names q.names) in
     let three = value_pushed s z (g.W.World.stored c.push-3.new.self) o i (g.W.World.layout c.push-3.new.self) y (g.W.World.view c.push-3.new.self) _ 2 c.in-Ok.mark (ref.Obj birth) two ((stays c.in-Ok.mark mark.sound).is ∙ mark.is)
     h.state h.exact h.layout h.limit h.contexts h.ready h.names in
     called k 48 2 (x ∷ ref.Obj birth ∷ []) local s (g.W.World.stored c.push-3.new.self) o (g.W.World.layout c.push-3.new.self) (g.W.World.view c.push-3.new.self) room three

@@ -1,6 +1,6 @@
 -- A method that a word names, as it lies in the heap.
-use Rattle.std.proofs.Common.{◌≡◌, ℕ, ◌+◌, ◌-◌, ◌*◌, ◌<◌, ◌≤◌, Bool, true, false, refl, sym, ap, subst, ◌∙◌, arith, Option, Some, None, is_some, List, [], ◌∷◌, length, get_or, nat_le}
-use Rattle.std.specs.Prelude.{slice_index, unwrap_or, ◌==◌, ◌&&◌, if◌then◌else◌}
+use Rattle.std.proofs.Common.{◌≡◌, ℕ, ◌+◌, ◌-◌, ◌*◌, ◌<◌, ◌≤◌, Bool, true, false, refl, sym, ap, subst, ◌∙◌, arith, Option, Some, None, List, [], ◌∷◌, length, get_or, nat_le}
+use Rattle.std.specs.Prelude.{unwrap_or, ◌==◌, ◌&&◌, if◌then◌else◌}
 use Rattle.std.proofs.lemmas.Bool.{false≢true}
 use Rattle.std.proofs.lemmas.Bool.Decides.{nat_tests}
 use Rattle.cs_word.specs.declared.Oop.{Oop}
@@ -14,12 +14,10 @@ use Rattle.cs_model.specs.Obj.{Obj, literal_count, number_in}
 use Rattle.cs_model.specs.State.{Kept, object_of}
 use Rattle.cs_acts.specs.Names.{Store, name_of}
 use Rattle.cs_acts.specs.Ready.{Holds}
-use Rattle.cs_acts.specs.Reading.{is_method_at, object_named}
+use Rattle.cs_acts.specs.Reading.{IsMethodNamed, is_method_at, number_between, object_named}
 use Rattle.cs_acts.proofs.Held.{Says, says}
-use Rattle.cs_acts.proofs.Methods.{IsMethodAt, code_byte, end_is, field_is, header_is, parts}
+use Rattle.cs_acts.proofs.Methods.{IsMethodAt, code_byte, end_is, header_is}
 use Rattle.cs_acts.proofs.Named.{Place, There, Nowhere, field_at, method_read, place}
-use Rattle.cs_send.specs.Primitive.{number_between}
-use Rattle.cs_send.specs.Resolved.{IsMethodNamed}
 
 both : (a b : Bool) → (a && b) ≡ true → b ≡ true
 both true b h = h
@@ -59,12 +57,8 @@ method_in s k h o e holds m = subst (λ (h : Memory). IsMethodAt h.objects (obje
 -- ---- its header
 
 module _ (os : List Object) (o : Option Obj) (w : ℕ) (m : IsMethodAt os o w) where
-  -- the first slot is a number
-  pub header_counts : is_some (count_of (slot_of os w 0)) ≡ true
-  header_counts = ap (λ n. is_some (count_of n)) (field_is os o w m (λ x. slice_index x.words 0)) ∙ ap is_some (parts os o w m).header
-
-  pub header_read : (n : ℕ) → count_of (slot_of os w 0) ≡ Some n → n ≡ obj.header_in o
-  header_read n e = sym (ap (λ c. unwrap_or c 0) e) ∙ header_is os o w m ∙ sym (ap obj.header_in m.means)
+  pub header_read : (n : ℕ) → n ≡ unwrap_or (count_of (slot_of os w 0)) 0 → n ≡ obj.header_in o
+  header_read n e = e ∙ header_is os o w m ∙ sym (ap obj.header_in m.means)
 
 -- ---- its primitive
 

@@ -1,27 +1,22 @@
-//! What a send reads of a method: the number of its arguments, and its primitive.
+//! What is read of a method: the number of its arguments, its primitive, the size of its contexts, and which pcs lie in it.
 ghost use Rattle.std.specs.Prelude.{◌≡◌, ◌<◌, ◌≤◌, ◌+◌, ◌*◌, ◌-◌, IsSome, IsTrue, Some};
-ghost use Rattle.cs_heap.specs.Format.{is_method};
-ghost use Rattle.cs_heap.specs.Object.{format_of, is_object, slot_count_of};
-ghost use Rattle.cs_classes.specs.Meaning.{count_of, unused_bytes};
-ghost use Rattle.cs_model.specs.Obj.{argument_count, bytecodes_in, header_in, literal_count, number_in, primitive_number};
+ghost use Rattle.cs_heap.specs.Object.{slot_count_of};
+ghost use Rattle.cs_model.specs.Obj.{argument_count, bytecodes_in, context_size, header_in, lies_in, literal_count, number_in, primitive_number};
 ghost use Rattle.cs_model.specs.State.{object_of};
 ghost use Rattle.cs_acts.specs.Names.{name_of};
 ghost use Rattle.cs_acts.specs.Ready.{IsSound};
-ghost use Rattle.cs_send.specs.Primitive.{number_between};
-ghost use Rattle.cs_send.specs.Resolved.{IsMethodNamed};
+ghost use Rattle.cs_acts.specs.Reading.{IsMethodNamed, number_between};
 
-use cs_acts::World;
+use crate::World;
+use crate::words::{byte_count, count, count_of_literals, is_between};
 use cs_heap::Heap;
-use cs_word::{Kind, Oop};
+use cs_word::Oop;
 
 /// The bytecode that a method with a primitive begins with.
 const CALL_PRIMITIVE: u8 = 139;
 
-/// The format of a method whose last slot has no unused byte. The three formats above it say how many it has, 1 to 3.
-const METHOD: u32 = 24;
-
 /// How many arguments a method takes: bits 24 to 27 of its header.
-pub(crate) fn argument_count<W: World>(w: &W, method: Oop) -> u32
+pub fn argument_count<W: World>(w: &W, method: Oop) -> u32
     requires sound { IsSound (W.stored w.now) (W.view w.now) }
     requires method { IsMethodNamed (W.stored w.now) (W.view w.now) method }
     ensures { result ≡ argument_count (header_in (object_of (W.view w.now) (name_of (W.stored w.now) method))) }
@@ -30,7 +25,7 @@ pub(crate) fn argument_count<W: World>(w: &W, method: Oop) -> u32
 }
 
 /// The primitive of a method; None exactly where bit 16 of its header isn't set, or its bytecodes begin with none.
-pub(crate) fn primitive<W: World>(w: &W, method: Oop) -> Option<u32>
+pub fn primitive<W: World>(w: &W, method: Oop) -> Option<u32>
     requires sound { IsSound (W.stored w.now) (W.view w.now) }
     requires method { IsMethodNamed (W.stored w.now) (W.view w.now) method }
     ensures { result ≡ primitive_number (header_in (object_of (W.view w.now) (name_of (W.stored w.now) method))) (bytecodes_in (object_of (W.view w.now) (name_of (W.stored w.now) method))) }
@@ -41,6 +36,31 @@ pub(crate) fn primitive<W: World>(w: &W, method: Oop) -> Option<u32>
     } else {
         None
     }
+}
+
+/// How many values the stack of a method's contexts may hold: 56 where bit 17 of its header is set, else 16.
+pub fn context_size<W: World>(w: &W, method: Oop) -> u32
+    requires sound { IsSound (W.stored w.now) (W.view w.now) }
+    requires method { IsMethodNamed (W.stored w.now) (W.view w.now) method }
+    ensures { result ≡ context_size (header_in (object_of (W.view w.now) (name_of (W.stored w.now) method))) }
+{
+    if header(w, method) / (1 << 17) % 2 == 1 {
+        56
+    } else {
+        16
+    }
+}
+
+/// Whether a pc lies in a method: from its first bytecode to the one behind its last.
+pub fn lies<W: World>(w: &W, method: Oop, pc: u32) -> bool
+    requires sound { IsSound (W.stored w.now) (W.view w.now) }
+    requires method { IsMethodNamed (W.stored w.now) (W.view w.now) method }
+    ensures { result ≡ lies_in (object_of (W.view w.now) (name_of (W.stored w.now) method)) pc }
+{
+    let heap = w.heap();
+    let first = 4 * (count_of_literals(heap, method) + 1) + 1;
+    let end = byte_count(heap, method) + 1;
+    is_between(first, end, u64::from(pc))
 }
 
 /// The primitive that the bytecodes of a method begin with; `first` is their first byte, behind the header and the literals.
@@ -69,16 +89,6 @@ fn number_between(heap: &Heap, method: Oop, first: u32, end: u32) -> Option<u32>
     }
 }
 
-/// How many bytes a method has, its header and literals included.
-fn byte_count(heap: &Heap, method: Oop) -> u32
-    requires object { IsTrue (is_object heap.now.objects method.0) }
-    requires slots { 0 < slot_count_of heap.now.objects method.0 }
-    requires format { IsTrue (is_method (format_of heap.now.objects method.0)) }
-    ensures { result ≡ 4 * slot_count_of heap.now.objects method.0 - unused_bytes (format_of heap.now.objects method.0) }
-{
-    4 * heap.slot_count(method) - (u32::from(heap.format(method)) - METHOD)
-}
-
 /// The header of a method, which its first slot holds.
 fn header<W: World>(w: &W, method: Oop) -> u32
     requires sound { IsSound (W.stored w.now) (W.view w.now) }
@@ -86,16 +96,4 @@ fn header<W: World>(w: &W, method: Oop) -> u32
     ensures { result ≡ header_in (object_of (W.view w.now) (name_of (W.stored w.now) method)) }
 {
     count(w.heap().slot(method, 0))
-}
-
-/// The number that a word is, where it is a SmallInteger that isn't negative.
-#[tactic(auto, unfolding(cs_classes::specs::Meaning::count_of))]
-fn count(word: Oop) -> u32
-    requires { IsSome (count_of word.0) }
-    ensures { count_of word.0 ≡ Some result }
-{
-    let Kind::Small(number) = word.kind() else {
-        unreachable!();
-    };
-    number as u32
 }

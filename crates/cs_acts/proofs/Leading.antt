@@ -6,8 +6,8 @@ use Rattle.cs_acts.specs.Layout.{Layout}
 use Rattle.cs_acts.specs.Made.{MakesAtMost}
 use Rattle.cs_acts.specs.Names.{KeepsNames, Store}
 use Rattle.cs_acts.specs.Ready.{IsReady}
-use Rattle.cs_prim_ctx.specs.Answered.{Leads}
-use Rattle.cs_prim_ctx.proofs.Dropping.{same-equal}
+use Rattle.cs_acts.specs.Led.{Leads}
+use Rattle.cs_acts.proofs.Dropping.{same-equal}
 
 pub names-trans : (a b c : Store) → KeepsNames a b → KeepsNames b c → KeepsNames a c
 names-trans a b c f g = λ o named. let h = f o named in let i = g o h.sound in record { sound = i.sound; is = i.is ∙ h.is }

@@ -2,10 +2,10 @@ use Rattle.std.proofs.Common.{◌+◌, ◌<◌, ap₂, arith, subst}
 use Rattle.std.proofs.lemmas.Bool.Decides.{nat_tests}
 use Rattle.cs_model.specs.Operation.{drop_of, pop_of, push_of}
 use Rattle.cs_acts.specs.Names.{name_of}
-use Rattle.cs_prim_ctx.specs.Answered.{Leads}
-use Rattle.cs_prim_ctx.proofs.Dropping.{depth-dropped, dropped-more, size-dropped}
-use Rattle.cs_prim_ctx.proofs.Leading.{then}
-use Rattle.cs_prim_ctx.proofs.answer.Goals as goal
+use Rattle.cs_acts.specs.Led.{Leads}
+use Rattle.cs_acts.proofs.Dropping.{depth-dropped, dropped-more, size-dropped}
+use Rattle.cs_acts.proofs.Leading.{then}
+use Rattle.cs_acts.proofs.answer.answer.Goals as goal
 
 pub pop-requires-in-loop-clause-there : goal.pop-requires-in-loop-clause-there
 pop-requires-in-loop-clause-there g c =
