@@ -70,7 +70,7 @@ pub value_pushed : (a b c : Store) (l m n : Option Layout) (v w t : Kept) (i : �
 value_pushed a b c l m n v w t i o x led is state exact layout limit made ready names =
     let count : i + 0 ≡ i = omega arith in
     subst (λ y. Leads a c l n w (push_of t y) i) is
-    (subst (λ j. Leads a c l n w (push_of t (name_of b o)) j) count (then a b c l m n v w t i 0 (λ u. push_of u (name_of b o)) led state exact layout limit made ready names))
+    (subst (λ j. Leads a c l n w (push_of t (name_of b o)) j) count ((then) a b c l m n v w t i 0 (λ u. push_of u (name_of b o)) led state exact layout limit made ready names))
 
 -- ---- room
 

@@ -2,13 +2,15 @@
 use Rattle.std.proofs.Common.{◌≡◌, ◌≢◌, ◌∙◌, ℕ, zero, suc, ◌+◌, ◌-◌, ◌<◌, ◌≤◌, ◌==◌, ◌||◌, Bool, true, false, refl, sym, ap, ap₂, subst, arith, Option, Some, None, IsSome, IfSome, is_some, List, [], ◌∷◌, ◌++◌}
 use Rattle.std.specs.Prelude.{if◌then◌else◌}
 use Rattle.std.proofs.lemmas.Bool.Decides.{nat_tests}
-use Rattle.cs_model.specs.State.{Kept, is_nil}
+use Rattle.cs_model.specs.Obj.{is_context_at}
+use Rattle.cs_model.specs.State.{Kept, is_nil, object_at}
 use Rattle.cs_model.specs.Read.{active_birth}
 use Rattle.cs_model.specs.End.{given}
 use Rattle.cs_model.specs.Return.{Home, HomeAt, NoHome, HomeTooFar, Search, closure_at, first_marked, home, is_among, is_marked, links, outer_birth, passing, search_home, search_senders, sender_birth, senders_to, unwind_mark}
 use Rattle.cs_model.specs.Return as model
 use Rattle.cs_acts.specs.declared.act.Act.{Act}
 use Rattle.cs_unwind.specs.declared.search.Passed.{Passed}
+use Rattle.cs_unwind.proofs.Marked.{if_context, sender_context}
 use Rattle.cs_unwind.specs.Searched.{EndsBefore, HasHome, MeetsHome, SeeksHome, Sees, Stands, Walks, behind}
 
 pub links_is : links ≡ 1048576
@@ -196,6 +198,7 @@ module _ (act : Act → Option ℕ) (k : Kept) (goal : ℕ) (target : Option Act
     births = [];
     now = sender_birth k (active_birth k);
     stands = h;
+    context = λ i e. sender_context k (active_birth k) i e;
     is = ap (λ n. search_senders n k goal (sender_birth k (active_birth k))) all_links;
     sees = record { mark = refl; meets = λ i s. refl };
   }
@@ -209,6 +212,9 @@ module _ (act : Act → Option ℕ) (k : Kept) (goal : ℕ) (target : Option Act
   at_next n next a passed i s some at =
       let there : Stands act (Some a) s.now = subst (λ (o : Option Act). Stands act o s.now) some s.stands in
       sym there.0 ∙ at
+
+  pub walk_context : (n : ℕ) (next : Option Act) (a : Act) (passed : Passed) (i : ℕ) → Walks act k goal target n next passed → next ≡ Some a → act a ≡ Some i → IfSome (act a) (λ birth. is_context_at (object_at k birth) ≡ true)
+  walk_context n next a passed i s some at = if_context k (act a) (λ j e. s.context j (at_next n next a passed j s some e))
 
   pub walk_meets : (n : ℕ) (next : Option Act) (a : Act) (passed : Passed) (i : ℕ) → Walks act k goal target n next passed → next ≡ Some a → act a ≡ Some i → i ≡ goal → n < 1048576
       → MeetsHome act k goal target passed
@@ -226,6 +232,7 @@ module _ (act : Act → Option ℕ) (k : Kept) (goal : ℕ) (target : Option Act
     births = s.births ++ i ∷ [];
     now = sender_birth k i;
     stands = stands;
+    context = λ j f. sender_context k i j f;
     is = s.is ∙ ap₂ (λ (m : ℕ) (o : Option ℕ). behind s.births (search_senders m k goal o)) (one_link n few) (at_next n next a passed i s some at)
         ∙ ap (behind s.births) (passed_now (links - (n + 1)) k goal i (is_other i goal e)) ∙ behind_more s.births i (search_senders (links - (n + 1)) k goal (sender_birth k i));
     sees = seen s.births i at s.sees;

@@ -1,6 +1,7 @@
 -- What the searches along contexts find.
-use Rattle.std.specs.Prelude.{◌≡◌, ℕ, ◌-◌, Bool, List, [], ◌∷◌, ◌++◌, Option, Some, None, IsSome}
-use Rattle.cs_model.specs.State.{Kept}
+use Rattle.std.specs.Prelude.{◌≡◌, ℕ, ◌-◌, Bool, true, List, [], ◌∷◌, ◌++◌, Option, Some, None, IsSome}
+use Rattle.cs_model.specs.Obj.{is_context_at}
+use Rattle.cs_model.specs.State.{Kept, object_at}
 use Rattle.cs_model.specs.Read.{active_birth}
 use Rattle.cs_model.specs.Return.{HomeAt, NoHome, HomeTooFar, Search, first_marked, home, is_among, links, passing, search_home, search_senders, sender_birth, senders_to, unwind_mark}
 use Rattle.cs_model.specs.Return as model
@@ -66,6 +67,7 @@ pub record Walks (act : Act → Option ℕ) (k : Kept) (goal : ℕ) (target : Op
   pub births : List ℕ
   pub now : Option ℕ
   pub stands : Stands act next now
+  pub context : (i : ℕ) → now ≡ Some i → is_context_at (object_at k i) ≡ true
   pub is : senders_to k (active_birth k) goal ≡ behind births (search_senders (links - n) k goal now)
   pub sees : Sees act k target births passed
 

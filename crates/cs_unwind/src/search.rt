@@ -1,8 +1,9 @@
 //! Searches along contexts: for the home of the active one along outer contexts, and for a home along the senders.
-ghost use Rattle.std.specs.Prelude.{◌≡◌, ◌==◌, ◌∷◌, ◌++◌, ◌||◌, ℕ, IfSome, IsSome, List, [], Some};
+ghost use Rattle.std.specs.Prelude.{◌≡◌, ◌==◌, ◌∷◌, ◌++◌, ◌||◌, ℕ, IfSome, IsSome, List, [], Some, true};
+ghost use Rattle.cs_model.specs.Obj.{is_context_at};
 ghost use Rattle.cs_model.specs.Read.{active_birth};
 ghost use Rattle.cs_model.specs.Return.{closure_at, first_marked, outer_birth, sender_birth, unwind_mark};
-ghost use Rattle.cs_model.specs.State.{is_nil};
+ghost use Rattle.cs_model.specs.State.{is_nil, object_at};
 ghost use Rattle.cs_acts.specs.Names.{IsNamed, name_of};
 ghost use Rattle.cs_acts.specs.Ready.{IsReady, IsSound};
 ghost use Rattle.cs_unwind.specs.Searched.{FindsHome, FindsWay, Sees, Stands};
@@ -142,6 +143,7 @@ pub(crate) fn home<W: World>(w: &W) -> HomeEnd
 fn first_mark<W: World>(w: &W, mark: Option<Act>, act: Act) -> Option<Act>
     requires sound { IsSound (W.stored w.now) (W.view w.now) }
     requires stands { IsSome (W.act w.now act) }
+    requires context { IfSome (W.act w.now act) (λ birth. is_context_at (object_at (W.view w.now) birth) ≡ true) }
     ensures { (births : List ℕ) (birth : ℕ) → W.act w.now act ≡ Some birth → Stands (W.act w.now) mark (first_marked (W.view w.now) unwind_mark births) → Stands (W.act w.now) result (first_marked (W.view w.now) unwind_mark (births ++ birth ∷ [])) }
 {
     if mark.is_some() {
@@ -167,6 +169,7 @@ fn is_passed<W: World>(w: &W, passed: bool, act: Act, target: Option<Act>) -> bo
 fn pass<W: World>(w: &W, passed: Passed, act: Act, target: Option<Act>) -> Passed
     requires sound { IsSound (W.stored w.now) (W.view w.now) }
     requires stands { IsSome (W.act w.now act) }
+    requires context { IfSome (W.act w.now act) (λ birth. is_context_at (object_at (W.view w.now) birth) ≡ true) }
     requires target { IfSome target (λ t. IsSome (W.act w.now t)) }
     ensures { (births : List ℕ) (birth : ℕ) → W.act w.now act ≡ Some birth → Sees (W.act w.now) (W.view w.now) target births passed → Sees (W.act w.now) (W.view w.now) target (births ++ birth ∷ []) result }
 {

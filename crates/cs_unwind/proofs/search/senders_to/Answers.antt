@@ -3,7 +3,7 @@ use Rattle.std.proofs.lemmas.Bool.Decides.{nat_tests}
 use Rattle.cs_model.specs.Read.{active_birth}
 use Rattle.cs_model.specs.Return as model
 use Rattle.cs_unwind.specs.Searched.{EndsBefore, MeetsHome}
-use Rattle.cs_unwind.proofs.Walking.{at_same, not_some, told, walk, walk_ends, walk_far, walk_meets, walk_on}
+use Rattle.cs_unwind.proofs.Walking.{at_same, not_some, told, walk, walk_context, walk_ends, walk_far, walk_meets, walk_on}
 use Rattle.cs_unwind.proofs.search.senders_to.Goals as goal
 
 pub loop-init : goal.loop-init
@@ -19,6 +19,9 @@ returns-then-act_birth-goal g c = λ i at.
     let k = g.W.World.view c.args.w.now in
     at_same (λ j. MeetsHome (g.W.World.act c.args.w.now) k j c.args.target c.loop.passed) c.act_birth-goal.ensures at
     (walk_meets _ k _ _ c.loop.counter c.loop.next c.in-Some.act c.loop.passed c.act_birth.result c.loop.invariant c.in-Some.is c.act_birth.ensures c.if-act_birth-goal.true c.loop-test.true)
+
+pub pass-passed-requires-clause-context : goal.pass-passed-requires-clause-context
+pass-passed-requires-clause-context g c = walk_context _ _ _ _ c.loop.counter c.loop.next c.in-Some.act c.loop.passed c.act_birth.result c.loop.invariant c.in-Some.is c.act_birth.ensures
 
 pub loop-preserved : goal.loop-preserved
 loop-preserved g c =
