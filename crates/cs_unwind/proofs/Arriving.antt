@@ -10,7 +10,6 @@ use Rattle.cs_model.specs.Keeps.{Keeps, SameKept}
 use Rattle.cs_model.specs.Read.{IsRunning, active_birth, active_context}
 use Rattle.cs_model.specs.Operation.{cut_to_of, kill_all, kill_of, leave_of, push_of, resume_of}
 use Rattle.cs_model.specs.End.{Out, done, given, stop}
-use Rattle.cs_model.specs.End as ends
 use Rattle.cs_model.specs.Return.{Home, HomeAt, NoHome, HomeTooFar, arrive, cannot_return_out, context_at, context_birth, first_marked, from_home, has_room, home, is_among, is_live, local_out, nonlocal_out, sender_birth, senders_to, to_home, unwind_mark, unwind_out}
 use Rattle.cs_model.specs.Return as model
 use Rattle.cs_acts.specs.declared.act.Act.{Act}

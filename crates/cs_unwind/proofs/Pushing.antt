@@ -3,20 +3,17 @@ use Rattle.std.proofs.Common.{◌≡◌, ◌∙◌, ℕ, zero, suc, ◌+◌, ◌
 use Rattle.std.specs.Prelude.{if◌then◌else◌}
 use Rattle.std.proofs.lemmas.Bool.Decides.{eqb_tells, nat_tests}
 use Rattle.std.proofs.lemmas.List.{length_push}
-use Rattle.std.specs.Ordering.{nat_cmp}
-use Rattle.std.specs.Cmp.{nat_cmp_total}
-use Rattle.std.specs.FinMap.{FinMap, nat_cmp-IsAntisymmetric, same_map}
 use Rattle.cs_word.specs.declared.Oop.{Oop}
 use Rattle.cs_model.specs.declared.stop.Stop.{Stop as Reason}
 use Rattle.cs_model.specs.declared.stop.Stop.TheVariants as why
 use Rattle.cs_model.specs.Ref.{Ref}
 use Rattle.cs_model.specs.Ref as ref
-use Rattle.cs_model.specs.Obj.{Obj, Context, Ctx, pushed}
-use Rattle.cs_model.specs.State.{Kept, Rest, object_at, put}
+use Rattle.cs_model.specs.Obj.{Context, Ctx, pushed}
+use Rattle.cs_model.specs.State.{Kept, object_at, put}
 use Rattle.cs_model.specs.Keeps.{Keeps, SameKept}
 use Rattle.cs_model.specs.Demand.{words_at, words_below, words_in}
-use Rattle.cs_model.specs.Read.{IsRunning, active_birth, active_context, depth_of, method_of, pc_of, size_of, stack_of}
-use Rattle.cs_model.specs.Operation.{edit_active, push_of}
+use Rattle.cs_model.specs.Read.{IsRunning, active_birth, active_context, depth_of, pc_of, size_of, stack_of}
+use Rattle.cs_model.specs.Operation.{push_of}
 use Rattle.cs_model.specs.Exec.{push_out}
 use Rattle.cs_model.specs.End.{End, Out, and_then, counting, done, looked, out, stop}
 use Rattle.cs_model.specs.End as ends
@@ -29,7 +26,7 @@ use Rattle.cs_acts.specs.declared.act.Full.TheVariants.{Heap, Stack}
 use Rattle.cs_acts.specs.Full.{CausesFull}
 use Rattle.cs_acts.specs.Layout.{Layout}
 use Rattle.cs_acts.specs.Made.{MakesAtMost}
-use Rattle.cs_acts.specs.Names.{KeepsNames, Names, Store, name_of}
+use Rattle.cs_acts.specs.Names.{KeepsNames, Store, name_of}
 use Rattle.cs_acts.specs.Ready.{IsReady, IsSound}
 use Rattle.cs_acts.specs.Led.{Leads}
 use Rattle.cs_acts.proofs.Leading.{along, then}

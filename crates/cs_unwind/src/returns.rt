@@ -94,13 +94,7 @@ fn dies<W: World>(w: &W, target: Option<Act>, passed: bool, home: Act) -> bool
 }
 
 /// Returns a value past a home that is met, where no mark is before it.
-fn past_home<W: World>(
-    w: &mut W,
-    value: Oop,
-    home: Act,
-    target: Option<Act>,
-    dies: bool,
-) -> BackEnd
+fn past_home<W: World>(w: &mut W, value: Oop, home: Act, target: Option<Act>, dies: bool) -> BackEnd
     requires ready { IsReady (W.stored w.old) (W.view w.old) }
     requires named { IsNamed (W.stored w.old) value }
     requires free { IsUnmarked (W.act w.old) (W.view w.old) home target dies }

@@ -1,6 +1,5 @@
-use Rattle.std.proofs.Common.{◌≡◌, sym, subst, Bool, true, false}
+use Rattle.std.proofs.Common.{sym, subst}
 use Rattle.cs_model.specs.End.{Out}
-use Rattle.cs_model.specs.Return.{back}
 use Rattle.cs_acts.specs.Names.{name_of}
 use Rattle.cs_unwind.specs.Back.{BackExact, BackGives}
 use Rattle.cs_unwind.proofs.Arriving.{back_local, back_nonlocal}

@@ -1,8 +1,7 @@
-use Rattle.std.proofs.Common.{◌≡◌, ◌∙◌, ap, sym, subst, Option, Some, None}
+use Rattle.std.proofs.Common.{ap, subst}
 use Rattle.cs_model.specs.declared.stop.Stop.TheVariants as why
 use Rattle.cs_model.specs.End.{Out}
 use Rattle.cs_model.specs.Read.{active_birth}
-use Rattle.cs_acts.specs.declared.act.Act.{Act}
 use Rattle.cs_acts.specs.Names.{name_of}
 use Rattle.cs_unwind.specs.Searched.{Stands}
 use Rattle.cs_unwind.proofs.Arriving.{dies_is, mark_at, nonlocal_ended, nonlocal_far, nonlocal_marked, returns_as, unmarked}

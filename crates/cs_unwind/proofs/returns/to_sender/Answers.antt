@@ -10,7 +10,7 @@ use Rattle.cs_unwind.specs.declared.returns.Arrival.TheVariants.{Never, NoRoom, 
 use Rattle.cs_unwind.proofs.Arriving.{can_arrive, landed, leave_cuts, local_decided, local_is, not_landed, returns_as}
 use Rattle.cs_unwind.proofs.Pushing.{stopped}
 use Rattle.cs_unwind.proofs.Walking.{told}
-use Rattle.cs_model.specs.End.{End, Out}
+use Rattle.cs_model.specs.End.{Out}
 use Rattle.cs_unwind.proofs.returns.to_sender.Goals as goal
 
 pub leave-requires-clause-target : goal.leave-requires-clause-target

@@ -1,5 +1,4 @@
 use Rattle.std.proofs.Common.{sym, ◌∙◌, arith}
-use Rattle.std.proofs.lemmas.Bool.Decides.{nat_tests}
 use Rattle.cs_unwind.proofs.Walking.{not_some, seek, seek_on, sought, sought_far, sought_nowhere}
 use Rattle.cs_unwind.proofs.search.home.Goals as goal
 

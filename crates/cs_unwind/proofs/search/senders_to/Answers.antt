@@ -1,5 +1,4 @@
 use Rattle.std.proofs.Common.{◌≡◌, sym, ◌∙◌, arith}
-use Rattle.std.proofs.lemmas.Bool.Decides.{nat_tests}
 use Rattle.cs_model.specs.Read.{active_birth}
 use Rattle.cs_model.specs.Return as model
 use Rattle.cs_unwind.specs.Searched.{EndsBefore, MeetsHome}

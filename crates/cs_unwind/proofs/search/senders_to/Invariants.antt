@@ -1,4 +1,3 @@
-use Rattle.std.proofs.Common.{◌≡◌, Some, IfSome, IsSome}
 use Rattle.cs_unwind.specs.Searched.{Walks}
 use Rattle.cs_unwind.proofs.search.senders_to.Given as goal
 
