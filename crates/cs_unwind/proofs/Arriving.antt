@@ -228,13 +228,3 @@ mark_at act mark a first some h = go first refl (subst (λ (o : Option Act). Sta
     go : (o : Option ℕ) → first ≡ o → (act a ≡ o) × IsSome o → MarkAt act a first
     go None e s = absurd (cc)
     go (Some i) e s = record { birth = i; is = e; stands = s.0 }
-
--- ---- both kinds of return
-
-pub back_local : (k : Kept) (value : Ref) (local : Bool) → local ≡ true → model.back k value local ≡ local_out k value
-unfolding model.back
-back_local k value local e = ap (λ (b : Bool). if b then local_out k value else nonlocal_out k value) e
-
-pub back_nonlocal : (k : Kept) (value : Ref) (local : Bool) → local ≡ false → model.back k value local ≡ nonlocal_out k value
-unfolding model.back
-back_nonlocal k value local e = ap (λ (b : Bool). if b then local_out k value else nonlocal_out k value) e

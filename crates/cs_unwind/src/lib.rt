@@ -31,6 +31,7 @@ pub use end::BackEnd;
 /// `cannotReturn:`; else all from the active context to the home die, and the value is pushed at the target. The causes to stop:
 /// ChainTooLong where a search follows 1,048,576 links and isn't at its end, and StackOver where the target, or for a message the active
 /// context, has no room. `Full` comes only where a context is to be told.
+#[tactic(auto, unfolding(cs_model::specs::Return::back))]
 pub fn give_back<W: World>(w: &mut W, value: Oop, local: bool) -> BackEnd
     requires ready { IsReady (W.stored w.old) (W.view w.old) }
     requires named { IsNamed (W.stored w.old) value }
