@@ -23,7 +23,7 @@ use Rattle.cs_acts.specs.Ready.{IsReady}
 use Rattle.cs_acts.specs.Targets.{CanArrive, CanCut, dying_in, dying_to}
 use Rattle.cs_unwind.specs.Back.{LaidBack, home_birth}
 use Rattle.cs_unwind.specs.Returned.{Returns, arrival_of}
-use Rattle.cs_unwind.specs.Searched.{EndsBefore, HasHome, IsUnmarked, Stands}
+use Rattle.cs_unwind.specs.Walked.{EndsBefore, HasHome, IsUnmarked, Stands}
 use Rattle.cs_unwind.specs.declared.end.BackEnd.{BackEnd}
 use Rattle.cs_unwind.specs.declared.end.BackEnd.TheVariants as back
 use Rattle.cs_unwind.specs.declared.returns.Arrival.{Arrival}

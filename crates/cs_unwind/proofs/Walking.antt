@@ -11,7 +11,7 @@ use Rattle.cs_model.specs.Return as model
 use Rattle.cs_acts.specs.declared.act.Act.{Act}
 use Rattle.cs_unwind.specs.declared.search.Passed.{Passed}
 use Rattle.cs_unwind.proofs.Marked.{if_context, sender_context}
-use Rattle.cs_unwind.specs.Searched.{EndsBefore, HasHome, MeetsHome, SeeksHome, Sees, Stands, Walks, behind}
+use Rattle.cs_unwind.specs.Walked.{EndsBefore, HasHome, MeetsHome, SeeksHome, Sees, Stands, Walks, behind}
 
 pub links_is : links ≡ 1048576
 unfolding links

@@ -1,4 +1,4 @@
 pub mod Back
 pub mod Primitive
 pub mod Returned
-pub mod Searched
+pub mod Walked

@@ -5,7 +5,7 @@ ghost use Rattle.cs_model.specs.Return.{cannot_return_out, local_out, nonlocal_o
 ghost use Rattle.cs_acts.specs.Names.{IsNamed, name_of};
 ghost use Rattle.cs_acts.specs.Ready.{IsReady, IsSound};
 ghost use Rattle.cs_unwind.specs.Returned.{Returns, arrival_of};
-ghost use Rattle.cs_unwind.specs.Searched.{HasHome, IsUnmarked, Stands};
+ghost use Rattle.cs_unwind.specs.Walked.{HasHome, IsUnmarked, Stands};
 
 use crate::BackEnd;
 use crate::search::{HomeEnd, Way, active, home, is, sender, senders_to};

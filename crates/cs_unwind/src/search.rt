@@ -6,7 +6,7 @@ ghost use Rattle.cs_model.specs.Return.{closure_at, first_marked, outer_birth, s
 ghost use Rattle.cs_model.specs.State.{is_nil, object_at};
 ghost use Rattle.cs_acts.specs.Names.{IsNamed, name_of};
 ghost use Rattle.cs_acts.specs.Ready.{IsReady, IsSound};
-ghost use Rattle.cs_unwind.specs.Searched.{FindsHome, FindsWay, Sees, Stands};
+ghost use Rattle.cs_unwind.specs.Walked.{FindsHome, FindsWay, Sees, Stands};
 
 use crate::marks::is_marked;
 use cs_acts::read::{is_context, nil, same, slot_if_any};

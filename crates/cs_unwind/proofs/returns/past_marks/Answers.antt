@@ -3,7 +3,7 @@ use Rattle.cs_model.specs.declared.stop.Stop.TheVariants as why
 use Rattle.cs_model.specs.End.{Out}
 use Rattle.cs_model.specs.Read.{active_birth}
 use Rattle.cs_acts.specs.Names.{name_of}
-use Rattle.cs_unwind.specs.Searched.{Stands}
+use Rattle.cs_unwind.specs.Walked.{Stands}
 use Rattle.cs_unwind.proofs.Arriving.{dies_is, mark_at, nonlocal_ended, nonlocal_far, nonlocal_marked, returns_as, unmarked}
 use Rattle.cs_unwind.proofs.Pushing.{stopped}
 use Rattle.cs_unwind.proofs.Walking.{told}

@@ -1,4 +1,4 @@
-use Rattle.cs_unwind.specs.Searched.{SeeksHome}
+use Rattle.cs_unwind.specs.Walked.{SeeksHome}
 use Rattle.cs_unwind.proofs.search.home.Given as goal
 
 abbrev pub invariant-loop : goal.invariant-loop

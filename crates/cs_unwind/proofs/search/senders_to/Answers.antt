@@ -1,7 +1,7 @@
 use Rattle.std.proofs.Common.{◌≡◌, sym, ◌∙◌, arith}
 use Rattle.cs_model.specs.Read.{active_birth}
 use Rattle.cs_model.specs.Return as model
-use Rattle.cs_unwind.specs.Searched.{EndsBefore, MeetsHome}
+use Rattle.cs_unwind.specs.Walked.{EndsBefore, MeetsHome}
 use Rattle.cs_unwind.proofs.Walking.{at_same, not_some, told, walk, walk_context, walk_ends, walk_far, walk_meets, walk_on}
 use Rattle.cs_unwind.proofs.search.senders_to.Goals as goal
 

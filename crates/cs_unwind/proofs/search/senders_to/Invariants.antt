@@ -1,4 +1,4 @@
-use Rattle.cs_unwind.specs.Searched.{Walks}
+use Rattle.cs_unwind.specs.Walked.{Walks}
 use Rattle.cs_unwind.proofs.search.senders_to.Given as goal
 
 abbrev pub invariant-loop : goal.invariant-loop
