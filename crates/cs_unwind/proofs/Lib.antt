@@ -1,1 +1,4 @@
 pub mod Marked
+mod MarkRows
+mod Performing
+mod Searches

@@ -1,2 +1,4 @@
 pub mod Back
+pub mod Performed
 pub mod Primitive
+pub mod Searched
