@@ -1,4 +1,5 @@
 pub mod Back
+pub mod Blocks
 pub mod Performed
 pub mod Primitive
 pub mod Searched
