@@ -32,7 +32,7 @@ use Rattle.cs_unwind.specs.Performed.{Performs}
 same_names : (s : Store) → KeepsNames s s
 same_names s = λ o named. record { sound = named; is = refl }
 
-made_none : (l : Option Layout) (s : Store) → MakesAtMost 0 l s s
+pub made_none : (l : Option Layout) (s : Store) → MakesAtMost 0 l s s
 made_none None s = tt
 made_none (Some l) s = omega arith
 
