@@ -13,6 +13,7 @@ ghost use Rattle.cs_acts.specs.Ready.{IsReady};
 ghost use Rattle.cs_unwind.specs.Back.{BackExact, BackGives, BackLaid, BackMakes};
 ghost use Rattle.cs_unwind.specs.Primitive.{entered_from, unwinds};
 
+mod blocks;
 mod end;
 mod marks;
 mod returns;
