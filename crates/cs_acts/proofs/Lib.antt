@@ -6,3 +6,7 @@ pub mod Sizes
 pub mod Lookups
 pub mod Named
 pub mod Ahead
+pub mod Headers
+pub mod Dropping
+pub mod Leading
+pub mod Filling

@@ -219,12 +219,12 @@ module _ (os : List Object) (o : Option Obj) (w : ℕ) (m : IsMethodAt os o w) w
       omega (arith, length-bytecodes, length-code, unused, slots_are, format)
 
 -- where a pc lies, as the code reads it
-pub lies_read : (os : List Object) (k : Kept) (w n end pc : ℕ) → IsMethodAt os (method_of k) w → n ≡ literal_count (unwrap_or (count_of (slot_of os w 0)) 0) → end ≡ 4 * slot_count_of os w - unused_bytes (format_of os w)
-    → (nat_le (4 * (n + 1) + 1) pc && nat_le pc (end + 1)) ≡ lies_in (method_of k) pc
-lies_read os k w n end pc m count is =
+pub lies_read : (os : List Object) (o : Option Obj) (w n end pc : ℕ) → IsMethodAt os o w → n ≡ literal_count (unwrap_or (count_of (slot_of os w 0)) 0) → end ≡ 4 * slot_count_of os w - unused_bytes (format_of os w)
+    → (nat_le (4 * (n + 1) + 1) pc && nat_le pc (end + 1)) ≡ lies_in o pc
+lies_read os o w n end pc m count is =
     let ls : List Ref = map (ref_of os) (literals_in m.object.words) in
-    let literals : n ≡ length ls = count ∙ ap literal_count (header_is os (method_of k) w m) ∙ sym (length-literals os (method_of k) w m) ∙ sym (length-map (literals_in m.object.words) (ref_of os)) in
-    let last : end + 1 ≡ first_pc ls + length (used_bytes m.object.format (code_in m.object.words)) = omega (arith, is, end_is os (method_of k) w m, literals, length-literals os (method_of k) w m, length-map (literals_in m.object.words) (ref_of os)) in
+    let literals : n ≡ length ls = count ∙ ap literal_count (header_is os o w m) ∙ sym (length-literals os o w m) ∙ sym (length-map (literals_in m.object.words) (ref_of os)) in
+    let last : end + 1 ≡ first_pc ls + length (used_bytes m.object.format (code_in m.object.words)) = omega (arith, is, end_is os o w m, literals, length-literals os o w m, length-map (literals_in m.object.words) (ref_of os)) in
     ap₂ (λ (a b : ℕ). nat_le (4 * (a + 1) + 1) pc && nat_le pc b) literals last ∙ sym (ap (λ p. lies_in p pc) m.means)
 
 -- ---- the bytecodes, as the code reads them

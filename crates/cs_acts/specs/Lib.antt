@@ -1,5 +1,6 @@
 pub mod Full
 pub mod Layout
+pub mod Led
 pub mod Made
 pub mod Names
 pub mod Primed

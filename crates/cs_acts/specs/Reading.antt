@@ -1,12 +1,16 @@
 -- What is read of the heap by a word.
-use Rattle.std.specs.Prelude.{ℕ, Bool, not, ◌==◌, ◌&&◌, if◌then◌else◌, nat_le, nat_lt, List, length, Option, Some, None}
+use Rattle.std.specs.Prelude.{◌≡◌, ℕ, ◌+◌, ◌*◌, Bool, true, not, ◌==◌, ◌&&◌, if◌then◌else◌, nat_le, nat_lt, List, length, Option, Some, None}
+use Rattle.cs_word.specs.declared.Oop.{Oop}
 use Rattle.cs_word.specs.declared.Kind.{Kind}
 use Rattle.cs_word.specs.declared.Kind.TheVariants as kind
 use Rattle.cs_word.specs.Word.{kind_of}
 use Rattle.cs_heap.specs.Format.{is_method, is_pointers}
 use Rattle.cs_heap.specs.Object.{Object, byte_of, class_of, format_of, is_object, object_at, slot_count_of}
+use Rattle.cs_model.specs.Obj as obj
 use Rattle.cs_model.specs.Obj.{context_class}
+use Rattle.cs_model.specs.State.{Kept, object_of}
 use Rattle.cs_classes.specs.Meaning.{is_context}
+use Rattle.cs_acts.specs.Names.{Store, IsNamed, name_of}
 
 abbrev pub object_of_kind : List Object → Kind → Option Object
 object_of_kind objects (kind.Small value) = None
@@ -51,3 +55,13 @@ class_index_of objects word = class_index_of_kind objects (kind_of word)
 -- byte i of an object, where it is before the end; else 0
 abbrev pub byte_before : List Object → ℕ → ℕ → ℕ → ℕ
 byte_before objects address i end = if nat_lt i end then byte_of objects address i else 0
+
+-- a number behind the bytecode 139, the lower byte first: three bytes before the end
+abbrev pub number_between : List Object → ℕ → ℕ → ℕ → Option ℕ
+number_between objects address first end =
+    if nat_le (first + 3) end && byte_of objects address first == 139 then Some (byte_of objects address (first + 1) + 256 * byte_of objects address (first + 2)) else None
+
+-- the word names a method of the state
+pub record IsMethodNamed (s : Store) (k : Kept) (o : Oop) : Type 0 where
+  pub named : IsNamed s o
+  pub method : obj.is_method (object_of k (name_of s o)) ≡ true

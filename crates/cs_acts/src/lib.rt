@@ -5,6 +5,8 @@
 #![tactic(auto)]
 
 mod act;
+pub mod answer;
+pub mod method;
 mod prim;
 pub mod read;
 mod shape;

@@ -1,5 +1,3 @@
 mod Fields
-mod Dropping
-mod Leading
 mod Performing
 mod Rows

@@ -24,10 +24,11 @@ use Rattle.cs_acts.specs.Names.{KeepsNames, NamesOption, Store, name_of}
 use Rattle.cs_acts.specs.Primed.{EndsWithout}
 use Rattle.cs_acts.specs.Ready.{IsReady}
 use Rattle.cs_acts.specs.Targets.{field_of}
-use Rattle.cs_prim_ctx.specs.Answered.{Leads, Performs}
-use Rattle.cs_prim_ctx.proofs.Dropping.{words-answered}
+use Rattle.cs_acts.specs.Led.{Leads}
+use Rattle.cs_prim_ctx.specs.Answered.{Performs}
+use Rattle.cs_acts.proofs.Dropping.{words-answered}
 use Rattle.cs_prim_ctx.proofs.Fields.{field_below}
-use Rattle.cs_prim_ctx.proofs.Leading.{along}
+use Rattle.cs_acts.proofs.Leading.{along}
 
 -- ---- failures
 

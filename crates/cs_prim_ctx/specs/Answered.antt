@@ -1,14 +1,13 @@
--- What is said of a world behind a primitive, and behind a part of one.
-use Rattle.std.specs.Prelude.{◌≡◌, ℕ, Option, None}
+-- What is said of a world behind a primitive.
+use Rattle.std.specs.Prelude.{◌≡◌, Option, None}
 use Rattle.cs_model.specs.State.{Kept}
-use Rattle.cs_model.specs.Keeps.{Keeps, SameKept}
+use Rattle.cs_model.specs.Keeps.{SameKept}
 use Rattle.cs_model.specs.End.{Out}
 use Rattle.cs_acts.specs.declared.prim.PrimEnd.{PrimEnd}
 use Rattle.cs_acts.specs.Layout.{Layout}
 use Rattle.cs_acts.specs.Made.{MakesAtMost}
-use Rattle.cs_acts.specs.Names.{Store, KeepsNames}
+use Rattle.cs_acts.specs.Names.{Store}
 use Rattle.cs_acts.specs.Primed.{PrimGives, UnlessFull}
-use Rattle.cs_acts.specs.Ready.{IsReady}
 
 -- A primitive gives what the model gives, from a world of this store, this layout and the view k to one of the view v. Where there
 -- was room, v is the state of the model if no layout is told, the layout is the same, and no more contexts were made than were
@@ -19,14 +18,3 @@ pub record Performs (old new : Store) (before after : Option Layout) (k v : Kept
   pub layout : UnlessFull found (after ≡ before)
   pub limit : new.memory.limit ≡ old.memory.limit
   pub contexts : UnlessFull found (MakesAtMost o.count.looks before old new)
-
--- A world of this store and layout was led to the state t: its view v keeps t, and is t where it tells no layout; it tells the
--- same layout, it has made at most so many contexts, it is ready, and what had a name has it still.
-pub record Leads (old new : Store) (before after : Option Layout) (v t : Kept) (made : ℕ) : Type 0 where
-  pub state : Keeps v t
-  pub exact : before ≡ None → SameKept v t
-  pub layout : after ≡ before
-  pub limit : new.memory.limit ≡ old.memory.limit
-  pub contexts : MakesAtMost made before old new
-  pub ready : IsReady new v
-  pub names : KeepsNames old new

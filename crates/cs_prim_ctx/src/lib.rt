@@ -21,9 +21,11 @@ ghost use Rattle.cs_acts.specs.Names.{IsNamed, Names, NamesOption, Store, name_o
 ghost use Rattle.cs_acts.specs.Primed.{PrimGives, UnlessFull};
 ghost use Rattle.cs_acts.specs.Ready.{IsReady};
 ghost use Rattle.cs_acts.specs.Targets.{field_of};
-ghost use Rattle.cs_prim_ctx.specs.Answered.{Leads, Performs};
+ghost use Rattle.cs_acts.specs.Led.{Leads};
+ghost use Rattle.cs_prim_ctx.specs.Answered.{Performs};
 ghost use Rattle.cs_prim_ctx.specs.Numbers.{reads_context};
 
+use cs_acts::answer::{answer, argument, receiver};
 use cs_acts::read::is_context;
 use cs_acts::{Full, PrimEnd, World};
 use cs_word::{Kind, Oop};
@@ -113,24 +115,6 @@ fn stack_pointer<W: World>(w: &mut W, args: u32) -> PrimEnd
     } else {
         PrimEnd::Fail
     }
-}
-
-/// The receiver below so many arguments.
-fn receiver<W: World>(w: &W, args: u32) -> Oop
-    requires ready { IsReady (W.stored w.now) (W.view w.now) }
-    requires there { args < depth_of (W.view w.now) }
-    ensures { Names (W.stored w.now) result (receiver (W.view w.now) args) }
-{
-    w.stack_at(w.depth() - (args + 1))
-}
-
-/// The argument, where there is one alone.
-fn argument<W: World>(w: &W) -> Oop
-    requires ready { IsReady (W.stored w.now) (W.view w.now) }
-    requires there { 0 < depth_of (W.view w.now) }
-    ensures { Names (W.stored w.now) result (argument (W.view w.now) 1 0) }
-{
-    w.stack_at(w.depth() - 1)
 }
 
 /// The index, counted from 0, that a word says by counting from 1; None exactly where it is no SmallInteger above 0.
@@ -226,20 +210,4 @@ fn natural(word: Oop) -> u32
         Kind::Small(value) if value >= 0 => value as u32,
         _ => 0,
     }
-}
-
-/// Pops the receiver and so many arguments, and pushes the answer.
-fn answer<W: World>(w: &mut W, args: u32, value: Oop)
-    requires ready { IsReady (W.stored w.old) (W.view w.old) }
-    requires there { args < depth_of (W.view w.old) }
-    requires named { IsNamed (W.stored w.old) value }
-    ensures { Leads (W.stored w.old) (W.stored w.new) (W.layout w.old) (W.layout w.new) (W.view w.new) (push_of (drop_of (W.view w.old) (args + 1)) (name_of (W.stored w.old) value)) 0 }
-{
-    // for what its clauses say: the stack fits
-    let _depth = w.depth();
-    w.pop();
-    for _ in 0..args {
-        w.pop();
-    }
-    w.push(value);
 }

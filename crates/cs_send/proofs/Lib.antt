@@ -1,4 +1,3 @@
-mod Methods
 mod Lookups
 mod Resolving
 mod Sending

@@ -19,7 +19,8 @@ use Rattle.cs_acts.specs.Layout.{LaidBy, Layout, entered}
 use Rattle.cs_acts.specs.Names.{Store, KeepsNames, name_of}
 use Rattle.cs_acts.specs.Ready.{IsReady}
 use Rattle.cs_acts.specs.Targets.{CanEnter}
-use Rattle.cs_send.specs.Resolved.{IsMethodNamed, Offered, Plain, Stops}
+use Rattle.cs_acts.specs.Reading.{IsMethodNamed}
+use Rattle.cs_send.specs.Resolved.{Offered, Plain, Stops}
 use Rattle.cs_send.specs.Sent.{Enters, Halts, IsPlain, Offers, Refuses, found, sent, stopped}
 use Rattle.cs_send.proofs.Sends.{offered-fits, offered-number, plain-fits, send-offered, send-plain, send-stops}
 

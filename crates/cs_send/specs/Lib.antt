@@ -1,3 +1,2 @@
-pub mod Primitive
 pub mod Resolved
 pub mod Sent

@@ -1,16 +1,16 @@
 -- What a send finds, before anything is entered.
-use Rattle.std.specs.Prelude.{◌≡◌, ℕ, ◌==◌, true, nat_lt, if◌then◌else◌, Option, Some, None}
-use Rattle.cs_word.specs.declared.Oop.{Oop}
+use Rattle.std.specs.Prelude.{ℕ, ◌==◌, nat_lt, if◌then◌else◌, Option, Some, None}
 use Rattle.cs_model.specs.declared.stop.Stop.{Stop}
 use Rattle.cs_model.specs.declared.stop.Stop.TheVariants as why
 use Rattle.cs_model.specs.Ref.{Ref}
-use Rattle.cs_model.specs.Obj.{argument_count, bytecodes_in, header_in, is_method, primitive_number}
+use Rattle.cs_model.specs.Obj.{argument_count, bytecodes_in, header_in, primitive_number}
 use Rattle.cs_model.specs.State.{Kept, object_of}
 use Rattle.cs_model.specs.Read.{depth_of}
 use Rattle.cs_model.specs.Lookup.{Sought}
 use Rattle.cs_model.specs.Lookup as sought
 use Rattle.cs_model.specs.Send.{begins_at, look_from}
-use Rattle.cs_acts.specs.Names.{Store, IsNamed, name_of}
+use Rattle.cs_acts.specs.Names.{Store, name_of}
+use Rattle.cs_acts.specs.Reading.{IsMethodNamed}
 use Rattle.cs_lookup.specs.declared.Found.{Found as Lookup}
 use Rattle.cs_lookup.specs.declared.Found.TheVariants as looked
 use Rattle.cs_send.specs.declared.Found.{Found}
@@ -51,11 +51,7 @@ resolved_by s (found.Plain method) = Plain (name_of s method)
 resolved_by s found.Missing = Missing
 resolved_by s (found.Stop reason) = Stops reason
 
--- the word names a method of the state
-pub record IsMethodNamed (s : Store) (k : Kept) (o : Oop) : Type 0 where
-  pub named : IsNamed s o
-  pub method : is_method (object_of k (name_of s o)) ≡ true
-
+-- the words that are answered name methods of the state
 abbrev pub FindsMethod : Store → Kept → Found → Type 0
 FindsMethod s k (found.Primitive method number) = IsMethodNamed s k method
 FindsMethod s k (found.Plain method) = IsMethodNamed s k method

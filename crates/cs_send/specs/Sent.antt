@@ -15,11 +15,12 @@ use Rattle.cs_acts.specs.declared.act.Full.{Full as Why}
 use Rattle.cs_acts.specs.Full.{CausesFull}
 use Rattle.cs_acts.specs.Layout.{LaidBy, Layout, entered}
 use Rattle.cs_acts.specs.Names.{Store, KeepsNames, name_of}
+use Rattle.cs_acts.specs.Reading.{IsMethodNamed}
 use Rattle.cs_acts.specs.Ready.{IsReady}
 use Rattle.cs_acts.specs.Targets.{CanEnter}
 use Rattle.cs_send.specs.declared.SendEnd.{SendEnd}
 use Rattle.cs_send.specs.declared.SendEnd.TheVariants.{Entered, Primitive, Stop, Full}
-use Rattle.cs_send.specs.Resolved.{IsMethodNamed, Resolved, Offered, Plain, Missing, Stops, resolve_of}
+use Rattle.cs_send.specs.Resolved.{Resolved, Offered, Plain, Missing, Stops, resolve_of}
 
 -- ---- the count
 

@@ -9,15 +9,14 @@ ghost use Rattle.cs_model.specs.Lookup.{lookup};
 ghost use Rattle.cs_model.specs.Read.{depth_of};
 ghost use Rattle.cs_model.specs.Send.{begins_at, enter_out, receiver_at};
 ghost use Rattle.cs_acts.specs.Names.{IsNamed, Names, NamesOption, name_of};
+ghost use Rattle.cs_acts.specs.Reading.{IsMethodNamed};
 ghost use Rattle.cs_acts.specs.Ready.{IsReady, IsSound};
 ghost use Rattle.cs_acts.specs.Targets.{CanEnter};
 ghost use Rattle.cs_lookup.specs.Found.{sought_of};
-ghost use Rattle.cs_send.specs.Resolved.{FindsMethod, IsMethodNamed, LooksUpMethod, resolve_method, resolve_of, resolved_by};
+ghost use Rattle.cs_send.specs.Resolved.{FindsMethod, LooksUpMethod, resolve_method, resolve_of, resolved_by};
 ghost use Rattle.cs_send.specs.Sent.{Enters, Finds, Refuses, Sends, Still, counted, looks_up, message_of};
 
-mod method;
-
-use crate::method::{argument_count, primitive};
+use cs_acts::method::{argument_count, primitive};
 use cs_acts::read::{class_of, slot};
 use cs_acts::{Full, World};
 use cs_lookup::find;

@@ -1,0 +1,11 @@
+pub mod Marked
+mod Walking
+mod Pushing
+mod Arriving
+mod Blocking
+mod BlockRows
+mod Closures
+mod MarkRows
+mod Performing
+mod Pointers
+mod Searches

@@ -6,7 +6,6 @@ use Rattle.cs_model.specs.Read.{active_birth}
 use Rattle.cs_model.specs.Return.{Home, HomeAt, NoHome, HomeTooFar, home, sender_birth}
 use Rattle.cs_model.specs.End.{End, Out}
 use Rattle.cs_model.specs.End as ends
-use Rattle.cs_acts.specs.declared.act.Full.{Full as Why}
 use Rattle.cs_acts.specs.declared.act.Full.TheVariants.{Heap}
 use Rattle.cs_acts.specs.Full.{CausesFull}
 use Rattle.cs_acts.specs.Layout.{LaidBy, Layout, cut, left}

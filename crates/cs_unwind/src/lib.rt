@@ -13,7 +13,11 @@ ghost use Rattle.cs_acts.specs.Ready.{IsReady};
 ghost use Rattle.cs_unwind.specs.Back.{BackExact, BackGives, BackLaid, BackMakes};
 ghost use Rattle.cs_unwind.specs.Primitive.{entered_from, unwinds};
 
+mod blocks;
 mod end;
+mod marks;
+mod returns;
+mod search;
 
 use cs_acts::{PrimEnd, World};
 use cs_model::Stop;
@@ -28,6 +32,7 @@ pub use end::BackEnd;
 /// `cannotReturn:`; else all from the active context to the home die, and the value is pushed at the target. The causes to stop:
 /// ChainTooLong where a search follows 1,048,576 links and isn't at its end, and StackOver where the target, or for a message the active
 /// context, has no room. `Full` comes only where a context is to be told.
+#[tactic(auto, unfolding(cs_model::specs::Return::back))]
 pub fn give_back<W: World>(w: &mut W, value: Oop, local: bool) -> BackEnd
     requires ready { IsReady (W.stored w.old) (W.view w.old) }
     requires named { IsNamed (W.stored w.old) value }
@@ -37,7 +42,11 @@ pub fn give_back<W: World>(w: &mut W, value: Oop, local: bool) -> BackEnd
     ensures limit { (W.stored w.new).memory.limit ≡ (W.stored w.old).memory.limit }
     ensures contexts { BackMakes result (W.layout w.old) (W.stored w.old) (W.stored w.new) }
 {
-    BackEnd::Stop(Stop::NotBuilt)
+    if local {
+        returns::to_sender(w, value)
+    } else {
+        returns::from_home(w, value)
+    }
 }
 
 /// Does the primitive of this number, with so many arguments.

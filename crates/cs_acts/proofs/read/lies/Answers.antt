@@ -27,4 +27,4 @@ pub returns-clause-value : goal.returns-clause-value
 returns-clause-value g c =
     let k = g.W.World.view c.args.w.now in
     let m = active_method (g.W.World.stored c.args.w.now) k c.heap-heap.result.now c.method-method.result c.heap-heap.ensures c.requires c.method-method.ensures in
-    c.is_between.ensures.value ∙ lies_read c.heap-heap.result.now.objects k c.method-method.result.0 c.count_of_literals.result c.byte_count-end.result c.args.pc m c.count_of_literals.ensures c.byte_count-end.ensures.value
+    c.is_between.ensures.value ∙ lies_read c.heap-heap.result.now.objects (method_of k) c.method-method.result.0 c.count_of_literals.result c.byte_count-end.result c.args.pc m c.count_of_literals.ensures c.byte_count-end.ensures.value

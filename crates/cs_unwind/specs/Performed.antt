@@ -1,0 +1,19 @@
+-- What is said of a world behind a primitive.
+use Rattle.std.specs.Prelude.{◌≡◌, Option, None}
+use Rattle.cs_model.specs.State.{Kept}
+use Rattle.cs_model.specs.Keeps.{SameKept}
+use Rattle.cs_model.specs.End.{Out}
+use Rattle.cs_acts.specs.declared.prim.PrimEnd.{PrimEnd}
+use Rattle.cs_acts.specs.Layout.{Layout}
+use Rattle.cs_acts.specs.Names.{Store}
+use Rattle.cs_acts.specs.Primed.{IfOver, PrimGives, PrimLaid, PrimMakes}
+
+-- A primitive gives what the model gives, from a world of this store, this layout and the view k to one of the view v; a context is
+-- entered from the state `from`. Where it went on, v is the state of the model if no layout is told, and what it made and where its
+-- frames are is as its end says. The limit is the same.
+pub record Performs (old new : Store) (before after : Option Layout) (k from v : Kept) (found : PrimEnd) (o : Out) : Type 0 where
+  pub gives : PrimGives old new before k from v found o
+  pub exact : IfOver found (before ≡ None → SameKept v o.state)
+  pub layout : PrimLaid from found before after
+  pub limit : new.memory.limit ≡ old.memory.limit
+  pub contexts : PrimMakes from found o.count.looks before old new
