@@ -15,13 +15,10 @@ use Rattle.cs_model.specs.Return.{back}
 use Rattle.cs_model.specs.Step.{call_in, counting, do_call, do_return, do_send, shape_fault}
 use Rattle.cs_model.specs.Built.{is_built_call, is_built_return, is_built_send}
 use Rattle.cs_model.specs.Demand.{words_in}
-use Rattle.cs_model.proofs.Building.{is_built_send_same}
-use Rattle.cs_model.proofs.Combining.{stop_alike}
-use Rattle.cs_model.proofs.Reading.{special_at_same}
+use Rattle.cs_model.proofs.Building.{is_built_call_same}
 use Rattle.cs_model.proofs.Running.{given_result, result_alike}
 use Rattle.cs_model.proofs.Same.{Any, Same, equal, is, none, same}
-use Rattle.cs_model.proofs.Searching.{given_same}
-use Rattle.cs_model.proofs.Stepping.{do_send_alike}
+use Rattle.cs_model.proofs.Stepping.{do_call_alike}
 use Rattle.cs_acts.specs.Layout.{Layout}
 use Rattle.cs_acts.specs.Names.{NamesOption, Store, name_of}
 use Rattle.cs_acts.specs.Primed.{GoesOn}
@@ -62,14 +59,6 @@ sends_call st k special args o l n old new s v e at gives =
 
 -- ---- in a state that is kept
 
-call_built : {v m : Kept} → Keeps v m → (special args : ℕ) → Same Any (is_built_call v special args) (is_built_call m special args)
-call_built k special args =
-    given_same _ _ (special_at_same k special) (is true) (λ selector h. is_built_send_same k (record { selector = selector; args = args; above = None }) (h, tt))
-
-call_alike : {v m : Kept} → Keeps v m → (r : Run) → (special args : ℕ) → AlikeResult v (do_call r v special args) (do_call r m special args)
-call_alike k r special args =
-    given_result _ _ (special_at_same k special) (result_alike (stop_alike k why.BadSpecial) r) (λ selector h. do_send_alike k r (same selector h) args none)
-
 -- ---- a return that asks for it
 
 told_of : (r : Run) (k : Kept) (x : Ref) (local : Bool) (special args : ℕ) → (back k x local).end ≡ ends.Call special args
@@ -84,7 +73,7 @@ told_same : (k v : Kept) (x : Ref) (local : Bool) (special args : ℕ) → (back
 told_same k v x local special args end keeps output steps =
     let t : Kept = (back k x local).state in
     let s : IsSame (calling v special args output steps) (calling t special args output steps) =
-    alike_turns v (calling v special args output steps) (calling t special args output steps) (equal (call_built keeps special args)) (call_alike keeps (run_at output steps) special args) (tells_nothing None) in
+    alike_turns v (calling v special args output steps) (calling t special args output steps) (equal (is_built_call_same keeps special args)) (do_call_alike keeps (run_at output steps) special args) (tells_nothing None) in
     let is = told_of (run_at output steps) k x local special args end in
     record {
       built = told_built k x local special args end ∙ s.built;

@@ -95,7 +95,7 @@ is_built_send_same k p h =
 
 -- ---- returns
 
-is_built_call_same : {v m : Kept} → Keeps v m → (special args : ℕ) → Same Any (is_built_call v special args) (is_built_call m special args)
+pub is_built_call_same : {v m : Kept} → Keeps v m → (special args : ℕ) → Same Any (is_built_call v special args) (is_built_call m special args)
 is_built_call_same k special args =
     given_same _ _ (special_at_same k special) (is true) (λ selector h. is_built_send_same k (record { selector = selector; args = args; above = None }) (h, tt))
 
@@ -116,7 +116,7 @@ is_built_out_same {a = a} h =
 is_built_from_same : {v m : Kept} → Keeps v m → (o : Op) → Same Any (is_built_from v o) (is_built_from m o)
 is_built_from_same k o = and_same (is_built_op_same k o) (is_built_out_same (exec_alike o k))
 
-is_built_bytecode_same : {v m : Kept} → Keeps v m → Same Any (is_built_bytecode v) (is_built_bytecode m)
+pub is_built_bytecode_same : {v m : Kept} → Keeps v m → Same Any (is_built_bytecode v) (is_built_bytecode m)
 unfolding is_built_bytecode
 is_built_bytecode_same k =
     given_same _ _ (instruction_at_same k) (is true) (λ i a. is_built_from_same (set_pc_moved k (value (λ pc. pc + i.len) (pc_same k))).keeps i.op)

@@ -120,7 +120,7 @@ pub do_send_alike : {v m : Kept} {x y : Ref} {o p : Option Ref} → Keeps v m �
 unfolding do_send
 do_send_alike k r s args above = sent_alike r (send_alike k s args above)
 
-do_call_alike : {v m : Kept} → Keeps v m → (r : Run) → (special args : ℕ) → AlikeResult v (do_call r v special args) (do_call r m special args)
+pub do_call_alike : {v m : Kept} → Keeps v m → (r : Run) → (special args : ℕ) → AlikeResult v (do_call r v special args) (do_call r m special args)
 do_call_alike k r special args =
     given_result _ _ (special_at_same k special) (result_alike (stop_alike k why.BadSpecial) r) (λ selector h. do_send_alike k r (same selector h) args none)
 
