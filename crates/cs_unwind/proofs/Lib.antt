@@ -1,4 +1,5 @@
 pub mod Marked
+mod Besides
 mod Blocking
 mod BlockRows
 mod Closures
@@ -6,3 +7,4 @@ mod MarkRows
 mod Performing
 mod Pointers
 mod Searches
+mod Spreading
