@@ -35,7 +35,7 @@ active-twice : (k : Kept) (c d : Context) → put_active (put_active k c) d ≡ 
 unfolding put
 active-twice k c d = ap (λ (m : FinMap nat_cmp Obj). record k { objects = m }) (insert-twice k.objects (active_birth k) (Ctx c) (Ctx d))
 
-edit-twice : (k : Kept) (f h : Context → Context) → edit_active (edit_active k f) h ≡ put_active k (h (f (active_context k)))
+pub edit-twice : (k : Kept) (f h : Context → Context) → edit_active (edit_active k f) h ≡ put_active k (h (f (active_context k)))
 edit-twice k f h = ap (λ (c : Context). put_active (edit_active k f) (h c)) (active_context-put_active k (f (active_context k))) ∙ active-twice k (f (active_context k)) (h (f (active_context k)))
 
 -- ---- drops

@@ -12,7 +12,7 @@ use Rattle.cs_acts.proofs.Dropping.{same-equal}
 pub names-trans : (a b c : Store) → KeepsNames a b → KeepsNames b c → KeepsNames a c
 names-trans a b c f g = λ o named. let h = f o named in let i = g o h.sound in record { sound = i.sound; is = i.is ∙ h.is }
 
-made-trans : (l m : Option Layout) (a b c : Store) (i j : ℕ) → m ≡ l → MakesAtMost i l a b → MakesAtMost j m b c → MakesAtMost (i + j) l a c
+pub made-trans : (l m : Option Layout) (a b c : Store) (i j : ℕ) → m ≡ l → MakesAtMost i l a b → MakesAtMost j m b c → MakesAtMost (i + j) l a c
 made-trans None m a b c i j e f g = tt
 made-trans (Some l) m a b c i j e f g =
     let h : MakesAtMost j (Some l) b c = subst (λ o. MakesAtMost j o b c) e g in

@@ -2,6 +2,7 @@ pub mod Marked
 mod Walking
 mod Pushing
 mod Arriving
+mod Besides
 mod Blocking
 mod BlockRows
 mod Closures
@@ -9,3 +10,4 @@ mod MarkRows
 mod Performing
 mod Pointers
 mod Searches
+mod Spreading

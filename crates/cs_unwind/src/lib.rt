@@ -19,9 +19,11 @@ mod marks;
 mod returns;
 mod search;
 
+use blocks::{evaluate, evaluate_array};
 use cs_acts::{PrimEnd, World};
 use cs_model::Stop;
 use cs_word::Oop;
+use marks::{handler_mark, unwind_mark};
 pub use end::BackEnd;
 
 /// Returns a value: to the sender of the active context, or from its home to the sender of that.
@@ -66,5 +68,15 @@ pub fn primitive<W: World>(w: &mut W, number: u32, args: u32) -> PrimEnd
     ensures limit { (W.stored w.new).memory.limit ≡ (W.stored w.old).memory.limit }
     ensures contexts { PrimMakes (entered_from (W.view w.old) number) result (kept_prim number args (W.view w.old)).count.looks (W.layout w.old) (W.stored w.old) (W.stored w.new) }
 {
-    PrimEnd::Stop(Stop::NotBuilt)
+    match number {
+        195 => unwind_mark(w, args),
+        197 => handler_mark(w, args),
+        201 | 221 => evaluate(w, 0, args),
+        202 | 222 => evaluate(w, 1, args),
+        203 => evaluate(w, 2, args),
+        204 => evaluate(w, 3, args),
+        205 => evaluate(w, 4, args),
+        206 => evaluate_array(w, args),
+        _ => PrimEnd::Fail,
+    }
 }
