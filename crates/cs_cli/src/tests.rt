@@ -249,50 +249,78 @@ fn a_dead_context_is_read(rt: HostRuntime) -> Result<(), FromHexError> {
 
 /// Where the image of the programs with blocks says which one is sent: the second byte of a send in `run`, whose low bits are the place of
 /// its selector among the literals.
-const CHOSEN: usize = 3335;
+const CHOSEN: usize = 3351;
+
+/// The programs of that image, in the order of the literals, each with the byte that it writes.
+const PROGRAMS: [(&str, &str); 31] = [
+    ("a block's value is what it returns: 65", "A"),
+    ("a block returns from its home", "B"),
+    ("one argument", "C"),
+    ("copied values in the order of the stack: 76 - 8", "D"),
+    ("a copied value stands behind the argument: 78 - 9", "E"),
+    ("a block is evaluated twice: 35 + 35", "F"),
+    ("a return past a method between", "G"),
+    (
+        "a return out of seventy blocks, each evaluated by the one before",
+        "H",
+    ),
+    (
+        "a return past eight hundred, which stand on three pages",
+        "I",
+    ),
+    ("a mark isn't told of a block's own value", "J"),
+    (
+        "a mark is told first, and what it answers is the value behind the return",
+        "K",
+    ),
+    ("of two marks the first from the active context on", "L"),
+    ("a block of a marked method is no mark", "M"),
+    (
+        "a block whose home has returned can't: the active context is told, 77 + 1",
+        "N",
+    ),
+    (
+        "the home of a block in a block is that of the outer one",
+        "O",
+    ),
+    ("and also where the outer one has ended", "P"),
+    ("a block reads the receiver of a context that is dead", "Q"),
+    ("a return past contexts that are looked at", "R"),
+    ("which have no pc then", "S"),
+    ("and nothing on their stack: 84 + 0", "T"),
+    ("206 takes the elements of an Array: 80 + 5", "U"),
+    ("and fails where there are more than arguments", "V"),
+    ("201 fails where a block takes an argument", "W"),
+    ("204 takes three: 30 + 30 + 28", "X"),
+    ("205 takes four, in their order: 99 - 20 + 15 - 5", "Y"),
+    ("221 is 201 by another number", "Z"),
+    ("195 answers the mark", "b"),
+    ("and nil where the argument comes first", "c"),
+    ("197 answers the context marked with 199", "d"),
+    (
+        "a mark that cuts: a home that is marked isn't told of its own return",
+        "e",
+    ),
+    (
+        "a block that has returned from its home can't again: 103 + 1",
+        "h",
+    ),
+];
 
 #[test]
 fn blocks_are_evaluated_and_return(rt: HostRuntime) -> Result<(), FromHexError> {
     let alloc = rt.alloc();
     let blocks = image_of(alloc, &BLOCKS)?;
-    let rows = [
-        ("a block's value is what it returns: 65", "A"),
-        ("a block returns from its home", "B"),
-        ("one argument", "C"),
-        ("copied values in the order of the stack: 76 - 8", "D"),
-        ("a copied value stands behind the argument: 78 - 9", "E"),
-        ("a block is evaluated twice: 35 + 35", "F"),
-        ("a return past a method between", "G"),
-        ("a return past seventy methods", "H"),
-        ("a return past eight hundred, which stand on three pages", "I"),
-        ("a mark isn't told of a block's own value", "J"),
-        ("a mark is told first, and what it answers is the value behind the return", "K"),
-        ("of two marks the first from the active context on", "L"),
-        ("a block of a marked method is no mark", "M"),
-        ("a block whose home has returned can't: the active context is told, 77 + 1", "N"),
-        ("the home of a block in a block is that of the outer one", "O"),
-        ("and also where the outer one has ended", "P"),
-        ("a block reads the receiver of a context that is dead", "Q"),
-        ("a return past contexts that are looked at", "R"),
-        ("which have no pc then", "S"),
-        ("and nothing on their stack: 84 + 0", "T"),
-        ("206 takes the elements of an Array: 80 + 5", "U"),
-        ("and fails where there are more than arguments", "V"),
-        ("201 fails where a block takes an argument", "W"),
-        ("204 takes three: 30 + 30 + 28", "X"),
-        ("205 takes four, in their order: 99 - 20 + 15 - 5", "Y"),
-        ("221 is 201 by another number", "Z"),
-        ("195 answers the mark", "b"),
-        ("and nil where the argument comes first", "c"),
-        ("197 answers the context marked with 199", "d"),
-        ("a home that is marked isn't told of its own return", "e"),
-        ("a block that has returned from its home can't again: 103 + 1", "h"),
-    ];
-    for (i, (name, byte)) in rows.into_iter().enumerate() {
+    for (i, (name, byte)) in PROGRAMS.into_iter().enumerate() {
         let literal = format!(in alloc; "{:02x}", i + 1)?;
         let image = damaged(alloc, blocks.as_slice(), CHOSEN, literal.as_str())?;
         let text = format!(in alloc; "{byte}\nSteps steps=10000 process=100 context=99 pc=139\n")?;
-        let (answered, _, out) = answer(alloc, image.as_slice(), &["run", "a", "10000"], with_room(99))?;
+        let (answered, _, out) = answer(
+            alloc,
+            image.as_slice(),
+            &["run", "a", "10000"],
+            with_room(99),
+        )?;
         assert_eq!(rt; answered, 0, "{name}");
         assert_eq!(rt; out.taken(), text.as_str().as_bytes(), "{name}");
     }
