@@ -96,7 +96,8 @@ abbrev pub entered : Kept → ℕ → List (List ℕ) → List (List ℕ)
 entered k i [] = (i ∷ []) ∷ []
 entered k i (page ∷ pages) = if nat_le (page_words k page + new_frame_words) 4096 then (i ∷ page) ∷ pages else (i ∷ []) ∷ page ∷ pages
 
--- the page of a frame is the most recent one; what is no frame stands alone on a page
+-- The page of a frame is the most recent one; what is no frame stands alone on a page. A frame that becomes active is the last one of its
+-- page: while nothing writes senders the frames of all pages are one chain.
 abbrev pub touched : ℕ → List (List ℕ) → List (List ℕ)
 touched i pages = if is_frame i pages then filter (is_on i) pages ++ filter (λ page. not (is_on i page)) pages else (i ∷ []) ∷ pages
 

@@ -22,7 +22,7 @@ is_refused (Return value local) = false
 is_refused (Stop reason) = false
 is_refused (Full why) = true
 
--- the end of the model that an end means, by what its words name; what is refused is done there
+-- the end of the model that an end means, by what its words name; what is refused says nothing by it
 abbrev pub end_of : Store → CodeEnd → End
 end_of s Done = ends.Done
 end_of s (Send selector args above) = ends.Send (name_of s selector) args (option_map (λ o. name_of s o) above)

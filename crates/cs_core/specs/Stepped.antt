@@ -74,8 +74,8 @@ pub record Lays (k : Kept) (l : Option Layout) (s : Store) (v : Kept) (n : Optio
 -- ---- parts of a step
 
 -- What a part of a step comes to: whether it is built, and what it gives, after so much output and so many steps; the return that it
--- makes, if any, up to the message by which that is told; and how many words the first page has at least where a context that it enters
--- finds no room there. A context needs 66 words, and up to 56 values may be pushed for its block before.
+-- makes, if any, up to the message that tells of it; and how many words the first page exceeds where a context that it enters finds no room
+-- there. A context needs 66 words, and up to 56 values may be pushed for its block before.
 pub record Turn : Type 0 where
   pub built : Bool
   pub result : Result

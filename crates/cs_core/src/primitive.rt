@@ -1,4 +1,4 @@
-//! The primitives that are built: 1, the sum of two SmallIntegers, and 900, which writes bytes.
+//! The primitives that no crate of their own has yet: 1, the sum of two SmallIntegers, and 900, which writes bytes.
 ghost use Rattle.std.specs.Prelude.{◌≡◌, ◌<◌, ◌≤◌, ◌+◌, ◌*◌, ◌-◌, [], ◌∷◌, true, IfSome, OnErr, OnOk, Some, drop, is_some, option_and_then, option_map, take};
 ghost use Rattle.arrayvec.specs.ArrayVec.{array_vec_len};
 ghost use Rattle.cs_model.specs.Keeps.{Keeps};

@@ -32,7 +32,7 @@ pub enum StepEnd {
     Idle,
     /// The step stops: nothing of it has happened.
     Stopped(Stop),
-    /// The world has no room for what the bytecode leads to.
+    /// The world has no room for what the bytecode leads to, or makes on its way.
     Full(Full),
     /// The sink failed.
     WriteFault,

@@ -57,7 +57,7 @@ pub(crate) fn evaluate<W: World>(w: &mut W, wanted: u32, args: u32) -> PrimEnd
     }
 }
 
-/// Primitive 206: the receiver is evaluated with the elements of an Array, which take its place on the stack.
+/// Primitive 206: the receiver is evaluated with the elements of an Array, which stand in the Array's place on the stack by then.
 pub(crate) fn evaluate_array<W: World>(w: &mut W, args: u32) -> PrimEnd
     requires ready { IsReady (W.stored w.old) (W.view w.old) }
     requires there { args < depth_of (W.view w.old) }

@@ -12,6 +12,6 @@ pub enum BackEnd {
     Call { special: u32, args: u32 },
     /// The step stops.
     Stop(Stop),
-    /// There is no room for a context that is to be told.
+    /// The heap has no room for a context that the message names, or that the return asks for.
     Full(Full),
 }

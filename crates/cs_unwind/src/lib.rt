@@ -29,12 +29,12 @@ pub use end::BackEnd;
 /// Returns a value: to the sender of the active context, or from its home to the sender of that.
 ///
 /// A home is the context without a closure to which the outer contexts of closures lead. Where a context strictly between the active one
-/// and the home is marked with 198, the first such mark is told by special selector 48, `aboutToReturn:through:`; where there is no home
-/// among the senders, or the target is nil, dead, or would die in this return, the active context is told by special selector 21,
-/// `cannotReturn:`; else all from the active context to the home die, and the value is pushed at the target. The causes to stop:
-/// ChainTooLong where a search follows 1,048,576 links and isn't at its end, and StackOver where the target, or for a message the active
-/// context, has no room. `Full` comes only where a context is to be told.
-#[tactic(auto, unfolding(cs_model::specs::Return::back))]
+/// and the home is marked with 198, the active context is to be sent special selector 48, `aboutToReturn:through:`, with the value and the
+/// first such mark; where there is no home among the senders, or the target is nil, dead, or would die in this return, special selector 21,
+/// `cannotReturn:`, with the value; else all from the active context to the home die, and the value is pushed at the target. The causes to
+/// stop: ChainTooLong where a search follows 1,048,576 links and isn't at its end, and StackOver where the target, or for a message the
+/// active context, has no room. `Full` comes only for the heap: where it has no room for the contexts that a message names, or where the
+/// world makes one for the value to arrive.
 pub fn give_back<W: World>(w: &mut W, value: Oop, local: bool) -> BackEnd
     requires ready { IsReady (W.stored w.old) (W.view w.old) }
     requires named { IsNamed (W.stored w.old) value }
