@@ -35,6 +35,7 @@ pub use end::BackEnd;
 /// stop: ChainTooLong where a search follows 1,048,576 links and isn't at its end, and StackOver where the target, or for a message the
 /// active context, has no room. `Full` comes only for the heap: where it has no room for the contexts that a message names, or where the
 /// world makes one for the value to arrive.
+#[tactic(auto, unfolding(cs_model::specs::Return::back))]
 pub fn give_back<W: World>(w: &mut W, value: Oop, local: bool) -> BackEnd
     requires ready { IsReady (W.stored w.old) (W.view w.old) }
     requires named { IsNamed (W.stored w.old) value }
