@@ -23,8 +23,8 @@ use blocks::{evaluate, evaluate_array};
 use cs_acts::{PrimEnd, World};
 use cs_model::Stop;
 use cs_word::Oop;
-use marks::{handler_mark, unwind_mark};
 pub use end::BackEnd;
+use marks::{handler_mark, unwind_mark};
 
 /// The primitives that look for a mark, and the one that evaluates a closure with the elements of an Array.
 const UNWIND_MARK: u32 = 195;
