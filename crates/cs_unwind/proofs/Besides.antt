@@ -192,9 +192,11 @@ behind a b c l m n k v u w x args found led laid held done = go found done
       contexts = made-trans l m a b c 0 0 led.layout led.contexts p.contexts;
     }
     go (prim.Full why) p = record {
-      gives = (subst (EndsWithout why) alike_out.end p.gives.0,
-      subst (λ o. CausesFull c o u (enter_block_out u x args).count.objects (enter_block_out u x args).state why) led.layout
-      (subst (λ j. CausesFull c m u j (enter_block_out u x args).state why) (ap (λ q. q.objects) alike_out.count) (causes_same c m v u (enter_block_out v x args).state (enter_block_out u x args).state (enter_block_out v x args).count.objects why first alike_out.keeps p.gives.1)));
+      gives = (
+        subst (EndsWithout why) alike_out.end p.gives.0,
+        subst (λ o. CausesFull c o u (enter_block_out u x args).count.objects (enter_block_out u x args).state why) led.layout
+            (subst (λ j. CausesFull c m u j (enter_block_out u x args).state why) (ap (λ q. q.objects) alike_out.count) (causes_same c m v u (enter_block_out v x args).state (enter_block_out u x args).state (enter_block_out v x args).count.objects why first alike_out.keeps p.gives.1)),
+      );
       exact = tt;
       layout = tt;
       limit = p.limit ∙ led.limit;

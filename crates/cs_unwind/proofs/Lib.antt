@@ -7,6 +7,7 @@ mod Blocking
 mod BlockRows
 mod Closures
 mod MarkRows
+mod NumberRows
 mod Performing
 mod Pointers
 mod Searches

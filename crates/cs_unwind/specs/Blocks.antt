@@ -1,5 +1,5 @@
 -- What is read of a closure that is to be evaluated.
-use Rattle.std.specs.Prelude.{◌≡◌, ℕ, ◌&&◌, Bool, true, false, nat_le, length, Option, Some, None, IfSome, is_some}
+use Rattle.std.specs.Prelude.{◌≡◌, ℕ, ◌==◌, ◌&&◌, ◌||◌, if◌then◌else◌, Bool, true, false, nat_le, length, Option, Some, None, IfSome, is_some}
 use Rattle.cs_word.specs.declared.Oop.{Oop}
 use Rattle.cs_model.specs.Ref.{Ref}
 use Rattle.cs_model.specs.Obj.{is_method}
@@ -37,3 +37,12 @@ FindsBlock s k x args (Some m) = Evaluates s k x args m
 -- the elements of an Array stand in the place of the argument
 abbrev pub Spreads : Store → Store → Option Layout → Option Layout → Kept → Kept → Ref → Type 0
 Spreads old new before after k v array = IfSome (elements_fitting k 1 array) (λ values. Leads old new before after v (spread_of k 1 values) 0)
+
+-- the primitives that evaluate a closure with so many arguments
+abbrev pub wanted_by : ℕ → Option ℕ
+wanted_by number =
+    if number == 201 || number == 221 then Some 0 else
+    if number == 202 || number == 222 then Some 1 else
+    if number == 203 then Some 2 else
+    if number == 204 then Some 3 else
+    if number == 205 then Some 4 else None

@@ -11,6 +11,8 @@ ghost use Rattle.cs_acts.specs.Names.{IsNamed, name_of};
 ghost use Rattle.cs_acts.specs.Primed.{IfOver, PrimGives, PrimLaid, PrimMakes};
 ghost use Rattle.cs_acts.specs.Ready.{IsReady};
 ghost use Rattle.cs_unwind.specs.Back.{BackExact, BackGives, BackLaid, BackMakes};
+ghost use Rattle.cs_unwind.specs.Blocks.{wanted_by};
+ghost use Rattle.cs_unwind.specs.Performed.{Performs};
 ghost use Rattle.cs_unwind.specs.Primitive.{entered_from, unwinds};
 
 mod blocks;
@@ -23,8 +25,15 @@ use blocks::{evaluate, evaluate_array};
 use cs_acts::{PrimEnd, World};
 use cs_model::Stop;
 use cs_word::Oop;
-use marks::{handler_mark, unwind_mark};
 pub use end::BackEnd;
+use marks::{handler_mark, unwind_mark};
+
+/// The primitives that look for a mark, and the one that evaluates a closure with the elements of an Array.
+const UNWIND_MARK: u32 = 195;
+
+const HANDLER_MARK: u32 = 197;
+
+const EVALUATE_ARRAY: u32 = 206;
 
 /// Returns a value: to the sender of the active context, or from its home to the sender of that.
 ///
@@ -69,15 +78,47 @@ pub fn primitive<W: World>(w: &mut W, number: u32, args: u32) -> PrimEnd
     ensures limit { (W.stored w.new).memory.limit ≡ (W.stored w.old).memory.limit }
     ensures contexts { PrimMakes (entered_from (W.view w.old) number) result (kept_prim number args (W.view w.old)).count.looks (W.layout w.old) (W.stored w.old) (W.stored w.new) }
 {
-    match number {
-        195 => unwind_mark(w, args),
-        197 => handler_mark(w, args),
-        201 | 221 => evaluate(w, 0, args),
-        202 | 222 => evaluate(w, 1, args),
-        203 => evaluate(w, 2, args),
-        204 => evaluate(w, 3, args),
-        205 => evaluate(w, 4, args),
-        206 => evaluate_array(w, args),
-        _ => PrimEnd::Fail,
+    perform(w, number, args)
+}
+
+/// The same, with what is said of it in one clause.
+fn perform<W: World>(w: &mut W, number: u32, args: u32) -> PrimEnd
+    requires ready { IsReady (W.stored w.old) (W.view w.old) }
+    requires number { unwinds number ≡ true }
+    requires there { args < depth_of (W.view w.old) }
+    requires births { (W.view w.old).rest.next < 4611686018427387904 }
+    ensures { Performs (W.stored w.old) (W.stored w.new) (W.layout w.old) (W.layout w.new) (W.view w.old) (entered_from (W.view w.old) number) (W.view w.new) result (kept_prim number args (W.view w.old)) }
+{
+    if number == UNWIND_MARK {
+        return unwind_mark(w, args);
+    }
+    if number == HANDLER_MARK {
+        return handler_mark(w, args);
+    }
+    if number == EVALUATE_ARRAY {
+        return evaluate_array(w, args);
+    }
+    match wanted_by(number) {
+        Some(wanted) => evaluate(w, wanted, args),
+        None => PrimEnd::Fail,
+    }
+}
+
+/// How many arguments a primitive evaluates a closure with; None where it does something else.
+fn wanted_by(number: u32) -> Option<u32>
+    ensures { result ≡ wanted_by number }
+{
+    if number == 201 || number == 221 {
+        Some(0)
+    } else if number == 202 || number == 222 {
+        Some(1)
+    } else if number == 203 {
+        Some(2)
+    } else if number == 204 {
+        Some(3)
+    } else if number == 205 {
+        Some(4)
+    } else {
+        None
     }
 }
