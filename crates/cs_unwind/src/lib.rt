@@ -61,6 +61,16 @@ pub fn give_back<W: World>(w: &mut W, value: Oop, local: bool) -> BackEnd
     }
 }
 
+/// Whether a primitive evaluates a closure or looks for a mark, or is a mark: those that `primitive` does.
+pub fn unwinds(number: u32) -> bool
+    ensures { result ≡ unwinds number }
+{
+    match number {
+        195 | 197..=199 | 201..=206 | 221 | 222 => true,
+        _ => false,
+    }
+}
+
 /// Does the primitive of this number, with so many arguments.
 ///
 /// 201 to 205 evaluate a closure with 0 to 4 arguments, 221 and 222 with 0 and 1, and 206 with the elements of an Array. 195 answers the
