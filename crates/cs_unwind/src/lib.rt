@@ -29,9 +29,9 @@ pub use end::BackEnd;
 use marks::{handler_mark, unwind_mark};
 
 /// The primitives that look for a mark, and the one that evaluates a closure with the elements of an Array.
-const UNWIND_MARK: u32 = 195;
+const FIND_UNWIND_MARK: u32 = 195;
 
-const HANDLER_MARK: u32 = 197;
+const FIND_HANDLER_MARK: u32 = 197;
 
 const EVALUATE_ARRAY: u32 = 206;
 
@@ -99,10 +99,10 @@ fn perform<W: World>(w: &mut W, number: u32, args: u32) -> PrimEnd
     requires births { (W.view w.old).rest.next < 4611686018427387904 }
     ensures { Performs (W.stored w.old) (W.stored w.new) (W.layout w.old) (W.layout w.new) (W.view w.old) (entered_from (W.view w.old) number) (W.view w.new) result (kept_prim number args (W.view w.old)) }
 {
-    if number == UNWIND_MARK {
+    if number == FIND_UNWIND_MARK {
         return unwind_mark(w, args);
     }
-    if number == HANDLER_MARK {
+    if number == FIND_HANDLER_MARK {
         return handler_mark(w, args);
     }
     if number == EVALUATE_ARRAY {
