@@ -23,7 +23,6 @@ mod search;
 
 use blocks::{evaluate, evaluate_array};
 use cs_acts::{PrimEnd, World};
-use cs_model::Stop;
 use cs_word::Oop;
 pub use end::BackEnd;
 use marks::{handler_mark, unwind_mark};
