@@ -1,4 +1,3 @@
-mod Answering
 mod Lasting
 mod Piecing
 mod Portions

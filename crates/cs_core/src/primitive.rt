@@ -1,13 +1,10 @@
 //! The primitives that no crate of their own has yet: 1, the sum of two SmallIntegers, and 900, which writes bytes.
 ghost use Rattle.std.specs.Prelude.{◌≡◌, ◌<◌, ◌≤◌, ◌+◌, ◌*◌, ◌-◌, [], ◌∷◌, true, IfSome, OnErr, OnOk, Some, drop, is_some, option_and_then, option_map, take};
 ghost use Rattle.arrayvec.specs.ArrayVec.{array_vec_len};
-ghost use Rattle.cs_model.specs.Keeps.{Keeps};
 ghost use Rattle.cs_model.specs.Exec.{small_operands};
 ghost use Rattle.cs_model.specs.Number.{number_result};
 ghost use Rattle.cs_model.specs.PrimRun.{bytes_to_write, small_byte};
-ghost use Rattle.cs_model.specs.Read.{depth_of};
-ghost use Rattle.cs_model.specs.Operation.{drop_of, push_of};
-ghost use Rattle.cs_acts.specs.Names.{IsNamed, KeepsNames, NamesOption, name_of};
+ghost use Rattle.cs_acts.specs.Names.{IsNamed, NamesOption, name_of};
 ghost use Rattle.cs_acts.specs.Ready.{IsReady, IsSound};
 ghost use Rattle.cs_classes.specs.Meaning.{count_of, unused_bytes};
 ghost use Rattle.cs_heap.specs.Object.{format_of, slot_count_of};
@@ -26,23 +23,6 @@ use cs_word::{Kind, Oop, add};
 
 /// The most bytes that are handed to the sink at once.
 const AT_ONCE: u32 = 256;
-
-/// Puts an answer in the place of the receiver and one argument.
-pub fn answer<W: World>(w: &mut W, value: Oop)
-    requires ready { IsReady (W.stored w.old) (W.view w.old) }
-    requires there { 1 < depth_of (W.view w.old) }
-    requires named { IsNamed (W.stored w.old) value }
-    ensures state { Keeps (W.view w.new) (push_of (drop_of (W.view w.old) 2) (name_of (W.stored w.old) value)) }
-    ensures layout { W.layout w.new ≡ W.layout w.old }
-    ensures limit { (W.stored w.new).memory.limit ≡ (W.stored w.old).memory.limit }
-    ensures ready { IsReady (W.stored w.new) (W.view w.new) }
-    ensures names { KeepsNames (W.stored w.old) (W.stored w.new) }
-{
-    let _depth = w.depth();
-    let _argument = w.pop();
-    let _receiver = w.pop();
-    w.push(value);
-}
 
 /// The sum of receiver and argument, as primitive 1 gives it (Blue Book); None exactly where they aren't two SmallIntegers
 /// or the sum doesn't fit.

@@ -10,7 +10,8 @@ ghost use Rattle.cs_send.specs.Sent.{message_of};
 ghost use Rattle.cs_unwind.specs.Primitive.{unwinds};
 ghost use Rattle.cs_core.specs.Stepped.{CausedByFault, EndsBy, Fails, StepGives, TurnGives, calling, returning, sending, trying};
 
-use crate::primitive::{answer, piece_of, sum, write};
+use crate::primitive::{piece_of, sum, write};
+use cs_acts::answer::answer;
 use cs_acts::read::{instruction, is_context, special};
 use cs_acts::{Full, PrimEnd, Shape, World, shape_of};
 use cs_code::{CodeEnd, exec};
@@ -132,7 +133,7 @@ fn add_or_enter<W: World>(w: &mut W, method: Oop, args: u32) -> StepEnd
     }
     match sum(w) {
         Some(sum) => {
-            answer(w, sum);
+            answer(w, 1, sum);
             finish(w)
         }
         None => enter_behind(w, method, args),
@@ -159,7 +160,7 @@ fn write_or_enter<W: World, K: Sink>(w: &mut W, out: &mut K, method: Oop, args: 
     let Some(piece) = piece_of(w, argument) else {
         return enter_behind(w, method, args);
     };
-    answer(w, receiver);
+    answer(w, 1, receiver);
     let end = finish(w);
     if let StepEnd::Stopped(_) = end {
         return end;
