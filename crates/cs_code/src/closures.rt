@@ -24,13 +24,19 @@ use cs_model::Stop;
 use cs_word::Oop;
 
 /// The class index of closures.
-const CLOSURE: u32 = 37;
+const CLOSURE_CLASS: u32 = 37;
 
 /// The format of closures: named and indexed fields.
 const FORMAT: u8 = 3;
 
-/// The slots that come before the copied values: the outer context, the first pc and the number of arguments.
-const FIELDS: u32 = 3;
+/// The slots of a closure: outerContext, startpc, numArgs, and then its copied values.
+const OUTER_CONTEXT: u32 = 0;
+
+const START_PC: u32 = 1;
+
+const ARGUMENT_COUNT: u32 = 2;
+
+const FIRST_COPIED: u32 = 3;
 
 /// Pushes a closure over the active context, with the topmost values as its copied ones, and jumps past its block.
 ///
@@ -81,7 +87,7 @@ fn make<W: World>(w: &mut W, copied: u8, args: u8) -> Result<Oop, Full>
     let first = w.depth() - u32::from(copied);
     for i in 0..u32::from(copied) {
         let value = w.stack_at(first + i);
-        w.store(closure, FIELDS + i, value);
+        w.store(closure, FIRST_COPIED + i, value);
     }
     Ok(closure)
 }
@@ -101,13 +107,13 @@ fn begin<W: World>(w: &mut W, copied: u8, args: u8) -> Result<Oop, Full>
         Err(why) => return Err(why),
     };
     let pc = pc_word(w);
-    let closure = match w.allocate(CLOSURE, FORMAT, FIELDS + u32::from(copied)) {
+    let closure = match w.allocate(CLOSURE_CLASS, FORMAT, FIRST_COPIED + u32::from(copied)) {
         Ok(closure) => closure,
         Err(why) => return Err(why),
     };
-    w.store(closure, 0, context);
-    w.store(closure, 1, pc);
-    w.store(closure, 2, small_word(i32::from(args)));
+    w.store(closure, OUTER_CONTEXT, context);
+    w.store(closure, START_PC, pc);
+    w.store(closure, ARGUMENT_COUNT, small_word(i32::from(args)));
     Ok(closure)
 }
 
