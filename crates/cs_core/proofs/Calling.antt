@@ -6,7 +6,6 @@ use Rattle.cs_model.specs.Ref.{Ref}
 use Rattle.cs_model.specs.Obj.{context_in}
 use Rattle.cs_model.specs.State.{Kept, Rest, Run, special_at}
 use Rattle.cs_model.specs.Keeps.{Keeps}
-use Rattle.cs_model.specs.Alike.{AlikeResult}
 use Rattle.cs_model.specs.Read.{IsRunning}
 use Rattle.cs_model.specs.End as ends
 use Rattle.cs_model.specs.End.{Out, given, stop}
@@ -16,8 +15,7 @@ use Rattle.cs_model.specs.Step.{call_in, counting, do_call, do_return, do_send, 
 use Rattle.cs_model.specs.Built.{is_built_call, is_built_return, is_built_send}
 use Rattle.cs_model.specs.Demand.{words_in}
 use Rattle.cs_model.proofs.Building.{is_built_call_same}
-use Rattle.cs_model.proofs.Running.{given_result, result_alike}
-use Rattle.cs_model.proofs.Same.{Any, Same, equal, is, none, same}
+use Rattle.cs_model.proofs.Same.{equal}
 use Rattle.cs_model.proofs.Stepping.{do_call_alike}
 use Rattle.cs_acts.specs.Layout.{Layout}
 use Rattle.cs_acts.specs.Names.{NamesOption, Store, name_of}

@@ -1,5 +1,5 @@
 -- What trying a primitive comes to that answers, enters a block, fails or stops, and changes nothing of the run.
-use Rattle.std.proofs.Common.{◌≡◌, ◌⊎◌, inl, inr, ℕ, ◌-◌, ◌<◌, true, false, refl, sym, ap, subst, ◌∙◌, arith, Option, Some, None, List, []}
+use Rattle.std.proofs.Common.{◌≡◌, ◌⊎◌, inl, inr, ℕ, ◌<◌, true, false, refl, sym, ap, subst, ◌∙◌, arith, Option, Some, None, List, []}
 use Rattle.std.specs.Prelude.{if◌then◌else◌}
 use Rattle.std.proofs.lemmas.List.{append-nil}
 use Rattle.cs_model.specs.declared.stop.Stop.{Stop as Reason}

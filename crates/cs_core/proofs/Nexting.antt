@@ -13,6 +13,7 @@ use Rattle.cs_model.specs.Return.{back}
 use Rattle.cs_model.specs.Step.{birth_limit, instruction_at, with_kept}
 use Rattle.cs_model.proofs.Agreeing.{is_idle-kept}
 use Rattle.cs_model.proofs.Building.{is_built_bytecode_same}
+use Rattle.cs_model.proofs.Combining.{end_same}
 use Rattle.cs_model.proofs.Executing.{exec_alike}
 use Rattle.cs_model.proofs.Operating.{set_pc_moved}
 use Rattle.cs_model.proofs.Reading.{pc_same}

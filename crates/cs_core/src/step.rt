@@ -17,7 +17,7 @@ use cs_code::{CodeEnd, exec};
 use cs_model::Stop;
 use cs_send::{SendEnd, Sender, enter};
 use cs_shelf::Sink;
-use cs_unwind::BackEnd;
+use cs_unwind::{BackEnd, unwinds};
 use cs_word::Oop;
 
 /// Births end so far below 2^62 that a step can't pass it.
@@ -203,16 +203,6 @@ fn unwind_or_enter<W: World>(w: &mut W, method: Oop, args: u32, number: u32) -> 
         PrimEnd::Fail => enter_behind(w, method, args),
         PrimEnd::Stop(reason) => StepEnd::Stopped(reason),
         PrimEnd::Full(why) => StepEnd::Full(why),
-    }
-}
-
-/// Whether a primitive evaluates a closure or looks for a mark, or is a mark.
-fn unwinds(number: u32) -> bool
-    ensures { result ≡ unwinds number }
-{
-    match number {
-        195 | 197..=199 | 201..=206 | 221 | 222 => true,
-        _ => false,
     }
 }
 

@@ -1,5 +1,5 @@
 -- A closure is the same beside a stack that changes, and what is entered behind a spread of the elements.
-use Rattle.std.proofs.Common.{◌≡◌, ◌≢◌, ◌∙◌, ℕ, ◌+◌, ◌-◌, ◌<◌, ◌≤◌, Bool, true, false, inl, inr, refl, sym, ap, ap₂, subst, arith, Option, Some, None, IfSome, is_some, length, List, nat_le, ◌++◌, take}
+use Rattle.std.proofs.Common.{◌≡◌, ◌∙◌, ℕ, ◌+◌, ◌-◌, ◌<◌, Bool, true, false, inl, inr, refl, sym, ap, ap₂, subst, arith, Option, Some, None, IfSome, is_some, length, List, nat_le, ◌++◌, take}
 use Rattle.std.specs.Prelude.{◌&&◌, if◌then◌else◌, unwrap_or, slice_get}
 use Rattle.std.proofs.lemmas.Bool.Decides.{eqb_tells}
 use Rattle.cs_word.specs.declared.Oop.{Oop}
@@ -12,7 +12,7 @@ use Rattle.cs_model.specs.Alike.{Alike}
 use Rattle.cs_model.specs.Context.{lies_if_index}
 use Rattle.cs_model.specs.Enter.{block_size, can_evaluate, closure_method, closure_slot, closure_slots, context_words, copied_values, enter_block_of, enter_block_out, is_count, method_in_context, outer_context}
 use Rattle.cs_model.specs.Operation.{edit_active, nil_of}
-use Rattle.cs_model.specs.Read.{IsRunning, active_birth, active_context, depth_of, stack_of}
+use Rattle.cs_model.specs.Read.{IsRunning, active_birth, active_context, depth_of}
 use Rattle.cs_model.specs.Send.{elements_fitting, spread_of}
 use Rattle.cs_model.specs.declared.stop.Stop.TheVariants as why
 use Rattle.cs_model.specs.End.{Out, made_context, out, stop}
@@ -23,7 +23,6 @@ use Rattle.cs_model.proofs.Keeping.{Keeps-trans}
 use Rattle.cs_model.proofs.Objects.{object_at-put_other, object_at-put_same}
 use Rattle.cs_model.proofs.Same.{equal, option_equal, same}
 use Rattle.cs_model.proofs.Surviving.{enter_block_out-alike}
-use Rattle.cs_acts.specs.declared.act.Full.{Full as Why}
 use Rattle.cs_acts.specs.declared.prim.PrimEnd.{PrimEnd}
 use Rattle.cs_acts.specs.declared.prim.PrimEnd.TheVariants as prim
 use Rattle.cs_acts.specs.Full.{CausesFull}

@@ -1,10 +1,9 @@
 -- What the primitives that evaluate closures come to, by what is read for them.
-use Rattle.std.proofs.Common.{◌≡◌, ◌≢◌, ◌∙◌, ℕ, ◌+◌, ◌-◌, ◌<◌, ◌≤◌, Bool, true, false, refl, sym, ap, subst, arith, Option, Some, None, is_some, length, nat_le, option_map, option_and_then, List}
+use Rattle.std.proofs.Common.{◌≡◌, ◌≢◌, ◌∙◌, ℕ, ◌+◌, ◌-◌, ◌<◌, ◌≤◌, Bool, true, false, refl, sym, ap, arith, Option, Some, None, is_some, length, nat_le, option_map, option_and_then, List}
 use Rattle.std.specs.Prelude.{◌==◌, if◌then◌else◌}
-use Rattle.std.proofs.lemmas.Bool.{false≢true}
 use Rattle.std.proofs.lemmas.Bool.Decides.{nat_tests}
 use Rattle.cs_model.specs.Ref.{Ref}
-use Rattle.cs_model.specs.Obj.{Obj, slots_in}
+use Rattle.cs_model.specs.Obj.{slots_in}
 use Rattle.cs_model.specs.State.{Kept, object_of}
 use Rattle.cs_model.specs.Enter.{can_evaluate, enter_block_out}
 use Rattle.cs_model.specs.End.{Out, given}

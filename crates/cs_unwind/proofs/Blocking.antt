@@ -1,5 +1,5 @@
 -- A block is entered, or not.
-use Rattle.std.proofs.Common.{◌≡◌, ◌∙◌, ℕ, ◌+◌, ◌-◌, ◌<◌, ◌≤◌, Bool, true, false, inr, refl, sym, ap, ap₂, subst, arith, Option, Some, None, IfErr, OnOk, length, nat_le}
+use Rattle.std.proofs.Common.{◌≡◌, ◌∙◌, ℕ, ◌+◌, ◌-◌, ◌<◌, ◌≤◌, Bool, true, false, inr, refl, sym, ap, subst, arith, Option, None, length, nat_le}
 use Rattle.std.specs.Prelude.{if◌then◌else◌}
 use Rattle.std.proofs.lemmas.Bool.Decides.{nat_tests}
 use Rattle.cs_word.specs.declared.Oop.{Oop}
@@ -8,7 +8,7 @@ use Rattle.cs_model.specs.Ref.{Ref}
 use Rattle.cs_model.specs.Obj.{context_size, header_in}
 use Rattle.cs_model.specs.State.{Kept, object_of}
 use Rattle.cs_model.specs.Keeps.{Keeps, SameKept}
-use Rattle.cs_model.specs.Enter.{block_size, can_evaluate, closure_method, context_words, copied_values, enter_block_of, enter_block_out}
+use Rattle.cs_model.specs.Enter.{block_size, context_words, copied_values, enter_block_of, enter_block_out}
 use Rattle.cs_model.specs.End.{Out, made_context, out, stop}
 use Rattle.cs_model.specs.End as ends
 use Rattle.cs_acts.specs.declared.act.Full.{Full as Why}

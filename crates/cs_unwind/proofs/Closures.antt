@@ -1,20 +1,19 @@
 -- A closure that can be evaluated, by what is read of it.
-use Rattle.std.proofs.Common.{◌≡◌, ◌∙◌, ℕ, Bool, true, false, refl, sym, ap, ap₂, subst, Option, Some, None, IfSome, IsSome, is_some, option_and_then, length, nat_le}
+use Rattle.std.proofs.Common.{◌≡◌, ◌∙◌, ℕ, Bool, true, false, refl, sym, ap, ap₂, subst, Option, Some, None, IfSome, is_some, option_and_then}
 use Rattle.std.specs.Prelude.{◌&&◌}
 use Rattle.std.proofs.lemmas.Bool.{false≢true}
 use Rattle.cs_word.specs.declared.Oop.{Oop}
 use Rattle.cs_model.specs.Ref.{Ref, Small, Char, index_of}
 use Rattle.cs_model.specs.Ref as ref
-use Rattle.cs_model.specs.Obj.{Obj, Context, Ptr, Raw, Method, Ctx, context_in, is_method}
+use Rattle.cs_model.specs.Obj.{Context, context_in, is_method}
 use Rattle.cs_model.specs.State.{Kept, object_at, object_of}
 use Rattle.cs_model.specs.Context.{is_context_ref, lies_if_index}
-use Rattle.cs_model.specs.Enter.{can_evaluate, closure_method, closure_slot, closure_slots, is_count, method_in_context, outer_context}
+use Rattle.cs_model.specs.Enter.{can_evaluate, closure_method, closure_slot, is_count, method_in_context, outer_context}
 use Rattle.cs_model.specs.Operation.{nil_of}
 use Rattle.cs_model.specs.Return.{context_at, context_birth}
 use Rattle.cs_acts.specs.Names.{Names, Store, name_of}
-use Rattle.cs_acts.specs.Reading.{IsMethodNamed}
 use Rattle.cs_acts.specs.Targets.{method_in}
-use Rattle.cs_unwind.specs.Blocks.{Evaluates, FindsBlock, FindsOuter, IsMethodOf, is_closure}
+use Rattle.cs_unwind.specs.Blocks.{IsMethodOf, is_closure}
 
 -- ---- the outer context
 

@@ -1,11 +1,11 @@
 -- What primitives 195 and 197 come to, by what is read for them.
 use Rattle.std.proofs.Common.{◌≡◌, ◌≢◌, ◌∙◌, ℕ, ◌%◌, ◌/◌, Bool, true, false, refl, sym, ap, subst, arith, Option, Some, None, IfSome, IsSome, is_some, option_and_then}
-use Rattle.std.specs.Prelude.{◌==◌, ◌||◌, if◌then◌else◌}
+use Rattle.std.specs.Prelude.{◌==◌, if◌then◌else◌}
 use Rattle.std.proofs.lemmas.Bool.Decides.{nat_tests}
 use Rattle.cs_word.specs.declared.Oop.{Oop}
 use Rattle.cs_word.specs.declared.Kind.{Kind}
 use Rattle.cs_word.specs.declared.Kind.TheVariants as kind
-use Rattle.cs_word.specs.Word.{kind_of, small_value}
+use Rattle.cs_word.specs.Word.{small_value}
 use Rattle.cs_heap.specs.Object.{Memory, birth_of, is_object}
 use Rattle.cs_classes.specs.Meaning.{ref_of, ref_of_kind}
 use Rattle.cs_classes.specs.Sound.{is_reference, is_reference_kind}

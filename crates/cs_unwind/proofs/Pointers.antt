@@ -1,17 +1,17 @@
 -- What is read of pointer objects: closures, and Arrays.
-use Rattle.std.proofs.Common.{◌≡◌, ◌∙◌, ℕ, zero, suc, ◌<◌, ◌≤◌, ◌-◌, Bool, true, false, refl, sym, ap, subst, arith, Option, Some, None, IfSome, IsSome, is_some, List, [], ◌∷◌, length, map, option_map, option_and_then, unwrap_or, nat_le}
+use Rattle.std.proofs.Common.{◌≡◌, ◌∙◌, ℕ, zero, suc, ◌<◌, Bool, true, false, refl, sym, ap, subst, arith, Option, Some, None, is_some, List, [], ◌∷◌, length, map, option_map, option_and_then, unwrap_or, nat_le}
 use Rattle.std.specs.Prelude.{◌==◌, ◌&&◌, if◌then◌else◌, slice_get}
 use Rattle.std.proofs.lemmas.Bool.{false≢true}
 use Rattle.std.proofs.lemmas.Bool.Decides.{nat_tests}
 use Rattle.std.proofs.lemmas.List.{length-map}
 use Rattle.cs_word.specs.declared.Oop.{Oop}
 use Rattle.cs_heap.specs.Object.{Memory, Object, class_of, format_of, is_object, object_at, slot_count_of}
-use Rattle.cs_classes.specs.Meaning.{is_context, obj_of, ref_of}
-use Rattle.cs_classes.proofs.Sorts.{AContext, AMethod, Bytes, Pointers, Sort, sort_of, obj_of-bytes, obj_of-context, obj_of-method, obj_of-pointers}
-use Rattle.cs_model.specs.Ref.{Ref, index_of}
-use Rattle.cs_model.specs.Obj.{Obj, Context, Ptr, Raw, Method, Ctx, at_least, context_in, is_context_at, is_method, slots_in}
+use Rattle.cs_classes.specs.Meaning.{ref_of}
+use Rattle.cs_classes.proofs.Sorts.{AContext, AMethod, Bytes, Pointers, Sort, sort_of, obj_of-bytes, obj_of-method, obj_of-pointers}
+use Rattle.cs_model.specs.Ref.{Ref}
+use Rattle.cs_model.specs.Obj.{Obj, Ptr, Raw, Method, Ctx, at_least, is_context_at, slots_in}
 use Rattle.cs_model.specs.State.{Kept, object_of, slots_of}
-use Rattle.cs_model.specs.Enter.{closure_slot, closure_slots, copied_values}
+use Rattle.cs_model.specs.Enter.{closure_slot, closure_slots}
 use Rattle.cs_model.specs.Operation.{nil_of}
 use Rattle.cs_model.specs.Send.{array_elements}
 use Rattle.cs_acts.specs.Names.{IsNamed, Names, NamesOption, Store, name_of}

@@ -1,5 +1,5 @@
 -- The search for a mark, link by link.
-use Rattle.std.proofs.Common.{◌≡◌, ◌∙◌, ℕ, zero, suc, ◌+◌, ◌-◌, ◌<◌, Bool, true, false, refl, sym, ap, subst, arith, Option, Some, None, IsSome, IfSome, is_some, option_map, cond}
+use Rattle.std.proofs.Common.{◌≡◌, ◌∙◌, ℕ, zero, suc, ◌+◌, ◌-◌, ◌<◌, Bool, true, false, refl, sym, ap, arith, Option, Some, None, IsSome, IfSome, is_some, option_map}
 use Rattle.std.specs.Prelude.{not, if◌then◌else◌}
 use Rattle.cs_model.specs.State.{Kept, object_at}
 use Rattle.cs_model.specs.Obj.{is_context_at}

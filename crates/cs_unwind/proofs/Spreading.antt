@@ -1,14 +1,14 @@
 -- The elements of an Array are pushed one by one, in the place of the argument.
-use Rattle.std.proofs.Common.{◌≡◌, ◌≢◌, ◌∙◌, ℕ, zero, suc, ◌+◌, ◌-◌, ◌<◌, ◌≤◌, Bool, true, false, inl, inr, refl, sym, ap, ap₂, subst, arith, Option, Some, None, IfSome, is_some, length, nat_le, option_map, option_and_then, List, [], ◌∷◌, ◌++◌, take, length-take, length-append, append_assoc}
-use Rattle.std.specs.Prelude.{◌==◌, if◌then◌else◌, slice_get, unwrap_or}
-use Rattle.std.proofs.lemmas.Bool.Decides.{eqb_tells, nat_tests}
+use Rattle.std.proofs.Common.{◌≡◌, ◌≢◌, ◌∙◌, ℕ, zero, suc, ◌+◌, ◌-◌, ◌<◌, ◌≤◌, Bool, true, false, refl, sym, ap, subst, arith, Option, Some, None, IfSome, is_some, length, nat_le, option_and_then, List, [], ◌∷◌, ◌++◌, take, length-take}
+use Rattle.std.specs.Prelude.{if◌then◌else◌, slice_get, unwrap_or}
+use Rattle.std.proofs.lemmas.Bool.Decides.{nat_tests}
 use Rattle.cs_word.specs.declared.Oop.{Oop}
 use Rattle.cs_model.specs.Ref.{Ref, Small, Char}
 use Rattle.cs_model.specs.Ref as ref
-use Rattle.cs_model.specs.Obj.{Obj, Context, Ptr, Raw, Method, Ctx, is_context, popped, pushed, slots_in, with_stack}
+use Rattle.cs_model.specs.Obj.{Obj, Context, Ptr, Raw, Method, Ctx, pushed, slots_in, with_stack}
 use Rattle.cs_model.specs.State.{Kept, object_at, object_of}
 use Rattle.cs_model.specs.Keeps.{Keeps, SameKept}
-use Rattle.cs_model.specs.Operation.{drop_of, edit_active, push_of, put_active}
+use Rattle.cs_model.specs.Operation.{drop_of, push_of, put_active}
 use Rattle.cs_model.specs.Read.{IsRunning, active_birth, active_context, depth_of, size_of, stack_of}
 use Rattle.cs_model.specs.Send.{array_elements, elements_fitting, spread_of}
 use Rattle.cs_model.proofs.Objects.{object_at-put_other}
@@ -17,7 +17,7 @@ use Rattle.cs_model.proofs.Same.{equal}
 use Rattle.cs_acts.specs.Layout.{Layout}
 use Rattle.cs_acts.specs.Led.{Leads}
 use Rattle.cs_acts.specs.Made.{MakesAtMost}
-use Rattle.cs_acts.specs.Names.{KeepsNames, Names, NamesOption, Store, name_of}
+use Rattle.cs_acts.specs.Names.{KeepsNames, NamesOption, Store, name_of}
 use Rattle.cs_acts.specs.Ready.{IsReady}
 use Rattle.cs_acts.proofs.Dropping.{edit-twice}
 use Rattle.cs_acts.proofs.Running.{active_context-put_active}

@@ -23,15 +23,14 @@ mod search;
 
 use blocks::{evaluate, evaluate_array};
 use cs_acts::{PrimEnd, World};
-use cs_model::Stop;
 use cs_word::Oop;
 pub use end::BackEnd;
 use marks::{handler_mark, unwind_mark};
 
 /// The primitives that look for a mark, and the one that evaluates a closure with the elements of an Array.
-const UNWIND_MARK: u32 = 195;
+const FIND_UNWIND_MARK: u32 = 195;
 
-const HANDLER_MARK: u32 = 197;
+const FIND_HANDLER_MARK: u32 = 197;
 
 const EVALUATE_ARRAY: u32 = 206;
 
@@ -58,6 +57,16 @@ pub fn give_back<W: World>(w: &mut W, value: Oop, local: bool) -> BackEnd
         returns::to_sender(w, value)
     } else {
         returns::from_home(w, value)
+    }
+}
+
+/// Whether a primitive evaluates a closure or looks for a mark, or is a mark: those that `primitive` does.
+pub fn unwinds(number: u32) -> bool
+    ensures { result ≡ unwinds number }
+{
+    match number {
+        195 | 197..=199 | 201..=206 | 221 | 222 => true,
+        _ => false,
     }
 }
 
@@ -89,10 +98,10 @@ fn perform<W: World>(w: &mut W, number: u32, args: u32) -> PrimEnd
     requires births { (W.view w.old).rest.next < 4611686018427387904 }
     ensures { Performs (W.stored w.old) (W.stored w.new) (W.layout w.old) (W.layout w.new) (W.view w.old) (entered_from (W.view w.old) number) (W.view w.new) result (kept_prim number args (W.view w.old)) }
 {
-    if number == UNWIND_MARK {
+    if number == FIND_UNWIND_MARK {
         return unwind_mark(w, args);
     }
-    if number == HANDLER_MARK {
+    if number == FIND_HANDLER_MARK {
         return handler_mark(w, args);
     }
     if number == EVALUATE_ARRAY {

@@ -10,21 +10,19 @@ ghost use Rattle.cs_acts.specs.Names.{IsNamed, name_of};
 ghost use Rattle.cs_acts.specs.Ready.{IsReady, IsSound};
 ghost use Rattle.cs_acts.specs.Targets.{is_gone};
 ghost use Rattle.cs_unwind.specs.Performed.{Performs};
-ghost use Rattle.cs_unwind.specs.Searched.{FindsMark, MarkStands};
+ghost use Rattle.cs_unwind.specs.Marks.{FindsMark, MarkStands};
 
+use crate::search::LINKS;
 use cs_acts::answer::{answer, argument, receiver};
 use cs_acts::read::{is_context, is_method, nil, same};
 use cs_acts::{Act, PrimEnd, World, method};
 use cs_model::Stop;
 use cs_word::Oop;
 
-/// How many links a search along the senders follows.
-const LINKS: u32 = 1_048_576;
+/// The primitives that mark contexts: that of those whose unwinding is told, and that of handlers.
+pub(crate) const UNWIND_MARK: u32 = 198;
 
-/// The primitives that mark contexts: those that unwinding looks for, and those of handlers.
-const UNWIND: u32 = 198;
-
-const HANDLER: u32 = 199;
+const HANDLER_MARK: u32 = 199;
 
 /// What a search for a mark finds.
 #[derive(Clone, Copy, Debug, PartialEq, Eq)]
@@ -54,7 +52,7 @@ pub(crate) fn unwind_mark<W: World>(w: &mut W, args: u32) -> PrimEnd
         return PrimEnd::Fail;
     };
     let from = w.sender_act(w.act_of(ctx));
-    let mark = search_mark(w, from, UNWIND, Some(goal));
+    let mark = search_mark(w, from, UNWIND_MARK, Some(goal));
     answer_mark(w, 1, mark)
 }
 
@@ -72,11 +70,11 @@ pub(crate) fn handler_mark<W: World>(w: &mut W, args: u32) -> PrimEnd
         return PrimEnd::Fail;
     }
     let here = w.act_of(ctx);
-    if is_marked(w, here, HANDLER) {
+    if is_marked(w, here, HANDLER_MARK) {
         return answer_context(w, 0, here);
     }
     let from = w.sender_act(here);
-    let mark = search_mark(w, from, HANDLER, None);
+    let mark = search_mark(w, from, HANDLER_MARK, None);
     answer_mark(w, 0, mark)
 }
 

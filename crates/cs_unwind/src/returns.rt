@@ -172,11 +172,11 @@ fn about_to_return<W: World>(w: &mut W, value: Oop, mark: Act) -> BackEnd
         Ok(mark) => mark,
         Err(why) => return BackEnd::Full(why),
     };
-    let context = match w.this_context() {
-        Ok(context) => context,
+    let active = match w.this_context() {
+        Ok(active) => active,
         Err(why) => return BackEnd::Full(why),
     };
-    w.push(context);
+    w.push(active);
     w.push(value);
     w.push(mark);
     BackEnd::Call {

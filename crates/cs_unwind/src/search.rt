@@ -8,16 +8,13 @@ ghost use Rattle.cs_acts.specs.Names.{IsNamed, name_of};
 ghost use Rattle.cs_acts.specs.Ready.{IsReady, IsSound};
 ghost use Rattle.cs_unwind.specs.Walked.{FindsHome, FindsWay, Sees, Stands};
 
-use crate::marks::is_marked;
+use crate::marks::{UNWIND_MARK, is_marked};
 use cs_acts::read::{is_context, nil, same, slot_if_any};
 use cs_acts::{Act, World};
 use cs_word::Oop;
 
-/// How many links a search of homes or senders follows.
+/// How many links a search follows: of homes, of senders and of marks.
 pub(crate) const LINKS: u32 = 1_048_576;
-
-/// The primitive that marks a context whose unwinding is told.
-const UNWIND_MARK: u32 = 198;
 
 /// Where a search for the home of the active context ends.
 #[derive(Clone, Copy, Debug, PartialEq, Eq)]

@@ -7,17 +7,17 @@ use Rattle.cs_unwind.proofs.NumberRows.{evaluates_row, fails_row, prim-195, prim
 use Rattle.cs_unwind.proofs.Performing.{fails}
 use Rattle.cs_unwind.proofs.perform.Goals as goal
 
-pub returns-then-number-eq-UNWIND_MARK : goal.returns-then-number-eq-UNWIND_MARK
-returns-then-number-eq-UNWIND_MARK g c =
+pub returns-then-number-eq-FIND_UNWIND_MARK : goal.returns-then-number-eq-FIND_UNWIND_MARK
+returns-then-number-eq-FIND_UNWIND_MARK g c =
     let k = g.W.World.view c.args.w.now in
-    let is : 195 ≡ c.args.number = sym (grind (arith, nat_tests, c.if-number-eq-UNWIND_MARK.true)) in
+    let is : 195 ≡ c.args.number = sym (grind (arith, nat_tests, c.if-number-eq-FIND_UNWIND_MARK.true)) in
     subst (λ n. (Performs (g.W.World.stored c.args.w.now) (g.W.World.stored c.unwind_mark.new.w) (g.W.World.layout c.args.w.now) (g.W.World.layout c.unwind_mark.new.w) k (entered_from k n) (g.W.World.view c.unwind_mark.new.w) c.unwind_mark.result (kept_prim n c.args.args k))) is
     (subst (λ o. (Performs (g.W.World.stored c.args.w.now) (g.W.World.stored c.unwind_mark.new.w) (g.W.World.layout c.args.w.now) (g.W.World.layout c.unwind_mark.new.w) k (entered_from k 195) (g.W.World.view c.unwind_mark.new.w) c.unwind_mark.result o)) (prim-195 k c.args.args) c.unwind_mark.ensures)
 
-pub returns-then-number-eq-HANDLER_MARK : goal.returns-then-number-eq-HANDLER_MARK
-returns-then-number-eq-HANDLER_MARK g c =
+pub returns-then-number-eq-FIND_HANDLER_MARK : goal.returns-then-number-eq-FIND_HANDLER_MARK
+returns-then-number-eq-FIND_HANDLER_MARK g c =
     let k = g.W.World.view c.args.w.now in
-    let is : 197 ≡ c.args.number = sym (grind (arith, nat_tests, c.if-number-eq-HANDLER_MARK.true)) in
+    let is : 197 ≡ c.args.number = sym (grind (arith, nat_tests, c.if-number-eq-FIND_HANDLER_MARK.true)) in
     subst (λ n. (Performs (g.W.World.stored c.args.w.now) (g.W.World.stored c.handler_mark.new.w) (g.W.World.layout c.args.w.now) (g.W.World.layout c.handler_mark.new.w) k (entered_from k n) (g.W.World.view c.handler_mark.new.w) c.handler_mark.result (kept_prim n c.args.args k))) is
     (subst (λ o. (Performs (g.W.World.stored c.args.w.now) (g.W.World.stored c.handler_mark.new.w) (g.W.World.layout c.args.w.now) (g.W.World.layout c.handler_mark.new.w) k (entered_from k 197) (g.W.World.view c.handler_mark.new.w) c.handler_mark.result o)) (prim-197 k c.args.args) c.handler_mark.ensures)
 
@@ -39,5 +39,5 @@ pub returns-in-None : goal.returns-in-None
 returns-in-None g c =
     let k = g.W.World.view c.args.w.now in
     fails (g.W.World.stored c.args.w.now) (g.W.World.layout c.args.w.now) k _ _ c.requires.ready
-    (fails_row k c.args.args c.args.number c.requires.number (λ e. grind (arith, nat_tests, c.if-number-eq-UNWIND_MARK.false, e)) (λ e. grind (arith, nat_tests, c.if-number-eq-HANDLER_MARK.false, e)) (λ e. grind (arith, nat_tests, c.if-number-eq-EVALUATE_ARRAY.false, e))
+    (fails_row k c.args.args c.args.number c.requires.number (λ e. grind (arith, nat_tests, c.if-number-eq-FIND_UNWIND_MARK.false, e)) (λ e. grind (arith, nat_tests, c.if-number-eq-FIND_HANDLER_MARK.false, e)) (λ e. grind (arith, nat_tests, c.if-number-eq-EVALUATE_ARRAY.false, e))
     (sym c.in-None.is ∙ c.wanted_by.ensures))

@@ -1,4 +1,4 @@
-use Rattle.std.proofs.Common.{◌∙◌, Bool, ap₂, sym, true, false, subst}
+use Rattle.std.proofs.Common.{◌∙◌, Bool, ap₂, sym, subst}
 use Rattle.std.specs.Prelude.{◌&&◌}
 use Rattle.cs_acts.specs.Names.{name_of}
 use Rattle.cs_unwind.specs.Blocks.{FindsOuter}

@@ -1,6 +1,5 @@
-use Rattle.std.proofs.Common.{arith, sym, ap, subst, ◌∙◌}
+use Rattle.std.proofs.Common.{arith, subst}
 use Rattle.std.proofs.lemmas.Bool.Decides.{nat_tests}
-use Rattle.cs_model.specs.Enter.{can_evaluate}
 use Rattle.cs_acts.specs.Names.{name_of}
 use Rattle.cs_unwind.specs.Blocks.{FindsBlock}
 use Rattle.cs_unwind.specs.Performed.{Performs}

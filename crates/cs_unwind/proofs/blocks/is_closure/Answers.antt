@@ -1,4 +1,4 @@
-use Rattle.std.proofs.Common.{◌≡◌, ◌∙◌, true, false, ap, ap₂, sym}
+use Rattle.std.proofs.Common.{◌∙◌, ap, sym}
 use Rattle.std.specs.Prelude.{◌==◌, ◌&&◌, Bool}
 use Rattle.cs_heap.specs.Object.{format_of}
 use Rattle.cs_acts.specs.Names.{name_of}

@@ -1,4 +1,4 @@
-use Rattle.std.proofs.Common.{◌≡◌, ◌∙◌, ◌<◌, ◌+◌, Some, ap, arith, subst, take, length}
+use Rattle.std.proofs.Common.{◌≡◌, ◌∙◌, ◌<◌, Some, ap, arith, subst, take, length}
 use Rattle.std.specs.Prelude.{option_and_then, slice_get}
 use Rattle.cs_model.specs.Obj.{slots_in}
 use Rattle.cs_model.specs.State.{object_of}
@@ -7,7 +7,7 @@ use Rattle.cs_acts.specs.Led.{Leads}
 use Rattle.cs_acts.specs.Names.{NamesOption, name_of}
 use Rattle.cs_acts.proofs.Leading.{then}
 use Rattle.cs_unwind.proofs.BlockRows.{elements_of}
-use Rattle.cs_unwind.proofs.Spreading.{all_spread, array_kept, element_is, element_is_there, elements, popped_first, room_left, so_many, spread_more}
+use Rattle.cs_unwind.proofs.Spreading.{array_kept, element_is, element_is_there, elements, popped_first, room_left, so_many, spread_more}
 use Rattle.cs_unwind.proofs.blocks.spread.Goals as goal
 
 pub loop-i-init : goal.loop-i-init

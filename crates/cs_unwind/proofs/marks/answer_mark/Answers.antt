@@ -1,5 +1,5 @@
 use Rattle.std.proofs.Common.{subst}
-use Rattle.cs_unwind.specs.Searched.{FindsMark}
+use Rattle.cs_unwind.specs.Marks.{FindsMark}
 use Rattle.cs_unwind.proofs.Performing.{answers_with_nil}
 use Rattle.cs_unwind.proofs.marks.answer_mark.Goals as goal
 

@@ -1,7 +1,7 @@
-use Rattle.std.proofs.Common.{◌≡◌, ◌<◌, ◌∙◌, true, false, sym, arith, IsSome}
+use Rattle.std.proofs.Common.{◌<◌, ◌∙◌, true, false, sym, arith, IsSome}
 use Rattle.std.proofs.lemmas.Bool.Decides.{nat_tests}
-use Rattle.cs_model.specs.PrimUnwind.{is_goal, search_mark}
-use Rattle.cs_model.specs.Return.{is_marked, links}
+use Rattle.cs_model.specs.PrimUnwind.{is_goal}
+use Rattle.cs_model.specs.Return.{is_marked}
 use Rattle.cs_unwind.proofs.Searches.{if_sender, rest_ends, rest_goal, rest_goes_on, rest_marked, rest_too_far, stands_there, told}
 use Rattle.cs_unwind.proofs.marks.search_mark.Goals as goal
 use Rattle.cs_unwind.proofs.marks.search_mark.Goals.{then-is_gone-via-then-is_gone, then-is_gone-via-else-is_gone+then-is_goal}

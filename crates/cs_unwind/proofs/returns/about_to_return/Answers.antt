@@ -52,7 +52,7 @@ push-requires-2-clause-fits g c =
     let first = context_made (g.W.World.stored c.args.w.now) r (g.W.World.layout c.args.w.now) l k j 1 d.view d.layout d.limit d.contexts d.sound c.requires.ready.running d.names in
     let room : depth_of k + 3 ≤ size_of k = there_is_room (depth_of k) (size_of k) 3 _ c.fits.ensures.value c.if-not-fits.false in
     let here = context_made r t l m j v 1 e.view e.layout e.limit e.contexts e.sound first.ready.running e.names in
-    let one = value_pushed r t (g.W.World.stored c.push.new.self) l m (g.W.World.layout c.push.new.self) v w j 1 c.in-Ok-this_context.context me here e.value.is p.state p.exact p.layout p.limit p.contexts p.ready p.names in
+    let one = value_pushed r t (g.W.World.stored c.push.new.self) l m (g.W.World.layout c.push.new.self) v w j 1 c.in-Ok-this_context.active me here e.value.is p.state p.exact p.layout p.limit p.contexts p.ready p.names in
     omega (arith, room, depth_kept w _ one.state, size_kept w _ one.state, depth_pushed j me, size_pushed j me, ap depth_of d.view, ap size_of d.view)
 
 pub push-requires-3-clause-fits : goal.push-requires-3-clause-fits
@@ -77,7 +77,7 @@ push-requires-3-clause-fits g c =
     let first = context_made (g.W.World.stored c.args.w.now) r (g.W.World.layout c.args.w.now) l k j 1 d.view d.layout d.limit d.contexts d.sound c.requires.ready.running d.names in
     let room : depth_of k + 3 ≤ size_of k = there_is_room (depth_of k) (size_of k) 3 _ c.fits.ensures.value c.if-not-fits.false in
     let here = context_made r t l m j v 1 e.view e.layout e.limit e.contexts e.sound first.ready.running e.names in
-    let one = value_pushed r t u l m n v w j 1 c.in-Ok-this_context.context me here e.value.is p.state p.exact p.layout p.limit p.contexts p.ready p.names in
+    let one = value_pushed r t u l m n v w j 1 c.in-Ok-this_context.active me here e.value.is p.state p.exact p.layout p.limit p.contexts p.ready p.names in
     let two = value_pushed r u (g.W.World.stored c.push-2.new.self) l n (g.W.World.layout c.push-2.new.self) w y _ 1 c.args.value x one refl q.state q.exact q.layout q.limit q.contexts q.ready q.names in
     omega (arith, room, depth_kept y _ two.state, size_kept y _ two.state, depth_pushed (push_of j me) x, size_pushed (push_of j me) x, depth_pushed j me, size_pushed j me, ap depth_of d.view, ap size_of d.view)
 
@@ -109,7 +109,7 @@ returns g c local birth at =
     let first = context_made s r o l k j 1 d.view d.layout d.limit d.contexts d.sound c.requires.ready.running d.names in
     let second = context_made r t l m j v 1 e.view e.layout e.limit e.contexts e.sound first.ready.running e.names in
     let here = contexts_made s r t o l m k j v 1 1 d.view first second in
-    let one = value_pushed s t u o m n v w k 2 c.in-Ok-this_context.context me here (e.value.is ∙ ap (λ (b : Kept). ref.Obj (active_birth b)) d.view) p.state p.exact p.layout p.limit p.contexts p.ready p.names in
+    let one = value_pushed s t u o m n v w k 2 c.in-Ok-this_context.active me here (e.value.is ∙ ap (λ (b : Kept). ref.Obj (active_birth b)) d.view) p.state p.exact p.layout p.limit p.contexts p.ready p.names in
     let two = value_pushed s u z o n i w y _ 2 c.args.value x one (one.names c.args.value c.requires.named).is q.state q.exact q.layout q.limit q.contexts q.ready q.names in
     let mark : Names r c.in-Ok.mark (ref.Obj birth) = told _ d.value at in
     let stays = names-trans r t z e.names (names-trans t u z p.names q.names) in
