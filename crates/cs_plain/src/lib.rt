@@ -305,32 +305,18 @@ impl PlainWorld {
         ensures full { IfErr result (CausesFull (stored_of self.new) None (view_of self.old) 0 (called_of (view_of self.old) args (called_context (stored_of self.old) (view_of self.old) header args copied fields))) }
     {
         let sender = fields.sender;
+        let closure = fields.closure;
         let left = self.depth() - (args + 1);
         let birth = self.roots.next_birth;
-        let Ok(context) = self
-            .heap
-            .allocate(CONTEXT, FIELDS_AND_INDICES, context_slots(header), birth)
-        else {
+        let slots = context_slots(header);
+        let heap = &mut self.heap;
+        let Ok(context) = heap.allocate(CONTEXT, FIELDS_AND_INDICES, slots, birth) else {
             return Err(Full::Heap);
         };
-        write_fields(&mut self.heap, context, fields);
-        copy_slots(
-            &mut self.heap,
-            sender,
-            STACK + left + 1,
-            context,
-            STACK,
-            args,
-        );
-        copy_slots(
-            &mut self.heap,
-            fields.closure,
-            FIRST_COPIED,
-            context,
-            STACK + args,
-            copied,
-        );
-        self.heap.set_slot(sender, STACKP, count_word(left));
+        write_fields(heap, context, fields);
+        copy_slots(heap, sender, STACK + left + 1, context, STACK, args);
+        copy_slots(heap, closure, FIRST_COPIED, context, STACK + args, copied);
+        heap.set_slot(sender, STACKP, count_word(left));
         self.roots.next_birth = birth + 1;
         self.active = Some(context);
         Ok(())
