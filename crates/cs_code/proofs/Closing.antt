@@ -10,7 +10,9 @@ use Rattle.cs_model.specs.Obj.{Obj, Context, Ptr, Ctx, lies_in, popped, with_sta
 use Rattle.cs_heap.specs.Object.{birth_of, size}
 use Rattle.cs_classes.proofs.Wholes.{get-classes_of}
 use Rattle.cs_model.specs.Context.{closure_class}
-use Rattle.cs_acts.specs.Made.{CanAllocate, blank_of}
+use Rattle.cs_acts.specs.Led.{Leads}
+use Rattle.cs_acts.specs.Made.{CanAllocate, MakesAtMost, blank_of}
+use Rattle.cs_acts.proofs.Leading.{made-trans, names-trans, then}
 use Rattle.cs_model.specs.State.{Rest, Kept, object_at, object_of, put}
 use Rattle.cs_model.specs.Keeps.{Keeps, SameKept}
 use Rattle.cs_model.specs.Read.{IsRunning, active_birth, active_context, depth_of, method_of, pc_of, stack_of}
@@ -30,43 +32,36 @@ use Rattle.cs_acts.specs.Names.{Store, KeepsNames, Names, name_of}
 use Rattle.cs_acts.specs.Ready.{IsReady, IsSound}
 use Rattle.cs_acts.proofs.Running.{active_context-put_active}
 use Rattle.cs_acts.proofs.Sizes.{pc_small}
-use Rattle.cs_code.specs.Closures.{Leads, bare_closure, closure_slots, closure_with, copied_so_far}
+use Rattle.cs_code.specs.Closures.{bare_closure, closure_with, copied_so_far, slots_with}
 use Rattle.cs_code.proofs.Adding.{cause-weighed, stored-added, words-added}
-use Rattle.cs_code.proofs.Through.{equal_kept, names-trans, same_itself}
+use Rattle.cs_code.proofs.Through.{equal_kept, same_itself}
 
 -- ---- one call behind another
 
-pub here : (s : Store) (l : Option Layout) (k : Kept) → IsReady s k → Leads s s l l k k
+pub made-none : (l : Option Layout) (n : ℕ) (s : Store) → MakesAtMost n l s s
+made-none None n s = tt
+made-none (Some l) n s = omega arith
+
+pub here : (s : Store) (l : Option Layout) (k : Kept) → IsReady s k → Leads s s l l k k 0
 here s l k ready = record {
   state = ready.sound.closed;
   exact = λ _. same_itself k;
   layout = refl;
   limit = refl;
+  contexts = made-none l 0 s;
   ready = ready;
   names = λ w named. record { sound = named; is = refl };
 }
 
--- an operation on a state to which the world was led
-pub followed : (a b c : Store) (l m n : Option Layout) (v w t : Kept) (op : Kept → Kept) → Leads a b l m v t → ((u : Kept) → Keeps v u → Keeps w (op u)) → (m ≡ None → SameKept w (op v)) → n ≡ m
-    → c.memory.limit ≡ b.memory.limit → IsReady c w → KeepsNames b c → Leads a c l n w (op t)
-followed a b c l m n v w t op led state exact layout limit ready names = record {
-  state = state t led.state;
-  exact = λ none. subst (λ (u : Kept). SameKept w (op u)) (equal_kept v t (led.exact none)) (exact (led.layout ∙ none));
-  layout = layout ∙ led.layout;
-  limit = limit ∙ led.limit;
-  ready = ready;
-  names = names-trans a b c led.names names;
-}
-
 -- slot i of the object that was added is written
-pub written : (a b c : Store) (l m n : Option Layout) (v w k : Kept) (class format hash i : ℕ) (slots : List Ref) (o x : Oop) (y : Ref) → Leads a b l m v (add_of k (Ptr class format hash slots))
+pub written : (a b c : Store) (l m n : Option Layout) (v w k : Kept) (class format hash i : ℕ) (slots : List Ref) (o x : Oop) (y : Ref) → Leads a b l m v (add_of k (Ptr class format hash slots)) 1
     → name_of b o ≡ next_ref k → name_of b x ≡ y
     → ((u : Kept) → Keeps v u → Keeps w (store_of u (name_of b o) i (name_of b x))) → (m ≡ None → SameKept w (store_of v (name_of b o) i (name_of b x))) → n ≡ m
-    → c.memory.limit ≡ b.memory.limit → IsReady c w → KeepsNames b c → Leads a c l n w (add_of k (Ptr class format hash (slice_set slots i y)))
-written a b c l m n v w k class format hash i slots o x y led object value state exact layout limit ready names =
-    subst (λ (t : Kept). Leads a c l n w t)
+    → c.memory.limit ≡ b.memory.limit → MakesAtMost 0 m b c → IsReady c w → KeepsNames b c → Leads a c l n w (add_of k (Ptr class format hash (slice_set slots i y))) 1
+written a b c l m n v w k class format hash i slots o x y led object value state exact layout limit contexts ready names =
+    subst (λ (t : Kept). Leads a c l n w t 1)
     (ap₂ (λ (p q : Ref). store_of (add_of k (Ptr class format hash slots)) p i q) object value ∙ stored-added k class format hash i slots y)
-    (followed a b c l m n v w (add_of k (Ptr class format hash slots)) (λ (t : Kept). store_of t (name_of b o) i (name_of b x)) led state exact layout limit ready names)
+    (then a b c l m n v w (add_of k (Ptr class format hash slots)) 1 0 (λ (t : Kept). store_of t (name_of b o) i (name_of b x)) led state exact layout limit contexts ready names)
 
 -- a pc of a method in the heap is a SmallInteger
 pub pc-fits : (s : Store) (k : Kept) (o : Oop) → IsReady s k → Names s o (active_context k).method → pc_of k < 2 ^ 29
@@ -111,10 +106,10 @@ copied-more k copied i j x z enough few place is =
     let next : suc i ≡ i + 1 = omega arith in
     one-more (last_values copied xs) copied i x (nil_of k) value few ∙ ap (λ (n : ℕ). copied_so_far k copied n) next
 
-pub set-copied : (k : Kept) (args i : ℕ) (x : Ref) (values more : List Ref) → slice_set values i x ≡ more → Ptr closure_class 3 0 (slice_set (closure_slots k args values) (3 + i) x) ≡ closure_with k args more
+pub set-copied : (k : Kept) (args i : ℕ) (x : Ref) (values more : List Ref) → slice_set values i x ≡ more → Ptr closure_class 3 0 (slice_set (slots_with k args values) (3 + i) x) ≡ closure_with k args more
 set-copied k args i x values more e =
     let place : 3 + i ≡ suc (suc (suc i)) = omega arith in
-    ap (λ (j : ℕ). Ptr closure_class 3 0 (slice_set (closure_slots k args values) j x)) place ∙ ap (λ (ws : List Ref). closure_with k args ws) e
+    ap (λ (j : ℕ). Ptr closure_class 3 0 (slice_set (slots_with k args values) j x)) place ∙ ap (λ (ws : List Ref). closure_with k args ws) e
 
 pub none-copied : (k : Kept) (copied : ℕ) → copied_so_far k copied 0 ≡ replicate copied (nil_of k)
 none-copied k copied = let all : copied - 0 ≡ copied = omega arith in ap (λ (n : ℕ). replicate n (nil_of k)) all
@@ -168,12 +163,13 @@ depth-dropped v k n keeps =
     sym (equal (depth_same keeps)) ∙ ap (λ (c : Context). length c.stack) (active_context-put_active k (popped n (active_context k)))
     ∙ omega (arith, length-take (depth_of k - n) (stack_of k))
 
-pub dropped : (a b c : Store) (l m n : Option Layout) (v w t : Kept) (count : ℕ) → Leads a b l m v t → Leads b c m n w (drop_of v count) → Leads a c l n w (drop_of t count)
-dropped a b c l m n v w t count first led = record {
+pub dropped : (a b c : Store) (l m n : Option Layout) (v w t : Kept) (count i j : ℕ) → Leads a b l m v t i → Leads b c m n w (drop_of v count) j → Leads a c l n w (drop_of t count) (i + j)
+dropped a b c l m n v w t count i j first led = record {
   state = Keeps-trans led.state (drop_moved first.state count).keeps;
   exact = λ none. subst (λ (u : Kept). SameKept w (drop_of u count)) (equal_kept v t (first.exact none)) (led.exact (first.layout ∙ none));
   layout = led.layout ∙ first.layout;
   limit = led.limit ∙ first.limit;
+  contexts = made-trans l m a b c i j first.layout first.contexts led.contexts;
   ready = led.ready;
   names = names-trans a b c first.names led.names;
 }
@@ -196,22 +192,23 @@ can-make s k slots sound births = record {
     there (Some a) h = refl
 
 -- it is made with nil behind a look at the active context
-pub made-bare : (a b c : Store) (l m n : Option Layout) (k v w : Kept) (copied slots : ℕ) → slots ≡ copied → IsReady a k → v ≡ k → m ≡ l → b.memory.limit ≡ a.memory.limit → IsSound b v → KeepsNames a b
+pub made-bare : (a b c : Store) (l m n : Option Layout) (k v w : Kept) (copied slots : ℕ) → slots ≡ copied → IsReady a k → v ≡ k → m ≡ l → b.memory.limit ≡ a.memory.limit → MakesAtMost 1 l a b → IsSound b v → KeepsNames a b
     → ((u : Kept) → Keeps v u → Keeps w (add_of u (blank_of u 37 3 (3 + slots)))) → (m ≡ None → SameKept w (add_of v (blank_of v 37 3 (3 + slots)))) → n ≡ m → c.memory.limit ≡ b.memory.limit
-    → (IsReady b v → IsReady c w) → KeepsNames b c → Leads a c l n w (add_of k (Ptr 37 3 0 (replicate (suc (suc (suc copied))) (nil_of k))))
-made-bare a b c l m n k v w copied slots size ready same laid limit sound names state exact layout limit_after after names_after =
+    → MakesAtMost 0 m b c → (IsReady b v → IsReady c w) → KeepsNames b c → Leads a c l n w (add_of k (Ptr 37 3 0 (replicate (suc (suc (suc copied))) (nil_of k)))) 1
+made-bare a b c l m n k v w copied slots size ready same laid limit contexts sound names state exact layout limit_after contexts_after after names_after =
     let ready_there : IsReady b v = record { sound = sound; running = subst IsRunning (sym same) ready.running } in
-    let looked_at : Leads a b l m v k = record {
+    let looked_at : Leads a b l m v k 1 = record {
       state = subst (Keeps v) same sound.closed;
       exact = λ _. subst (SameKept v) same (same_itself v);
       layout = laid;
       limit = limit;
+      contexts = contexts;
       ready = ready_there;
       names = names;
     } in
     let count : 3 + slots ≡ suc (suc (suc copied)) = omega (arith, size) in
-    subst (λ (i : ℕ). Leads a c l n w (add_of k (Ptr 37 3 0 (replicate i (nil_of k))))) count
-    (followed a b c l m n v w k (λ (u : Kept). add_of u (blank_of u 37 3 (3 + slots))) looked_at state exact layout limit_after (after ready_there) names_after)
+    subst (λ (i : ℕ). Leads a c l n w (add_of k (Ptr 37 3 0 (replicate i (nil_of k)))) 1) count
+    (then a b c l m n v w k 1 0 (λ (u : Kept). add_of u (blank_of u 37 3 (3 + slots))) looked_at state exact layout limit_after contexts_after (after ready_there) names_after)
 
 -- ---- words
 

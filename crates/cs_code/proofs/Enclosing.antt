@@ -20,10 +20,10 @@ use Rattle.cs_acts.specs.declared.act.Full.{Full}
 use Rattle.cs_acts.specs.declared.act.Full.TheVariants.{Heap}
 use Rattle.cs_acts.specs.Full.{CausesFull}
 use Rattle.cs_acts.specs.Layout.{Layout}
+use Rattle.cs_acts.specs.Led.{Leads}
 use Rattle.cs_acts.specs.Names.{Store}
 use Rattle.cs_code.specs.declared.end.CodeEnd.{CodeEnd}
 use Rattle.cs_code.specs.declared.end.CodeEnd.TheVariants as code
-use Rattle.cs_code.specs.Closures.{Leads}
 use Rattle.cs_code.specs.Gives.{Gives, IsNamedEnd, Refuses, end_of, is_refused}
 use Rattle.cs_code.proofs.Adding.{AreBelow, cause-weighed, pc-added, pc-edited, running-added, words-edited}
 
@@ -89,8 +89,8 @@ too-few k copied args size pc lies less = let few : nat_le copied (depth_of k) �
 
 -- ---- what is given
 
-pub led-given : (s0 s1 : Store) (l n : Option Layout) (v t : Kept) (o : Out) (e : CodeEnd) (size : ℕ) → is_refused e ≡ false → IsNamedEnd s1 e → MakesAs o (end_of s1 e) t size → Leads s0 s1 l n v t → Gives s0 s1 l v e o
-led-given s0 s1 l n v t o e size granted named makes led = record {
+pub led-given : (s0 s1 : Store) (l n : Option Layout) (v t : Kept) (o : Out) (e : CodeEnd) (size made : ℕ) → is_refused e ≡ false → IsNamedEnd s1 e → MakesAs o (end_of s1 e) t size → Leads s0 s1 l n v t made → Gives s0 s1 l v e o
+led-given s0 s1 l n v t o e size made granted named makes led = record {
   granted = granted;
   end = sym makes.end;
   named = named;

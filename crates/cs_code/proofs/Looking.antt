@@ -28,7 +28,8 @@ use Rattle.cs_acts.specs.Ready.{IsReady}
 use Rattle.cs_acts.specs.Targets.{field_of}
 use Rattle.cs_code.specs.declared.end.CodeEnd.TheVariants as code
 use Rattle.cs_code.specs.Gives.{Gives, Refuses}
-use Rattle.cs_code.proofs.Through.{names-trans, same_itself}
+use Rattle.cs_acts.proofs.Leading.{names-trans}
+use Rattle.cs_code.proofs.Through.{same_itself}
 
 -- ---- words
 

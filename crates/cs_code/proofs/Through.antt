@@ -22,13 +22,11 @@ use Rattle.cs_acts.specs.Layout.{Layout}
 use Rattle.cs_acts.specs.Names.{Store, KeepsNames, Names, NamesOption, name_of}
 use Rattle.cs_acts.specs.Ready.{IsReady}
 use Rattle.cs_acts.proofs.Held.{named_held}
+use Rattle.cs_acts.proofs.Leading.{names-trans}
 use Rattle.cs_code.specs.declared.end.CodeEnd.{CodeEnd}
 use Rattle.cs_code.specs.declared.end.CodeEnd.TheVariants as code
 use Rattle.cs_model.specs.declared.stop.Stop.{Stop}
 use Rattle.cs_code.specs.Gives.{Gives}
-
-pub names-trans : (a b c : Store) → KeepsNames a b → KeepsNames b c → KeepsNames a c
-names-trans a b c f g = λ o named. let h = f o named in let i = g o h.sound in record { sound = i.sound; is = i.is ∙ h.is }
 
 -- ---- the same objects and the same rest are the same state
 

@@ -8,10 +8,12 @@ ghost use Rattle.cs_model.specs.Ref as ref;
 ghost use Rattle.cs_acts.specs.declared.act.Full.{Full};
 ghost use Rattle.cs_acts.specs.declared.act.Full.TheVariants as full;
 ghost use Rattle.cs_acts.specs.Full.{CausesFull};
+ghost use Rattle.cs_acts.specs.Led.{Leads};
+ghost use Rattle.cs_acts.specs.Made.{MakesAtMost};
 ghost use Rattle.cs_acts.specs.Names.{Names};
 ghost use Rattle.cs_acts.specs.Ready.{IsReady};
 ghost use Rattle.cs_code.specs.declared.end.CodeEnd.TheVariants as ends;
-ghost use Rattle.cs_code.specs.Closures.{Leads, bare_closure};
+ghost use Rattle.cs_code.specs.Closures.{bare_closure};
 ghost use Rattle.cs_code.specs.Gives.{Gives, Refuses, is_refused};
 
 use crate::CodeEnd;
@@ -22,13 +24,19 @@ use cs_model::Stop;
 use cs_word::Oop;
 
 /// The class index of closures.
-const CLOSURE: u32 = 37;
+const CLOSURE_CLASS: u32 = 37;
 
 /// The format of closures: named and indexed fields.
 const FORMAT: u8 = 3;
 
-/// The slots that come before the copied values: the outer context, the first pc and the number of arguments.
-const FIELDS: u32 = 3;
+/// The slots of a closure: outerContext, startpc, numArgs, and then its copied values.
+const OUTER_CONTEXT: u32 = 0;
+
+const START_PC: u32 = 1;
+
+const ARGUMENT_COUNT: u32 = 2;
+
+const FIRST_COPIED: u32 = 3;
 
 /// Pushes a closure over the active context, with the topmost values as its copied ones, and jumps past its block.
 ///
@@ -40,6 +48,7 @@ pub fn make_closure<W: World>(w: &mut W, copied: u8, args: u8, size: u16) -> Cod
     ensures full { (why : Full) → result ≡ ends.Full why → Refuses (W.stored w.new) (W.layout w.old) (W.view w.old) (closure_out (W.view w.old) copied args size) why }
     ensures layout { is_refused result ≡ false → W.layout w.new ≡ W.layout w.old }
     ensures limit { (W.stored w.new).memory.limit ≡ (W.stored w.old).memory.limit }
+    ensures contexts { is_refused result ≡ false → MakesAtMost 1 (W.layout w.old) (W.stored w.old) (W.stored w.new) }
 {
     let Some(pc) = pc_after(w, i32::from(size)) else {
         return CodeEnd::Stop(Stop::BadCode);
@@ -66,7 +75,7 @@ fn make<W: World>(w: &mut W, copied: u8, args: u8) -> Result<Oop, Full>
     requires births { (W.view w.old).rest.next < 4611686018427387904 }
     requires there { copied ≤ depth_of (W.view w.old) }
     ensures value { IfOk result (λ o. Names (W.stored w.new) o (next_ref (W.view w.old))) }
-    ensures leads { OnOk result (Leads (W.stored w.old) (W.stored w.new) (W.layout w.old) (W.layout w.new) (W.view w.new) (add_of (W.view w.old) (new_closure (W.view w.old) copied args))) }
+    ensures leads { OnOk result (Leads (W.stored w.old) (W.stored w.new) (W.layout w.old) (W.layout w.new) (W.view w.new) (add_of (W.view w.old) (new_closure (W.view w.old) copied args)) 1) }
     ensures limit { (W.stored w.new).memory.limit ≡ (W.stored w.old).memory.limit }
     ensures heap_alone { IfErr result (λ why. why ≡ full.Heap) }
     ensures full { IfErr result (CausesFull (W.stored w.new) (W.layout w.old) (W.view w.old) (words_of_slots (3 + copied)) (add_of (W.view w.old) (new_closure (W.view w.old) copied args))) }
@@ -78,7 +87,7 @@ fn make<W: World>(w: &mut W, copied: u8, args: u8) -> Result<Oop, Full>
     let first = w.depth() - u32::from(copied);
     for i in 0..u32::from(copied) {
         let value = w.stack_at(first + i);
-        w.store(closure, FIELDS + i, value);
+        w.store(closure, FIRST_COPIED + i, value);
     }
     Ok(closure)
 }
@@ -88,7 +97,7 @@ fn begin<W: World>(w: &mut W, copied: u8, args: u8) -> Result<Oop, Full>
     requires ready { IsReady (W.stored w.old) (W.view w.old) }
     requires births { (W.view w.old).rest.next < 4611686018427387904 }
     ensures value { IfOk result (λ o. Names (W.stored w.new) o (next_ref (W.view w.old))) }
-    ensures leads { OnOk result (Leads (W.stored w.old) (W.stored w.new) (W.layout w.old) (W.layout w.new) (W.view w.new) (add_of (W.view w.old) (bare_closure (W.view w.old) copied args))) }
+    ensures leads { OnOk result (Leads (W.stored w.old) (W.stored w.new) (W.layout w.old) (W.layout w.new) (W.view w.new) (add_of (W.view w.old) (bare_closure (W.view w.old) copied args)) 1) }
     ensures limit { (W.stored w.new).memory.limit ≡ (W.stored w.old).memory.limit }
     ensures heap_alone { IfErr result (λ why. why ≡ full.Heap) }
     ensures full { IfErr result (CausesFull (W.stored w.new) (W.layout w.old) (W.view w.old) (words_of_slots (3 + copied)) (add_of (W.view w.old) (bare_closure (W.view w.old) copied args))) }
@@ -98,13 +107,13 @@ fn begin<W: World>(w: &mut W, copied: u8, args: u8) -> Result<Oop, Full>
         Err(why) => return Err(why),
     };
     let pc = pc_word(w);
-    let closure = match w.allocate(CLOSURE, FORMAT, FIELDS + u32::from(copied)) {
+    let closure = match w.allocate(CLOSURE_CLASS, FORMAT, FIRST_COPIED + u32::from(copied)) {
         Ok(closure) => closure,
         Err(why) => return Err(why),
     };
-    w.store(closure, 0, context);
-    w.store(closure, 1, pc);
-    w.store(closure, 2, small_word(i32::from(args)));
+    w.store(closure, OUTER_CONTEXT, context);
+    w.store(closure, START_PC, pc);
+    w.store(closure, ARGUMENT_COUNT, small_word(i32::from(args)));
     Ok(closure)
 }
 
@@ -122,7 +131,7 @@ fn pc_word<W: World>(w: &W) -> Oop
 fn drop_values<W: World>(w: &mut W, count: u8)
     requires ready { IsReady (W.stored w.old) (W.view w.old) }
     requires there { count ≤ depth_of (W.view w.old) }
-    ensures { Leads (W.stored w.old) (W.stored w.new) (W.layout w.old) (W.layout w.new) (W.view w.new) (drop_of (W.view w.old) count) }
+    ensures { Leads (W.stored w.old) (W.stored w.new) (W.layout w.old) (W.layout w.new) (W.view w.new) (drop_of (W.view w.old) count) 0 }
 {
     for _ in 0..u32::from(count) {
         w.pop();

@@ -23,7 +23,7 @@ pub record AtHome (old new : PlainWorld) (home target : ℕ) (context : Oop) : T
   pub names : KeepsNames (stored_of old) (stored_of new)
   pub limit : new.heap.limit ≡ old.heap.limit
 
--- A context that dies has this target as its sender, which is another one, live, and has room for a value.
+-- A return behind the death of this home can land on the target: that is another context, live, and has room for a value.
 pub record CanLand (k : Kept) (home target : ℕ) : Type 0 where
   pub live : is_live k target ≡ true
   pub other : target ≢ home

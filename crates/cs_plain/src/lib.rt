@@ -50,12 +50,15 @@ const OUTER_CONTEXT: u32 = 0;
 
 const START_PC: u32 = 1;
 
-const COPIED: u32 = 3;
+const FIRST_COPIED: u32 = 3;
 
 /// The class index of contexts, and their format: one with named and indexed fields.
 const CONTEXT: u32 = 36;
 
 const FIELDS_AND_INDICES: u8 = 3;
+
+/// How many links a walk along the senders follows.
+const LINKS: u32 = 1_048_576;
 
 /// The slots of a process, and the one in which it keeps its context while it doesn't run.
 const PROCESS_SLOTS: u32 = 4;
@@ -184,23 +187,20 @@ fn bury(heap: &mut Heap, context: Oop)
 }
 
 impl PlainWorld {
-    ghost use Rattle.std.specs.Prelude.{ℕ, IfOk, false, true, None};
+    ghost use Rattle.std.specs.Prelude.{ℕ, IfErr, IfOk, IfSome, IsSomeAnd, None, OnOk, false, true};
     ghost use Rattle.std.specs.FinMap.{get};
-    ghost use Rattle.cs_model.specs.Obj.{Context, Ctx};
-    ghost use Rattle.cs_model.specs.State.{PcLies, object_at};
     ghost use Rattle.cs_classes.specs.Sound.{IsWhole};
-    ghost use Rattle.cs_model.specs.Read.{IsRunning};
     ghost use Rattle.cs_model.specs.Due.{is_idle};
+    ghost use Rattle.cs_model.specs.Obj.{Context, Ctx};
     ghost use Rattle.cs_model.specs.Operation.{nil_of};
-    ghost use Rattle.cs_model.specs.Settle.{open_kept};
-    ghost use Rattle.cs_model.specs.Step.{shape_fault};
-    ghost use Rattle.cs_acts.specs.Names.{IsNamed, Names, name_of};
-    ghost use Rattle.cs_acts.specs.Ready.{IsSound};
-    ghost use Rattle.std.specs.Prelude.{IfErr, IfSome, IsSomeAnd, OnOk};
-    ghost use Rattle.cs_model.specs.Read.{active_birth};
+    ghost use Rattle.cs_model.specs.Read.{IsRunning, active_birth};
     ghost use Rattle.cs_model.specs.Return.{sender_birth};
+    ghost use Rattle.cs_model.specs.Settle.{open_kept};
+    ghost use Rattle.cs_model.specs.State.{PcLies, object_at};
+    ghost use Rattle.cs_model.specs.Step.{shape_fault};
     ghost use Rattle.cs_acts.specs.Full.{CausesFull};
-    ghost use Rattle.cs_acts.specs.Names.{KeepsNames};
+    ghost use Rattle.cs_acts.specs.Names.{IsNamed, KeepsNames, Names, name_of};
+    ghost use Rattle.cs_acts.specs.Ready.{IsSound};
     ghost use Rattle.cs_acts.specs.Targets.{CanCut};
     ghost use Rattle.cs_plain.specs.Calling.{CanCall, called_context, called_of};
     ghost use Rattle.cs_plain.specs.Cutting.{AtHome, CanLand, landed_of};
@@ -305,32 +305,18 @@ impl PlainWorld {
         ensures full { IfErr result (CausesFull (stored_of self.new) None (view_of self.old) 0 (called_of (view_of self.old) args (called_context (stored_of self.old) (view_of self.old) header args copied fields))) }
     {
         let sender = fields.sender;
+        let closure = fields.closure;
         let left = self.depth() - (args + 1);
         let birth = self.roots.next_birth;
-        let Ok(context) = self
-            .heap
-            .allocate(CONTEXT, FIELDS_AND_INDICES, context_slots(header), birth)
-        else {
+        let slots = context_slots(header);
+        let heap = &mut self.heap;
+        let Ok(context) = heap.allocate(CONTEXT, FIELDS_AND_INDICES, slots, birth) else {
             return Err(Full::Heap);
         };
-        write_fields(&mut self.heap, context, fields);
-        copy_slots(
-            &mut self.heap,
-            sender,
-            STACK + left + 1,
-            context,
-            STACK,
-            args,
-        );
-        copy_slots(
-            &mut self.heap,
-            fields.closure,
-            COPIED,
-            context,
-            STACK + args,
-            copied,
-        );
-        self.heap.set_slot(sender, STACKP, count_word(left));
+        write_fields(heap, context, fields);
+        copy_slots(heap, sender, STACK + left + 1, context, STACK, args);
+        copy_slots(heap, closure, FIRST_COPIED, context, STACK + args, copied);
+        heap.set_slot(sender, STACKP, count_word(left));
         self.roots.next_birth = birth + 1;
         self.active = Some(context);
         Ok(())
@@ -343,7 +329,7 @@ impl PlainWorld {
         ensures { IfSome (sender_birth (view_of self.old) home) (λ target. AtHome self.old self.new home target result) }
     {
         let mut context = self.active_context();
-        for _ in 0..1_048_576_u32 {
+        for _ in 0..LINKS {
             if self.heap.birth(context) == home {
                 return context;
             }
@@ -573,7 +559,7 @@ impl World for PlainWorld {
         let outer = self.heap.slot(closure, OUTER_CONTEXT);
         let method = self.heap.slot(outer, METHOD);
         let header = count(self.heap.slot(method, 0));
-        let copied = self.heap.slot_count(closure) - COPIED;
+        let copied = self.heap.slot_count(closure) - FIRST_COPIED;
         let fields = Fields {
             sender: self.active_context(),
             pc: self.heap.slot(closure, START_PC),

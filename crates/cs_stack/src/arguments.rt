@@ -11,7 +11,7 @@ use cs_heap::Heap;
 use cs_word::Oop;
 
 /// The slot of a closure from which on its copied values stand, behind outer context, first pc and count of arguments.
-pub(crate) const COPIED: u32 = 3;
+pub(crate) const FIRST_COPIED: u32 = 3;
 
 /// Pushes the last `args` values of one frame onto the last frame of another page, in their order.
 pub(crate) fn copy_arguments(frames: &mut Frames, caller: FrameRef, callee: FrameRef, args: u32)
@@ -50,7 +50,7 @@ pub(crate) fn push_copied(frames: &mut Frames, f: FrameRef, heap: &Heap, closure
     ensures pushed { frames.new ≡ on_page frames.old f.page (on_top (with_stack ((top (frames_of frames.old f.page)).stack ++ copied_at heap.now.objects closure.0 count))) }
 {
     for i in 0..count {
-        frames.push(f, heap.slot(closure, COPIED + i));
+        frames.push(f, heap.slot(closure, FIRST_COPIED + i));
     }
 }
 

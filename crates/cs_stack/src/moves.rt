@@ -20,7 +20,7 @@ ghost use Rattle.cs_stack.specs.Good.{IsGood};
 ghost use Rattle.cs_stack.specs.Moved.{CanBegin, Takes, Unwound, active_number, based_parts, begun_parts, begun_state, called_parts, entry_of, taken_of};
 ghost use Rattle.cs_stack.specs.View.{active_page, layout_of, stored_of, view_of};
 
-use crate::arguments::{COPIED, copy_arguments, drop_values, push_copied, push_nils};
+use crate::arguments::{FIRST_COPIED, copy_arguments, drop_values, push_copied, push_nils};
 use crate::parts::{METHOD, NIL, Parts, RECEIVER, SUSPENDED_CONTEXT};
 use crate::words::{count_word, header, literal_count, temporary_count};
 use cs_acts::Full;
@@ -34,7 +34,7 @@ const FRAME_ROOM: u32 = 66;
 /// The first slots of a closure, as of V3PlusClosures: its outer context, and the pc of its block.
 const OUTER_CONTEXT: u32 = 0;
 
-const FIRST_PC: u32 = 1;
+const START_PC: u32 = 1;
 
 /// How many bytes of bytecodes name a primitive.
 const PRIMITIVE_BYTES: u32 = 3;
@@ -112,8 +112,8 @@ impl Parts {
             args,
             fill: 0,
         };
-        let pc = self.heap.slot(closure, FIRST_PC);
-        let copies = self.heap.slot_count(closure) - COPIED;
+        let pc = self.heap.slot(closure, START_PC);
+        let copies = self.heap.slot_count(closure) - FIRST_COPIED;
         self.begin(new, pc, copies)
     }
 

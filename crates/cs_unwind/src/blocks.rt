@@ -24,21 +24,21 @@ use cs_model::Stop;
 use cs_word::{Kind, Oop};
 
 /// The class index of closures, and their format: pointer slots behind fixed ones.
-const CLOSURE: u32 = 37;
+const CLOSURE_CLASS: u32 = 37;
 
 const CLOSURE_FORMAT: u8 = 3;
 
 /// The format of an Array.
 const ARRAY_FORMAT: u8 = 2;
 
-/// The slots of a closure before its copied values, and how many they are.
+/// The slots of a closure: outerContext, startpc, numArgs, and then its copied values.
 const OUTER_CONTEXT: u32 = 0;
 
 const START_PC: u32 = 1;
 
 const ARGUMENT_COUNT: u32 = 2;
 
-const FIXED_SLOTS: u32 = 3;
+const FIRST_COPIED: u32 = 3;
 
 /// Primitives 201 to 205, 221 and 222: the receiver is evaluated with so many arguments.
 pub(crate) fn evaluate<W: World>(w: &mut W, wanted: u32, args: u32) -> PrimEnd
@@ -177,11 +177,11 @@ fn is_closure<W: World>(w: &W, o: Oop) -> bool
     requires named { IsNamed (W.stored w.now) o }
     ensures { result ≡ is_closure (W.view w.now) (name_of (W.stored w.now) o) }
 {
-    if !has_slots(w, o, FIXED_SLOTS) {
+    if !has_slots(w, o, FIRST_COPIED) {
         return false;
     }
     let heap = w.heap();
-    heap.class_index(o) == CLOSURE && heap.format(o) == CLOSURE_FORMAT
+    heap.class_index(o) == CLOSURE_CLASS && heap.format(o) == CLOSURE_FORMAT
 }
 
 /// One of a closure's slots before its copied values.
@@ -192,7 +192,7 @@ fn closure_slot<W: World>(w: &W, o: Oop, i: u32) -> Oop
     requires within { i < 3 }
     ensures { Names (W.stored w.now) result (closure_slot (W.view w.now) (name_of (W.stored w.now) o) i) }
 {
-    let Some(value) = slot(w, o, FIXED_SLOTS, i) else {
+    let Some(value) = slot(w, o, FIRST_COPIED, i) else {
         unreachable!();
     };
     value
@@ -205,7 +205,7 @@ fn copied<W: World>(w: &W, closure: Oop) -> u32
     requires closure { is_closure (W.view w.now) (name_of (W.stored w.now) closure) ≡ true }
     ensures { result ≡ length (copied_values (W.view w.now) (name_of (W.stored w.now) closure)) }
 {
-    slot_count(w, closure) - FIXED_SLOTS
+    slot_count(w, closure) - FIRST_COPIED
 }
 
 /// How many slots a pointer object has.

@@ -2,7 +2,8 @@ use Rattle.std.proofs.Common.{arith, ap, sym, ◌∙◌, ◌-◌}
 use Rattle.cs_model.specs.End.{done}
 use Rattle.cs_model.specs.Operation.{pop_of, set_stack_of}
 use Rattle.cs_acts.specs.Names.{name_of}
-use Rattle.cs_code.proofs.Through.{exact-behind, gives_done, names-trans}
+use Rattle.cs_acts.proofs.Leading.{names-trans}
+use Rattle.cs_code.proofs.Through.{exact-behind, gives_done}
 use Rattle.cs_code.proofs.Tops.{depth-stored, two-replaced}
 use Rattle.cs_code.proofs.arithmetic.replace_two.Goals as goal
 

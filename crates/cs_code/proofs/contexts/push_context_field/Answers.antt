@@ -6,7 +6,7 @@ use Rattle.cs_acts.specs.Full.{CausesFull}
 use Rattle.cs_acts.specs.Names.{name_of}
 use Rattle.cs_acts.specs.Targets.{field_of}
 use Rattle.cs_code.proofs.Looking.{field-over-as, field-pushed-as, field-refused, pushed-given, stopped-given}
-use Rattle.cs_code.proofs.Through.{names-trans}
+use Rattle.cs_acts.proofs.Leading.{names-trans}
 use Rattle.cs_code.proofs.contexts.push_context_field.Goals as goal
 
 pub returns-then-not-has_room-clause-gives : goal.returns-then-not-has_room-clause-gives

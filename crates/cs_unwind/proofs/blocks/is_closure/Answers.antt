@@ -14,22 +14,22 @@ class_index-requires g c =
     let k = g.W.World.view c.args.w.now in
     (pointer s k c.heap-heap.result.now c.args.o c.heap-heap.ensures c.requires.sound.holds c.requires.named (has_some k 3 (name_of s c.args.o) (sym c.has_slots.ensures ∙ c.if-not-has_slots.false))).there
 
-pub returns-then-class_index-eq-CLOSURE : goal.returns-then-class_index-eq-CLOSURE
-returns-then-class_index-eq-CLOSURE g c =
+pub returns-then-class_index-eq-CLOSURE_CLASS : goal.returns-then-class_index-eq-CLOSURE_CLASS
+returns-then-class_index-eq-CLOSURE_CLASS g c =
     let s = g.W.World.stored c.args.w.now in
     let k = g.W.World.view c.args.w.now in
     let has = sym c.has_slots.ensures ∙ c.if-not-has_slots.false in
     let p = pointer s k c.heap-heap.result.now c.args.o c.heap-heap.ensures c.requires.sound.holds c.requires.named (has_some k 3 (name_of s c.args.o) has) in
     ap (λ f. f == 3) c.format.ensures.value
-    ∙ ap (λ (b : Bool). b && format_of c.heap-heap.result.now.objects c.args.o.0 == 3) (sym (is_37 _ (sym c.class_index.ensures.value ∙ c.if-class_index-eq-CLOSURE.true)))
+    ∙ ap (λ (b : Bool). b && format_of c.heap-heap.result.now.objects c.args.o.0 == 3) (sym (is_37 _ (sym c.class_index.ensures.value ∙ c.if-class_index-eq-CLOSURE_CLASS.true)))
     ∙ closure_read s k c.heap-heap.result.now c.args.o p has
 
-pub returns-else-class_index-eq-CLOSURE : goal.returns-else-class_index-eq-CLOSURE
-returns-else-class_index-eq-CLOSURE g c =
+pub returns-else-class_index-eq-CLOSURE_CLASS : goal.returns-else-class_index-eq-CLOSURE_CLASS
+returns-else-class_index-eq-CLOSURE_CLASS g c =
     let s = g.W.World.stored c.args.w.now in
     let k = g.W.World.view c.args.w.now in
     let has = sym c.has_slots.ensures ∙ c.if-not-has_slots.false in
     let p = pointer s k c.heap-heap.result.now c.args.o c.heap-heap.ensures c.requires.sound.holds c.requires.named (has_some k 3 (name_of s c.args.o) has) in
-    isnt_37 _ c.if-class_index-eq-CLOSURE.false
-    ∙ ap (λ (b : Bool). b && format_of c.heap-heap.result.now.objects c.args.o.0 == 3) (sym (isnt_37 _ (λ e. c.if-class_index-eq-CLOSURE.false (c.class_index.ensures.value ∙ e))))
+    isnt_37 _ c.if-class_index-eq-CLOSURE_CLASS.false
+    ∙ ap (λ (b : Bool). b && format_of c.heap-heap.result.now.objects c.args.o.0 == 3) (sym (isnt_37 _ (λ e. c.if-class_index-eq-CLOSURE_CLASS.false (c.class_index.ensures.value ∙ e))))
     ∙ closure_read s k c.heap-heap.result.now c.args.o p has
