@@ -1,3 +1,4 @@
 pub mod Gives
 pub mod Built
 pub mod Closures
+pub mod Looks

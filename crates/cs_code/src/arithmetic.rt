@@ -10,6 +10,7 @@ ghost use Rattle.cs_model.specs.Operation.{drop_of, nil_of, push_of};
 ghost use Rattle.cs_model.specs.Read.{class_of, depth_of};
 ghost use Rattle.cs_model.specs.Ref.{small_of};
 ghost use Rattle.cs_model.specs.End.{done};
+ghost use Rattle.cs_acts.specs.Made.{MakesAtMost};
 ghost use Rattle.cs_acts.specs.Names.{IsNamed, Names, NamesOption, Store, name_of};
 ghost use Rattle.cs_acts.specs.Ready.{IsReady, IsSound};
 ghost use Rattle.cs_code.specs.Gives.{Gives};
@@ -29,6 +30,7 @@ pub fn special<W: World>(w: &mut W, i: u8) -> CodeEnd
     ensures gives { Gives (W.stored w.old) (W.stored w.new) (W.layout w.old) (W.view w.new) result (special_out (W.view w.old) i) }
     ensures layout { W.layout w.new ≡ W.layout w.old }
     ensures limit { (W.stored w.new).memory.limit ≡ (W.stored w.old).memory.limit }
+    ensures contexts { MakesAtMost 0 (W.layout w.old) (W.stored w.old) (W.stored w.new) }
 {
     match at_once(w, i) {
         Some(x) => replace_two(w, x),
@@ -43,6 +45,7 @@ pub fn common<W: World>(w: &mut W, i: u8) -> CodeEnd
     ensures gives { Gives (W.stored w.old) (W.stored w.new) (W.layout w.old) (W.view w.new) result (common_out (W.view w.old) i) }
     ensures layout { W.layout w.new ≡ W.layout w.old }
     ensures limit { (W.stored w.new).memory.limit ≡ (W.stored w.old).memory.limit }
+    ensures contexts { MakesAtMost 0 (W.layout w.old) (W.stored w.old) (W.stored w.new) }
 {
     match i {
         6 => compare(w),
@@ -58,6 +61,7 @@ fn compare<W: World>(w: &mut W) -> CodeEnd
     ensures gives { Gives (W.stored w.old) (W.stored w.new) (W.layout w.old) (W.view w.new) result (same_out (W.view w.old)) }
     ensures layout { W.layout w.new ≡ W.layout w.old }
     ensures limit { (W.stored w.new).memory.limit ≡ (W.stored w.old).memory.limit }
+    ensures contexts { MakesAtMost 0 (W.layout w.old) (W.stored w.old) (W.stored w.new) }
 {
     let Some(a) = from_top(w, 1) else {
         return CodeEnd::Stop(Stop::StackUnder);
@@ -77,6 +81,7 @@ fn push_class<W: World>(w: &mut W) -> CodeEnd
     ensures gives { Gives (W.stored w.old) (W.stored w.new) (W.layout w.old) (W.view w.new) result (class_out (W.view w.old)) }
     ensures layout { W.layout w.new ≡ W.layout w.old }
     ensures limit { (W.stored w.new).memory.limit ≡ (W.stored w.old).memory.limit }
+    ensures contexts { MakesAtMost 0 (W.layout w.old) (W.stored w.old) (W.stored w.new) }
 {
     let Some(x) = from_top(w, 0) else {
         return CodeEnd::Stop(Stop::StackUnder);
@@ -107,6 +112,7 @@ fn replace_two<W: World>(w: &mut W, x: Oop) -> CodeEnd
     ensures gives { Gives (W.stored w.old) (W.stored w.new) (W.layout w.old) (W.view w.new) result (done (push_of (drop_of (W.view w.old) 2) (name_of (W.stored w.old) x))) }
     ensures layout { W.layout w.new ≡ W.layout w.old }
     ensures limit { (W.stored w.new).memory.limit ≡ (W.stored w.old).memory.limit }
+    ensures contexts { MakesAtMost 0 (W.layout w.old) (W.stored w.old) (W.stored w.new) }
 {
     let depth = w.depth();
     w.set_stack(depth - 2, x);

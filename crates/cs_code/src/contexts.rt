@@ -6,6 +6,7 @@ ghost use Rattle.cs_model.specs.Ref.{index_of};
 ghost use Rattle.cs_model.specs.Return.{context_at};
 ghost use Rattle.cs_model.specs.State.{object_of};
 ghost use Rattle.cs_acts.specs.declared.act.Full.{Full};
+ghost use Rattle.cs_acts.specs.Made.{MakesAtMost};
 ghost use Rattle.cs_acts.specs.Names.{IsNamed, KeepsNames, Store, name_of};
 ghost use Rattle.cs_acts.specs.Ready.{IsReady};
 ghost use Rattle.cs_acts.specs.Targets.{field_of};
@@ -32,6 +33,7 @@ pub fn push_this<W: World>(w: &mut W) -> CodeEnd
     ensures full { (why : Full) → result ≡ ends.Full why → Refuses (W.stored w.new) (W.layout w.old) (W.view w.old) (this_context_out (W.view w.old)) why }
     ensures layout { is_refused result ≡ false → W.layout w.new ≡ W.layout w.old }
     ensures limit { (W.stored w.new).memory.limit ≡ (W.stored w.old).memory.limit }
+    ensures contexts { is_refused result ≡ false → MakesAtMost 1 (W.layout w.old) (W.stored w.old) (W.stored w.new) }
 {
     if !has_room(w) {
         return CodeEnd::Stop(Stop::StackOver);
@@ -54,6 +56,7 @@ pub fn push_context_field<W: World>(w: &mut W, context: Oop, i: u32) -> CodeEnd
     ensures full { (why : Full) → result ≡ ends.Full why → Refuses (W.stored w.new) (W.layout w.old) (W.view w.old) (push_field (W.view w.old) i (object_of (W.view w.old) (name_of (W.stored w.old) context))) why }
     ensures layout { is_refused result ≡ false → W.layout w.new ≡ W.layout w.old }
     ensures limit { (W.stored w.new).memory.limit ≡ (W.stored w.old).memory.limit }
+    ensures contexts { is_refused result ≡ false → MakesAtMost 1 (W.layout w.old) (W.stored w.old) (W.stored w.new) }
 {
     if !has_field(w, context, i) {
         return CodeEnd::Stop(Stop::BadField);
@@ -79,6 +82,7 @@ fn has_field<W: World>(w: &mut W, context: Oop, i: u32) -> bool
     ensures view { W.view w.new ≡ W.view w.old }
     ensures layout { W.layout w.new ≡ W.layout w.old }
     ensures limit { (W.stored w.new).memory.limit ≡ (W.stored w.old).memory.limit }
+    ensures contexts { MakesAtMost 0 (W.layout w.old) (W.stored w.old) (W.stored w.new) }
     ensures ready { IsReady (W.stored w.new) (W.view w.new) }
     ensures names { KeepsNames (W.stored w.old) (W.stored w.new) }
 {
@@ -94,6 +98,7 @@ fn stack_depth<W: World>(w: &mut W, context: Oop) -> u32
     ensures view { W.view w.new ≡ W.view w.old }
     ensures layout { W.layout w.new ≡ W.layout w.old }
     ensures limit { (W.stored w.new).memory.limit ≡ (W.stored w.old).memory.limit }
+    ensures contexts { MakesAtMost 0 (W.layout w.old) (W.stored w.old) (W.stored w.new) }
     ensures ready { IsReady (W.stored w.new) (W.view w.new) }
     ensures names { KeepsNames (W.stored w.old) (W.stored w.new) }
 {

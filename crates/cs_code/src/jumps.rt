@@ -3,6 +3,7 @@ ghost use Rattle.std.specs.Prelude.{◌≡◌, IfSome, true};
 ghost use Rattle.cs_model.specs.Exec.{jump_if_out, jump_out, pc_after};
 ghost use Rattle.cs_model.specs.Obj.{lies_in};
 ghost use Rattle.cs_model.specs.Read.{method_of};
+ghost use Rattle.cs_acts.specs.Made.{MakesAtMost};
 ghost use Rattle.cs_acts.specs.Ready.{IsReady};
 ghost use Rattle.cs_code.specs.Gives.{Gives};
 
@@ -22,6 +23,7 @@ pub fn jump<W: World>(w: &mut W, offset: i32) -> CodeEnd
     ensures gives { Gives (W.stored w.old) (W.stored w.new) (W.layout w.old) (W.view w.new) result (jump_out (W.view w.old) offset) }
     ensures layout { W.layout w.new ≡ W.layout w.old }
     ensures limit { (W.stored w.new).memory.limit ≡ (W.stored w.old).memory.limit }
+    ensures contexts { MakesAtMost 0 (W.layout w.old) (W.stored w.old) (W.stored w.new) }
 {
     match pc_after(w, offset) {
         Some(pc) => {
@@ -58,6 +60,7 @@ pub fn jump_if<W: World>(w: &mut W, wanted: bool, offset: u16) -> CodeEnd
     ensures gives { Gives (W.stored w.old) (W.stored w.new) (W.layout w.old) (W.view w.new) result (jump_if_out (W.view w.old) wanted offset) }
     ensures layout { W.layout w.new ≡ W.layout w.old }
     ensures limit { (W.stored w.new).memory.limit ≡ (W.stored w.old).memory.limit }
+    ensures contexts { MakesAtMost 0 (W.layout w.old) (W.stored w.old) (W.stored w.new) }
 {
     let Some(condition) = from_top(w, 0) else {
         return CodeEnd::Stop(Stop::StackUnder);

@@ -5,10 +5,12 @@
 
 ghost use Rattle.std.specs.Prelude.{◌≡◌, ◌<◌, false};
 ghost use Rattle.cs_acts.specs.declared.act.Full.{Full};
+ghost use Rattle.cs_acts.specs.Made.{MakesAtMost};
 ghost use Rattle.cs_acts.specs.Ready.{IsReady};
 ghost use Rattle.cs_code.specs.Built.{built_exec};
 ghost use Rattle.cs_code.specs.declared.end.CodeEnd.TheVariants as ends;
 ghost use Rattle.cs_code.specs.Gives.{Gives, Refuses, is_refused};
+ghost use Rattle.cs_code.specs.Looks.{looks_of};
 
 mod arithmetic;
 mod closures;
@@ -36,6 +38,7 @@ pub fn exec<W: World>(i: &Instr, w: &mut W) -> CodeEnd
     ensures full { (why : Full) → result ≡ ends.Full why → Refuses (W.stored w.new) (W.layout w.old) (W.view w.old) (built_exec i.now.op (W.view w.old)) why }
     ensures layout { is_refused result ≡ false → W.layout w.new ≡ W.layout w.old }
     ensures limit { (W.stored w.new).memory.limit ≡ (W.stored w.old).memory.limit }
+    ensures contexts { is_refused result ≡ false → MakesAtMost (looks_of i.now.op) (W.layout w.old) (W.stored w.old) (W.stored w.new) }
 {
     match i.op {
         Op::PushRcvr(k) => variables::push_field(w, k),

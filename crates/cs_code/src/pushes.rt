@@ -7,6 +7,7 @@ ghost use Rattle.cs_model.specs.Read.{depth_of, receiver_of, size_of};
 ghost use Rattle.cs_model.specs.Ref.{Ref};
 ghost use Rattle.cs_model.specs.Ref as ref;
 ghost use Rattle.cs_model.specs.Exec.{push_out, push_temp_out, push_literal_out, pop_out, dup_out};
+ghost use Rattle.cs_acts.specs.Made.{MakesAtMost};
 ghost use Rattle.cs_acts.specs.Names.{IsNamed, Names, Store, name_of};
 ghost use Rattle.cs_acts.specs.Ready.{IsReady};
 ghost use Rattle.cs_code.specs.Gives.{Gives};
@@ -33,6 +34,7 @@ pub fn push<W: World>(w: &mut W, x: Oop) -> CodeEnd
     ensures gives { Gives (W.stored w.old) (W.stored w.new) (W.layout w.old) (W.view w.new) result (push_out (W.view w.old) (name_of (W.stored w.old) x)) }
     ensures layout { W.layout w.new ≡ W.layout w.old }
     ensures limit { (W.stored w.new).memory.limit ≡ (W.stored w.old).memory.limit }
+    ensures contexts { MakesAtMost 0 (W.layout w.old) (W.stored w.old) (W.stored w.new) }
 {
     if has_room(w) {
         w.push(x);
@@ -49,6 +51,7 @@ pub fn push_temporary<W: World>(w: &mut W, i: u8) -> CodeEnd
     ensures gives { Gives (W.stored w.old) (W.stored w.new) (W.layout w.old) (W.view w.new) result (push_temp_out (W.view w.old) i) }
     ensures layout { W.layout w.new ≡ W.layout w.old }
     ensures limit { (W.stored w.new).memory.limit ≡ (W.stored w.old).memory.limit }
+    ensures contexts { MakesAtMost 0 (W.layout w.old) (W.stored w.old) (W.stored w.new) }
 {
     match temporary(w, u32::from(i)) {
         Some(x) => push(w, x),
@@ -63,6 +66,7 @@ pub fn push_literal<W: World>(w: &mut W, i: u8) -> CodeEnd
     ensures gives { Gives (W.stored w.old) (W.stored w.new) (W.layout w.old) (W.view w.new) result (push_literal_out (W.view w.old) i) }
     ensures layout { W.layout w.new ≡ W.layout w.old }
     ensures limit { (W.stored w.new).memory.limit ≡ (W.stored w.old).memory.limit }
+    ensures contexts { MakesAtMost 0 (W.layout w.old) (W.stored w.old) (W.stored w.new) }
 {
     match literal(w, u32::from(i)) {
         Some(x) => push(w, x),
@@ -76,6 +80,7 @@ pub fn push_receiver<W: World>(w: &mut W) -> CodeEnd
     ensures gives { Gives (W.stored w.old) (W.stored w.new) (W.layout w.old) (W.view w.new) result (push_out (W.view w.old) (receiver_of (W.view w.old))) }
     ensures layout { W.layout w.new ≡ W.layout w.old }
     ensures limit { (W.stored w.new).memory.limit ≡ (W.stored w.old).memory.limit }
+    ensures contexts { MakesAtMost 0 (W.layout w.old) (W.stored w.old) (W.stored w.new) }
 {
     let x = w.receiver();
     push(w, x)
@@ -87,6 +92,7 @@ pub fn push_boolean<W: World>(w: &mut W, truth: bool) -> CodeEnd
     ensures gives { Gives (W.stored w.old) (W.stored w.new) (W.layout w.old) (W.view w.new) result (push_out (W.view w.old) (boolean_of (W.view w.old) truth)) }
     ensures layout { W.layout w.new ≡ W.layout w.old }
     ensures limit { (W.stored w.new).memory.limit ≡ (W.stored w.old).memory.limit }
+    ensures contexts { MakesAtMost 0 (W.layout w.old) (W.stored w.old) (W.stored w.new) }
 {
     let x = boolean(w, truth);
     push(w, x)
@@ -98,6 +104,7 @@ pub fn push_nil<W: World>(w: &mut W) -> CodeEnd
     ensures gives { Gives (W.stored w.old) (W.stored w.new) (W.layout w.old) (W.view w.new) result (push_out (W.view w.old) (nil_of (W.view w.old))) }
     ensures layout { W.layout w.new ≡ W.layout w.old }
     ensures limit { (W.stored w.new).memory.limit ≡ (W.stored w.old).memory.limit }
+    ensures contexts { MakesAtMost 0 (W.layout w.old) (W.stored w.old) (W.stored w.new) }
 {
     let x = nil(w);
     push(w, x)
@@ -109,6 +116,7 @@ pub fn push_small<W: World>(w: &mut W, z: i8) -> CodeEnd
     ensures gives { Gives (W.stored w.old) (W.stored w.new) (W.layout w.old) (W.view w.new) result (push_out (W.view w.old) (ref.Small z)) }
     ensures layout { W.layout w.new ≡ W.layout w.old }
     ensures limit { (W.stored w.new).memory.limit ≡ (W.stored w.old).memory.limit }
+    ensures contexts { MakesAtMost 0 (W.layout w.old) (W.stored w.old) (W.stored w.new) }
 {
     let x = small_word(i32::from(z));
     push(w, x)
@@ -133,6 +141,7 @@ pub fn pop<W: World>(w: &mut W) -> CodeEnd
     ensures gives { Gives (W.stored w.old) (W.stored w.new) (W.layout w.old) (W.view w.new) result (pop_out (W.view w.old)) }
     ensures layout { W.layout w.new ≡ W.layout w.old }
     ensures limit { (W.stored w.new).memory.limit ≡ (W.stored w.old).memory.limit }
+    ensures contexts { MakesAtMost 0 (W.layout w.old) (W.stored w.old) (W.stored w.new) }
 {
     match from_top(w, 0) {
         Some(_) => {
@@ -150,6 +159,7 @@ pub fn dup<W: World>(w: &mut W) -> CodeEnd
     ensures gives { Gives (W.stored w.old) (W.stored w.new) (W.layout w.old) (W.view w.new) result (dup_out (W.view w.old)) }
     ensures layout { W.layout w.new ≡ W.layout w.old }
     ensures limit { (W.stored w.new).memory.limit ≡ (W.stored w.old).memory.limit }
+    ensures contexts { MakesAtMost 0 (W.layout w.old) (W.stored w.old) (W.stored w.new) }
 {
     match from_top(w, 0) {
         Some(x) => push(w, x),

@@ -4,6 +4,7 @@ ghost use Rattle.cs_model.specs.Number.{boolean as boolean_of};
 ghost use Rattle.cs_model.specs.Operation.{nil_of, pop_of};
 ghost use Rattle.cs_model.specs.Read.{receiver_of};
 ghost use Rattle.cs_model.specs.Exec.{is_local, return_out, with_top};
+ghost use Rattle.cs_acts.specs.Made.{MakesAtMost};
 ghost use Rattle.cs_acts.specs.Ready.{IsReady};
 ghost use Rattle.cs_code.specs.Gives.{Gives};
 
@@ -59,6 +60,7 @@ pub fn return_top<W: World>(w: &mut W) -> CodeEnd
     ensures gives { Gives (W.stored w.old) (W.stored w.new) (W.layout w.old) (W.view w.new) result (with_top (W.view w.old) (λ x. return_out (pop_of (W.view w.old)) x (is_local (W.view w.old)))) }
     ensures layout { W.layout w.new ≡ W.layout w.old }
     ensures limit { (W.stored w.new).memory.limit ≡ (W.stored w.old).memory.limit }
+    ensures contexts { MakesAtMost 0 (W.layout w.old) (W.stored w.old) (W.stored w.new) }
 {
     let local = is_local(w);
     pop_and_return(w, local)
@@ -70,6 +72,7 @@ pub fn return_to_sender<W: World>(w: &mut W) -> CodeEnd
     ensures gives { Gives (W.stored w.old) (W.stored w.new) (W.layout w.old) (W.view w.new) result (with_top (W.view w.old) (λ x. return_out (pop_of (W.view w.old)) x true)) }
     ensures layout { W.layout w.new ≡ W.layout w.old }
     ensures limit { (W.stored w.new).memory.limit ≡ (W.stored w.old).memory.limit }
+    ensures contexts { MakesAtMost 0 (W.layout w.old) (W.stored w.old) (W.stored w.new) }
 {
     pop_and_return(w, true)
 }
@@ -80,6 +83,7 @@ fn pop_and_return<W: World>(w: &mut W, local: bool) -> CodeEnd
     ensures gives { Gives (W.stored w.old) (W.stored w.new) (W.layout w.old) (W.view w.new) result (with_top (W.view w.old) (λ x. return_out (pop_of (W.view w.old)) x local)) }
     ensures layout { W.layout w.new ≡ W.layout w.old }
     ensures limit { (W.stored w.new).memory.limit ≡ (W.stored w.old).memory.limit }
+    ensures contexts { MakesAtMost 0 (W.layout w.old) (W.stored w.old) (W.stored w.new) }
 {
     match from_top(w, 0) {
         Some(value) => {

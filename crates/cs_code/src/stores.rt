@@ -6,6 +6,7 @@ ghost use Rattle.cs_model.specs.declared.instruction.Op.{Op};
 ghost use Rattle.cs_model.specs.Context.{is_context_ref};
 ghost use Rattle.cs_model.specs.Exec.{store_temp_out, store_variable_out, store_vector_out, store_receiver_out, store_into, pop_into};
 ghost use Rattle.cs_model.specs.Read.{receiver_of};
+ghost use Rattle.cs_acts.specs.Made.{MakesAtMost};
 ghost use Rattle.cs_acts.specs.Names.{IsNamed, name_of};
 ghost use Rattle.cs_acts.specs.Ready.{IsReady};
 ghost use Rattle.cs_code.specs.Built.{built_exec};
@@ -25,6 +26,7 @@ fn store_temporary<W: World>(w: &mut W, i: u8, x: Oop) -> CodeEnd
     ensures gives { Gives (W.stored w.old) (W.stored w.new) (W.layout w.old) (W.view w.new) result (store_temp_out (W.view w.old) i (name_of (W.stored w.old) x)) }
     ensures layout { W.layout w.new ≡ W.layout w.old }
     ensures limit { (W.stored w.new).memory.limit ≡ (W.stored w.old).memory.limit }
+    ensures contexts { MakesAtMost 0 (W.layout w.old) (W.stored w.old) (W.stored w.new) }
 {
     let i = u32::from(i);
     if i < w.depth() {
@@ -43,6 +45,7 @@ fn store_variable<W: World>(w: &mut W, i: u8, x: Oop) -> CodeEnd
     ensures gives { Gives (W.stored w.old) (W.stored w.new) (W.layout w.old) (W.view w.new) result (store_variable_out (W.view w.old) i (name_of (W.stored w.old) x)) }
     ensures layout { W.layout w.new ≡ W.layout w.old }
     ensures limit { (W.stored w.new).memory.limit ≡ (W.stored w.old).memory.limit }
+    ensures contexts { MakesAtMost 0 (W.layout w.old) (W.stored w.old) (W.stored w.new) }
 {
     let Some(variable) = literal(w, u32::from(i)) else {
         return CodeEnd::Stop(Stop::BadLiteral);
@@ -64,6 +67,7 @@ fn store_vector<W: World>(w: &mut W, k: u8, j: u8, x: Oop) -> CodeEnd
     ensures gives { Gives (W.stored w.old) (W.stored w.new) (W.layout w.old) (W.view w.new) result (store_vector_out (W.view w.old) k j (name_of (W.stored w.old) x)) }
     ensures layout { W.layout w.new ≡ W.layout w.old }
     ensures limit { (W.stored w.new).memory.limit ≡ (W.stored w.old).memory.limit }
+    ensures contexts { MakesAtMost 0 (W.layout w.old) (W.stored w.old) (W.stored w.new) }
 {
     let Some(vector) = temporary(w, u32::from(j)) else {
         return CodeEnd::Stop(Stop::BadField);
@@ -86,6 +90,7 @@ fn store_field<W: World>(w: &mut W, i: u8, x: Oop) -> CodeEnd
     ensures gives { Gives (W.stored w.old) (W.stored w.new) (W.layout w.old) (W.view w.new) result (store_receiver_out (W.view w.old) i (name_of (W.stored w.old) x)) }
     ensures layout { W.layout w.new ≡ W.layout w.old }
     ensures limit { (W.stored w.new).memory.limit ≡ (W.stored w.old).memory.limit }
+    ensures contexts { MakesAtMost 0 (W.layout w.old) (W.stored w.old) (W.stored w.new) }
 {
     let receiver = w.receiver();
     match slot_if_any(w, receiver, u32::from(i)) {
@@ -104,6 +109,7 @@ pub fn keep_temporary<W: World>(w: &mut W, i: u8) -> CodeEnd
     ensures gives { Gives (W.stored w.old) (W.stored w.new) (W.layout w.old) (W.view w.new) result (store_into (W.view w.old) (λ t x. store_temp_out t i x)) }
     ensures layout { W.layout w.new ≡ W.layout w.old }
     ensures limit { (W.stored w.new).memory.limit ≡ (W.stored w.old).memory.limit }
+    ensures contexts { MakesAtMost 0 (W.layout w.old) (W.stored w.old) (W.stored w.new) }
 {
     match from_top(w, 0) {
         Some(x) => store_temporary(w, i, x),
@@ -118,6 +124,7 @@ pub fn pop_temporary<W: World>(w: &mut W, i: u8) -> CodeEnd
     ensures gives { Gives (W.stored w.old) (W.stored w.new) (W.layout w.old) (W.view w.new) result (pop_into (W.view w.old) (λ t x. store_temp_out t i x)) }
     ensures layout { W.layout w.new ≡ W.layout w.old }
     ensures limit { (W.stored w.new).memory.limit ≡ (W.stored w.old).memory.limit }
+    ensures contexts { MakesAtMost 0 (W.layout w.old) (W.stored w.old) (W.stored w.new) }
 {
     match from_top(w, 0) {
         Some(x) => {
@@ -135,6 +142,7 @@ pub fn keep_variable<W: World>(w: &mut W, i: u8) -> CodeEnd
     ensures gives { Gives (W.stored w.old) (W.stored w.new) (W.layout w.old) (W.view w.new) result (store_into (W.view w.old) (λ t x. store_variable_out t i x)) }
     ensures layout { W.layout w.new ≡ W.layout w.old }
     ensures limit { (W.stored w.new).memory.limit ≡ (W.stored w.old).memory.limit }
+    ensures contexts { MakesAtMost 0 (W.layout w.old) (W.stored w.old) (W.stored w.new) }
 {
     match from_top(w, 0) {
         Some(x) => store_variable(w, i, x),
@@ -149,6 +157,7 @@ pub fn pop_variable<W: World>(w: &mut W, i: u8) -> CodeEnd
     ensures gives { Gives (W.stored w.old) (W.stored w.new) (W.layout w.old) (W.view w.new) result (pop_into (W.view w.old) (λ t x. store_variable_out t i x)) }
     ensures layout { W.layout w.new ≡ W.layout w.old }
     ensures limit { (W.stored w.new).memory.limit ≡ (W.stored w.old).memory.limit }
+    ensures contexts { MakesAtMost 0 (W.layout w.old) (W.stored w.old) (W.stored w.new) }
 {
     match from_top(w, 0) {
         Some(x) => {
@@ -166,6 +175,7 @@ pub fn keep_vector<W: World>(w: &mut W, k: u8, j: u8) -> CodeEnd
     ensures gives { Gives (W.stored w.old) (W.stored w.new) (W.layout w.old) (W.view w.new) result (store_into (W.view w.old) (λ t x. store_vector_out t k j x)) }
     ensures layout { W.layout w.new ≡ W.layout w.old }
     ensures limit { (W.stored w.new).memory.limit ≡ (W.stored w.old).memory.limit }
+    ensures contexts { MakesAtMost 0 (W.layout w.old) (W.stored w.old) (W.stored w.new) }
 {
     match from_top(w, 0) {
         Some(x) => store_vector(w, k, j, x),
@@ -180,6 +190,7 @@ pub fn pop_vector<W: World>(w: &mut W, k: u8, j: u8) -> CodeEnd
     ensures gives { Gives (W.stored w.old) (W.stored w.new) (W.layout w.old) (W.view w.new) result (pop_into (W.view w.old) (λ t x. store_vector_out t k j x)) }
     ensures layout { W.layout w.new ≡ W.layout w.old }
     ensures limit { (W.stored w.new).memory.limit ≡ (W.stored w.old).memory.limit }
+    ensures contexts { MakesAtMost 0 (W.layout w.old) (W.stored w.old) (W.stored w.new) }
 {
     match from_top(w, 0) {
         Some(x) => {
@@ -197,6 +208,7 @@ pub fn keep_field<W: World>(w: &mut W, i: u8) -> CodeEnd
     ensures gives { Gives (W.stored w.old) (W.stored w.new) (W.layout w.old) (W.view w.new) result (built_exec (Op.StoreRcvr i) (W.view w.old)) }
     ensures layout { W.layout w.new ≡ W.layout w.old }
     ensures limit { (W.stored w.new).memory.limit ≡ (W.stored w.old).memory.limit }
+    ensures contexts { MakesAtMost 0 (W.layout w.old) (W.stored w.old) (W.stored w.new) }
 {
     let receiver = w.receiver();
     if is_context(w, receiver) {
@@ -215,6 +227,7 @@ pub fn pop_field<W: World>(w: &mut W, i: u8) -> CodeEnd
     ensures gives { Gives (W.stored w.old) (W.stored w.new) (W.layout w.old) (W.view w.new) result (built_exec (Op.PopRcvr i) (W.view w.old)) }
     ensures layout { W.layout w.new ≡ W.layout w.old }
     ensures limit { (W.stored w.new).memory.limit ≡ (W.stored w.old).memory.limit }
+    ensures contexts { MakesAtMost 0 (W.layout w.old) (W.stored w.old) (W.stored w.new) }
 {
     let receiver = w.receiver();
     if is_context(w, receiver) {
