@@ -16,6 +16,7 @@ use Rattle.cs_model.specs.Step.{Message}
 use Rattle.cs_acts.specs.declared.act.Full.{Full}
 use Rattle.cs_acts.specs.Full.{CausesFull}
 use Rattle.cs_acts.specs.Layout.{LaidBy, Layout, entered}
+use Rattle.cs_acts.specs.Made.{MakesAtMost, made_by_entering}
 use Rattle.cs_acts.specs.Names.{Store, KeepsNames, name_of}
 use Rattle.cs_acts.specs.Ready.{IsReady}
 use Rattle.cs_acts.specs.Targets.{CanEnter}
@@ -36,12 +37,12 @@ enter-state k x args skip = refl
 
 module _ (k v : Kept) (x : Ref) (args : ℕ) (skip : Bool) where
   pub enters : {A : Type 0} (old new : Store) (before after : Option Layout) (r : Result A Full) → Keeps k k
-      → OnOk r ((m : Kept) → Keeps k m → Keeps v (enter_of m x args skip)) → OnOk r (before ≡ None → SameKept v (enter_of k x args skip)) → OnOk r (LaidBy (entered k k.rest.next) before after) → OnOk r (IsReady new v) → OnOk r (KeepsNames old new)
+      → OnOk r ((m : Kept) → Keeps k m → Keeps v (enter_of m x args skip)) → OnOk r (before ≡ None → SameKept v (enter_of k x args skip)) → OnOk r (LaidBy (entered k k.rest.next) before after) → OnOk r (MakesAtMost (made_by_entering k before) before old new) → OnOk r (IsReady new v) → OnOk r (KeepsNames old new)
       → OnOk r (Enters old new before after k v (enter_out k x args skip))
-  enters old new before after (Ok a) closed state exact laid ready names =
+  enters old new before after (Ok a) closed state exact laid contexts ready names =
       let is = sym (enter-state k x args skip) in
-      record { end = enter-end k x args skip; state = subst (Keeps v) is (state k closed); exact = λ none. subst (SameKept v) is (exact none); ready = ready; names = names; laid = laid }
-  enters old new before after (Err e) closed state exact laid ready names = tt
+      record { end = enter-end k x args skip; state = subst (Keeps v) is (state k closed); exact = λ none. subst (SameKept v) is (exact none); ready = ready; names = names; laid = laid; contexts = contexts }
+  enters old new before after (Err e) closed state exact laid contexts ready names = tt
 
 pub refuses : {A : Type 0} (k : Kept) (x : Ref) (args : ℕ) (skip : Bool) (new : Store) (before : Option Layout) (r : Result A Full)
     → IfErr r (CausesFull new before k 0 (enter_of k x args skip)) → IfErr r (Refuses new before k (enter_out k x args skip))

@@ -14,6 +14,7 @@ use Rattle.cs_model.specs.End as ends
 use Rattle.cs_acts.specs.declared.act.Full.{Full as Why}
 use Rattle.cs_acts.specs.Full.{CausesFull}
 use Rattle.cs_acts.specs.Layout.{LaidBy, Layout, entered}
+use Rattle.cs_acts.specs.Made.{MakesAtMost, made_by_entering}
 use Rattle.cs_acts.specs.Names.{Store, KeepsNames, name_of}
 use Rattle.cs_acts.specs.Reading.{IsMethodNamed}
 use Rattle.cs_acts.specs.Ready.{IsReady}
@@ -60,7 +61,8 @@ IsPlain Missing = ⊥
 IsPlain (Stops reason) = ⊥
 
 -- A method is entered in the model, the view keeps the state that is left, and is it where the world tells no layout; the world is
--- ready again, what had a name has it still, and the new context stands above the active one or alone on a page.
+-- ready again, what had a name has it still, the new context stands above the active one or alone on a page, and no other context was made
+-- but that of the caller where it stands alone.
 pub record Enters (old new : Store) (before after : Option Layout) (k v : Kept) (o : Out) : Type 0 where
   pub end : o.end ≡ ends.Entered
   pub state : Keeps v o.state
@@ -68,6 +70,7 @@ pub record Enters (old new : Store) (before after : Option Layout) (k v : Kept) 
   pub ready : IsReady new v
   pub names : KeepsNames old new
   pub laid : LaidBy (entered k k.rest.next) before after
+  pub contexts : MakesAtMost (made_by_entering k before) before old new
 
 -- a method would be entered in the model, and the world has no room for its context
 pub record Refuses (new : Store) (before : Option Layout) (k : Kept) (o : Out) (why : Why) : Type 0 where

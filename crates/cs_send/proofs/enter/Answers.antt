@@ -8,7 +8,7 @@ returns-clause-enters g c =
     let k = g.W.World.view c.args.w.now in
     enters k (g.W.World.view c.enter.new.self) (name_of s c.args.method) c.args.args c.args.skip
     s (g.W.World.stored c.enter.new.self) (g.W.World.layout c.args.w.now) (g.W.World.layout c.enter.new.self) c.enter.result c.requires.ready.sound.closed
-    c.enter.ensures.state c.enter.ensures.exact c.enter.ensures.layout c.enter.ensures.ready c.enter.ensures.names
+    c.enter.ensures.state c.enter.ensures.exact c.enter.ensures.layout c.enter.ensures.contexts c.enter.ensures.ready c.enter.ensures.names
 
 pub returns-clause-full : goal.returns-clause-full
 returns-clause-full g c =
