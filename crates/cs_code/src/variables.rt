@@ -1,7 +1,7 @@
 //! Literal variables, receiver fields and vectors.
 ghost use Rattle.std.specs.Prelude.{◌≡◌, false, Some};
 ghost use Rattle.cs_model.specs.Exec.{push_variable_out, variable_value, push_vector_out, push_receiver_out, vector_slot};
-ghost use Rattle.cs_acts.specs.Made.{MakesAtMost, made_by_reading};
+ghost use Rattle.cs_acts.specs.Made.{MakesAtMost};
 ghost use Rattle.cs_acts.specs.Names.{IsNamed, NamesOption, name_of};
 ghost use Rattle.cs_acts.specs.Ready.{IsReady};
 ghost use Rattle.cs_acts.specs.declared.act.Full.{Full};
@@ -77,7 +77,7 @@ pub fn push_field<W: World>(w: &mut W, i: u8) -> CodeEnd
     ensures full { (why : Full) → result ≡ ends.Full why → Refuses (W.stored w.new) (W.layout w.old) (W.view w.old) (push_receiver_out (W.view w.old) i) why }
     ensures layout { is_refused result ≡ false → W.layout w.new ≡ W.layout w.old }
     ensures limit { (W.stored w.new).memory.limit ≡ (W.stored w.old).memory.limit }
-    ensures contexts { is_refused result ≡ false → MakesAtMost (made_by_reading i) (W.layout w.old) (W.stored w.old) (W.stored w.new) }
+    ensures contexts { is_refused result ≡ false → MakesAtMost 1 (W.layout w.old) (W.stored w.old) (W.stored w.new) }
 {
     let receiver = w.receiver();
     if is_context(w, receiver) {
