@@ -33,6 +33,7 @@ pub record MakesAs (o : Out) (e : End) (t : Kept) (size : ℕ) : Type 0 where
   pub end : o.end ≡ e
   pub state : o.state ≡ t
   pub objects : o.count.objects ≡ size
+  pub looks : o.count.looks ≡ 1
 
 -- the state with the closure, which has taken its copied values
 abbrev pub enclosed : Kept → ℕ → ℕ → Kept
@@ -63,7 +64,7 @@ unfolding push_out looked made and_then
 closure-pushed k copied args size pc lies enough room =
     behind-tests k copied args size pc ends.Done (set_pc_of (push_of t (next_ref k)) pc) (words_of_slots (3 + copied)) lies enough
     (subst (λ (b : Bool). MakesAs (looked (made (words_of_slots (3 + copied)) (and_then (if b then done (push_of t (next_ref k)) else stop why.StackOver t) (λ (u : Kept). done (set_pc_of u pc))))) ends.Done (set_pc_of (push_of t (next_ref k)) pc) (words_of_slots (3 + copied))) (sym room)
-    (record { end = refl; state = refl; objects = weighed-twice (words_of_slots (3 + copied)) }))
+    (record { end = refl; state = refl; objects = weighed-twice (words_of_slots (3 + copied)); looks = refl }))
   where
     t : Kept
     t = enclosed k copied args
@@ -74,7 +75,7 @@ unfolding push_out looked made and_then
 closure-over k copied args size pc lies enough room =
     behind-tests k copied args size pc (ends.Stopped why.StackOver) t (words_of_slots (3 + copied)) lies enough
     (subst (λ (b : Bool). MakesAs (looked (made (words_of_slots (3 + copied)) (and_then (if b then done (push_of t (next_ref k)) else stop why.StackOver t) (λ (u : Kept). done (set_pc_of u pc))))) (ends.Stopped why.StackOver) t (words_of_slots (3 + copied))) (sym room)
-    (record { end = refl; state = refl; objects = weighed (words_of_slots (3 + copied)) }))
+    (record { end = refl; state = refl; objects = weighed (words_of_slots (3 + copied)); looks = refl }))
   where
     t : Kept
     t = enclosed k copied args

@@ -23,6 +23,7 @@ use Rattle.cs_acts.specs.declared.act.Full.{Full}
 use Rattle.cs_acts.specs.declared.act.Full.TheVariants.{Heap, Stack}
 use Rattle.cs_acts.specs.Full.{CausesFull}
 use Rattle.cs_acts.specs.Layout.{Layout}
+use Rattle.cs_acts.specs.Made.{made_by_reading}
 use Rattle.cs_acts.specs.Names.{Store, KeepsNames, name_of}
 use Rattle.cs_acts.specs.Ready.{IsReady}
 use Rattle.cs_acts.specs.Targets.{field_of}
@@ -113,6 +114,38 @@ field-over-as k i r context there room = go (field_of k r i) refl there
 pub receiver-field : (k : Kept) (i j : ℕ) (r : Ref) → r ≡ receiver_of k → j ≡ i → push_field k j (object_of k r) ≡ push_receiver_out k i
 unfolding push_receiver_out
 receiver-field k i j r is same_index = ap₂ (λ (x : Ref) (n : ℕ). push_field k n (object_of k x)) is same_index
+
+-- ---- how many contexts it asks for
+
+pub this-looks : (k : Kept) → nat_lt (depth_of k) (size_of k) ≡ true → (this_context_out k).count.looks ≡ 1
+unfolding this_context_out looked
+this-looks k room =
+    let t = push_of k (ref.Obj (active_birth k)) in
+    subst (λ (b : Bool). (if b then looked (done t) else stop why.StackOver k).count.looks ≡ 1) (sym room) refl
+
+push-looks : (k : Kept) (x : Ref) → (push_out k x).count.looks ≡ 0
+unfolding push_out
+push-looks k x = go (nat_lt (depth_of k) (size_of k))
+  where
+    go : (b : Bool) → (if b then done (push_of k x) else stop why.StackOver k).count.looks ≡ 0
+    go true = refl
+    go false = refl
+
+found-looks : (k : Kept) (i : ℕ) (o : Option Obj) (x : Ref) → is_some (context_in o) ≡ true → Some x ≡ option_and_then (λ c. context_get k c i) (context_in o) → (push_field k i o).count.looks ≡ made_by_reading i
+unfolding looked
+found-looks k i None x h there = absurd (cc)
+found-looks k i (Some (Ptr class format hash slots)) x h there = absurd (cc)
+found-looks k i (Some (Raw class format hash bytes)) x h there = absurd (cc)
+found-looks k i (Some (Method class format hash header literals bytecodes)) x h there = absurd (cc)
+found-looks k i (Some (Ctx c)) x h there =
+    subst (λ (f : Option Ref). (given f (stop why.BadField k) (λ (y : Ref). if i == 0 then looked (push_out k y) else push_out k y)).count.looks ≡ made_by_reading i) there (go (i == 0))
+  where
+    go : (b : Bool) → (if b then looked (push_out k x) else push_out k x).count.looks ≡ (if b then 1 else 0)
+    go true = ap (λ (n : ℕ). 1 + n) (push-looks k x)
+    go false = push-looks k x
+
+pub field-looks : (k : Kept) (i : ℕ) (r x : Ref) → is_context_ref k r ≡ true → Some x ≡ field_of k r i → (push_field k i (object_of k r)).count.looks ≡ made_by_reading i
+field-looks k i r x context there = found-looks k i (object_of k r) x context there
 
 -- ---- what is given
 

@@ -1,4 +1,3 @@
 pub mod Gives
 pub mod Built
 pub mod Closures
-pub mod Looks

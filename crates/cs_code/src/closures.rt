@@ -48,7 +48,7 @@ pub fn make_closure<W: World>(w: &mut W, copied: u8, args: u8, size: u16) -> Cod
     ensures full { (why : Full) → result ≡ ends.Full why → Refuses (W.stored w.new) (W.layout w.old) (W.view w.old) (closure_out (W.view w.old) copied args size) why }
     ensures layout { is_refused result ≡ false → W.layout w.new ≡ W.layout w.old }
     ensures limit { (W.stored w.new).memory.limit ≡ (W.stored w.old).memory.limit }
-    ensures contexts { is_refused result ≡ false → MakesAtMost 1 (W.layout w.old) (W.stored w.old) (W.stored w.new) }
+    ensures contexts { is_refused result ≡ false → MakesAtMost (closure_out (W.view w.old) copied args size).count.looks (W.layout w.old) (W.stored w.old) (W.stored w.new) }
 {
     let Some(pc) = pc_after(w, i32::from(size)) else {
         return CodeEnd::Stop(Stop::BadCode);

@@ -33,7 +33,7 @@ pub fn push_this<W: World>(w: &mut W) -> CodeEnd
     ensures full { (why : Full) → result ≡ ends.Full why → Refuses (W.stored w.new) (W.layout w.old) (W.view w.old) (this_context_out (W.view w.old)) why }
     ensures layout { is_refused result ≡ false → W.layout w.new ≡ W.layout w.old }
     ensures limit { (W.stored w.new).memory.limit ≡ (W.stored w.old).memory.limit }
-    ensures contexts { is_refused result ≡ false → MakesAtMost 1 (W.layout w.old) (W.stored w.old) (W.stored w.new) }
+    ensures contexts { is_refused result ≡ false → MakesAtMost (this_context_out (W.view w.old)).count.looks (W.layout w.old) (W.stored w.old) (W.stored w.new) }
 {
     if !has_room(w) {
         return CodeEnd::Stop(Stop::StackOver);
@@ -56,7 +56,7 @@ pub fn push_context_field<W: World>(w: &mut W, context: Oop, i: u32) -> CodeEnd
     ensures full { (why : Full) → result ≡ ends.Full why → Refuses (W.stored w.new) (W.layout w.old) (W.view w.old) (push_field (W.view w.old) i (object_of (W.view w.old) (name_of (W.stored w.old) context))) why }
     ensures layout { is_refused result ≡ false → W.layout w.new ≡ W.layout w.old }
     ensures limit { (W.stored w.new).memory.limit ≡ (W.stored w.old).memory.limit }
-    ensures contexts { is_refused result ≡ false → MakesAtMost 1 (W.layout w.old) (W.stored w.old) (W.stored w.new) }
+    ensures contexts { is_refused result ≡ false → MakesAtMost (push_field (W.view w.old) i (object_of (W.view w.old) (name_of (W.stored w.old) context))).count.looks (W.layout w.old) (W.stored w.old) (W.stored w.new) }
 {
     if !has_field(w, context, i) {
         return CodeEnd::Stop(Stop::BadField);

@@ -10,7 +10,6 @@ ghost use Rattle.cs_acts.specs.Ready.{IsReady};
 ghost use Rattle.cs_code.specs.Built.{built_exec};
 ghost use Rattle.cs_code.specs.declared.end.CodeEnd.TheVariants as ends;
 ghost use Rattle.cs_code.specs.Gives.{Gives, Refuses, is_refused};
-ghost use Rattle.cs_code.specs.Looks.{looks_of};
 
 mod arithmetic;
 mod closures;
@@ -38,7 +37,7 @@ pub fn exec<W: World>(i: &Instr, w: &mut W) -> CodeEnd
     ensures full { (why : Full) → result ≡ ends.Full why → Refuses (W.stored w.new) (W.layout w.old) (W.view w.old) (built_exec i.now.op (W.view w.old)) why }
     ensures layout { is_refused result ≡ false → W.layout w.new ≡ W.layout w.old }
     ensures limit { (W.stored w.new).memory.limit ≡ (W.stored w.old).memory.limit }
-    ensures contexts { is_refused result ≡ false → MakesAtMost (looks_of i.now.op) (W.layout w.old) (W.stored w.old) (W.stored w.new) }
+    ensures contexts { is_refused result ≡ false → MakesAtMost (built_exec i.now.op (W.view w.old)).count.looks (W.layout w.old) (W.stored w.old) (W.stored w.new) }
 {
     match i.op {
         Op::PushRcvr(k) => variables::push_field(w, k),

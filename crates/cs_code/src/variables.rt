@@ -77,7 +77,7 @@ pub fn push_field<W: World>(w: &mut W, i: u8) -> CodeEnd
     ensures full { (why : Full) → result ≡ ends.Full why → Refuses (W.stored w.new) (W.layout w.old) (W.view w.old) (push_receiver_out (W.view w.old) i) why }
     ensures layout { is_refused result ≡ false → W.layout w.new ≡ W.layout w.old }
     ensures limit { (W.stored w.new).memory.limit ≡ (W.stored w.old).memory.limit }
-    ensures contexts { is_refused result ≡ false → MakesAtMost 1 (W.layout w.old) (W.stored w.old) (W.stored w.new) }
+    ensures contexts { is_refused result ≡ false → MakesAtMost (push_receiver_out (W.view w.old) i).count.looks (W.layout w.old) (W.stored w.old) (W.stored w.new) }
 {
     let receiver = w.receiver();
     if is_context(w, receiver) {
