@@ -117,17 +117,12 @@ fn perform<W: World>(w: &mut W, number: u32, args: u32) -> PrimEnd
 fn wanted_by(number: u32) -> Option<u32>
     ensures { result ≡ wanted_by number }
 {
-    if number == 201 || number == 221 {
-        Some(0)
-    } else if number == 202 || number == 222 {
-        Some(1)
-    } else if number == 203 {
-        Some(2)
-    } else if number == 204 {
-        Some(3)
-    } else if number == 205 {
-        Some(4)
-    } else {
-        None
+    match number {
+        201 | 221 => Some(0),
+        202 | 222 => Some(1),
+        203 => Some(2),
+        204 => Some(3),
+        205 => Some(4),
+        _ => None,
     }
 }
