@@ -46,9 +46,9 @@ pub record IsMethodAt (os : List Object) (o : Option Obj) (w : ℕ) : Type 0 whe
 -- only a method has a place where a pc lies
 no_context : (o : Option Obj) (pc : ℕ) → is_context_at o ≡ true → lies_in o pc ≡ true → ⊥
 no_context None pc h i = absurd (cc)
-no_context (Some (Ptr class format hash slots)) pc h i = absurd (cc)
-no_context (Some (Raw class format hash bytes)) pc h i = absurd (cc)
-no_context (Some (Method class format hash header literals bytecodes)) pc h i = absurd (cc)
+no_context (Some (Ptr head slots)) pc h i = absurd (cc)
+no_context (Some (Raw head bytes)) pc h i = absurd (cc)
+no_context (Some (Method head header literals bytecodes)) pc h i = absurd (cc)
 no_context (Some (Ctx c)) pc h i = absurd (cc)
 
 found_method : (os : List Object) (o : Option Obj) (w pc : ℕ) (x : Object) → object_at os w ≡ Some x → IsSoundObject os x → Says (ref_of os) (Some x) o → lies_in o pc ≡ true → IsMethodAt os o w

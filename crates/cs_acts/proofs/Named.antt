@@ -198,9 +198,9 @@ same_words s k a b holds p q fits fits_too = sym (same_ref-ref_of s.memory.objec
 
 context_alone : (o : Option Obj) → is_context_at o ≡ true → is_some (context_in o) ≡ true
 context_alone None h = absurd (cc)
-context_alone (Some (Ptr class format hash slots)) h = absurd (cc)
-context_alone (Some (Raw class format hash bytes)) h = absurd (cc)
-context_alone (Some (Method class format hash header literals bytecodes)) h = absurd (cc)
+context_alone (Some (Ptr head slots)) h = absurd (cc)
+context_alone (Some (Raw head bytes)) h = absurd (cc)
+context_alone (Some (Method head header literals bytecodes)) h = absurd (cc)
 context_alone (Some (Ctx c)) h = refl
 
 -- what is no context in the heap is none in the state
@@ -244,9 +244,9 @@ method_sort os x b sound f = go (sort_of x) b f
 
 context_no_method : (o : Option Obj) → is_context_at o ≡ true → obj.is_method o ≡ false
 context_no_method None h = refl
-context_no_method (Some (Ptr class format hash slots)) h = refl
-context_no_method (Some (Raw class format hash bytes)) h = refl
-context_no_method (Some (Method class format hash header literals bytecodes)) h = absurd (cc)
+context_no_method (Some (Ptr head slots)) h = refl
+context_no_method (Some (Raw head bytes)) h = refl
+context_no_method (Some (Method head header literals bytecodes)) h = absurd (cc)
 context_no_method (Some (Ctx c)) h = refl
 
 pub method_read : (s : Store) (k : Kept) (m : Memory) (o : Oop) → m ≡ s.memory → Holds s k → IsNamed s o → reading.is_method_at m.objects o.0 ≡ obj.is_method (object_of k (name_of s o))
@@ -285,9 +285,9 @@ special_names s k r i o e holds names =
 
 class_in_context : (o : Option Obj) → is_context_at o ≡ true → index_of_class o ≡ context_class
 class_in_context None h = absurd (cc)
-class_in_context (Some (Ptr class format hash slots)) h = absurd (cc)
-class_in_context (Some (Raw class format hash bytes)) h = absurd (cc)
-class_in_context (Some (Method class format hash header literals bytecodes)) h = absurd (cc)
+class_in_context (Some (Ptr head slots)) h = absurd (cc)
+class_in_context (Some (Raw head bytes)) h = absurd (cc)
+class_in_context (Some (Method head header literals bytecodes)) h = absurd (cc)
 class_in_context (Some (Ctx c)) h = refl
 
 class_in_object : (refer : ℕ → Ref) (x : Object) → is_context x ≡ false → index_of_class (Some (obj_of refer x)) ≡ x.class

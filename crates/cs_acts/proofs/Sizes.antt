@@ -56,9 +56,9 @@ lies-object refer x pc (Bytes o p m) other h = absurd (let e : lies_in (Some (Ra
 
 no_pc : (o : Option Obj) (pc : ℕ) → is_context_at o ≡ true → lies_in o pc ≡ true → ⊥
 no_pc None pc c h = absurd (cc)
-no_pc (Some (Ptr class format hash slots)) pc c h = absurd (cc)
-no_pc (Some (Raw class format hash bytes)) pc c h = absurd (cc)
-no_pc (Some (Method class format hash header literals bytecodes)) pc c h = absurd (cc)
+no_pc (Some (Ptr head slots)) pc c h = absurd (cc)
+no_pc (Some (Raw head bytes)) pc c h = absurd (cc)
+no_pc (Some (Method head header literals bytecodes)) pc c h = absurd (cc)
 no_pc (Some (Ctx d)) pc c h = absurd (cc)
 
 said-pc : (os : List Object) (p : Option Object) (o : Option Obj) (pc : ℕ) → Says (ref_of os) p o → lies_in o pc ≡ true → ((x : Object) → p ≡ Some x → length x.words ≤ used os) → pc ≤ 4 * used os + 5

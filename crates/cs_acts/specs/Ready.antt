@@ -39,7 +39,7 @@ pub record IsReady (s : Store) (k : Kept) : Type 0 where
 -- the slots that may be written: those of a pointer object, and the literals of a method behind its header
 abbrev pub is_storable : Option Obj → ℕ → Bool
 is_storable None i = false
-is_storable (Some (Ptr class format hash slots)) i = nat_lt i (length slots)
-is_storable (Some (Raw class format hash bytes)) i = false
-is_storable (Some (Method class format hash header literals bytecodes)) i = nat_lt 0 i && nat_le i (length literals)
+is_storable (Some (Ptr head slots)) i = nat_lt i (length slots)
+is_storable (Some (Raw head bytes)) i = false
+is_storable (Some (Method head header literals bytecodes)) i = nat_lt 0 i && nat_le i (length literals)
 is_storable (Some (Ctx c)) i = false

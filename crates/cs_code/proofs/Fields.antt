@@ -34,9 +34,9 @@ beyond (x ∷ xs) (suc i) h = let rest = beyond xs i h in grind (arith, nat_test
 -- a slot that is there can be stored into
 pub storable : (o : Option Obj) (i : ℕ) (y : Ref) → Some y ≡ option_and_then (λ slots. slice_get slots i) (slots_in o) → is_storable o i ≡ true
 storable None i y h = absurd (cc)
-storable (Some (Ptr class format hash slots)) i y h = within slots i y h
-storable (Some (Raw class format hash bytes)) i y h = absurd (cc)
-storable (Some (Method class format hash header literals bytecodes)) i y h = absurd (cc)
+storable (Some (Ptr head slots)) i y h = within slots i y h
+storable (Some (Raw head bytes)) i y h = absurd (cc)
+storable (Some (Method head header literals bytecodes)) i y h = absurd (cc)
 storable (Some (Ctx c)) i y h = absurd (cc)
 
 pub storable_of : (k : Kept) (n i : ℕ) (x y : Ref) → Some y ≡ option_and_then (λ slots. slice_get slots i) (slots_of k n x) → is_storable (object_of k x) i ≡ true
@@ -72,9 +72,9 @@ vector-stored k i j v x y vector there =
 
 pub field-pushed : (k : Kept) (i : ℕ) (o : Option Obj) → is_some (context_in o) ≡ false → push_field k i o ≡ given (option_and_then (λ slots. slice_get slots i) (slots_in o)) (stop why.BadField k) (λ x. push_out k x)
 field-pushed k i None h = refl
-field-pushed k i (Some (Ptr class format hash slots)) h = refl
-field-pushed k i (Some (Raw class format hash bytes)) h = refl
-field-pushed k i (Some (Method class format hash header literals bytecodes)) h = refl
+field-pushed k i (Some (Ptr head slots)) h = refl
+field-pushed k i (Some (Raw head bytes)) h = refl
+field-pushed k i (Some (Method head header literals bytecodes)) h = refl
 field-pushed k i (Some (Ctx c)) h = absurd (cc)
 
 stored_if : (k : Kept) (i : ℕ) (v : Ref) (slots : List Ref) (o : Option Ref) → o ≡ slice_get slots i
@@ -85,9 +85,9 @@ stored_if k i v slots (Some y) h = ap (λ b. if b then done (store_of k (receive
 pub field-stored : (k : Kept) (i : ℕ) (v : Ref) (o : Option Obj) → is_some (context_in o) ≡ false
     → store_field k i v o ≡ given (option_and_then (λ slots. slice_get slots i) (slots_in o)) (stop why.BadField k) (λ old. done (store_of k (receiver_of k) i v))
 field-stored k i v None h = refl
-field-stored k i v (Some (Ptr class format hash slots)) h = stored_if k i v slots (slice_get slots i) refl
-field-stored k i v (Some (Raw class format hash bytes)) h = refl
-field-stored k i v (Some (Method class format hash header literals bytecodes)) h = refl
+field-stored k i v (Some (Ptr head slots)) h = stored_if k i v slots (slice_get slots i) refl
+field-stored k i v (Some (Raw head bytes)) h = refl
+field-stored k i v (Some (Method head header literals bytecodes)) h = refl
 field-stored k i v (Some (Ctx c)) h = absurd (cc)
 
 pub receiver-pushed : (k : Kept) (i : ℕ) → is_context_ref k (receiver_of k) ≡ false

@@ -77,18 +77,18 @@ pushed_still k t reason o = given_still k (stop reason t) (λ x. push_out t x) o
 
 push_field_still : (k t : Kept) (i : ℕ) (o : Option Obj) → StillOut k (push_field t i o)
 push_field_still k t i None = tt
-push_field_still k t i (Some (Ptr class format hash slots)) = pushed_still k t why.BadField (slice_get slots i)
-push_field_still k t i (Some (Raw class format hash bytes)) = tt
-push_field_still k t i (Some (Method class format hash header literals bytecodes)) = tt
+push_field_still k t i (Some (Ptr head slots)) = pushed_still k t why.BadField (slice_get slots i)
+push_field_still k t i (Some (Raw head bytes)) = tt
+push_field_still k t i (Some (Method head header literals bytecodes)) = tt
 push_field_still k t i (Some (Ctx c)) =
     given_still k (stop why.BadField t) (λ x. if i == 0 then looked (push_out t x) else push_out t x) (context_get t c i) tt
     (λ x. if_still k (i == 0) (looked (push_out t x)) (push_out t x) (looked_still k (push_out t x) (push_still k t x)) (push_still k t x))
 
 store_field_still : (k t : Kept) (i : ℕ) (v : Ref) (o : Option Obj) → StillOut k (store_field t i v o)
 store_field_still k t i v None = tt
-store_field_still k t i v (Some (Ptr class format hash slots)) = if_still k (nat_lt i (length slots)) (done (store_of t (receiver_of t) i v)) (stop why.BadField t) tt tt
-store_field_still k t i v (Some (Raw class format hash bytes)) = tt
-store_field_still k t i v (Some (Method class format hash header literals bytecodes)) = tt
+store_field_still k t i v (Some (Ptr head slots)) = if_still k (nat_lt i (length slots)) (done (store_of t (receiver_of t) i v)) (stop why.BadField t) tt tt
+store_field_still k t i v (Some (Raw head bytes)) = tt
+store_field_still k t i v (Some (Method head header literals bytecodes)) = tt
 store_field_still k t i v (Some (Ctx c)) =
     if_still k (nat_lt i (6 + length c.stack)) (if accepts t (is_active t (receiver_of t)) c i v then done (context_put t (birth_or_zero (receiver_of t)) i v) else stop why.BadStore t) (stop why.BadField t)
     (if_still k (accepts t (is_active t (receiver_of t)) c i v) (done (context_put t (birth_or_zero (receiver_of t)) i v)) (stop why.BadStore t) tt tt) tt

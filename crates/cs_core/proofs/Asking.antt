@@ -70,16 +70,16 @@ looked_asks k o h = record { leaves = h.leaves }
 
 field_asks : (k : Kept) (i : ℕ) (o : Option Obj) → Asks k (push_field k i o)
 field_asks k i None = stop_asks
-field_asks k i (Some (Ptr class format hash slots)) = given_asks k (slice_get slots i) _ _ stop_asks (λ x. push_asks k x)
-field_asks k i (Some (Raw class format hash bytes)) = stop_asks
-field_asks k i (Some (Method class format hash header literals bytecodes)) = stop_asks
+field_asks k i (Some (Ptr head slots)) = given_asks k (slice_get slots i) _ _ stop_asks (λ x. push_asks k x)
+field_asks k i (Some (Raw head bytes)) = stop_asks
+field_asks k i (Some (Method head header literals bytecodes)) = stop_asks
 field_asks k i (Some (Ctx c)) = given_asks k _ _ _ stop_asks (λ x. if_asks k (i == 0) _ _ (looked_asks k (push_out k x) (push_asks k x)) (push_asks k x))
 
 store_field_asks : (k t : Kept) (i : ℕ) (v : Ref) (o : Option Obj) → Asks k (store_field t i v o)
 store_field_asks k t i v None = stop_asks
-store_field_asks k t i v (Some (Ptr class format hash slots)) = if_asks k (nat_lt i (length slots)) _ _ done_asks stop_asks
-store_field_asks k t i v (Some (Raw class format hash bytes)) = stop_asks
-store_field_asks k t i v (Some (Method class format hash header literals bytecodes)) = stop_asks
+store_field_asks k t i v (Some (Ptr head slots)) = if_asks k (nat_lt i (length slots)) _ _ done_asks stop_asks
+store_field_asks k t i v (Some (Raw head bytes)) = stop_asks
+store_field_asks k t i v (Some (Method head header literals bytecodes)) = stop_asks
 store_field_asks k t i v (Some (Ctx c)) = if_asks k _ _ _ (if_asks k _ _ _ done_asks stop_asks) stop_asks
 
 receiver_asks : (k : Kept) (i : ℕ) → Asks k (push_receiver_out k i)

@@ -119,9 +119,9 @@ set_stack_stays k i x runs = edit_stays k (stored i x) runs refl
 
 -- a slot of an object is no part of a context
 slot_alone : (i : ℕ) (v : Ref) (o : Obj) → context_in (Some (with_slot i v o)) ≡ context_in (Some o)
-slot_alone i v (Ptr class format hash slots) = refl
-slot_alone i v (Raw class format hash bytes) = refl
-slot_alone i v (Method class format hash header literals bytecodes) = refl
+slot_alone i v (Ptr head slots) = refl
+slot_alone i v (Raw head bytes) = refl
+slot_alone i v (Method head header literals bytecodes) = refl
 slot_alone i v (Ctx c) = refl
 
 found_stays : (k : Kept) (i j : ℕ) (v : Ref) (o : Option Obj) → object_at k j ≡ o → Stays k (edit_found (with_slot i v) j o k)
@@ -202,16 +202,16 @@ push_settles k x = if_settles k (nat_lt (depth_of k) (size_of k)) _ _ (to (push_
 
 field_settles : (k : Kept) (i : ℕ) (o : Option Obj) → Settles k (push_field k i o)
 field_settles k i None = still
-field_settles k i (Some (Ptr class format hash slots)) = given_settles k (slice_get slots i) _ _ still (λ x. push_settles k x)
-field_settles k i (Some (Raw class format hash bytes)) = still
-field_settles k i (Some (Method class format hash header literals bytecodes)) = still
+field_settles k i (Some (Ptr head slots)) = given_settles k (slice_get slots i) _ _ still (λ x. push_settles k x)
+field_settles k i (Some (Raw head bytes)) = still
+field_settles k i (Some (Method head header literals bytecodes)) = still
 field_settles k i (Some (Ctx c)) = given_settles k (context_get k c i) _ _ still (λ x. if_settles k (i == 0) _ _ (looked_settles k (push_out k x) (push_settles k x)) (push_settles k x))
 
 store_field_settles : (t : Kept) (i : ℕ) (v : Ref) (o : Option Obj) → is_some (context_in o) ≡ false → Settles t (store_field t i v o)
 store_field_settles t i v None h = still
-store_field_settles t i v (Some (Ptr class format hash slots)) h = if_settles t (nat_lt i (length slots)) _ _ (to (λ _. store_stays t (receiver_of t) i v)) still
-store_field_settles t i v (Some (Raw class format hash bytes)) h = still
-store_field_settles t i v (Some (Method class format hash header literals bytecodes)) h = still
+store_field_settles t i v (Some (Ptr head slots)) h = if_settles t (nat_lt i (length slots)) _ _ (to (λ _. store_stays t (receiver_of t) i v)) still
+store_field_settles t i v (Some (Raw head bytes)) h = still
+store_field_settles t i v (Some (Method head header literals bytecodes)) h = still
 store_field_settles t i v (Some (Ctx c)) h = absurd (cc)
 
 receiver_settles : (k : Kept) (i : ℕ) → Settles k (push_receiver_out k i)

@@ -26,9 +26,9 @@ fields_of_same k s slots = plain (of_option (fields_within (length slots)) (clas
 
 range_in_same : {v m : Kept} {x y : Ref} {o p : Option Obj} → Keeps v m → Same (IsHeld v) x y → SameOption (NamesHeld v) o p → SameOption Any (range_in v x o) (range_in m y p)
 range_in_same k s none = none
-range_in_same k s (some (Ptr class format hash slots) h) = map_same Any (λ fields. range 1 (length slots - fields)) (fields_of_same k s slots) (λ fields a. tt)
-range_in_same k s (some (Raw class format hash bytes) h) = some (range 1 (length bytes / unit_bytes format)) tt
-range_in_same k s (some (Method class format hash header literals bytecodes) h) = some (range (first_pc literals) (length bytecodes)) tt
+range_in_same k s (some (Ptr head slots) h) = map_same Any (λ fields. range 1 (length slots - fields)) (fields_of_same k s slots) (λ fields a. tt)
+range_in_same k s (some (Raw head bytes) h) = some (range 1 (length bytes / unit_bytes head.format)) tt
+range_in_same k s (some (Method head header literals bytecodes) h) = some (range (first_pc literals) (length bytecodes)) tt
 range_in_same k s (some (Ctx c) h) = none
 
 pub range_of_same : {v m : Kept} {x y : Ref} → Keeps v m → Same (IsHeld v) x y → SameOption Any (range_of v x) (range_of m y)
@@ -46,9 +46,9 @@ small_ref_same k (Some z) = some (Small z) tt
 
 read_in_same : {v m : Kept} {x y : Ref} {o p : Option Obj} → Keeps v m → Same (IsHeld v) x y → (place : ℕ) → SameOption (NamesHeld v) o p → SameOption (IsHeld v) (read_in v x place o) (read_in m y place p)
 read_in_same k s place none = none
-read_in_same {v} k s place (some (Ptr class format hash slots) h) = and_then_same (fields_of_same k s slots) (λ fields a. slice_same (fields + place) (listed v slots h))
-read_in_same k s place (some (Raw class format hash bytes) h) = small_ref_same k (if_small (pos (number_of (unit_at (unit_bytes format) place bytes))))
-read_in_same {v} k s place (some (Method class format hash header literals bytecodes) h) = map_same (IsHeld v) (λ b. Small (pos b)) (any_option (slice_get bytecodes place)) (λ b a. tt)
+read_in_same {v} k s place (some (Ptr head slots) h) = and_then_same (fields_of_same k s slots) (λ fields a. slice_same (fields + place) (listed v slots h))
+read_in_same k s place (some (Raw head bytes) h) = small_ref_same k (if_small (pos (number_of (unit_at (unit_bytes head.format) place bytes))))
+read_in_same {v} k s place (some (Method head header literals bytecodes) h) = map_same (IsHeld v) (λ b. Small (pos b)) (any_option (slice_get bytecodes place)) (λ b a. tt)
 read_in_same k s place (some (Ctx c) h) = none
 
 pub element_at_same : {v m : Kept} {x y : Ref} → Keeps v m → Same (IsHeld v) x y → (place : ℕ) → SameOption (IsHeld v) (element_at v x place) (element_at m y place)
@@ -71,9 +71,9 @@ store_unit_moved k s size place (same (Some n) a) = if_moved (is (nat_lt n (2 ^ 
 
 write_in_moved : {v m : Kept} {x y z w : Ref} {o p : Option Obj} → Keeps v m → Same (IsHeld v) x y → (place : ℕ) → Same (IsHeld v) z w → SameOption (NamesHeld v) o p → MovedOption v (write_in v x place z o) (write_in m y place w p)
 write_in_moved k s place t none = nothing
-write_in_moved k s place t (some (Ptr class format hash slots) h) = map_moved _ _ (fields_of_same k s slots) (λ fields a. store_moved k s (fields + place) t)
-write_in_moved k s place t (some (Raw class format hash bytes) h) = store_unit_moved k s (unit_bytes format) place (value index_of t)
-write_in_moved k s place t (some (Method class format hash header literals bytecodes) h) = store_unit_moved k s 1 place (value index_of t)
+write_in_moved k s place t (some (Ptr head slots) h) = map_moved _ _ (fields_of_same k s slots) (λ fields a. store_moved k s (fields + place) t)
+write_in_moved k s place t (some (Raw head bytes) h) = store_unit_moved k s (unit_bytes head.format) place (value index_of t)
+write_in_moved k s place t (some (Method head header literals bytecodes) h) = store_unit_moved k s 1 place (value index_of t)
 write_in_moved k s place t (some (Ctx c) h) = nothing
 
 pub with_element_moved : {v m : Kept} {x y z w : Ref} → Keeps v m → Same (IsHeld v) x y → (place : ℕ) → Same (IsHeld v) z w → MovedOption v (with_element v x place z) (with_element m y place w)
@@ -84,9 +84,9 @@ with_element_moved k s place t = write_in_moved k s place t (object_of_same k s)
 
 copy_unit_moved : {v m : Kept} {Q : Obj → Type 0} {o p : Option Obj} → Keeps v m → (x : Ref) (size to from : ℕ) → SameOption Q o p → Moved v (copy_unit v x size to from o) (copy_unit m x size to from p)
 copy_unit_moved k x size to from none = unmoved k
-copy_unit_moved k x size to from (some (Ptr class format hash slots) h) = unmoved k
-copy_unit_moved k x size to from (some (Raw class format hash bytes) h) = store_bytes_moved k (is x) (to * size) (unit_at size from bytes)
-copy_unit_moved k x size to from (some (Method class format hash header literals bytecodes) h) = unmoved k
+copy_unit_moved k x size to from (some (Ptr head slots) h) = unmoved k
+copy_unit_moved k x size to from (some (Raw head bytes) h) = store_bytes_moved k (is x) (to * size) (unit_at size from bytes)
+copy_unit_moved k x size to from (some (Method head header literals bytecodes) h) = unmoved k
 copy_unit_moved k x size to from (some (Ctx c) h) = unmoved k
 
 copy_slot_moved : {v m : Kept} {i j : ℕ} {o p : Option Ref} → Keeps v m → (x : Ref) → Same Any i j → SameOption (IsHeld v) o p → Moved v (copy_slot v x i o) (copy_slot m x j p)
@@ -97,8 +97,8 @@ copy_one_moved : {v m : Kept} {o p : Option Obj} → Keeps v m → (x : Ref) →
 copy_one_moved k x g to y f from none = unmoved k
 copy_one_moved k x g to y f from (some (Ptr class format hash slots) h) =
     copy_slot_moved k x (of_option (λ o. unwrap_or o 0 + to) (fields_of_same k (same x g) slots)) (element_at_same k (same y f) from)
-copy_one_moved k x g to y f from (some (Raw class format hash bytes) h) = copy_unit_moved k x (unit_bytes format) to from (object_of_same k (same y f))
-copy_one_moved k x g to y f from (some (Method class format hash header literals bytecodes) h) = unmoved k
+copy_one_moved k x g to y f from (some (Raw head bytes) h) = copy_unit_moved k x (unit_bytes head.format) to from (object_of_same k (same y f))
+copy_one_moved k x g to y f from (some (Method head header literals bytecodes) h) = unmoved k
 copy_one_moved k x g to y f from (some (Ctx c) h) = unmoved k
 
 copy_each_moved : (n : ℕ) {v m : Kept} → Keeps v m → (x : Ref) → IsHeld v x → (to : ℕ) (y : Ref) → IsHeld v y → (from : ℕ) → Moved v (copy_elements n v x to y from) (copy_elements n m x to y from)

@@ -21,9 +21,9 @@ closure_object class format hash slots false h = same [] (record { all = tt })
 
 closure_slots_same : {v : Kept} {o p : Option Obj} → SameOption (NamesHeld v) o p → Same (AllHeld v) (closure_slots o) (closure_slots p)
 closure_slots_same none = same [] (record { all = tt })
-closure_slots_same (some (Ptr class format hash slots) h) = closure_object class format hash slots (class == closure_class && format == 3) (record { all = h })
-closure_slots_same (some (Raw class format hash bytes) h) = same [] (record { all = tt })
-closure_slots_same (some (Method class format hash header literals bytecodes) h) = same [] (record { all = tt })
+closure_slots_same (some (Ptr head slots) h) = closure_object head.class head.format head.hash slots (head.class == closure_class && head.format == 3) (record { all = h })
+closure_slots_same (some (Raw head bytes) h) = same [] (record { all = tt })
+closure_slots_same (some (Method head header literals bytecodes) h) = same [] (record { all = tt })
 closure_slots_same (some (Ctx c) h) = same [] (record { all = tt })
 
 pub slots_same : {v m : Kept} {x y : Ref} → Keeps v m → Same (IsHeld v) x y → Same (AllHeld v) (closure_slots (object_of v x)) (closure_slots (object_of m y))

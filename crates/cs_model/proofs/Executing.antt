@@ -49,9 +49,9 @@ dup_alike k = with_top_alike _ _ k (λ x h. push_alike k (same x h))
 
 push_field_alike : {v m : Kept} {o p : Option Obj} → Keeps v m → (i : ℕ) → SameOption (NamesHeld v) o p → Alike v (push_field v i o) (push_field m i p)
 push_field_alike k i none = stop_alike k _
-push_field_alike {v} k i (some (Ptr class format hash slots) h) = given_alike _ _ (slice_same i (listed v slots h)) (stop_alike k why.BadField) (λ x g. push_alike k (same x g))
-push_field_alike k i (some (Raw class format hash bytes) h) = stop_alike k _
-push_field_alike k i (some (Method class format hash header literals bytecodes) h) = stop_alike k _
+push_field_alike {v} k i (some (Ptr head slots) h) = given_alike _ _ (slice_same i (listed v slots h)) (stop_alike k why.BadField) (λ x g. push_alike k (same x g))
+push_field_alike k i (some (Raw head bytes) h) = stop_alike k _
+push_field_alike k i (some (Method head header literals bytecodes) h) = stop_alike k _
 push_field_alike k i (some (Ctx c) h) =
     given_alike _ _ (context_get_same k (same c h) i) (stop_alike k why.BadField) (λ x g. if_alike (is (i == 0)) (looked_alike (push_alike k (same x g))) (push_alike k (same x g)))
 
@@ -70,9 +70,9 @@ store_in_context_alike k i t s =
 
 store_field_alike : {v m : Kept} {x y : Ref} {o p : Option Obj} → Keeps v m → (i : ℕ) → Same (IsHeld v) x y → SameOption (NamesHeld v) o p → Alike v (store_field v i x o) (store_field m i y p)
 store_field_alike k i t none = stop_alike k _
-store_field_alike k i t (some (Ptr class format hash slots) h) = if_alike (is (nat_lt i (length slots))) (done_alike (store_moved k (receiver_same k) i t)) (stop_alike k _)
-store_field_alike k i t (some (Raw class format hash bytes) h) = stop_alike k _
-store_field_alike k i t (some (Method class format hash header literals bytecodes) h) = stop_alike k _
+store_field_alike k i t (some (Ptr head slots) h) = if_alike (is (nat_lt i (length slots))) (done_alike (store_moved k (receiver_same k) i t)) (stop_alike k _)
+store_field_alike k i t (some (Raw head bytes) h) = stop_alike k _
+store_field_alike k i t (some (Method head header literals bytecodes) h) = stop_alike k _
 store_field_alike k i t (some (Ctx c) h) = store_in_context_alike k i t (same c h)
 
 pub store_receiver_alike : {v m : Kept} {x y : Ref} → Keeps v m → (i : ℕ) → Same (IsHeld v) x y → Alike v (store_receiver_out v i x) (store_receiver_out m i y)
@@ -242,15 +242,15 @@ unfolding with_array
 with_array_alike f g k n next = given_alike _ _ (special_at_same k array_class) (stop_alike k why.BadSpecial) (λ class h. array_made_alike f g k n (instantiate_same k (same class h) n) next)
 
 with_slots_held : (v : Kept) (xs : List Ref) → AllHeld v xs → (o : Obj) → NamesHeld v o → NamesHeld v (with_slots xs o)
-with_slots_held v xs g (Ptr class format hash slots) h = g.all
-with_slots_held v xs g (Raw class format hash bytes) h = tt
-with_slots_held v xs g (Method class format hash header literals bytecodes) h = h
+with_slots_held v xs g (Ptr head slots) h = g.all
+with_slots_held v xs g (Raw head bytes) h = tt
+with_slots_held v xs g (Method head header literals bytecodes) h = h
 with_slots_held v xs g (Ctx c) h = h
 
 with_slots_context : (xs : List Ref) (o : Obj) → is_context o ≡ true → is_context (with_slots xs o) ≡ true
-with_slots_context xs (Ptr class format hash slots) h = h
-with_slots_context xs (Raw class format hash bytes) h = h
-with_slots_context xs (Method class format hash header literals bytecodes) h = h
+with_slots_context xs (Ptr head slots) h = h
+with_slots_context xs (Raw head bytes) h = h
+with_slots_context xs (Method head header literals bytecodes) h = h
 with_slots_context xs (Ctx c) h = h
 
 pub fill_moved : {v m : Kept} {P : Ref → Type 0} {x y : Ref} {xs ys : List Ref} → Keeps v m → Same P x y → Same (AllHeld v) xs ys → Moved v (fill_of v x xs) (fill_of m y ys)

@@ -69,15 +69,15 @@ with_field_held v t i x nil g c h =
     (stack_held c _ h (all-slice_set (IsHeld v) c.stack (i - context_fields) x h.stack g)))))))
 
 edit_context_context : (f : Context → Context) (o : Obj) → is_context o ≡ true → is_context (edit_context f o) ≡ true
-edit_context_context f (Ptr class format hash slots) h = h
-edit_context_context f (Raw class format hash bytes) h = h
-edit_context_context f (Method class format hash header literals bytecodes) h = h
+edit_context_context f (Ptr head slots) h = h
+edit_context_context f (Raw head bytes) h = h
+edit_context_context f (Method head header literals bytecodes) h = h
 edit_context_context f (Ctx c) h = h
 
 edit_context_held : (v : Kept) (f : Context → Context) → ((c : Context) → ContextHeld v c → ContextHeld v (f c)) → (o : Obj) → NamesHeld v o → NamesHeld v (edit_context f o)
-edit_context_held v f g (Ptr class format hash slots) h = h
-edit_context_held v f g (Raw class format hash bytes) h = tt
-edit_context_held v f g (Method class format hash header literals bytecodes) h = h
+edit_context_held v f g (Ptr head slots) h = h
+edit_context_held v f g (Raw head bytes) h = tt
+edit_context_held v f g (Method head header literals bytecodes) h = h
 edit_context_held v f g (Ctx c) h = g c h
 
 -- a change of contexts that names what v has

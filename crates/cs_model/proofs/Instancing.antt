@@ -140,9 +140,9 @@ unfolding class_prim
 class_prim_alike k args = with_count_alike k 0 args (answer_alike k 0 (or_same (class_of_same k (prim_receiver_same k 0)) (nil_same k)))
 
 copied_held : (v : Kept) (o : Obj) → NamesHeld v o → NamesHeld v (copied o)
-copied_held v (Ptr class format hash slots) h = h
-copied_held v (Raw class format hash bytes) h = tt
-copied_held v (Method class format hash header literals bytecodes) h = h
+copied_held v (Ptr head slots) h = h
+copied_held v (Raw head bytes) h = tt
+copied_held v (Method head header literals bytecodes) h = h
 copied_held v (Ctx c) h = record { sender = h.sender; method = h.method; closure = h.closure; receiver = h.receiver; stack = h.stack }
 
 look_if_alike : {v : Kept} {a b : Out} → (x : Bool) → Alike v a b → Alike v (look_if x a) (look_if x b)

@@ -43,9 +43,9 @@ and_then_goes_if f (Some x) h = h x refl
 
 write_in_goes : {k : Kept} (x : Ref) (place : ℕ) (v : Ref) (o : Option Obj) → Ready k → GoesIf k (write_in k x place v o)
 write_in_goes {k} x place v None r = goes_none k
-write_in_goes {k} x place v (Some (Ptr class format hash slots)) r = map_goes _ (fields_of k x slots) (λ fields. store_goes x (fields + place) v r)
-write_in_goes x place v (Some (Raw class format hash bytes)) r = store_unit_goes x (unit_bytes format) place (index_of v) r
-write_in_goes x place v (Some (Method class format hash header literals bytecodes)) r = store_unit_goes x 1 place (index_of v) r
+write_in_goes {k} x place v (Some (Ptr head slots)) r = map_goes _ (fields_of k x slots) (λ fields. store_goes x (fields + place) v r)
+write_in_goes x place v (Some (Raw head bytes)) r = store_unit_goes x (unit_bytes head.format) place (index_of v) r
+write_in_goes x place v (Some (Method head header literals bytecodes)) r = store_unit_goes x 1 place (index_of v) r
 write_in_goes {k} x place v (Some (Ctx c)) r = goes_none k
 
 pub with_element_goes : {k : Kept} (x : Ref) (place : ℕ) (v : Ref) → Ready k → GoesIf k (with_element k x place v)
@@ -56,9 +56,9 @@ with_element_goes {k} x place v r = write_in_goes x place v (object_of k x) r
 
 copy_unit_goes : {k : Kept} (x : Ref) (size to from : ℕ) (o : Option Obj) → Ready k → Goes k (copy_unit k x size to from o)
 copy_unit_goes x size to from None r = goes_itself r
-copy_unit_goes x size to from (Some (Ptr class format hash slots)) r = goes_itself r
-copy_unit_goes x size to from (Some (Raw class format hash bytes)) r = store_bytes_goes (unit_at size from bytes) x (to * size) r
-copy_unit_goes x size to from (Some (Method class format hash header literals bytecodes)) r = goes_itself r
+copy_unit_goes x size to from (Some (Ptr head slots)) r = goes_itself r
+copy_unit_goes x size to from (Some (Raw head bytes)) r = store_bytes_goes (unit_at size from bytes) x (to * size) r
+copy_unit_goes x size to from (Some (Method head header literals bytecodes)) r = goes_itself r
 copy_unit_goes x size to from (Some (Ctx c)) r = goes_itself r
 
 copy_slot_goes : {k : Kept} (x : Ref) (to : ℕ) (o : Option Ref) → Ready k → Goes k (copy_slot k x to o)
@@ -67,9 +67,9 @@ copy_slot_goes x to (Some v) r = store_goes x to v r
 
 copy_one_goes : {k : Kept} (x : Ref) (to : ℕ) (y : Ref) (from : ℕ) (o : Option Obj) → Ready k → Goes k (copy_one k x to y from o)
 copy_one_goes x to y from None r = goes_itself r
-copy_one_goes {k} x to y from (Some (Ptr class format hash slots)) r = copy_slot_goes x (field_count k x slots + to) (element_at k y from) r
-copy_one_goes {k} x to y from (Some (Raw class format hash bytes)) r = copy_unit_goes x (unit_bytes format) to from (object_of k y) r
-copy_one_goes x to y from (Some (Method class format hash header literals bytecodes)) r = goes_itself r
+copy_one_goes {k} x to y from (Some (Ptr head slots)) r = copy_slot_goes x (field_count k x slots + to) (element_at k y from) r
+copy_one_goes {k} x to y from (Some (Raw head bytes)) r = copy_unit_goes x (unit_bytes head.format) to from (object_of k y) r
+copy_one_goes x to y from (Some (Method head header literals bytecodes)) r = goes_itself r
 copy_one_goes x to y from (Some (Ctx c)) r = goes_itself r
 
 pub copy_elements_goes : (n : ℕ) {k : Kept} (x : Ref) (to : ℕ) (y : Ref) (from : ℕ) → Ready k → Goes k (copy_elements n k x to y from)

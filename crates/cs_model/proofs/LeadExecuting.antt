@@ -49,9 +49,9 @@ dup_leading {k} r = with_top_leading (λ x. push_out k x) r (λ x. push_leading 
 
 push_field_leading : {k : Kept} (i : ℕ) (o : Option Obj) → Ready k → Leading Runs k (push_field k i o)
 push_field_leading i None r = stop_leading r.sound why.BadField
-push_field_leading {k} i (Some (Ptr class format hash slots)) r = given_leading (slice_get slots i) (λ x. push_out k x) (stop_leading r.sound why.BadField) (λ x e. push_leading x r)
-push_field_leading i (Some (Raw class format hash bytes)) r = stop_leading r.sound why.BadField
-push_field_leading i (Some (Method class format hash header literals bytecodes)) r = stop_leading r.sound why.BadField
+push_field_leading {k} i (Some (Ptr head slots)) r = given_leading (slice_get slots i) (λ x. push_out k x) (stop_leading r.sound why.BadField) (λ x e. push_leading x r)
+push_field_leading i (Some (Raw head bytes)) r = stop_leading r.sound why.BadField
+push_field_leading i (Some (Method head header literals bytecodes)) r = stop_leading r.sound why.BadField
 push_field_leading {k} i (Some (Ctx c)) r =
     given_leading (context_get k c i) (λ x. if i == 0 then looked (push_out k x) else push_out k x) (stop_leading r.sound why.BadField)
     (λ x e. if_leading (i == 0) (λ f. looked_leading (push_leading x r)) (λ f. push_leading x r))
@@ -79,9 +79,9 @@ store_in_context_leading {k} i v c r e =
 
 store_field_leading : {k : Kept} (i : ℕ) (v : Ref) (o : Option Obj) → Ready k → object_of k (receiver_of k) ≡ o → Leading Runs k (store_field k i v o)
 store_field_leading i v None r e = stop_leading r.sound why.BadField
-store_field_leading {k} i v (Some (Ptr class format hash slots)) r e = if_leading (nat_lt i (length slots)) (λ f. done_goes (store_goes (receiver_of k) i v r)) (λ f. stop_leading r.sound why.BadField)
-store_field_leading i v (Some (Raw class format hash bytes)) r e = stop_leading r.sound why.BadField
-store_field_leading i v (Some (Method class format hash header literals bytecodes)) r e = stop_leading r.sound why.BadField
+store_field_leading {k} i v (Some (Ptr head slots)) r e = if_leading (nat_lt i (length slots)) (λ f. done_goes (store_goes (receiver_of k) i v r)) (λ f. stop_leading r.sound why.BadField)
+store_field_leading i v (Some (Raw head bytes)) r e = stop_leading r.sound why.BadField
+store_field_leading i v (Some (Method head header literals bytecodes)) r e = stop_leading r.sound why.BadField
 store_field_leading i v (Some (Ctx c)) r e = store_in_context_leading i v c r e
 
 pub store_receiver_leading : {k : Kept} (i : ℕ) (v : Ref) → Ready k → Leading Runs k (store_receiver_out k i v)
@@ -232,7 +232,7 @@ pub record Fills (o : Option Obj) (values : List Ref) : Type 0 where
   pub none : slots_in o ≡ Some [] → values ≡ []
 
 with_slots_mild : (values : List Ref) (o : Obj) → Fills (Some o) values → Mild (with_slots values) o
-with_slots_mild values (Ptr class format hash slots) h = record {
+with_slots_mild values (Ptr head slots) h = record {
   like = record {
     becomes = record { held = λ g. refl; plain = λ g e. refl; lies = λ pc g. g; method = λ g. g };
     index = λ g. g;
@@ -241,8 +241,8 @@ with_slots_mild values (Ptr class format hash slots) h = record {
   pc = refl;
   lies = λ k g. no_context_lies refl;
 }
-with_slots_mild values (Raw class format hash bytes) h = mild_itself (with_slots values) (Raw class format hash bytes) refl
-with_slots_mild values (Method class format hash header literals bytecodes) h = mild_itself (with_slots values) (Method class format hash header literals bytecodes) refl
+with_slots_mild values (Raw head bytes) h = mild_itself (with_slots values) (Raw head bytes) refl
+with_slots_mild values (Method head header literals bytecodes) h = mild_itself (with_slots values) (Method head header literals bytecodes) refl
 with_slots_mild values (Ctx c) h = mild_itself (with_slots values) (Ctx c) refl
 
 pub fill_goes : {k : Kept} (x : Ref) (values : List Ref) → Ready k → Fills (object_of k x) values → Goes k (fill_of k x values)

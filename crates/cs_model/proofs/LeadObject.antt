@@ -108,9 +108,9 @@ answer_field_leading args i value r =
 
 pub slot_at_case : {P : Kept → Type 0} {k : Kept} (args i : ℕ) (o : Option Obj) → Ready k → Leading P k (slot_at k args i o)
 slot_at_case args i None r = fail_leading r
-slot_at_case args i (Some (Ptr class format hash slots)) r = answer_if_leading args (slice_get slots i) r
-slot_at_case args i (Some (Raw class format hash bytes)) r = fail_leading r
-slot_at_case args i (Some (Method class format hash header literals bytecodes)) r = fail_leading r
+slot_at_case args i (Some (Ptr head slots)) r = answer_if_leading args (slice_get slots i) r
+slot_at_case args i (Some (Raw head bytes)) r = fail_leading r
+slot_at_case args i (Some (Method head header literals bytecodes)) r = fail_leading r
 slot_at_case {k = k} args i (Some (Ctx c)) r = answer_field_leading args i (context_get k c i) r
 
 pub slot_at_leading : {P : Kept → Type 0} {k : Kept} (args : ℕ) → Ready k → Leading P k (slot_at_prim k args)
@@ -139,9 +139,9 @@ context_at_put_goes {k} x i v c (Some birth) e f r =
 
 slot_put_goes : {k : Kept} (x : Ref) (i : ℕ) (v : Ref) (o : Option Obj) → object_of k x ≡ o → Ready k → GoesIf k (slot_put k x i v o)
 slot_put_goes {k} x i v None e r = goes_none k
-slot_put_goes x i v (Some (Ptr class format hash slots)) e r = if_goes_some (nat_lt i (length slots)) (λ f. store_goes x i v r)
-slot_put_goes {k} x i v (Some (Raw class format hash bytes)) e r = goes_none k
-slot_put_goes {k} x i v (Some (Method class format hash header literals bytecodes)) e r = goes_none k
+slot_put_goes x i v (Some (Ptr head slots)) e r = if_goes_some (nat_lt i (length slots)) (λ f. store_goes x i v r)
+slot_put_goes {k} x i v (Some (Raw head bytes)) e r = goes_none k
+slot_put_goes {k} x i v (Some (Method head header literals bytecodes)) e r = goes_none k
 slot_put_goes x i v (Some (Ctx c)) e r = context_at_put_goes x i v c (birth_of x) refl e r
 
 pub slot_at_put_leading : {P : Kept → Type 0} {k : Kept} (args : ℕ) → Ready k → Leading P k (slot_at_put_prim k args)
@@ -220,16 +220,16 @@ unfolding class_prim
 class_leading args r = with_count_leading 0 args r (answer_leading 0 _ r)
 
 copied_index : (o : Obj) → class_index_in (copied o) ≡ class_index_in o
-copied_index (Ptr class format hash slots) = refl
-copied_index (Raw class format hash bytes) = refl
-copied_index (Method class format hash header literals bytecodes) = refl
+copied_index (Ptr head slots) = refl
+copied_index (Raw head bytes) = refl
+copied_index (Method head header literals bytecodes) = refl
 copied_index (Ctx c) = refl
 
 -- the pc of a copy of a context lies where that of the context does
 copied_lies : {k : Kept} → Sound k → (i : ℕ) (o : Obj) → object_at k i ≡ Some o → PcsLie k (copied o)
-copied_lies s i (Ptr class format hash slots) e = no_context_lies refl
-copied_lies s i (Raw class format hash bytes) e = no_context_lies refl
-copied_lies s i (Method class format hash header literals bytecodes) e = no_context_lies refl
+copied_lies s i (Ptr head slots) e = no_context_lies refl
+copied_lies s i (Raw head bytes) e = no_context_lies refl
+copied_lies s i (Method head header literals bytecodes) e = no_context_lies refl
 copied_lies s i (Ctx c) e = context_lies (record c { hash = 0 }) (s.pcs i c e)
 
 look_if_leading : {P : Kept → Type 0} {k : Kept} {o : Out} (b : Bool) → Leading P k o → Leading P k (look_if b o)

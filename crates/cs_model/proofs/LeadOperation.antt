@@ -88,7 +88,7 @@ some_inj : {A : Type 0} (x y : A) → Some x ≡ Some y → x ≡ y
 some_inj x y e = ap (λ o. unwrap_or o x) e
 
 pub with_slot_mild : (i : ℕ) (x : Ref) (o : Obj) → Mild (with_slot i x) o
-with_slot_mild i x (Ptr class format hash slots) = record {
+with_slot_mild i x (Ptr head slots) = record {
   like = record {
     becomes = record { held = λ h. refl; plain = λ h e. refl; lies = λ pc h. h; method = λ h. h };
     index = λ h. h;
@@ -97,8 +97,8 @@ with_slot_mild i x (Ptr class format hash slots) = record {
   pc = refl;
   lies = λ k h. no_context_lies refl;
 }
-with_slot_mild i x (Raw class format hash bytes) = mild_itself (with_slot i x) (Raw class format hash bytes) refl
-with_slot_mild i x (Method class format hash header literals bytecodes) = record {
+with_slot_mild i x (Raw head bytes) = mild_itself (with_slot i x) (Raw head bytes) refl
+with_slot_mild i x (Method head header literals bytecodes) = record {
   like = record {
     becomes = record { held = λ h. refl; plain = λ h e. refl; lies = λ pc h. ap (λ n. lies_between (4 * (n + 1) + 1) (length bytecodes) pc) (length-slice_set literals (i - 1) x) ∙ h; method = λ h. h };
     index = λ h. h;
@@ -110,8 +110,8 @@ with_slot_mild i x (Method class format hash header literals bytecodes) = record
 with_slot_mild i x (Ctx c) = mild_itself (with_slot i x) (Ctx c) refl
 
 pub with_byte_mild : (i b : ℕ) (o : Obj) → Mild (with_byte i b) o
-with_byte_mild i b (Ptr class format hash slots) = mild_itself (with_byte i b) (Ptr class format hash slots) refl
-with_byte_mild i b (Raw class format hash bytes) = record {
+with_byte_mild i b (Ptr head slots) = mild_itself (with_byte i b) (Ptr head slots) refl
+with_byte_mild i b (Raw head bytes) = record {
   like = record {
     becomes = record { held = λ h. refl; plain = λ h e. refl; lies = λ pc h. h; method = λ h. h };
     index = λ h. h;
@@ -120,7 +120,7 @@ with_byte_mild i b (Raw class format hash bytes) = record {
   pc = refl;
   lies = λ k h. no_context_lies refl;
 }
-with_byte_mild i b (Method class format hash header literals bytecodes) = record {
+with_byte_mild i b (Method head header literals bytecodes) = record {
   like = record {
     becomes = record { held = λ h. refl; plain = λ h e. refl; lies = λ pc h. ap (λ n. lies_between (first_pc literals) n pc) (length-slice_set bytecodes i b) ∙ h; method = λ h. h };
     index = λ h. h;
@@ -132,17 +132,17 @@ with_byte_mild i b (Method class format hash header literals bytecodes) = record
 with_byte_mild i b (Ctx c) = mild_itself (with_byte i b) (Ctx c) refl
 
 pub with_hash_mild : (n : ℕ) (o : Obj) → Mild (with_hash n) o
-with_hash_mild n (Ptr class format hash slots) = record {
+with_hash_mild n (Ptr head slots) = record {
   like = record { becomes = record { held = λ h. refl; plain = λ h e. refl; lies = λ pc h. h; method = λ h. h }; index = λ h. h; bare = λ h. h };
   pc = refl;
   lies = λ k h. no_context_lies refl;
 }
-with_hash_mild n (Raw class format hash bytes) = record {
+with_hash_mild n (Raw head bytes) = record {
   like = record { becomes = record { held = λ h. refl; plain = λ h e. refl; lies = λ pc h. h; method = λ h. h }; index = λ h. h; bare = λ h. h };
   pc = refl;
   lies = λ k h. no_context_lies refl;
 }
-with_hash_mild n (Method class format hash header literals bytecodes) = record {
+with_hash_mild n (Method head header literals bytecodes) = record {
   like = record { becomes = record { held = λ h. refl; plain = λ h e. refl; lies = λ pc h. h; method = λ h. h }; index = λ h. h; bare = λ h. h };
   pc = refl;
   lies = λ k h. no_context_lies refl;
@@ -154,9 +154,9 @@ with_hash_mild n (Ctx c) = record {
 }
 
 pub edit_context_mild : (f : Context → Context) → KeepsPlace f → (o : Obj) → Mild (edit_context f) o
-edit_context_mild f p (Ptr class format hash slots) = mild_itself (edit_context f) (Ptr class format hash slots) refl
-edit_context_mild f p (Raw class format hash bytes) = mild_itself (edit_context f) (Raw class format hash bytes) refl
-edit_context_mild f p (Method class format hash header literals bytecodes) = mild_itself (edit_context f) (Method class format hash header literals bytecodes) refl
+edit_context_mild f p (Ptr head slots) = mild_itself (edit_context f) (Ptr head slots) refl
+edit_context_mild f p (Raw head bytes) = mild_itself (edit_context f) (Raw head bytes) refl
+edit_context_mild f p (Method head header literals bytecodes) = mild_itself (edit_context f) (Method head header literals bytecodes) refl
 edit_context_mild f p (Ctx c) = record {
   like = like_context c (f c);
   pc = p.pc c;

@@ -59,9 +59,9 @@ char_at_put_alike k args =
 
 method_slot_same : {v : Kept} {o p : Option Obj} → SameOption (NamesHeld v) o p → (i : ℕ) → SameOption (IsHeld v) (method_slot o i) (method_slot p i)
 method_slot_same none i = none
-method_slot_same (some (Ptr class format hash slots) h) i = none
-method_slot_same (some (Raw class format hash bytes) h) i = none
-method_slot_same {v} (some (Method class format hash header literals bytecodes) h) i = slice_same i (listed v (Small (pos header) ∷ literals) (tt, h))
+method_slot_same (some (Ptr head slots) h) i = none
+method_slot_same (some (Raw head bytes) h) i = none
+method_slot_same {v} (some (Method head header literals bytecodes) h) i = slice_same i (listed v (Small (pos header) ∷ literals) (tt, h))
 method_slot_same (some (Ctx c) h) i = none
 
 pub slot_index_same : {P : Ref → Type 0} {x y : Ref} → Same P x y → SameOption Any (slot_index x) (slot_index y)
@@ -122,9 +122,9 @@ answer_field_alike k args i s = given_alike _ _ s (fail_alike k) (λ x h. if_ali
 
 pub slot_at_case : {v m : Kept} {o p : Option Obj} → Keeps v m → (args i : ℕ) → SameOption (NamesHeld v) o p → Alike v (slot_at v args i o) (slot_at m args i p)
 slot_at_case k args i none = fail_alike k
-slot_at_case {v} k args i (some (Ptr class format hash slots) h) = answer_if_alike k args (slice_same i (listed v slots h))
-slot_at_case k args i (some (Raw class format hash bytes) h) = fail_alike k
-slot_at_case k args i (some (Method class format hash header literals bytecodes) h) = fail_alike k
+slot_at_case {v} k args i (some (Ptr head slots) h) = answer_if_alike k args (slice_same i (listed v slots h))
+slot_at_case k args i (some (Raw head bytes) h) = fail_alike k
+slot_at_case k args i (some (Method head header literals bytecodes) h) = fail_alike k
 slot_at_case k args i (some (Ctx c) h) = answer_field_alike k args i (context_get_same k (same c h) i)
 
 pub slot_at_alike : {v m : Kept} → Keeps v m → (args : ℕ) → Alike v (slot_at_prim v args) (slot_at_prim m args)
@@ -138,9 +138,9 @@ context_at_put_moved k s i t c (some birth h) = if_moved (accepts_same k (is_act
 
 slot_put_moved : {v m : Kept} {x y z w : Ref} {o p : Option Obj} → Keeps v m → Same (IsHeld v) x y → (i : ℕ) → Same (IsHeld v) z w → SameOption (NamesHeld v) o p → MovedOption v (slot_put v x i z o) (slot_put m y i w p)
 slot_put_moved k s i t none = nothing
-slot_put_moved k s i t (some (Ptr class format hash slots) h) = if_moved (is (nat_lt i (length slots))) (gives (store_moved k s i t)) nothing
-slot_put_moved k s i t (some (Raw class format hash bytes) h) = nothing
-slot_put_moved k s i t (some (Method class format hash header literals bytecodes) h) = nothing
+slot_put_moved k s i t (some (Ptr head slots) h) = if_moved (is (nat_lt i (length slots))) (gives (store_moved k s i t)) nothing
+slot_put_moved k s i t (some (Raw head bytes) h) = nothing
+slot_put_moved k s i t (some (Method head header literals bytecodes) h) = nothing
 slot_put_moved k s i t (some (Ctx c) h) = context_at_put_moved k s i t (same c h) (birth_of_same k s)
 
 pub slot_at_put_alike : {v m : Kept} → Keeps v m → (args : ℕ) → Alike v (slot_at_put_prim v args) (slot_at_put_prim m args)

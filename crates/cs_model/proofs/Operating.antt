@@ -55,45 +55,45 @@ edit_object_moved k (same (Char c) h) e = unmoved k
 edit_object_moved k (same (ref.Obj i) h) e = edit_found_moved k e (same i tt)
 
 with_slot_held : (v : Kept) (i : ℕ) (x : Ref) → IsHeld v x → (o : Obj) → NamesHeld v o → NamesHeld v (with_slot i x o)
-with_slot_held v i x g (Ptr class format hash slots) h = all-slice_set (IsHeld v) slots i x h g
-with_slot_held v i x g (Raw class format hash bytes) h = tt
-with_slot_held v i x g (Method class format hash header literals bytecodes) h = all-slice_set (IsHeld v) literals (i - 1) x h g
+with_slot_held v i x g (Ptr head slots) h = all-slice_set (IsHeld v) slots i x h g
+with_slot_held v i x g (Raw head bytes) h = tt
+with_slot_held v i x g (Method head header literals bytecodes) h = all-slice_set (IsHeld v) literals (i - 1) x h g
 with_slot_held v i x g (Ctx c) h = h
 
 with_slot_context : (i : ℕ) (x : Ref) (o : Obj) → is_context o ≡ true → is_context (with_slot i x o) ≡ true
-with_slot_context i x (Ptr class format hash slots) h = h
-with_slot_context i x (Raw class format hash bytes) h = h
-with_slot_context i x (Method class format hash header literals bytecodes) h = h
+with_slot_context i x (Ptr head slots) h = h
+with_slot_context i x (Raw head bytes) h = h
+with_slot_context i x (Method head header literals bytecodes) h = h
 with_slot_context i x (Ctx c) h = h
 
 pub with_slot_edit : {v : Kept} {x y : Ref} → (i : ℕ) → Same (IsHeld v) x y → Same (IsEdit v) (with_slot i x) (with_slot i y)
 with_slot_edit {v} i (same x g) = same (with_slot i x) (record { context = with_slot_context i x; held = with_slot_held v i x g })
 
 with_byte_held : (v : Kept) (i b : ℕ) (o : Obj) → NamesHeld v o → NamesHeld v (with_byte i b o)
-with_byte_held v i b (Ptr class format hash slots) h = h
-with_byte_held v i b (Raw class format hash bytes) h = tt
-with_byte_held v i b (Method class format hash header literals bytecodes) h = h
+with_byte_held v i b (Ptr head slots) h = h
+with_byte_held v i b (Raw head bytes) h = tt
+with_byte_held v i b (Method head header literals bytecodes) h = h
 with_byte_held v i b (Ctx c) h = h
 
 with_byte_context : (i b : ℕ) (o : Obj) → is_context o ≡ true → is_context (with_byte i b o) ≡ true
-with_byte_context i b (Ptr class format hash slots) h = h
-with_byte_context i b (Raw class format hash bytes) h = h
-with_byte_context i b (Method class format hash header literals bytecodes) h = h
+with_byte_context i b (Ptr head slots) h = h
+with_byte_context i b (Raw head bytes) h = h
+with_byte_context i b (Method head header literals bytecodes) h = h
 with_byte_context i b (Ctx c) h = h
 
 pub with_byte_edit : (v : Kept) (i b : ℕ) → Same (IsEdit v) (with_byte i b) (with_byte i b)
 with_byte_edit v i b = same (with_byte i b) (record { context = with_byte_context i b; held = with_byte_held v i b })
 
 with_hash_held : (v : Kept) (n : ℕ) (o : Obj) → NamesHeld v o → NamesHeld v (with_hash n o)
-with_hash_held v n (Ptr class format hash slots) h = h
-with_hash_held v n (Raw class format hash bytes) h = tt
-with_hash_held v n (Method class format hash header literals bytecodes) h = h
+with_hash_held v n (Ptr head slots) h = h
+with_hash_held v n (Raw head bytes) h = tt
+with_hash_held v n (Method head header literals bytecodes) h = h
 with_hash_held v n (Ctx c) h = record { sender = h.sender; method = h.method; closure = h.closure; receiver = h.receiver; stack = h.stack }
 
 with_hash_context : (n : ℕ) (o : Obj) → is_context o ≡ true → is_context (with_hash n o) ≡ true
-with_hash_context n (Ptr class format hash slots) h = h
-with_hash_context n (Raw class format hash bytes) h = h
-with_hash_context n (Method class format hash header literals bytecodes) h = h
+with_hash_context n (Ptr head slots) h = h
+with_hash_context n (Raw head bytes) h = h
+with_hash_context n (Method head header literals bytecodes) h = h
 with_hash_context n (Ctx c) h = h
 
 pub with_hash_edit : {i j : ℕ} (v : Kept) → Same Any i j → Same (IsEdit v) (with_hash i) (with_hash j)
@@ -194,15 +194,15 @@ enter_moved {v} {m} {x} {y} k s args skip = enter_with_moved (method_context v x
 -- ---- leaving
 
 dead_object_held : (v : Kept) (nil : ℕ) → Has v nil → (o : Obj) → NamesHeld v o → NamesHeld v (dead_object nil o)
-dead_object_held v nil g (Ptr class format hash slots) h = h
-dead_object_held v nil g (Raw class format hash bytes) h = tt
-dead_object_held v nil g (Method class format hash header literals bytecodes) h = h
+dead_object_held v nil g (Ptr head slots) h = h
+dead_object_held v nil g (Raw head bytes) h = tt
+dead_object_held v nil g (Method head header literals bytecodes) h = h
 dead_object_held v nil g (Ctx c) h = record { sender = g; method = h.method; closure = h.closure; receiver = h.receiver; stack = tt }
 
 dead_object_context : (nil : ℕ) (o : Obj) → is_context o ≡ true → is_context (dead_object nil o) ≡ true
-dead_object_context nil (Ptr class format hash slots) h = h
-dead_object_context nil (Raw class format hash bytes) h = h
-dead_object_context nil (Method class format hash header literals bytecodes) h = h
+dead_object_context nil (Ptr head slots) h = h
+dead_object_context nil (Raw head bytes) h = h
+dead_object_context nil (Method head header literals bytecodes) h = h
 dead_object_context nil (Ctx c) h = h
 
 dead_object_edit : {v m : Kept} → Keeps v m → Same (IsEdit v) (dead_object v.rest.nil) (dead_object m.rest.nil)

@@ -85,23 +85,23 @@ object_of_same k (same (ref.Obj i) h) = object_at_same k (same i h)
 
 pub slots_in_same : {v : Kept} {o p : Option Obj} → SameOption (NamesHeld v) o p → SameOption (AllHeld v) (slots_in o) (slots_in p)
 slots_in_same none = none
-slots_in_same (some (Ptr class format hash slots) h) = some slots (record { all = h })
-slots_in_same (some (Raw class format hash bytes) h) = none
-slots_in_same (some (Method class format hash header literals bytecodes) h) = none
+slots_in_same (some (Ptr head slots) h) = some slots (record { all = h })
+slots_in_same (some (Raw head bytes) h) = none
+slots_in_same (some (Method head header literals bytecodes) h) = none
 slots_in_same (some (Ctx c) h) = none
 
 pub context_in_same : {v : Kept} {o p : Option Obj} → SameOption (NamesHeld v) o p → SameOption (ContextHeld v) (context_in o) (context_in p)
 context_in_same none = none
-context_in_same (some (Ptr class format hash slots) h) = none
-context_in_same (some (Raw class format hash bytes) h) = none
-context_in_same (some (Method class format hash header literals bytecodes) h) = none
+context_in_same (some (Ptr head slots) h) = none
+context_in_same (some (Raw head bytes) h) = none
+context_in_same (some (Method head header literals bytecodes) h) = none
 context_in_same (some (Ctx c) h) = some c h
 
 pub literals_in_same : {v : Kept} {o p : Option Obj} → SameOption (NamesHeld v) o p → Same (AllHeld v) (literals_in o) (literals_in p)
 literals_in_same none = same [] (record { all = tt })
-literals_in_same (some (Ptr class format hash slots) h) = same [] (record { all = tt })
-literals_in_same (some (Raw class format hash bytes) h) = same [] (record { all = tt })
-literals_in_same (some (Method class format hash header literals bytecodes) h) = same literals (record { all = h })
+literals_in_same (some (Ptr head slots) h) = same [] (record { all = tt })
+literals_in_same (some (Raw head bytes) h) = same [] (record { all = tt })
+literals_in_same (some (Method head header literals bytecodes) h) = same literals (record { all = h })
 literals_in_same (some (Ctx c) h) = same [] (record { all = tt })
 
 pub slice_same : {v : Kept} {xs ys : List Ref} → (i : ℕ) → Same (AllHeld v) xs ys → SameOption (IsHeld v) (slice_get xs i) (slice_get ys i)

@@ -193,9 +193,9 @@ none_both P o p e f = subst (λ q. SameOption P q p) (sym e) (subst (λ q. SameO
 
 no_slots : (n : ℕ) (o : Option Obj) → ((p : Obj) → o ≡ Some p → is_context p ≡ true) → at_least n (slots_in o) ≡ None
 no_slots n None h = refl
-no_slots n (Some (Ptr class format hash slots)) h = let e : false ≡ true = h (Ptr class format hash slots) refl in absurd (cc)
-no_slots n (Some (Raw class format hash bytes)) h = refl
-no_slots n (Some (Method class format hash header literals bytecodes)) h = refl
+no_slots n (Some (Ptr head slots)) h = let e : false ≡ true = h (Ptr head slots) refl in absurd (cc)
+no_slots n (Some (Raw head bytes)) h = refl
+no_slots n (Some (Method head header literals bytecodes)) h = refl
 no_slots n (Some (Ctx c)) h = refl
 
 signal_absent : {v m : Kept} → Keeps v m → (i : ℕ) → object_at v i ≡ None → Alike v (signal v (ref.Obj i)) (signal m (ref.Obj i))

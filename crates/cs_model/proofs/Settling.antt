@@ -49,12 +49,12 @@ record Stands (k : Kept) (j : ℕ) : Type 0 where
 
 stands_at : (k : Kept) (j : ℕ) (o : Option Obj) → object_at k j ≡ o → IsSome (at_least 4 (slots_in o)) → Stands k j
 stands_at k j None e h = absurd (cc)
-stands_at k j (Some (Ptr class format hash slots)) e h = record { class = class; format = format; hash = hash; slots = slots; there = e; wide = wide_if (nat_le 4 (length slots)) h } where
+stands_at k j (Some (Ptr head slots)) e h = record { class = head.class; format = head.format; hash = head.hash; slots = slots; there = e; wide = wide_if (nat_le 4 (length slots)) h } where
   wide_if : (b : Bool) → IsSome (if b then Some slots else None) → b ≡ true
   wide_if true g = refl
   wide_if false g = absurd (cc)
-stands_at k j (Some (Raw class format hash bytes)) e h = absurd (cc)
-stands_at k j (Some (Method class format hash header literals bytecodes)) e h = absurd (cc)
+stands_at k j (Some (Raw head bytes)) e h = absurd (cc)
+stands_at k j (Some (Method head header literals bytecodes)) e h = absurd (cc)
 stands_at k j (Some (Ctx c)) e h = absurd (cc)
 
 stands : (k : Kept) (p : Ref) → IsSome (slots_of k 4 p) → (j : ℕ) × (p ≡ ref.Obj j) × Stands k j

@@ -89,16 +89,16 @@ record Slots (o : Option Obj) : Type 0 where
 
 slots_there : (o : Option Obj) → nat_le 3 (length (closure_slots o)) ≡ true → Slots o
 slots_there None h = absurd (cc)
-slots_there (Some (Raw class format hash bytes)) h = absurd (cc)
-slots_there (Some (Method class format hash header literals bytecodes)) h = absurd (cc)
+slots_there (Some (Raw head bytes)) h = absurd (cc)
+slots_there (Some (Method head header literals bytecodes)) h = absurd (cc)
 slots_there (Some (Ctx c)) h = absurd (cc)
-slots_there (Some (Ptr class format hash slots)) h = record {
-  class = class;
-  format = format;
-  hash = hash;
+slots_there (Some (Ptr head slots)) h = record {
+  class = head.class;
+  format = head.format;
+  hash = head.hash;
   slots = slots;
   is = refl;
-  are = go (class == 37 && format == 3) h;
+  are = go (head.class == 37 && head.format == 3) h;
 }
   where
     go : (b : Bool) → nat_le 3 (length (if b then slots else [])) ≡ true → (if b then slots else []) ≡ slots
@@ -111,9 +111,9 @@ record AContext (o : Option Obj) : Type 0 where
 
 context_there : (o : Option Obj) → is_some (context_in o) ≡ true → AContext o
 context_there None h = absurd (cc)
-context_there (Some (Ptr class format hash slots)) h = absurd (cc)
-context_there (Some (Raw class format hash bytes)) h = absurd (cc)
-context_there (Some (Method class format hash header literals bytecodes)) h = absurd (cc)
+context_there (Some (Ptr head slots)) h = absurd (cc)
+context_there (Some (Raw head bytes)) h = absurd (cc)
+context_there (Some (Method head header literals bytecodes)) h = absurd (cc)
 context_there (Some (Ctx c)) h = record { context = c; is = refl }
 
 record Entry (o : Option Obj) (i : Option ℕ) : Type 0 where

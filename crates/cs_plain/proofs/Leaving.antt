@@ -160,9 +160,9 @@ record Live (o : Option Obj) : Type 0 where
 
 live_context : (o : Option Obj) → is_some (option_and_then (λ (c : Context). c.pc) (context_in o)) ≡ true → Live o
 live_context None h = absurd (cc)
-live_context (Some (Ptr class format hash slots)) h = absurd (cc)
-live_context (Some (Raw class format hash bytes)) h = absurd (cc)
-live_context (Some (Method class format hash header literals bytecodes)) h = absurd (cc)
+live_context (Some (Ptr head slots)) h = absurd (cc)
+live_context (Some (Raw head bytes)) h = absurd (cc)
+live_context (Some (Method head header literals bytecodes)) h = absurd (cc)
 live_context (Some (Ctx c)) h = go c.pc refl h
   where
     go : (o : Option ℕ) → c.pc ≡ o → is_some o ≡ true → Live (Some (Ctx c))

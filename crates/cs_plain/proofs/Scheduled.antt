@@ -28,14 +28,14 @@ record Suspended (k : Kept) (j i : ℕ) : Type 0 where
 
 suspended_at : (k : Kept) (j i : ℕ) (o : Option Obj) → object_at k j ≡ o → option_and_then (λ s. slice_get s 1) (at_least 4 (slots_in o)) ≡ Some (ref.Obj i) → Suspended k j i
 suspended_at k j i None e h = absurd (cc)
-suspended_at k j i (Some (Raw class format hash bytes)) e h = absurd (cc)
-suspended_at k j i (Some (Method class format hash header literals bytecodes)) e h = absurd (cc)
+suspended_at k j i (Some (Raw head bytes)) e h = absurd (cc)
+suspended_at k j i (Some (Method head header literals bytecodes)) e h = absurd (cc)
 suspended_at k j i (Some (Ctx c)) e h = absurd (cc)
-suspended_at k j i (Some (Ptr class format hash slots)) e h = by_width (nat_le 4 (length slots)) refl h
+suspended_at k j i (Some (Ptr head slots)) e h = by_width (nat_le 4 (length slots)) refl h
   where
     by_width : (b : Bool) → nat_le 4 (length slots) ≡ b → option_and_then (λ s. slice_get s 1) (if b then Some slots else None) ≡ Some (ref.Obj i) → Suspended k j i
     by_width false w g = absurd (cc)
-    by_width true w g = record { class = class; format = format; hash = hash; slots = slots; there = e; wide = w; keeps = g }
+    by_width true w g = record { class = head.class; format = head.format; hash = head.hash; slots = slots; there = e; wide = w; keeps = g }
 
 suspended : (k : Kept) (p : Ref) (i : ℕ) → context_kept k p ≡ Some (ref.Obj i) → (j : ℕ) × (p ≡ ref.Obj j) × Suspended k j i
 unfolding slots_of

@@ -26,9 +26,9 @@ use Rattle.cs_stack.specs.Moved.{entry_of}
 
 context_no_method : (o : Option Obj) → is_context_at o ≡ true → obj.is_method o ≡ true → ⊥
 context_no_method None h m = absurd (cc)
-context_no_method (Some (Ptr class format hash slots)) h m = absurd (cc)
-context_no_method (Some (Raw class format hash bytes)) h m = absurd (cc)
-context_no_method (Some (Method class format hash header literals bytecodes)) h m = absurd (cc)
+context_no_method (Some (Ptr head slots)) h m = absurd (cc)
+context_no_method (Some (Raw head bytes)) h m = absurd (cc)
+context_no_method (Some (Method head header literals bytecodes)) h m = absurd (cc)
 context_no_method (Some (Ctx c)) h m = absurd (cc)
 
 -- a reference to a method of the state is the address of a method

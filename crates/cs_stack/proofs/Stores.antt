@@ -73,9 +73,9 @@ kind_address word a h = go (word % 2 == 1) (word % 4 == 2) (word % 8 == 0) h
 -- a context has no slot that may be stored into
 no_slots : (o : Option Obj) (i : ℕ) → is_context_at o ≡ true → is_storable o i ≡ true → ⊥
 no_slots None i c s = absurd (cc)
-no_slots (Some (Ptr class format hash slots)) i c s = absurd (cc)
-no_slots (Some (Raw class format hash bytes)) i c s = absurd (cc)
-no_slots (Some (Method class format hash header literals bytecodes)) i c s = absurd (cc)
+no_slots (Some (Ptr head slots)) i c s = absurd (cc)
+no_slots (Some (Raw head bytes)) i c s = absurd (cc)
+no_slots (Some (Method head header literals bytecodes)) i c s = absurd (cc)
 no_slots (Some (Ctx d)) i c s = absurd (cc)
 
 module _ (s : Store) (k : Kept) (holds : Holds s k) (i v : ℕ) where

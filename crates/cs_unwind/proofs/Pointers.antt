@@ -37,9 +37,9 @@ pub record IsPointer (s : Store) (k : Kept) (m : Memory) (o : Oop) : Type 0 wher
 
 no_slots : (o : Option Obj) → is_context_at o ≡ true → is_some (slots_in o) ≡ true → ⊥
 no_slots None c e = absurd (cc)
-no_slots (Some (Ptr class format hash slots)) c e = absurd (cc)
-no_slots (Some (Raw class format hash bytes)) c e = absurd (cc)
-no_slots (Some (Method class format hash header literals bytecodes)) c e = absurd (cc)
+no_slots (Some (Ptr head slots)) c e = absurd (cc)
+no_slots (Some (Raw head bytes)) c e = absurd (cc)
+no_slots (Some (Method head header literals bytecodes)) c e = absurd (cc)
 no_slots (Some (Ctx c')) c e = absurd (cc)
 
 pub pointer : (s : Store) (k : Kept) (m : Memory) (o : Oop) → m ≡ s.memory → Holds s k → IsNamed s o → is_some (slots_in (object_of k (name_of s o))) ≡ true → IsPointer s k m o
@@ -112,13 +112,13 @@ closure_of class format hash slots e = go (class == 37 && format == 3)
 -- a closure has its slots
 pub closure_at_least : (o : Option Obj) → nat_le 3 (length (closure_slots o)) ≡ true → at_least 3 (slots_in o) ≡ Some (closure_slots o)
 closure_at_least None e = absurd (cc)
-closure_at_least (Some (Ptr class format hash slots)) e = go (class == 37 && format == 3) e
+closure_at_least (Some (Ptr head slots)) e = go (head.class == 37 && head.format == 3) e
   where
     go : (b : Bool) → nat_le 3 (length (if b then slots else [])) ≡ true → at_least 3 (Some slots) ≡ Some (if b then slots else [])
     go true e = ap (λ (b : Bool). if b then Some slots else None) e
     go false e = absurd (cc)
-closure_at_least (Some (Raw class format hash bytes)) e = absurd (cc)
-closure_at_least (Some (Method class format hash header literals bytecodes)) e = absurd (cc)
+closure_at_least (Some (Raw head bytes)) e = absurd (cc)
+closure_at_least (Some (Method head header literals bytecodes)) e = absurd (cc)
 closure_at_least (Some (Ctx c)) e = absurd (cc)
 
 pub no_closure : (k : Kept) (x : Ref) → is_some (slots_of k 3 x) ≡ false → false ≡ is_closure k x
@@ -168,20 +168,20 @@ array_read s k m o p =
 
 pub array_slots : (o : Option Obj) (values : List Ref) → array_elements o ≡ Some values → slots_in o ≡ Some values
 array_slots None values e = absurd (cc)
-array_slots (Some (Ptr class format hash slots)) values e = go (format == 2) e
+array_slots (Some (Ptr head slots)) values e = go (head.format == 2) e
   where
     go : (b : Bool) → (if b then Some slots else None) ≡ Some values → Some slots ≡ Some values
     go true e = e
     go false e = absurd (cc)
-array_slots (Some (Raw class format hash bytes)) values e = absurd (cc)
-array_slots (Some (Method class format hash header literals bytecodes)) values e = absurd (cc)
+array_slots (Some (Raw head bytes)) values e = absurd (cc)
+array_slots (Some (Method head header literals bytecodes)) values e = absurd (cc)
 array_slots (Some (Ctx c)) values e = absurd (cc)
 
 some_slots : (o : Option Obj) → is_some (array_elements o) ≡ true → is_some (slots_in o) ≡ true
 some_slots None e = absurd (cc)
-some_slots (Some (Ptr class format hash slots)) e = refl
-some_slots (Some (Raw class format hash bytes)) e = absurd (cc)
-some_slots (Some (Method class format hash header literals bytecodes)) e = absurd (cc)
+some_slots (Some (Ptr head slots)) e = refl
+some_slots (Some (Raw head bytes)) e = absurd (cc)
+some_slots (Some (Method head header literals bytecodes)) e = absurd (cc)
 some_slots (Some (Ctx c)) e = absurd (cc)
 
 pub array_has_slots : (k : Kept) (x : Ref) → is_some (array_elements (object_of k x)) ≡ true → is_some (slots_in (object_of k x)) ≡ true

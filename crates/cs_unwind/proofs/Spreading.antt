@@ -68,11 +68,11 @@ apart k j class format hash slots running there = λ e.
 
 array_stays : (k v : Kept) (j : ℕ) (xs values : List Ref) → IsRunning k → Keeps v (spread_of k 1 xs) → (o : Option Obj) → object_at k j ≡ o → array_elements o ≡ Some values → slots_in (object_at v j) ≡ Some values
 array_stays k v j xs values running keeps None f e = absurd (cc)
-array_stays k v j xs values running keeps (Some (Ptr class format hash slots)) f e =
-    let there : object_at (spread_of k 1 xs) j ≡ Some (Ptr class format hash slots) = object_at-put_other k (active_birth k) j _ (apart k j class format hash slots running f) ∙ f in
-    ap slots_in (keeps.whole j (Ptr class format hash slots) there refl) ∙ array_slots (Some (Ptr class format hash slots)) values e
-array_stays k v j xs values running keeps (Some (Raw class format hash bytes)) f e = absurd (cc)
-array_stays k v j xs values running keeps (Some (Method class format hash header literals bytecodes)) f e = absurd (cc)
+array_stays k v j xs values running keeps (Some (Ptr head slots)) f e =
+    let there : object_at (spread_of k 1 xs) j ≡ Some (Ptr head slots) = object_at-put_other k (active_birth k) j _ (apart k j head.class head.format head.hash slots running f) ∙ f in
+    ap slots_in (keeps.whole j (Ptr head slots) there refl) ∙ array_slots (Some (Ptr head slots)) values e
+array_stays k v j xs values running keeps (Some (Raw head bytes)) f e = absurd (cc)
+array_stays k v j xs values running keeps (Some (Method head header literals bytecodes)) f e = absurd (cc)
 array_stays k v j xs values running keeps (Some (Ctx c)) f e = absurd (cc)
 
 pub array_kept : (k v : Kept) (x : Ref) (xs : List Ref) (n : ℕ) → IsRunning k → Keeps v (spread_of k 1 xs) → HasElements k x n → slots_in (object_of v x) ≡ Some (elements k x)
