@@ -13,13 +13,13 @@ use Rattle.cs_heap.specs.Object.{Object, address_of, base, is_object, new_object
 use Rattle.cs_heap.proofs.Laws.{address_of-below, index_of-address, object_at-address}
 use Rattle.cs_model.specs.Ref.{Ref}
 use Rattle.cs_model.specs.Ref as ref
-use Rattle.cs_model.specs.Obj.{Ctx, Method, Obj, Ptr, Raw}
+use Rattle.cs_model.specs.Obj.{Ctx, Method, Obj, Ptr, Raw, new_head}
 use Rattle.cs_model.specs.State.{Kept}
 use Rattle.cs_model.specs.Operation.{add_of, new_pointers}
 use Rattle.cs_model.specs.Operation as operation
 use Rattle.cs_model.specs.Instance.{new_context}
 use Rattle.cs_classes.specs.declared.Roots.{Roots}
-use Rattle.cs_classes.specs.Meaning.{birth_at, bytes_of, code_in, context_of, count_of, depth_in, header_in, is_context, kept_of, literals_in, obj_of, ref_of, unused_bytes, used_bytes}
+use Rattle.cs_classes.specs.Meaning.{birth_at, bytes_of, code_in, context_of, count_of, depth_in, header_in, is_context, kept_of, literals_in, obj_of, ref_of, unused_bytes, used_bytes, head_of}
 use Rattle.cs_classes.specs.Sound.{IsSoundMethod, IsSoundObject, IsWhole, is_reference, nil_of, references_in}
 use Rattle.cs_classes.proofs.Refs.{is_reference-object, is_reference-push, nil_of-push, ref_of-object, ref_of-push}
 use Rattle.cs_classes.proofs.Sorts.{map_alike, not_pointers, obj_of-bytes, obj_of-context, obj_of-method, obj_of-pointers, references-method, references-pointers}
@@ -87,8 +87,8 @@ module _ {os : List Object} {table : FinMap nat_cmp ℕ} {roots : Roots} (w : Is
         method = λ m. absurd (false≢true (sym (not_pointers format m) ∙ p));
       }
 
-      means : obj_of (ref_of (os ++ y ∷ [])) y ≡ Ptr class format 0 (replicate slots (ref.Obj (birth_at os 0)))
-      means = obj_of-pointers (ref_of (os ++ y ∷ [])) y other p ∙ ap (Ptr class format 0) (ap (map (ref_of (os ++ y ∷ []))) words ∙ nils y slots)
+      means : obj_of (ref_of (os ++ y ∷ [])) y ≡ Ptr (new_head class format) (replicate slots (ref.Obj (birth_at os 0)))
+      means = obj_of-pointers (ref_of (os ++ y ∷ [])) y other p ∙ ap (Ptr (new_head class format)) (ap (map (ref_of (os ++ y ∷ []))) words ∙ nils y slots)
 
   zero_bytes : (n : ℕ) → bytes_of (replicate n 0) ≡ replicate (4 * n) 0
   unfolding bytes_of
@@ -100,8 +100,8 @@ module _ {os : List Object} {table : FinMap nat_cmp ℕ} {roots : Roots} (w : Is
 
   -- a raw object, whose bytes are 0
   pub makes-bytes : (class format slots : ℕ) → (class == 36) ≡ false → is_pointers format ≡ false → is_method format ≡ false → IsTrue (format_allows format slots) → is_some (get table class) ≡ true
-      → Makes os (new_object class format slots roots.next_birth) table roots (λ k. Raw class format 0 (replicate (4 * slots - unused_bytes format) 0))
-  makes-bytes class format slots other p m shape entry = makes y (λ k. Raw class format 0 (replicate (4 * slots - unused_bytes format) 0)) refl entry sound (λ active. means)
+      → Makes os (new_object class format slots roots.next_birth) table roots (λ k. Raw (new_head class format) (replicate (4 * slots - unused_bytes format) 0))
+  makes-bytes class format slots other p m shape entry = makes y (λ k. Raw (new_head class format) (replicate (4 * slots - unused_bytes format) 0)) refl entry sound (λ active. means)
     where
       y : Object
       y = new_object class format slots roots.next_birth
@@ -125,15 +125,15 @@ module _ {os : List Object} {table : FinMap nat_cmp ℕ} {roots : Roots} (w : Is
           ∙ ap (take (4 * slots - unused_bytes format)) (zero_bytes slots)
           ∙ take-replicate (4 * slots - unused_bytes format) (4 * slots) 0 (omega arith)
 
-      means : obj_of (ref_of (os ++ y ∷ [])) y ≡ Raw class format 0 (replicate (4 * slots - unused_bytes format) 0)
-      means = obj_of-bytes (ref_of (os ++ y ∷ [])) y other p m ∙ ap (Raw class format 0) (ap (used_bytes format) words ∙ bytes)
+      means : obj_of (ref_of (os ++ y ∷ [])) y ≡ Raw (new_head class format) (replicate (4 * slots - unused_bytes format) 0)
+      means = obj_of-bytes (ref_of (os ++ y ∷ [])) y other p m ∙ ap (Raw (new_head class format)) (ap (used_bytes format) words ∙ bytes)
 
   -- a method, whose header and literals stand already: all words of a new one are 0 until these are written
   pub makes-method : (y : Object) → y.birth ≡ roots.next_birth → is_some (get table y.class) ≡ true → is_context y ≡ false → is_method y.format ≡ true
       → IsTrue (format_allows y.format (length y.words)) → IsSoundMethod y → AllPass (is_reference os) (literals_in y.words)
-      → Makes os y table roots (λ k. Method y.class y.format y.hash (header_in y.words) (map (ref_of os) (literals_in y.words)) (used_bytes y.format (code_in y.words)))
+      → Makes os y table roots (λ k. Method (head_of y) (header_in y.words) (map (ref_of os) (literals_in y.words)) (used_bytes y.format (code_in y.words)))
   makes-method y next entry other m shape sound_method all =
-      makes y (λ k. Method y.class y.format y.hash (header_in y.words) (map (ref_of os) (literals_in y.words)) (used_bytes y.format (code_in y.words))) next entry sound (λ active. means)
+      makes y (λ k. Method (head_of y) (header_in y.words) (map (ref_of os) (literals_in y.words)) (used_bytes y.format (code_in y.words))) next entry sound (λ active. means)
     where
       sound : IsSoundObject (os ++ y ∷ []) y
       sound = record {
@@ -143,9 +143,9 @@ module _ {os : List Object} {table : FinMap nat_cmp ℕ} {roots : Roots} (w : Is
         method = λ _. sound_method;
       }
 
-      means : obj_of (ref_of (os ++ y ∷ [])) y ≡ Method y.class y.format y.hash (header_in y.words) (map (ref_of os) (literals_in y.words)) (used_bytes y.format (code_in y.words))
+      means : obj_of (ref_of (os ++ y ∷ [])) y ≡ Method (head_of y) (header_in y.words) (map (ref_of os) (literals_in y.words)) (used_bytes y.format (code_in y.words))
       means = obj_of-method (ref_of (os ++ y ∷ [])) y other (not_pointers y.format m) m
-          ∙ ap (λ (ls : List Ref). Method y.class y.format y.hash (header_in y.words) ls (used_bytes y.format (code_in y.words)))
+          ∙ ap (λ (ls : List Ref). Method (head_of y) (header_in y.words) ls (used_bytes y.format (code_in y.words)))
           (map_alike (is_reference os) (ref_of (os ++ y ∷ [])) (ref_of os) (ref_of-push os y) (literals_in y.words) all)
 
   -- a context: its fields are nil and its stack is empty

@@ -6,8 +6,8 @@ use Rattle.std.proofs.lemmas.List.Elements.{All-drop, All-take}
 use Rattle.cs_heap.specs.Format.{is_method, is_pointers}
 use Rattle.cs_heap.specs.Object.{Object}
 use Rattle.cs_model.specs.Ref.{Ref}
-use Rattle.cs_model.specs.Obj.{Context, Ctx, Method, Ptr, Raw}
-use Rattle.cs_classes.specs.Meaning.{code_in, context_of, depth_in, header_in, is_context, literals_in, method_of, obj_of, used_bytes}
+use Rattle.cs_model.specs.Obj.{Context, Ctx, Method, Ptr, Raw, Head}
+use Rattle.cs_classes.specs.Meaning.{code_in, context_of, depth_in, header_in, is_context, literals_in, method_of, obj_of, used_bytes, head_of}
 use Rattle.cs_classes.specs.Sound.{references_in}
 
 pub data Sort (x : Object) : Type 0 where
@@ -29,36 +29,34 @@ pub obj_of-context : (refer : ℕ → Ref) (x : Object) → is_context x ≡ tru
 unfolding obj_of
 obj_of-context refer x h = rw h refl
 
-pub obj_of-pointers : (refer : ℕ → Ref) (x : Object) → is_context x ≡ false → is_pointers x.format ≡ true → obj_of refer x ≡ Ptr x.class x.format x.hash (map refer x.words)
+pub obj_of-pointers : (refer : ℕ → Ref) (x : Object) → is_context x ≡ false → is_pointers x.format ≡ true → obj_of refer x ≡ Ptr (head_of x) (map refer x.words)
 unfolding obj_of
 obj_of-pointers refer x h i = rw (h, i) refl
 
 pub obj_of-method : (refer : ℕ → Ref) (x : Object) → is_context x ≡ false → is_pointers x.format ≡ false → is_method x.format ≡ true
-    → obj_of refer x ≡ Method x.class x.format x.hash (header_in x.words) (map refer (literals_in x.words)) (used_bytes x.format (code_in x.words))
+    → obj_of refer x ≡ Method (head_of x) (header_in x.words) (map refer (literals_in x.words)) (used_bytes x.format (code_in x.words))
 unfolding obj_of method_of
 obj_of-method refer x h i j = rw (h, i, j) refl
 
 pub obj_of-bytes : (refer : ℕ → Ref) (x : Object) → is_context x ≡ false → is_pointers x.format ≡ false → is_method x.format ≡ false
-    → obj_of refer x ≡ Raw x.class x.format x.hash (used_bytes x.format x.words)
+    → obj_of refer x ≡ Raw (head_of x) (used_bytes x.format x.words)
 unfolding obj_of
 obj_of-bytes refer x h i j = rw (h, i, j) refl
 
 -- ---- and from what it is to its sort
 
-pub record IsPointersOf (refer : ℕ → Ref) (x : Object) (c f h : ℕ) (refs : List Ref) : Type 0 where
+pub record IsPointersOf (refer : ℕ → Ref) (x : Object) (head : Head) (refs : List Ref) : Type 0 where
   pub other : is_context x ≡ false
   pub pointers : is_pointers x.format ≡ true
-  pub class : x.class ≡ c
-  pub format : x.format ≡ f
-  pub hash : x.hash ≡ h
+  pub head : head_of x ≡ head
   pub slots : map refer x.words ≡ refs
 
-pub pointers_of : (refer : ℕ → Ref) (x : Object) (class format hash : ℕ) (slots : List Ref) → obj_of refer x ≡ Ptr class format hash slots → IsPointersOf refer x class format hash slots
-pointers_of refer x class format hash slots h = go (sort_of x)
+pub pointers_of : (refer : ℕ → Ref) (x : Object) (head : Head) (slots : List Ref) → obj_of refer x ≡ Ptr head slots → IsPointersOf refer x head slots
+pointers_of refer x head slots h = go (sort_of x)
   where
-    go : Sort x → IsPointersOf refer x class format hash slots
+    go : Sort x → IsPointersOf refer x head slots
     go (AContext p) = absurd (let e = sym (obj_of-context refer x p) ∙ h in cc)
-    go (Pointers p q) = let e = sym (obj_of-pointers refer x p q) ∙ h in record { other = p; pointers = q; class = cc; format = cc; hash = cc; slots = cc }
+    go (Pointers p q) = let e = sym (obj_of-pointers refer x p q) ∙ h in record { other = p; pointers = q; head = cc; slots = cc }
     go (AMethod p q r) = absurd (let e = sym (obj_of-method refer x p q r) ∙ h in cc)
     go (Bytes p q r) = absurd (let e = sym (obj_of-bytes refer x p q r) ∙ h in cc)
 
@@ -114,8 +112,8 @@ obj_of-alike p r s h x all context = go (sort_of x)
         obj_of-context r x c ∙ ap Ctx (context_alike p r s h x.hash x.words shape.1 words) ∙ sym (obj_of-context s x c)
     go (Pointers o q) =
         let words = subst (AllPass p) (references-pointers x q) all in
-        obj_of-pointers r x o q ∙ ap (Ptr x.class x.format x.hash) (map_alike p r s h x.words words) ∙ sym (obj_of-pointers s x o q)
+        obj_of-pointers r x o q ∙ ap (Ptr (head_of x)) (map_alike p r s h x.words words) ∙ sym (obj_of-pointers s x o q)
     go (AMethod o b m) =
         let words = subst (AllPass p) (references-method x m) all in
-        obj_of-method r x o b m ∙ ap (λ (ls : List Ref). Method x.class x.format x.hash (header_in x.words) ls (used_bytes x.format (code_in x.words))) (map_alike p r s h (literals_in x.words) words) ∙ sym (obj_of-method s x o b m)
+        obj_of-method r x o b m ∙ ap (λ (ls : List Ref). Method (head_of x) (header_in x.words) ls (used_bytes x.format (code_in x.words))) (map_alike p r s h (literals_in x.words) words) ∙ sym (obj_of-method s x o b m)
     go (Bytes o b m) = obj_of-bytes r x o b m ∙ sym (obj_of-bytes s x o b m)

@@ -20,7 +20,7 @@ use Rattle.cs_classes.proofs.Sorts.{IsContextOf, IsPointersOf, context_is, point
 use Rattle.cs_classes.proofs.Sounds.{IsWholeContext, sound_at, whole_context}
 use Rattle.cs_model.specs.Ref.{Ref, index_of}
 use Rattle.cs_model.specs.Ref as ref
-use Rattle.cs_model.specs.Obj.{Context, Ctx, Method, Obj, Ptr, Raw, context_in, context_size, lies_in}
+use Rattle.cs_model.specs.Obj.{Context, Ctx, Method, Obj, Ptr, Raw, context_in, context_size, lies_in, Head}
 use Rattle.cs_model.specs.Obj as obj
 use Rattle.cs_model.specs.State.{Kept, object_of}
 use Rattle.cs_model.specs.Read.{active_birth, stack_of}
@@ -80,11 +80,9 @@ five false b c d e h = absurd (cc)
 
 -- the pointer object that a closure is
 record Slots (o : Option Obj) : Type 0 where
-  class : ℕ
-  format : ℕ
-  hash : ℕ
+  head : Head
   slots : List Ref
-  is : o ≡ Some (Ptr class format hash slots)
+  is : o ≡ Some (Ptr head slots)
   are : closure_slots o ≡ slots
 
 slots_there : (o : Option Obj) → nat_le 3 (length (closure_slots o)) ≡ true → Slots o
@@ -93,9 +91,7 @@ slots_there (Some (Raw head bytes)) h = absurd (cc)
 slots_there (Some (Method head header literals bytecodes)) h = absurd (cc)
 slots_there (Some (Ctx c)) h = absurd (cc)
 slots_there (Some (Ptr head slots)) h = record {
-  class = head.class;
-  format = head.format;
-  hash = head.hash;
+  head = head;
   slots = slots;
   is = refl;
   are = go (head.class == 37 && head.format == 3) h;
@@ -143,10 +139,10 @@ module _ (w : PlainWorld) (v : Oop) (args : ℕ) (ready : IsReady (stored_of w) 
   shape : Slots (object_of k x)
   shape = slots_there (object_of k x) can.0
 
-  at : Found w v (Ptr shape.class shape.format shape.hash shape.slots)
+  at : Found w v (Ptr shape.head shape.slots)
   at = found w v _ ready.sound named shape.is
 
-  pointers : IsPointersOf (ref_of os) at.object shape.class shape.format shape.hash shape.slots
+  pointers : IsPointersOf (ref_of os) at.object shape.head shape.slots
   pointers = pointers_of (ref_of os) at.object _ _ _ _ at.is
 
   abbrev words : List ℕ

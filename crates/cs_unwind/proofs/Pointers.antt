@@ -9,7 +9,7 @@ use Rattle.cs_heap.specs.Object.{Memory, Object, class_of, format_of, is_object,
 use Rattle.cs_classes.specs.Meaning.{ref_of}
 use Rattle.cs_classes.proofs.Sorts.{AContext, AMethod, Bytes, Pointers, Sort, sort_of, obj_of-bytes, obj_of-method, obj_of-pointers}
 use Rattle.cs_model.specs.Ref.{Ref}
-use Rattle.cs_model.specs.Obj.{Obj, Ptr, Raw, Method, Ctx, at_least, is_context_at, slots_in}
+use Rattle.cs_model.specs.Obj.{Obj, Ptr, Raw, Method, Ctx, at_least, is_context_at, slots_in, Head}
 use Rattle.cs_model.specs.State.{Kept, object_of, slots_of}
 use Rattle.cs_model.specs.Enter.{closure_slot, closure_slots}
 use Rattle.cs_model.specs.Operation.{nil_of}
@@ -25,14 +25,12 @@ use Rattle.cs_unwind.specs.Blocks.{is_closure}
 
 -- the pointer object that a word names, as the heap tells of it
 pub record IsPointer (s : Store) (k : Kept) (m : Memory) (o : Oop) : Type 0 where
-  pub class : ℕ
-  pub format : ℕ
-  pub hash : ℕ
+  pub head : Head
   pub slots : List Ref
-  pub means : object_of k (name_of s o) ≡ Some (Ptr class format hash slots)
+  pub means : object_of k (name_of s o) ≡ Some (Ptr head slots)
   pub there : is_object m.objects o.0 ≡ true
-  pub class_is : class_of m.objects o.0 ≡ class
-  pub format_is : format_of m.objects o.0 ≡ format
+  pub class_is : class_of m.objects o.0 ≡ head.class
+  pub format_is : format_of m.objects o.0 ≡ head.format
   pub count : slot_count_of m.objects o.0 ≡ length slots
 
 no_slots : (o : Option Obj) → is_context_at o ≡ true → is_some (slots_in o) ≡ true → ⊥
@@ -102,8 +100,8 @@ is_37 n e = ap (λ m. m == 37) e
 pub isnt_37 : (n : ℕ) → (n ≡ 37 → ⊥) → (n == 37) ≡ false
 isnt_37 n h = grind (arith, nat_tests, h)
 
-closure_of : (class format hash : ℕ) (slots : List Ref) → nat_le 3 (length slots) ≡ true → nat_le 3 (length (closure_slots (Some (Ptr class format hash slots)))) ≡ (class == 37 && format == 3)
-closure_of class format hash slots e = go (class == 37 && format == 3)
+closure_of : (head : Head) (slots : List Ref) → nat_le 3 (length slots) ≡ true → nat_le 3 (length (closure_slots (Some (Ptr head slots)))) ≡ (class == 37 && format == 3)
+closure_of head slots e = go (class == 37 && format == 3)
   where
     go : (b : Bool) → nat_le 3 (length (if b then slots else [])) ≡ b
     go true = e
@@ -132,8 +130,8 @@ no_closure k x e = go (is_closure k x) refl
 pub closure_read : (s : Store) (k : Kept) (m : Memory) (o : Oop) → IsPointer s k m o → is_some (slots_of k 3 (name_of s o)) ≡ true → (class_of m.objects o.0 == 37 && format_of m.objects o.0 == 3) ≡ is_closure k (name_of s o)
 unfolding slots_of
 closure_read s k m o p e =
-    ap (λ c. c == 37 && format_of m.objects o.0 == 3) p.class_is ∙ ap (λ f. p.class == 37 && f == 3) p.format_is
-    ∙ sym (closure_of p.class p.format p.hash p.slots (sym (enough 3 p.slots) ∙ ap (λ q. is_some (at_least 3 (slots_in q))) (sym p.means) ∙ e))
+    ap (λ c. c == 37 && format_of m.objects o.0 == 3) p.class_is ∙ ap (λ f. p.head.class == 37 && f == 3) p.format_is
+    ∙ sym (closure_of p.head p.slots (sym (enough 3 p.slots) ∙ ap (λ q. is_some (at_least 3 (slots_in q))) (sym p.means) ∙ e))
     ∙ ap (λ q. nat_le 3 (length (closure_slots q))) (sym p.means)
 
 get_below : (xs : List Ref) (i : ℕ) (d : Ref) → i < length xs → slice_get xs i ≡ Some (unwrap_or (slice_get xs i) d)
