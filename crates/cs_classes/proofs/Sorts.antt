@@ -48,7 +48,7 @@ obj_of-bytes refer x h i j = rw (h, i, j) refl
 pub record IsPointersOf (refer : ℕ → Ref) (x : Object) (head : Head) (refs : List Ref) : Type 0 where
   pub other : is_context x ≡ false
   pub pointers : is_pointers x.format ≡ true
-  pub head : head_of x ≡ head
+  pub head_is : head_of x ≡ head
   pub slots : map refer x.words ≡ refs
 
 pub pointers_of : (refer : ℕ → Ref) (x : Object) (head : Head) (slots : List Ref) → obj_of refer x ≡ Ptr head slots → IsPointersOf refer x head slots
@@ -56,7 +56,7 @@ pointers_of refer x head slots h = go (sort_of x)
   where
     go : Sort x → IsPointersOf refer x head slots
     go (AContext p) = absurd (let e = sym (obj_of-context refer x p) ∙ h in cc)
-    go (Pointers p q) = let e = sym (obj_of-pointers refer x p q) ∙ h in record { other = p; pointers = q; head = cc; slots = cc }
+    go (Pointers p q) = let e = sym (obj_of-pointers refer x p q) ∙ h in record { other = p; pointers = q; head_is = cc; slots = cc }
     go (AMethod p q r) = absurd (let e = sym (obj_of-method refer x p q r) ∙ h in cc)
     go (Bytes p q r) = absurd (let e = sym (obj_of-bytes refer x p q r) ∙ h in cc)
 
