@@ -10,7 +10,7 @@ use Rattle.cs_model.specs.Ref as ref
 use Rattle.cs_model.specs.Obj.{Obj, Context, Ptr, Raw, Method, Ctx, slots_in, context_in, lies_in, words_of_slots, pushed, popped}
 use Rattle.cs_model.specs.State.{Kept, object_at, object_of, is_read_only, special_at}
 use Rattle.cs_model.specs.Read.{blank, active_birth, active_context, stack_of, depth_of, size_of, pc_of, receiver_of, method_of, literals_of, from_top, class_of}
-use Rattle.cs_model.specs.Operation.{edit_active, push_of, drop_of, pop_of, set_pc_of, store_of, add_of, next_ref, nil_of, last_values}
+use Rattle.cs_model.specs.Operation.{edit_active, push_of, drop_of, pop_of, set_pc_of, add_of, next_ref, nil_of, last_values}
 use Rattle.cs_model.specs.Context.{context_get, accepts, context_put}
 use Rattle.cs_model.specs.Number.{boolean}
 use Rattle.cs_model.specs.Instance.{Made, New, NotInstantiable, TableFull, instantiate}

@@ -7,7 +7,7 @@ use Rattle.cs_model.specs.Obj.{context_in}
 use Rattle.cs_model.specs.State.{Kept, object_at}
 use Rattle.cs_model.specs.Read.{active_birth}
 use Rattle.cs_model.specs.Return.{Search, Met, Ended, TooLong, sender_birth, senders_to, Home, HomeAt, NoHome, HomeTooFar, home, first_marked, unwind_mark, cannot_return, about_to_return, is_live, call_with, cannot_return_out, unwind_out, is_among, has_room, arrive, local_out, past_marks, from_home, to_home, nonlocal_out, back}
-use Rattle.cs_model.specs.End.{Out, out, stop, done, looked}
+use Rattle.cs_model.specs.End.{out, looked}
 use Rattle.cs_model.specs.End as ends
 use Rattle.cs_model.proofs.Leading.{leads_itself}
 use Rattle.cs_model.proofs.LeadCombining.{Runs, Ready, Leading, out_leading, done_goes, stop_leading, looked_leading, given_leading, if_leading, and_then_goes}

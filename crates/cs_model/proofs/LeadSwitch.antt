@@ -1,12 +1,11 @@
 -- What operations on processes, semaphores and their lists lead to.
-use Rattle.std.proofs.Common.{◌≡◌, ℕ, ◌==◌, arith, ℤ, pos, ◌+ℤ◌, ◌-ℤ◌, int_lt, Bool, true, false, refl, sym, ap, subst, ◌∙◌, Option, Some, None, IsSome, is_some, List, option_and_then, unwrap_or, if◌then◌else◌}
-use Rattle.std.specs.Prelude.{slice_get}
+use Rattle.std.proofs.Common.{◌≡◌, ℕ, ◌==◌, arith, ℤ, pos, ◌+ℤ◌, ◌-ℤ◌, int_lt, Bool, true, false, refl, sym, ap, subst, ◌∙◌, Option, Some, None, IsSome, is_some, option_and_then, unwrap_or, if◌then◌else◌}
 use Rattle.std.proofs.lemmas.Bool.Decides.{nat_tests}
 use Rattle.cs_model.specs.declared.stop.Stop.TheVariants as why
 use Rattle.cs_model.specs.Ref.{Ref, Small, Char, same_ref, small_of}
 use Rattle.cs_model.specs.Ref as ref
-use Rattle.cs_model.specs.Obj.{slots_in, at_least}
-use Rattle.cs_model.specs.State.{Kept, object_of, slots_of, scheduler_of, active_process, is_nil, IsLive}
+use Rattle.cs_model.specs.Obj.{at_least}
+use Rattle.cs_model.specs.State.{Kept, slots_of, scheduler_of, active_process, is_nil, IsLive}
 use Rattle.cs_model.specs.Profile.{puts_in_front}
 use Rattle.cs_model.specs.Operation.{store_of, suspend_of, nil_of}
 use Rattle.cs_model.specs.Return.{context_birth, is_live}
