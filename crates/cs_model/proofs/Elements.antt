@@ -6,11 +6,11 @@ use Rattle.cs_model.specs.Obj.{Obj, Ptr, Raw, Method, Ctx, first_pc}
 use Rattle.cs_model.specs.State.{Kept, IsHeld, NamesHeld}
 use Rattle.cs_model.specs.Arithmetic.{if_small}
 use Rattle.cs_model.specs.Instance.{unit_bytes}
-use Rattle.cs_model.specs.Element.{number_of, bytes_of, fields_within, class_shape, fields_of, range, range_in, range_of, place_in, place_of, unit_at, small_ref, read_in, element_at, store_bytes, store_unit, write_in, with_element, copy_unit, copy_slot, copy_one, copy_elements}
+use Rattle.cs_model.specs.Element.{number_of, bytes_of, fields_within, class_shape, fields_of, range, range_in, range_of, place_in, place_of, unit_at, small_ref, read_in, element_at, store_bytes, store_unit, write_in, with_element, front_of, front, copy_unit, copy_slot, copy_one, copy_elements}
 use Rattle.cs_model.specs.Keeps.{Keeps}
 use Rattle.cs_model.proofs.Same.{Same, same, SameOption, none, some, Any, is, value, of_option, and_then_same, map_same, plain, any_option}
 use Rattle.cs_model.proofs.Keeping.{Moved, moved, unmoved, IsHeld-grows}
-use Rattle.cs_model.proofs.Reading.{listed, object_of_same, slots_of_same, slice_same, class_of_same}
+use Rattle.cs_model.proofs.Reading.{listed, object_of_same, slots_in_same, slots_of_same, slice_same, class_of_same}
 use Rattle.cs_model.proofs.Operating.{store_moved, store_byte_moved}
 use Rattle.cs_model.proofs.Answering.{MovedOption, nothing, gives, map_moved, if_moved}
 
@@ -82,6 +82,16 @@ with_element_moved k s place t = write_in_moved k s place t (object_of_same k s)
 
 -- ---- copying
 
+front_of_same : {v m : Kept} {x y : Ref} {o p : Option Obj} → Keeps v m → Same (IsHeld v) x y → SameOption (NamesHeld v) o p → Same Any (front_of v x o) (front_of m y p)
+front_of_same k s none = is 0
+front_of_same k s (some (Ptr head slots) h) = of_option (λ o. unwrap_or o 0) (fields_of_same k s slots)
+front_of_same k s (some (Raw head bytes) h) = is 0
+front_of_same k s (some (Method head header literals bytecodes) h) = is 0
+front_of_same k s (some (Ctx c) h) = is 0
+
+pub front_same : {v m : Kept} {x y : Ref} → Keeps v m → Same (IsHeld v) x y → Same Any (front v x) (front m y)
+front_same k s = front_of_same k s (object_of_same k s)
+
 copy_unit_moved : {v m : Kept} {Q : Obj → Type 0} {o p : Option Obj} → Keeps v m → (x : Ref) (size to from : ℕ) → SameOption Q o p → Moved v (copy_unit v x size to from o) (copy_unit m x size to from p)
 copy_unit_moved k x size to from none = unmoved k
 copy_unit_moved k x size to from (some (Ptr head slots) h) = unmoved k
@@ -89,14 +99,13 @@ copy_unit_moved k x size to from (some (Raw head bytes) h) = store_bytes_moved k
 copy_unit_moved k x size to from (some (Method head header literals bytecodes) h) = unmoved k
 copy_unit_moved k x size to from (some (Ctx c) h) = unmoved k
 
-copy_slot_moved : {v m : Kept} {i j : ℕ} {o p : Option Ref} → Keeps v m → (x : Ref) → Same Any i j → SameOption (IsHeld v) o p → Moved v (copy_slot v x i o) (copy_slot m x j p)
-copy_slot_moved k x (same to a) none = unmoved k
-copy_slot_moved k x (same to a) (some z h) = store_moved k (is x) to (same z h)
+copy_slot_moved : {v m : Kept} {o p : Option Ref} → Keeps v m → (x : Ref) (to : ℕ) → SameOption (IsHeld v) o p → Moved v (copy_slot v x to o) (copy_slot m x to p)
+copy_slot_moved k x to none = unmoved k
+copy_slot_moved k x to (some z h) = store_moved k (is x) to (same z h)
 
 copy_one_moved : {v m : Kept} {o p : Option Obj} → Keeps v m → (x : Ref) → IsHeld v x → (to : ℕ) (y : Ref) → IsHeld v y → (from : ℕ) → SameOption (NamesHeld v) o p → Moved v (copy_one v x to y from o) (copy_one m x to y from p)
 copy_one_moved k x g to y f from none = unmoved k
-copy_one_moved k x g to y f from (some (Ptr class format hash slots) h) =
-    copy_slot_moved k x (of_option (λ o. unwrap_or o 0 + to) (fields_of_same k (same x g) slots)) (element_at_same k (same y f) from)
+copy_one_moved k x g to y f from (some (Ptr head slots) h) = copy_slot_moved k x to (and_then_same (slots_in_same (object_of_same k (same y f))) (λ its i. slice_same from (same its i)))
 copy_one_moved k x g to y f from (some (Raw head bytes) h) = copy_unit_moved k x (unit_bytes head.format) to from (object_of_same k (same y f))
 copy_one_moved k x g to y f from (some (Method head header literals bytecodes) h) = unmoved k
 copy_one_moved k x g to y f from (some (Ctx c) h) = unmoved k
@@ -108,5 +117,5 @@ copy_each_moved (suc n) k x g to y f from =
     let s = copy_one_moved k x g to y f from (object_of_same k (same x g)) in
     moved s (copy_each_moved n s.keeps x (IsHeld-grows s.grows x g) (to + 1) y (IsHeld-grows s.grows y f) (from + 1))
 
-pub copy_elements_moved : {v m : Kept} {x y z w : Ref} → Keeps v m → (n : ℕ) → Same (IsHeld v) x y → (to : ℕ) → Same (IsHeld v) z w → (from : ℕ) → Moved v (copy_elements n v x to z from) (copy_elements n m y to w from)
-copy_elements_moved k n (same x g) to (same z f) from = copy_each_moved n k x g to z f from
+pub copy_elements_moved : {v m : Kept} {x y z w : Ref} {i j a b : ℕ} → Keeps v m → (n : ℕ) → Same (IsHeld v) x y → Same Any i j → Same (IsHeld v) z w → Same Any a b → Moved v (copy_elements n v x i z a) (copy_elements n m y j w b)
+copy_elements_moved k n (same x g) (same to i) (same z f) (same from a) = copy_each_moved n k x g to z f from

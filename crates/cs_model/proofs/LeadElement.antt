@@ -1,10 +1,11 @@
 -- What writing and copying elements leads to.
 use Rattle.std.proofs.Common.{◌≡◌, ℕ, zero, suc, ◌+◌, ◌*◌, ◌^◌, Bool, true, false, refl, ap, subst, Option, Some, None, List, [], ◌∷◌, nat_lt, unwrap_or, option_map, option_and_then, if◌then◌else◌}
+use Rattle.std.specs.Prelude.{slice_get}
 use Rattle.cs_model.specs.Ref.{Ref, index_of}
-use Rattle.cs_model.specs.Obj.{Obj, Ptr, Raw, Method, Ctx}
+use Rattle.cs_model.specs.Obj.{Obj, Ptr, Raw, Method, Ctx, slots_in}
 use Rattle.cs_model.specs.State.{Kept, object_of}
 use Rattle.cs_model.specs.Instance.{unit_bytes}
-use Rattle.cs_model.specs.Element.{bytes_of, unit_at, fields_of, field_count, store_bytes, store_unit, write_in, with_element, element_at, copy_unit, copy_slot, copy_one, copy_elements}
+use Rattle.cs_model.specs.Element.{bytes_of, unit_at, fields_of, store_bytes, store_unit, write_in, with_element, copy_unit, copy_slot, copy_one, copy_elements}
 use Rattle.cs_model.proofs.LeadCombining.{Ready, Goes, goes_itself, goes_trans, ready_behind}
 use Rattle.cs_model.proofs.LeadOperation.{store_goes, store_byte_goes}
 
@@ -67,7 +68,7 @@ copy_slot_goes x to (Some v) r = store_goes x to v r
 
 copy_one_goes : {k : Kept} (x : Ref) (to : ℕ) (y : Ref) (from : ℕ) (o : Option Obj) → Ready k → Goes k (copy_one k x to y from o)
 copy_one_goes x to y from None r = goes_itself r
-copy_one_goes {k} x to y from (Some (Ptr head slots)) r = copy_slot_goes x (field_count k x slots + to) (element_at k y from) r
+copy_one_goes {k} x to y from (Some (Ptr head slots)) r = copy_slot_goes x to (option_and_then (λ its. slice_get its from) (slots_in (object_of k y))) r
 copy_one_goes {k} x to y from (Some (Raw head bytes)) r = copy_unit_goes x (unit_bytes head.format) to from (object_of k y) r
 copy_one_goes x to y from (Some (Method head header literals bytecodes)) r = goes_itself r
 copy_one_goes x to y from (Some (Ctx c)) r = goes_itself r

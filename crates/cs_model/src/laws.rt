@@ -13,19 +13,19 @@ ghost use Rattle.cs_model.specs.declared.event.Event.{Event};
 ghost use Rattle.cs_model.specs.declared.instruction.Op.{Op};
 ghost use Rattle.cs_model.specs.Ref.{Ref};
 ghost use Rattle.cs_model.specs.Obj.{Obj, Context};
-ghost use Rattle.cs_model.specs.State.{Kept, Run, State, IsHeld, IsValid, ContextHeld, NamesHeld, object_at, object_of, put, slots_of, special_at, scheduler_of, active_process};
+ghost use Rattle.cs_model.specs.State.{Kept, Run, State, IsHeld, IsValid, ContextHeld, NamesHeld, object_at, object_of, is_read_only, put, slots_of, special_at, scheduler_of, active_process};
 ghost use Rattle.cs_model.specs.Read.{IsRunning, class_of, active_context, method_of, literals_of, bytecodes_of};
 ghost use Rattle.cs_model.specs.Keeps.{Keeps, SameKept, Grows, KeepsState};
 ghost use Rattle.cs_model.specs.Alike.{Alike, AlikeResult, AlikeHappened, AlikeStep, AlikeRan, AlikeMade, AlikeHashed, IsHeldIf, KeepsIf, AllKeep, SoughtHeld};
-ghost use Rattle.cs_model.specs.Operation.{set_pc_of, push_of, drop_of, set_stack_of, store_of, store_byte_of, add_of, enter_of, kill_of, resume_of, suspend_of, leave_of, cut_to_of};
+ghost use Rattle.cs_model.specs.Operation.{set_pc_of, push_of, drop_of, set_stack_of, store_of, store_byte_of, set_fixed_of, add_of, enter_of, kill_of, resume_of, suspend_of, leave_of, cut_to_of};
 ghost use Rattle.cs_model.specs.Context.{context_get, accepts, context_put};
 ghost use Rattle.cs_model.specs.Enter.{can_evaluate, enter_block_of, enter_block_out};
 ghost use Rattle.cs_model.specs.Instance.{instantiate, behavior_hash, take_index, hash_of, hash_given};
-ghost use Rattle.cs_model.specs.Exec.{push_out, jump_out, special_send_out, send_selector_out, fill_of, exec};
+ghost use Rattle.cs_model.specs.Exec.{push_out, push_all, refuse_store, jump_out, special_send_out, send_selector_out, fill_of, exec};
 ghost use Rattle.cs_model.specs.Lookup.{lookup};
 ghost use Rattle.cs_model.specs.Send.{enter_out, invoke, not_understood, send, perform, perform_with_arguments, execute_method};
 ghost use Rattle.cs_model.specs.Return.{senders_to, home, back, local_out, nonlocal_out, cannot_return_out, unwind_out};
-ghost use Rattle.cs_model.specs.Process.{add_last, start, start_next, resume, signal, wait, suspend, give_way};
+ghost use Rattle.cs_model.specs.Process.{shaped_scheduler, add_last, add_first, add_preempted, start, start_next, resume, signal, wait, suspend, give_way};
 ghost use Rattle.cs_model.specs.PrimAnswer.{answer};
 ghost use Rattle.cs_model.specs.PrimUnwind.{end_between_of};
 ghost use Rattle.cs_model.specs.PrimRun.{forgotten};
@@ -61,6 +61,7 @@ pub fn a_valid_state_is_closed()
 pub fn keeping_agrees_in_reads()
     ensures object_at { (v m : Kept) (i : ℕ) → Keeps v m → IsSome (object_at v i) → object_at m i ≡ object_at v i }
     ensures object_of { (v m : Kept) (x : Ref) → Keeps v m → IsHeld v x → object_of m x ≡ object_of v x }
+    ensures is_read_only { (v m : Kept) (x : Ref) → Keeps v m → IsHeld v x → is_read_only m x ≡ is_read_only v x }
     ensures slots_of { (v m : Kept) (n : ℕ) (x : Ref) → Keeps v m → IsHeld v x → slots_of m n x ≡ slots_of v n x }
     ensures special_at { (v m : Kept) (i : ℕ) → Keeps v m → special_at m i ≡ special_at v i }
     ensures class_of { (v m : Kept) (x : Ref) → Keeps v m → IsHeld v x → class_of m x ≡ class_of v x }
@@ -69,6 +70,7 @@ pub fn keeping_agrees_in_reads()
     ensures literals_of { (v m : Kept) → Keeps v m → literals_of m ≡ literals_of v }
     ensures bytecodes_of { (v m : Kept) → Keeps v m → bytecodes_of m ≡ bytecodes_of v }
     ensures scheduler_of { (v m : Kept) → Keeps v m → scheduler_of m ≡ scheduler_of v }
+    ensures shaped_scheduler { (v m : Kept) → Keeps v m → shaped_scheduler m ≡ shaped_scheduler v }
     ensures active_process { (v m : Kept) → Keeps v m → active_process m ≡ active_process v }
     ensures context_get { (v m : Kept) (c : Context) (i : ℕ) → Keeps v m → ContextHeld v c → context_get m c i ≡ context_get v c i }
     ensures accepts { (v m : Kept) (active : Bool) (c : Context) (i : ℕ) (x : Ref) → Keeps v m → ContextHeld v c → IsHeld v x → accepts m active c i x ≡ accepts v active c i x }
@@ -109,6 +111,7 @@ pub fn keeping_survives_an_operation()
     ensures set_stack { (v m : Kept) (i : ℕ) (x : Ref) → Keeps v m → IsHeld v x → Keeps (set_stack_of v i x) (set_stack_of m i x) }
     ensures store { (v m : Kept) (o : Ref) (i : ℕ) (x : Ref) → Keeps v m → IsHeld v x → Keeps (store_of v o i x) (store_of m o i x) }
     ensures store_byte { (v m : Kept) (o : Ref) (i b : ℕ) → Keeps v m → Keeps (store_byte_of v o i b) (store_byte_of m o i b) }
+    ensures set_fixed { (v m : Kept) (o : Ref) (on : Bool) → Keeps v m → Keeps (set_fixed_of v o on) (set_fixed_of m o on) }
     ensures add { (v m : Kept) (o : Obj) → Keeps v m → NamesHeld v o → Keeps (add_of v o) (add_of m o) }
     ensures fill { (v m : Kept) (o : Ref) (values : List Ref) → Keeps v m → AllByRecursion (IsHeld v) values → Keeps (fill_of v o values) (fill_of m o values) }
     ensures enter { (v m : Kept) (x : Ref) (args : ℕ) (skip : Bool) → Keeps v m → IsHeld v x → Keeps (enter_of v x args skip) (enter_of m x args skip) }
@@ -135,6 +138,7 @@ pub fn what_was_held_still_is()
     ensures set_stack { (v : Kept) (i : ℕ) (x : Ref) → Keeps v v → IsHeld v x → Grows v (set_stack_of v i x) }
     ensures store { (v : Kept) (o : Ref) (i : ℕ) (x : Ref) → Keeps v v → IsHeld v x → Grows v (store_of v o i x) }
     ensures store_byte { (v : Kept) (o : Ref) (i b : ℕ) → Keeps v v → Grows v (store_byte_of v o i b) }
+    ensures set_fixed { (v : Kept) (o : Ref) (on : Bool) → Keeps v v → Grows v (set_fixed_of v o on) }
     ensures add { (v : Kept) (o : Obj) → Keeps v v → NamesHeld v o → Grows v (add_of v o) }
     ensures fill { (v : Kept) (o : Ref) (values : List Ref) → Keeps v v → AllByRecursion (IsHeld v) values → Grows v (fill_of v o values) }
     ensures enter { (v : Kept) (x : Ref) (args : ℕ) (skip : Bool) → Keeps v v → IsHeld v x → Grows v (enter_of v x args skip) }
@@ -174,6 +178,8 @@ pub fn keeping_survives_a_making()
 pub fn keeping_survives_an_instruction()
     ensures any { (v m : Kept) (i : Op) → Keeps v m → Alike v (exec i v) (exec i m) }
     ensures push { (v m : Kept) (x : Ref) → Keeps v m → IsHeld v x → Alike v (push_out v x) (push_out m x) }
+    ensures push_all { (v m : Kept) (values : List Ref) → Keeps v m → AllByRecursion (IsHeld v) values → Alike v (push_all values v) (push_all values m) }
+    ensures refuse_store { (v m : Kept) (o : Ref) (i : ℕ) (x : Ref) → Keeps v m → IsHeld v o → IsHeld v x → Alike v (refuse_store v o i x) (refuse_store m o i x) }
     ensures jump { (v m : Kept) (offset : ℤ) → Keeps v m → Alike v (jump_out v offset) (jump_out m offset) }
     ensures special_send { (v m : Kept) (special args : ℕ) → Keeps v m → Alike v (special_send_out v special args) (special_send_out m special args) }
     ensures selector_send { (v m : Kept) (i : ℕ) → Keeps v m → Alike v (send_selector_out v i) (send_selector_out m i) }
@@ -205,6 +211,8 @@ pub fn keeping_survives_a_return()
 /// Each operation on processes, semaphores and their lists ends alike.
 pub fn keeping_survives_a_switch()
     ensures added { (v m : Kept) (list p : Ref) → Keeps v m → IsHeld v list → IsHeld v p → Alike v (add_last v list p) (add_last m list p) }
+    ensures added_first { (v m : Kept) (list p : Ref) → Keeps v m → IsHeld v list → IsHeld v p → Alike v (add_first v list p) (add_first m list p) }
+    ensures added_preempted { (v m : Kept) (list p : Ref) → Keeps v m → IsHeld v list → IsHeld v p → Alike v (add_preempted v list p) (add_preempted m list p) }
     ensures started { (v m : Kept) (p : Ref) → Keeps v m → IsHeld v p → Alike v (start v p) (start m p) }
     ensures next { (v m : Kept) → Keeps v m → Alike v (start_next v) (start_next m) }
     ensures resumed { (v m : Kept) (p : Ref) → Keeps v m → IsHeld v p → Alike v (resume v p) (resume m p) }
