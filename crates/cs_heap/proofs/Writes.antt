@@ -3,8 +3,8 @@ use Rattle.std.proofs.Common.{◌≡◌, ℕ, Bool, true, false, List, refl, ap,
 use Rattle.std.proofs.lemmas.Bool.Decides.{nat_tests}
 use Rattle.std.specs.Cmp.{nat_cmp_total, unsigned_tied}
 use Rattle.std.specs.FinSet.{contains-insert}
-use Rattle.cs_heap.specs.Object.{Memory, Object, with_slot}
-use Rattle.cs_heap.specs.Writes.{is_watched, slot_stored, slots_stored, watch_begun}
+use Rattle.cs_heap.specs.Object.{Memory, Object, is_watched, with_slot}
+use Rattle.cs_heap.specs.Writes.{slot_stored, slots_stored, watch_begun}
 
 or_false : (b : Bool) → (b || false) ≡ b
 or_false true = refl

@@ -3,7 +3,7 @@ use Rattle.std.specs.Prelude.{ℕ, zero, suc, ◌+◌, ◌*◌, ◌/◌, ◌%◌
 use Rattle.std.specs.Prelude.{if◌then◌else◌, nat_le, max, min, map, length, slice_index, slice_set, slice_get, option_map, option_and_then, sum_by, replicate}
 use Rattle.std.specs.Option.{option_map_or}
 use Rattle.std.specs.Ordering.{nat_cmp}
-use Rattle.std.specs.FinSet.{FinSet}
+use Rattle.std.specs.FinSet.{FinSet, contains}
 use Rattle.cs_heap.specs.Format.{is_pointers}
 use Rattle.cs_word.specs.Header.{flag_bits, with_immutable}
 use Rattle.cs_word.specs.declared.header.Flags.{Flags}
@@ -129,6 +129,10 @@ byte_in word j = word / 256 ^ j % 256
 -- byte i of an object: four in each word, the lowest first
 abbrev pub byte_of : List Object → ℕ → ℕ → ℕ
 byte_of objects address i = byte_in (slot_of objects address (i / 4)) (i % 4)
+
+-- whether the object at an address is watched
+abbrev pub is_watched : Memory → ℕ → Bool
+is_watched m address = contains m.watched address
 
 -- the header of the object at an address: its count of slots is 255 where there are as many or more
 abbrev pub header_seen : List Object → ℕ → Header

@@ -1,11 +1,7 @@
 -- What each call that writes makes of the memory.
 use Rattle.std.specs.Prelude.{ℕ, ◌||◌, Bool, false, List, [], ◌∷◌, ◌++◌}
-use Rattle.std.specs.FinSet.{contains, insert}
-use Rattle.cs_heap.specs.Object.{Memory, Object, new_object, with_byte, with_fixed, with_hash, with_slot}
-
--- whether the object at an address is watched
-abbrev pub is_watched : Memory → ℕ → Bool
-is_watched m address = contains m.watched address
+use Rattle.std.specs.FinSet.{insert}
+use Rattle.cs_heap.specs.Object.{Memory, Object, is_watched, new_object, with_byte, with_fixed, with_hash, with_slot}
 
 -- slots of the object at an address are stored, and these are the objects then: where it is watched, the memory is dirty
 abbrev pub slots_stored : Memory → ℕ → List Object → Memory

@@ -16,9 +16,9 @@ ghost use Rattle.std.specs.Prelude.{◌≡◌, ℕ, ◌+◌, ◌*◌, ◌<◌, �
 ghost use Rattle.std.specs.FinSet.{empty};
 ghost use Rattle.cs_word.specs.Header.{IsWritable};
 ghost use Rattle.cs_heap.specs.Format.{format_allows};
-ghost use Rattle.cs_heap.specs.Object.{address_of, birth_of, byte_of, class_of, format_of, hash_of, header_seen, is_fixed};
+ghost use Rattle.cs_heap.specs.Object.{address_of, birth_of, byte_of, class_of, format_of, hash_of, header_seen, is_fixed, is_watched};
 ghost use Rattle.cs_heap.specs.Object.{is_object, next_address, next_of, size as size_of, slot_count_of, slot_of, used};
-ghost use Rattle.cs_heap.specs.Writes.{byte_stored, cleaned, fixed_stored, hash_stored, is_watched, object_added, slot_stored, watch_begun};
+ghost use Rattle.cs_heap.specs.Writes.{byte_stored, cleaned, fixed_stored, hash_stored, object_added, slot_stored, watch_begun};
 
 use bitflags::Flags as _;
 use cs_word::{Flags, Header, Oop};

@@ -1,6 +1,5 @@
 use Rattle.std.proofs.Common.{◌<◌, ◌||◌, ap₂, length, refl, arith}
-use Rattle.cs_heap.specs.Object.{Memory, Object}
-use Rattle.cs_heap.specs.Writes.{is_watched}
+use Rattle.cs_heap.specs.Object.{Memory, Object, is_watched}
 use Rattle.std.specs.Vec.{with_item}
 use Rattle.cs_heap.specs.declared.Heap.TheInside.{Inside}
 use Rattle.cs_heap.proofs.Seen.{dirty_seen, field_is, has_slot, seen_slot, word_stored}
