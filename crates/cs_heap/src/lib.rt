@@ -340,7 +340,8 @@ impl Heap {
         requires { IsTrue (is_object self.old.objects o.0) }
         ensures { self.new ≡ watch_begun self.old o.0 }
     {
-        self.marks[rows::unit_of(o)] = WATCHED;
+        let place = rows::unit_of(o);
+        self.marks[place] = WATCHED;
     }
 
     /// Makes the heap not dirty, and changes nothing else: watched objects stay so.
