@@ -69,6 +69,7 @@ pub record HasSlots (os : List Object) (n w : ℕ) : Type 0 where
   pub object : Object
   pub at : object_at os w ≡ Some object
   pub words : pointer_words os n w ≡ Some object.words
+  pub other : is_context object ≡ false
   pub pointers : is_pointers object.format ≡ true
   pub enough : n ≤ length object.words
   pub count : slot_count_of os w ≡ length object.words
@@ -90,6 +91,7 @@ slots_there os n w has = go (place os w)
       object = x;
       at = at;
       words = ap (words_in n) named ∙ rw (p, q, r) refl;
+      other = p;
       pointers = q;
       enough = enough n (length x.words) r;
       count = field_at (λ y. length y.words) os w x at;
@@ -132,7 +134,7 @@ no_slots_there os n w has = go (place os w)
 pub slot_named : (os : List Object) (n w i : ℕ) → IsSound os → HasSlots os n w → i < slot_count_of os w → is_reference os (slot_of os w i) ≡ true
 slot_named os n w i sound h less =
     let s = sound_at os w h.object sound h.at in
-    let all = subst (λ ws. (j d : ℕ) → j < length ws → is_reference os (get_or ws j d) ≡ true) (references-pointers h.object h.pointers) s.references in
+    let all = subst (λ ws. (j d : ℕ) → j < length ws → is_reference os (get_or ws j d) ≡ true) (references-pointers h.object h.other h.pointers) s.references in
     subst (λ v. is_reference os v ≡ true) (sym (field_at (λ y. slice_index y.words i) os w h.object h.at)) (all i 0 (omega (arith, less, h.count)))
 
 -- ---- in the state
