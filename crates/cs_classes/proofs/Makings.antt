@@ -22,7 +22,7 @@ use Rattle.cs_model.specs.Instance.{new_context}
 use Rattle.cs_classes.specs.declared.Roots.{Roots}
 use Rattle.cs_classes.specs.Meaning.{birth_at, bytes_of, code_in, context_of, count_of, depth_in, header_in, is_context, kept_of, literals_in, obj_of, ref_of, unused_bytes, used_bytes, head_of}
 use Rattle.cs_classes.specs.Sound.{IsSoundMethod, IsSoundObject, IsWhole, is_closure_address, is_method_address, is_reference, is_sender, is_weak, nil_of, references_in}
-use Rattle.cs_classes.proofs.Refs.{is_reference-object, is_reference-push, is_sender-nil, nil_of-push, ref_of-object, ref_of-push}
+use Rattle.cs_classes.proofs.Refs.{is_nil_or_closure, is_nil_or_method, is_reference-object, is_reference-push, is_sender-nil, nil_of-push, ref_of-object, ref_of-push}
 use Rattle.cs_classes.proofs.Sorts.{map_alike, not_pointers, obj_of-bytes, obj_of-context, obj_of-method, obj_of-pointers, references-context, references-method, references-pointers}
 use Rattle.cs_classes.proofs.Wholes.{after_birth, kept_of-push, whole-push}
 
@@ -47,6 +47,18 @@ pub ref_of-nil : (os : List Object) (table : FinMap nat_cmp ℕ) (roots : Roots)
 ref_of-nil os table roots w =
     ref_of-object os base (nil_is_object os table roots w)
     ∙ ap (λ (o : Option Object). ref.Obj (option_map_or (λ (x : Object). x.birth) o 0)) (object_at-address os base 0 (nil_address os (omega (arith, w.first)) w.nil))
+
+-- nil may stand in each field of a context
+
+pub is_sender-base : (os : List Object) (table : FinMap nat_cmp ℕ) (roots : Roots) → IsWhole os table roots → is_sender os base ≡ true
+is_sender-base os table roots w =
+    subst (λ n. is_sender os n ≡ true) w.nil (is_sender-nil os (ap (is_object os) w.nil ∙ nil_is_object os table roots w))
+
+pub is_nil_or_method-base : (os : List Object) (table : FinMap nat_cmp ℕ) (roots : Roots) → IsWhole os table roots → is_nil_or_method os base ≡ true
+is_nil_or_method-base os table roots w = or_left (base == nil_of os) (is_method_address os base) (eq-eqb base (nil_of os) (sym w.nil))
+
+pub is_nil_or_closure-base : (os : List Object) (table : FinMap nat_cmp ℕ) (roots : Roots) → IsWhole os table roots → is_nil_or_closure os base ≡ true
+is_nil_or_closure-base os table roots w = or_left (base == nil_of os) (is_closure_address os base) (eq-eqb base (nil_of os) (sym w.nil))
 
 -- ---- the new object
 
