@@ -52,3 +52,7 @@ pub mod LeadEvent
 pub mod LeadEnding
 pub mod LeadFollowing
 pub mod LeadStep
+pub mod Passing
+pub mod Trying
+pub mod Finding
+pub mod Doing
