@@ -5,7 +5,7 @@ use Rattle.cs_model.specs.declared.event.Event.{Event}
 use Rattle.cs_model.specs.declared.event.EventKind.{EventKind}
 use Rattle.cs_model.specs.declared.event.EventKind.TheVariants as kind
 use Rattle.cs_model.specs.State.{Kept, Run, State, Timer}
-use Rattle.cs_model.specs.Due.{Happened, happened, due_timer, fire, with_clock, happen, with_events, is_due, left_count, counting, behind, go_on, due_of, due}
+use Rattle.cs_model.specs.Due.{Happened, happened, due_timer, fire, with_clock, happen, with_events, is_due, left_count, counting, behind, and_then_due, due_of, due}
 use Rattle.cs_model.specs.Step.{Ending, Steps, Quit, Idle, Stopped, Step, Ran, birth_limit, step, run, run_by}
 use Rattle.cs_model.specs.Step as step
 use Rattle.cs_model.specs.Demand.{goes_on, step_after, behind_event, behind_events, before_bytecode, last_state, first_events, states_of}
@@ -63,9 +63,9 @@ event_of (e ∷ es) s n k h = go (λ t m f. event_of es t m k f) (is_due s e) h 
   done earlier true h f = rest earlier n h f
   done earlier false h f = absurd (cc)
 
-  go : Earlier → (b : Bool) → slice_get (if b then behind_event (happen e.kind s.kept (with_events es s.run)) (λ t. t.kept ∷ behind_events es t) else []) n ≡ Some k → (if b then go_on (happen e.kind s.kept (with_events (take n es) s.run)) (λ t. due_of (take n es) t) else happened (record s { run = with_events (e ∷ take n es) s.run })).state.kept ≡ k
+  go : Earlier → (b : Bool) → slice_get (if b then behind_event (happen e.kind s.kept (with_events es s.run)) (λ t. t.kept ∷ behind_events es t) else []) n ≡ Some k → (if b then and_then_due (happen e.kind s.kept (with_events (take n es) s.run)) (λ t. due_of (take n es) t) else happened (record s { run = with_events (e ∷ take n es) s.run })).state.kept ≡ k
   go earlier true f =
-      ap (λ h. (go_on h (λ t. due_of (take n es) t)).state.kept) (happen_left e.kind s.kept s.run (take n es) es)
+      ap (λ h. (and_then_due h (λ t. due_of (take n es) t)).state.kept) (happen_left e.kind s.kept s.run (take n es) es)
       ∙ done earlier (is_done (happen e.kind s.kept (with_events es s.run)).end) (happen e.kind s.kept (with_events es s.run)) f
   go earlier false f = absurd (cc)
 
@@ -81,7 +81,7 @@ count_of (e ∷ es) s = go (λ t. count_of es t) (is_due s e) where
   done earlier true h d f = omega (arith, earlier (behind h))
   done earlier false h d f = subst (λ c. 0 + ((if c then 0 else 1) + length h.state.run.events) ≡ suc (length es)) (sym d) (omega (arith, ap length f))
 
-  go : Earlier → (b : Bool) → length (if b then behind_event (happen e.kind s.kept (with_events es s.run)) (λ t. t.kept ∷ behind_events es t) else []) + ((if is_done (if b then go_on (happen e.kind s.kept (with_events es s.run)) (λ t. due_of es t) else happened (record s { run = with_events (e ∷ es) s.run })).end then 0 else 1) + length (if b then go_on (happen e.kind s.kept (with_events es s.run)) (λ t. due_of es t) else happened (record s { run = with_events (e ∷ es) s.run })).state.run.events) ≡ suc (length es)
+  go : Earlier → (b : Bool) → length (if b then behind_event (happen e.kind s.kept (with_events es s.run)) (λ t. t.kept ∷ behind_events es t) else []) + ((if is_done (if b then and_then_due (happen e.kind s.kept (with_events es s.run)) (λ t. due_of es t) else happened (record s { run = with_events (e ∷ es) s.run })).end then 0 else 1) + length (if b then and_then_due (happen e.kind s.kept (with_events es s.run)) (λ t. due_of es t) else happened (record s { run = with_events (e ∷ es) s.run })).state.run.events) ≡ suc (length es)
   go earlier true = done earlier (is_done (happen e.kind s.kept (with_events es s.run)).end) (happen e.kind s.kept (with_events es s.run)) refl (happen_events e.kind s.kept s.run es)
   go earlier false = omega arith
 
@@ -96,7 +96,7 @@ last_of (e ∷ es) s d = go (λ t f. last_of es t f) (is_due s e) d where
   done earlier true h g d = earlier (behind h) d
   done earlier false h g d = both (sym g ∙ d)
 
-  go : Earlier → (b : Bool) → is_done (if b then go_on (happen e.kind s.kept (with_events es s.run)) (λ t. due_of es t) else happened (record s { run = with_events (e ∷ es) s.run })).end ≡ true → last_state s.kept (if b then behind_event (happen e.kind s.kept (with_events es s.run)) (λ t. t.kept ∷ behind_events es t) else []) ≡ (if b then go_on (happen e.kind s.kept (with_events es s.run)) (λ t. due_of es t) else happened (record s { run = with_events (e ∷ es) s.run })).state.kept
+  go : Earlier → (b : Bool) → is_done (if b then and_then_due (happen e.kind s.kept (with_events es s.run)) (λ t. due_of es t) else happened (record s { run = with_events (e ∷ es) s.run })).end ≡ true → last_state s.kept (if b then behind_event (happen e.kind s.kept (with_events es s.run)) (λ t. t.kept ∷ behind_events es t) else []) ≡ (if b then and_then_due (happen e.kind s.kept (with_events es s.run)) (λ t. due_of es t) else happened (record s { run = with_events (e ∷ es) s.run })).state.kept
   go earlier true d = done earlier (is_done (happen e.kind s.kept (with_events es s.run)).end) (happen e.kind s.kept (with_events es s.run)) refl d
   go earlier false d = refl
 
