@@ -53,6 +53,7 @@ pub mod LeadEnding
 pub mod LeadFollowing
 pub mod LeadStep
 pub mod Passing
+pub mod Unanswered
 pub mod Trying
 pub mod Finding
 pub mod Doing

@@ -1,17 +1,21 @@
 -- What a bytecode leads to is what the primitives give that it tries, and only a primitive answers.
-use Rattle.std.proofs.Common.{◌≡◌, ◌≤◌, ℕ, ◌+◌, ◌-◌, ◌==◌, ◌&&◌, not, Bool, true, false, refl, sym, ap, subst, ◌∙◌, Option, Some, None, is_some, List, [], ◌∷◌, ◌++◌, length, unwrap_or, option_and_then, option_map, nat_lt, arith, if◌then◌else◌}
+use Rattle.std.proofs.Common.{◌≡◌, ◌≤◌, ℕ, ◌+◌, ◌-◌, ◌==◌, ◌&&◌, not, Bool, true, false, refl, sym, ap, subst, true≢false, ◌∙◌, Option, Some, None, is_some, List, [], ◌∷◌, ◌++◌, length, unwrap_or, option_and_then, option_map, nat_lt, arith, if◌then◌else◌}
+use Rattle.std.specs.List.{Contains}
 use Rattle.std.specs.Option.{option_to_list}
 use Rattle.cs_model.specs.declared.stop.Stop.TheVariants as why
+use Rattle.cs_model.specs.declared.instruction.Op.{Op}
 use Rattle.cs_model.specs.Ref.{Ref}
 use Rattle.cs_model.specs.State.{Kept, Run, State, special_at}
-use Rattle.cs_model.specs.Send.{send}
+use Rattle.cs_model.specs.Exec.{exec}
+use Rattle.cs_model.specs.Send.{enter_out, send}
 use Rattle.cs_model.specs.Return.{back}
 use Rattle.cs_model.specs.PrimRun.{Result, result}
-use Rattle.cs_model.specs.PrimTable.{prim}
-use Rattle.cs_model.specs.Step.{Message, message_in, return_in, primitive_in, call_in, with_kept, counting, arguments_of, or_enter, try_performed, tried, try_primitive, sent, do_send, do_call, returned, do_return, followed}
-use Rattle.cs_model.specs.Shallow.{Trial, result_of, trial_in, trials_from, Sending, sending_of_call, sending_from, sent_out, trials}
+use Rattle.cs_model.specs.PrimTable.{prim, is_perform}
+use Rattle.cs_model.specs.Step.{Message, message_in, return_in, primitive_in, call_in, is_fail, with_kept, counting, arguments_of, or_enter, try_performed, tried, try_primitive, sent, do_send, do_call, returned, do_return, followed}
+use Rattle.cs_model.specs.Shallow.{is_answer, Trial, result_of, trial_in, trials_from, Sending, sending_of_call, sending_from, sent_out, trials}
 use Rattle.cs_model.specs.End.{Out, Count, stop, given}
 use Rattle.cs_model.specs.Alike.{SameButCount}
+use Rattle.cs_model.proofs.Unanswered.{Unanswered, send_un, back_un, exec_un, enter_un}
 
 -- ---- the same but for what was counted
 
@@ -29,6 +33,10 @@ same_trans h g = record { end = h.end ∙ g.end; state = h.state ∙ g.state; ru
 do_send_is : (r : Run) (k : Kept) (x : Ref) (args : ℕ) (above : Option Ref) → do_send r k x args above ≡ sent r (send k x args above)
 unfolding do_send
 do_send_is r k x args above = refl
+
+do_return_is : (r : Run) (k : Kept) (x : Ref) (local : Bool) → do_return r k x local ≡ returned r (back k x local)
+unfolding do_return
+do_return_is r k x local = refl
 
 some_is : {x y : Sending} → Some x ≡ Some y → x ≡ y
 some_is {x} e = ap (λ o. unwrap_or o x) e
@@ -145,3 +153,61 @@ few r a (t ∷ u ∷ v ∷ ts) g = absurd (g)
 
 pub few_tried : (r : Run) (o : Out) → length (trials r o) ≤ 2
 few_tried r o = few r (followed r o) (trials r o) (followed_given r o)
+
+-- ---- an answer is what one of them gives
+
+no_answer : {A : Type 0} {o : Out} → Unanswered o → is_answer o.end ≡ true → A
+no_answer h e = absurd (true≢false (sym e ∙ h.none))
+
+-- where no message is sent what was there is left, or what a return gives
+unsent_answer : (r : Run) (o : Out) → is_answer o.end ≡ false → sending_from o ≡ None → is_answer (followed r o).out.end ≡ false
+unsent_answer r o u e = go (message_in o.end) (return_in o.end) e where
+  to : (b : Out) (args : ℕ) (x : Option Ref) → option_map {U = Sending} (λ selector. record { state = b.state; message = record { selector = selector; args = args; above = None } }) x ≡ None → is_answer (given x (result (stop why.BadSpecial b.state) r) (λ selector. do_send r b.state selector args None)).out.end ≡ false
+  to b args None f = refl
+  to b args (Some x) f = absurd (cc)
+
+  called : (b : Out) → is_answer b.end ≡ false → (c : Option (ℕ × ℕ)) → option_and_then (λ c. option_map {U = Sending} (λ selector. record { state = b.state; message = record { selector = selector; args = c.1; above = None } }) (special_at b.state c.0)) c ≡ None → is_answer (given c (result b r) (λ c. counting b.count (do_call r b.state c.0 c.1))).out.end ≡ false
+  called b v None f = v
+  called b v (Some c) f = to b c.1 (special_at b.state c.0) f
+
+  go : (m : Option Message) (p : Option (Ref × Bool)) → given m (option_and_then (λ p. sending_of_call (back o.state p.0 p.1)) p) (λ m. Some (record { state = o.state; message = m })) ≡ None → is_answer (given m (given p (result o r) (λ p. counting o.count (do_return r o.state p.0 p.1))) (λ m. counting o.count (do_send r o.state m.selector m.args m.above))).out.end ≡ false
+  go (Some m) p f = absurd (cc)
+  go None (Some p) f = ap (λ a. is_answer a.out.end) (do_return_is r o.state p.0 p.1) ∙ called (back o.state p.0 p.1) (back_un o.state p.0 p.1).none (call_in (back o.state p.0 p.1).end) f
+  go None None f = u
+
+sent_answer : (r : Run) (o : Out) → Unanswered o → given (trial_in r o) [] (λ t. trials_from t) ≡ [] → is_answer (sent r o).out.end ≡ false
+sent_answer r o u e = go (primitive_in o.end) e where
+  go : (p : Option (Ref × ℕ)) → given (option_map {U = Trial} (λ p. record { state = with_kept o.state r; method = p.0; number = p.1 }) p) [] (λ t. trials_from t) ≡ [] → is_answer (given p (result o r) (λ p. counting o.count (try_primitive (with_kept o.state r) p.0 p.1))).out.end ≡ false
+  go None f = u.none
+  go (Some p) f = absurd (cc)
+
+untried_answer : (r : Run) (o : Out) → is_answer o.end ≡ false → trials r o ≡ [] → is_answer (followed r o).out.end ≡ false
+unfolding trials
+untried_answer r o u e = go (sending_from o) refl e where
+  go : (a : Option Sending) → sending_from o ≡ a → given (option_and_then (λ a. trial_in r (sent_out a)) a) [] (λ t. trials_from t) ≡ [] → is_answer (followed r o).out.end ≡ false
+  go None g f = unsent_answer r o u g
+  go (Some a) g f = ap is_answer (followed_sent r o a g).end ∙ sent_answer r (sent_out a) (send_un a.state a.message.selector a.message.args a.message.above) f
+
+entered_answer : (s : State) (x : Ref) (a : Result) → is_answer (or_enter s x a).out.end ≡ true → SameButCount (or_enter s x a) a
+entered_answer s x a e = go (is_fail a.out.end) e where
+  go : (b : Bool) → is_answer (if b then result (enter_out s.kept x (arguments_of s.kept x) true) s.run else a).out.end ≡ true → SameButCount (if b then result (enter_out s.kept x (arguments_of s.kept x) true) s.run else a) a
+  go true f = no_answer (enter_un s.kept x (arguments_of s.kept x) true) f
+  go false f = same_itself a
+
+performed_answer : (s : State) (x : Ref) (n : ℕ) → is_answer (try_performed s x n).out.end ≡ true → SameButCount (try_performed s x n) (prim n (arguments_of s.kept x) s)
+unfolding try_performed
+performed_answer s x n e = go (is_perform n) e where
+  go : (b : Bool) → is_answer (if b then result (enter_out s.kept x (arguments_of s.kept x) true) s.run else or_enter s x (prim n (arguments_of s.kept x) s)).out.end ≡ true → SameButCount (if b then result (enter_out s.kept x (arguments_of s.kept x) true) s.run else or_enter s x (prim n (arguments_of s.kept x) s)) (prim n (arguments_of s.kept x) s)
+  go true f = no_answer (enter_un s.kept x (arguments_of s.kept x) true) f
+  go false f = entered_answer s x (prim n (arguments_of s.kept x) s) f
+
+answer_found : (r : Run) (a : Result) (ts : List Trial) → GivenBy r a ts → (ts ≡ [] → is_answer a.out.end ≡ false) → is_answer a.out.end ≡ true → (t : Trial) × Contains ts t × SameButCount a (result_of t)
+answer_found r a [] g h e = absurd (true≢false (sym e ∙ h refl))
+answer_found r a (t ∷ []) g h e =
+    (t, (0, omega arith, refl), same_trans g (entered_answer t.state t.method (result_of t) (ap is_answer (sym g.end) ∙ e)))
+answer_found r a (t ∷ u ∷ []) g h e =
+    (u, (1, omega arith, refl), same_trans g (performed_answer u.state u.method u.number (ap is_answer (sym g.end) ∙ e)))
+answer_found r a (t ∷ u ∷ v ∷ ts) g h e = absurd (g)
+
+pub answer_tried : (r : Run) (i : Op) (k : Kept) → is_answer (followed r (exec i k)).out.end ≡ true → (t : Trial) × Contains (trials r (exec i k)) t × SameButCount (followed r (exec i k)) (result_of t)
+answer_tried r i k e = answer_found r (followed r (exec i k)) (trials r (exec i k)) (followed_given r (exec i k)) (untried_answer r (exec i k) (exec_un i k).none) e

@@ -8,7 +8,7 @@
 //! The definitions stand in `specs/Keeps.antt` and `specs/Alike.antt`. Each law is a function with an empty body: what it ensures
 //! is the law. A state is closed where it keeps itself, which is where all that it names is there.
 ghost use Rattle.std.specs.Prelude.{◌≡◌, ◌≢◌, ◌<◌, ◌≤◌, ◌+◌, ℕ, ℤ, Bool, true, false, nat_lt, if◌then◌else◌, Option, Some, None, List, [], ◌∷◌, length, slice_get, IsSome};
-ghost use Rattle.std.specs.List.{AllByRecursion};
+ghost use Rattle.std.specs.List.{AllByRecursion, Contains};
 ghost use Rattle.cs_model.specs.declared.event.Event.{Event};
 ghost use Rattle.cs_model.specs.declared.instruction.Op.{Op};
 ghost use Rattle.cs_model.specs.Ref.{Ref};
@@ -36,7 +36,7 @@ ghost use Rattle.cs_model.specs.Due.{signal_external, is_idle, due};
 ghost use Rattle.cs_model.specs.End.{Out, is_done, given};
 ghost use Rattle.cs_model.specs.Step.{Message, primitive_in, or_enter, try_performed, try_primitive, sent, do_send, do_return, followed, instruction_at, bytecode, Ending, Steps, Quit, birth_limit, add_count, finish_of, step, run};
 ghost use Rattle.cs_model.specs.Demand.{before_bytecode, last_state, first_events, states_of};
-ghost use Rattle.cs_model.specs.Shallow.{Trial, result_of, Sending, sending_from, sent_out, trials, bytecode_state};
+ghost use Rattle.cs_model.specs.Shallow.{is_answer, Trial, result_of, Sending, sending_from, sent_out, trials, bytecode_state};
 ghost use Rattle.cs_model.specs.Report.{place_of, report_of};
 ghost use Rattle.cs_model.specs.Built.{is_built_number, is_built_send, is_built_out, built_step, built_run};
 
@@ -324,13 +324,14 @@ pub fn a_step_does_its_bytecode_there()
 
 /// What an instruction leads to is what the send gives that it leads to, and that is what the primitives give that it tries: without
 /// one nothing becomes of the run, and else it is what the last of them gives, the method of which is entered where it fails, or at
-/// once where it is a perform that a perform found.
+/// once where it is a perform that a perform found. So where it answers, one of them gives that very answer.
 pub fn a_bytecode_gives_what_its_last_primitive_gives()
     ensures sent { (r : Run) (o : Out) (a : Sending) → sending_from o ≡ Some a → SameButCount (followed r o) (sent r (sent_out a)) }
     ensures none { (r : Run) (o : Out) → trials r o ≡ [] → ((followed r o).run ≡ r) × ((followed r o).snapshot ≡ None) }
     ensures one { (r : Run) (o : Out) (t : Trial) → trials r o ≡ t ∷ [] → SameButCount (followed r o) (or_enter t.state t.method (result_of t)) }
     ensures two { (r : Run) (o : Out) (t u : Trial) → trials r o ≡ t ∷ u ∷ [] → SameButCount (followed r o) (try_performed u.state u.method u.number) }
     ensures few { (r : Run) (o : Out) → length (trials r o) ≤ 2 }
+    ensures answered { (r : Run) (i : Op) (k : Kept) → is_answer (followed r (exec i k)).out.end ≡ true → (t : Trial) × Contains (trials r (exec i k)) t × SameButCount (followed r (exec i k)) (result_of t) }
 {}
 
 /// What is built is said of the send that an instruction leads to, and by the primitive that this send offers; where nothing is
