@@ -57,3 +57,4 @@ pub mod Unanswered
 pub mod Trying
 pub mod Finding
 pub mod Doing
+pub mod Changing

@@ -12,6 +12,7 @@ ghost use Rattle.std.specs.List.{AllByRecursion, Contains};
 ghost use Rattle.cs_model.specs.declared.event.Event.{Event};
 ghost use Rattle.cs_model.specs.declared.instruction.Op.{Op};
 ghost use Rattle.cs_model.specs.Ref.{Ref};
+ghost use Rattle.cs_model.specs.Ref as ref;
 ghost use Rattle.cs_model.specs.Obj.{Obj, Context};
 ghost use Rattle.cs_model.specs.State.{Kept, Run, State, IsHeld, IsValid, ContextHeld, NamesHeld, object_at, object_of, is_read_only, put, slots_of, special_at, scheduler_of, active_process};
 ghost use Rattle.cs_model.specs.Read.{IsRunning, class_of, depth_of, active_context, method_of, literals_of, bytecodes_of};
@@ -25,10 +26,11 @@ ghost use Rattle.cs_model.specs.Exec.{push_out, push_all, refuse_store, jump_out
 ghost use Rattle.cs_model.specs.Lookup.{lookup};
 ghost use Rattle.cs_model.specs.Lookup as sought;
 ghost use Rattle.cs_model.specs.Send.{begins_at, look_from, enter_out, invoke, not_understood, send, perform, perform_with_arguments, execute_method};
-ghost use Rattle.cs_model.specs.Return.{senders_to, home, back, local_out, nonlocal_out, cannot_return_out, unwind_out};
+ghost use Rattle.cs_model.specs.Return.{context_birth, senders_to, home, back, local_out, nonlocal_out, cannot_return_out, unwind_out};
 ghost use Rattle.cs_model.specs.Process.{shaped_scheduler, add_last, add_first, add_preempted, start, start_next, resume, signal, wait, suspend, give_way};
-ghost use Rattle.cs_model.specs.PrimAnswer.{answer};
-ghost use Rattle.cs_model.specs.PrimUnwind.{end_between_of};
+ghost use Rattle.cs_model.specs.PrimAnswer.{answer, receiver, argument};
+ghost use Rattle.cs_model.specs.PrimObject.{slot_index, slot_at_put_prim};
+ghost use Rattle.cs_model.specs.PrimUnwind.{end_between_of, end_between_prim};
 ghost use Rattle.cs_model.specs.PrimRun.{forgotten};
 ghost use Rattle.cs_model.specs.PrimTable.{kept_prim, prim};
 ghost use Rattle.cs_model.specs.Settle.{settle_kept, open_kept, opened, settled, new_run};
@@ -36,7 +38,7 @@ ghost use Rattle.cs_model.specs.Due.{signal_external, is_idle, due};
 ghost use Rattle.cs_model.specs.End.{Out, is_done, given};
 ghost use Rattle.cs_model.specs.Step.{Message, primitive_in, or_enter, try_performed, try_primitive, sent, do_send, do_return, followed, instruction_at, bytecode, Ending, Steps, Quit, birth_limit, add_count, finish_of, step, run};
 ghost use Rattle.cs_model.specs.Demand.{before_bytecode, last_state, first_events, states_of};
-ghost use Rattle.cs_model.specs.Shallow.{is_answer, Trial, result_of, Sending, sending_from, sent_out, trials, bytecode_state};
+ghost use Rattle.cs_model.specs.Shallow.{ended_between, is_answer, Trial, result_of, Sending, sending_from, sent_out, trials, bytecode_state};
 ghost use Rattle.cs_model.specs.Report.{place_of, report_of};
 ghost use Rattle.cs_model.specs.Built.{is_built_number, is_built_send, is_built_out, built_step, built_run};
 
@@ -332,6 +334,13 @@ pub fn a_bytecode_gives_what_its_last_primitive_gives()
     ensures two { (r : Run) (o : Out) (t u : Trial) → trials r o ≡ t ∷ u ∷ [] → SameButCount (followed r o) (try_performed u.state u.method u.number) }
     ensures few { (r : Run) (o : Out) → length (trials r o) ≤ 2 }
     ensures answered { (r : Run) (i : Op) (k : Kept) → is_answer (followed r (exec i k)).out.end ≡ true → (t : Trial) × Contains (trials r (exec i k)) t × SameButCount (followed r (exec i k)) (result_of t) }
+{}
+
+/// Where 196 answers, the contexts that are said to end are those that die, and the receiver gets the argument as its sender; where 74
+/// answers for a context, the field of its index is what is written.
+pub fn the_contexts_changed_are_those_of_the_primitives()
+    ensures ended { (k : Kept) (i : ℕ) → context_birth k (receiver k 1) ≡ Some i → is_answer (end_between_prim k 1).end ≡ true → end_between_prim k 1 ≡ answer (end_between_of k (ended_between k i (argument k 1 0)) i (argument k 1 0)) 1 (ref.Obj i) }
+    ensures slot { (k : Kept) (i f : ℕ) → context_birth k (receiver k 2) ≡ Some i → slot_index (argument k 2 0) ≡ Some f → is_answer (slot_at_put_prim k 2).end ≡ true → slot_at_put_prim k 2 ≡ answer (context_put k i f (argument k 2 1)) 2 (argument k 2 1) }
 {}
 
 /// What is built is said of the send that an instruction leads to, and by the primitive that this send offers; where nothing is
