@@ -1,13 +1,12 @@
 -- A step does its bytecode in the state behind the events that are due, if it comes to that.
-use Rattle.std.proofs.Common.{◌≡◌, ◌≢◌, ℕ, ◌||◌, not, Bool, true, false, refl, sym, ap, ◌∙◌, Option, Some, None, List, [], ◌∷◌, nat_lt, unwrap_or, if◌then◌else◌}
-use Rattle.cs_model.specs.declared.stop.Stop.{Stop}
+use Rattle.std.proofs.Common.{◌≡◌, ◌≢◌, ◌||◌, not, Bool, true, false, ap, Option, Some, None, List, [], ◌∷◌, nat_lt, unwrap_or, if◌then◌else◌}
 use Rattle.cs_model.specs.declared.stop.Stop.TheVariants as why
 use Rattle.cs_model.specs.declared.event.Event.{Event}
 use Rattle.cs_model.specs.declared.event.EventKind.{EventKind}
 use Rattle.cs_model.specs.declared.event.EventKind.TheVariants as kind
 use Rattle.cs_model.specs.State.{Kept, Run, State, Timer}
 use Rattle.cs_model.specs.Due.{Happened, happened, is_idle, due_timer, fire, with_clock, happen, with_events, is_due, left_count, counting, behind, and_then_due, due_of, due}
-use Rattle.cs_model.specs.Step.{Ending, Steps, Quit, Idle, Stopped, Step, stops, birth_limit, idle, add_count, finish_of, ready, stop_in, after_due, bytecode, step}
+use Rattle.cs_model.specs.Step.{Ending, Steps, Quit, Idle, Stopped, stops, birth_limit, idle, add_count, finish_of, ready, stop_in, after_due, bytecode, step}
 use Rattle.cs_model.specs.Shallow.{bytecode_state}
 use Rattle.cs_model.specs.End.{End, no_count, is_done, plus, given}
 use Rattle.cs_model.specs.End as ends

@@ -1,5 +1,5 @@
 -- What is built is said of the very sends that an instruction leads to, and of the primitives of the methods that they find.
-use Rattle.std.proofs.Common.{◌≡◌, ◌≢◌, ℕ, ◌==◌, Bool, true, false, refl, sym, ap, ◌∙◌, Option, Some, None, option_and_then, option_map, nat_lt, if◌then◌else◌}
+use Rattle.std.proofs.Common.{◌≡◌, ◌≢◌, ℕ, ◌==◌, Bool, true, false, refl, ap, ◌∙◌, Option, Some, None, option_and_then, option_map, nat_lt, if◌then◌else◌}
 use Rattle.cs_model.specs.declared.stop.Stop.TheVariants as why
 use Rattle.cs_model.specs.Ref.{Ref}
 use Rattle.cs_model.specs.Obj.{header_in, bytecodes_in, argument_count, primitive_number}

@@ -1,5 +1,5 @@
 -- What a bytecode leads to is what the primitives give that it tries, and only a primitive answers.
-use Rattle.std.proofs.Common.{◌≡◌, ◌≤◌, ℕ, ◌+◌, ◌-◌, ◌==◌, ◌&&◌, not, Bool, true, false, refl, sym, ap, subst, true≢false, ◌∙◌, Option, Some, None, is_some, List, [], ◌∷◌, ◌++◌, length, unwrap_or, option_and_then, option_map, nat_lt, arith, if◌then◌else◌}
+use Rattle.std.proofs.Common.{◌≡◌, ◌≤◌, ℕ, Bool, true, false, refl, sym, ap, subst, true≢false, ◌∙◌, Option, Some, None, List, [], ◌∷◌, length, unwrap_or, option_and_then, option_map, arith, if◌then◌else◌}
 use Rattle.std.specs.List.{Contains}
 use Rattle.std.specs.Option.{option_to_list}
 use Rattle.cs_model.specs.declared.stop.Stop.TheVariants as why
@@ -11,7 +11,7 @@ use Rattle.cs_model.specs.Send.{enter_out, send}
 use Rattle.cs_model.specs.Return.{back}
 use Rattle.cs_model.specs.PrimRun.{Result, result}
 use Rattle.cs_model.specs.PrimTable.{prim, is_perform}
-use Rattle.cs_model.specs.Step.{Message, message_in, return_in, primitive_in, call_in, is_fail, with_kept, counting, arguments_of, or_enter, try_performed, tried, try_primitive, sent, do_send, do_call, returned, do_return, followed}
+use Rattle.cs_model.specs.Step.{Message, message_in, return_in, primitive_in, call_in, is_fail, with_kept, counting, arguments_of, or_enter, try_performed, try_primitive, sent, do_send, do_call, returned, do_return, followed}
 use Rattle.cs_model.specs.Shallow.{is_answer, Trial, result_of, trial_in, trials_from, Sending, sending_of_call, sending_from, sent_out, trials}
 use Rattle.cs_model.specs.End.{Out, Count, stop, given}
 use Rattle.cs_model.specs.Alike.{SameButCount}

@@ -1,23 +1,22 @@
 -- Only a primitive answers: no instruction, send or return does.
-use Rattle.std.proofs.Common.{◌≡◌, ℕ, zero, suc, ◌+◌, ◌-◌, ◌*◌, ◌==◌, ◌&&◌, not, Bool, true, false, refl, ℤ, pos, Option, Some, None, is_some, List, [], ◌∷◌, ◌++◌, length, option_and_then, unwrap_or, nat_lt, nat_le, if◌then◌else◌}
+use Rattle.std.proofs.Common.{◌≡◌, ℕ, ◌+◌, ◌-◌, ◌*◌, ◌==◌, ◌&&◌, not, Bool, true, false, refl, ℤ, pos, Option, Some, None, List, [], ◌∷◌, ◌++◌, length, option_and_then, nat_lt, nat_le, if◌then◌else◌}
 use Rattle.std.specs.Prelude.{slice_get}
-use Rattle.cs_model.specs.declared.stop.Stop.TheVariants as why
 use Rattle.cs_model.specs.declared.instruction.Op.{Op}
 use Rattle.cs_model.specs.declared.instruction.Op.TheVariants as op
 use Rattle.cs_model.specs.Ref.{Ref, Small, same_ref, small_of}
 use Rattle.cs_model.specs.Ref as ref
-use Rattle.cs_model.specs.Obj.{Obj, Context, Ptr, Raw, Method, Ctx, header_in, bytecodes_in, argument_count, primitive_number, context_in, slots_in}
-use Rattle.cs_model.specs.State.{Kept, object_at, object_of, is_read_only, slots_of, special_at, is_nil}
-use Rattle.cs_model.specs.Read.{active_birth, stack_of, depth_of, size_of, receiver_of, literals_of, from_top, class_of}
-use Rattle.cs_model.specs.Operation.{push_of, drop_of, pop_of, add_of, next_ref, nil_of, last_values, set_pc_of, set_stack_of, store_of, cut_to_of}
-use Rattle.cs_model.specs.Context.{context_get, accepts, context_put}
+use Rattle.cs_model.specs.Obj.{Obj, Ptr, Raw, Method, Ctx, header_in, bytecodes_in, argument_count, primitive_number, context_in, slots_in}
+use Rattle.cs_model.specs.State.{Kept, object_at, object_of, is_read_only, slots_of, special_at}
+use Rattle.cs_model.specs.Read.{active_birth, stack_of, depth_of, size_of, receiver_of, literals_of, from_top}
+use Rattle.cs_model.specs.Operation.{drop_of, pop_of, next_ref}
+use Rattle.cs_model.specs.Context.{context_get, accepts}
 use Rattle.cs_model.specs.Number.{boolean}
 use Rattle.cs_model.specs.Instance.{Made, New, NotInstantiable, TableFull, instantiate}
-use Rattle.cs_model.specs.Exec.{push_out, top_of, with_top, pop_out, dup_out, push_all, special_send_out, attempt_to_assign, refuse_store, store_slot, push_field, push_receiver_out, is_active, store_in_context, store_field, store_receiver_out, push_temp_out, store_temp_out, literal_at, push_literal_out, variable_value, push_variable_out, store_variable_out, vector_slot, push_vector_out, store_vector_out, pop_into, store_into, pc_after, jump_out, must_be_boolean, jump_if_out, return_out, send_literal_out, send_super_out, argument_count_in, selector_pair, send_selector_out, at_once, special_out, same_out, class_out, common_out, array_class, slots_equal, array_made, with_array, new_array_out, pop_array_out, closure_out, this_context_out, exec}
+use Rattle.cs_model.specs.Exec.{push_out, top_of, with_top, pop_out, dup_out, push_all, special_send_out, attempt_to_assign, refuse_store, store_slot, push_field, push_receiver_out, is_active, store_field, store_receiver_out, push_temp_out, store_temp_out, literal_at, push_literal_out, variable_value, push_variable_out, store_variable_out, vector_slot, push_vector_out, store_vector_out, pop_into, store_into, pc_after, jump_out, must_be_boolean, jump_if_out, send_literal_out, send_super_out, argument_count_in, selector_pair, send_selector_out, at_once, special_out, same_out, class_out, common_out, array_class, slots_equal, array_made, with_array, new_array_out, pop_array_out, closure_out, this_context_out, exec}
 use Rattle.cs_model.specs.Lookup.{Sought, lookup}
 use Rattle.cs_model.specs.Lookup as sought
 use Rattle.cs_model.specs.Send.{receiver_at, class_or_nil, enter_out, offer, invoke, message_class, does_not_understand, message_made, with_message, not_understood_by, send_message, not_understood, send_found, begins_at, look_from, send}
-use Rattle.cs_model.specs.Return.{Search, Met, Ended, TooLong, Home, HomeAt, NoHome, HomeTooFar, home, senders_to, sender_birth, first_marked, unwind_mark, call_with, cannot_return_out, unwind_out, is_live, is_among, has_room, arrive, local_out, past_marks, from_home, to_home, nonlocal_out, back}
+use Rattle.cs_model.specs.Return.{Search, Met, Ended, TooLong, Home, HomeAt, NoHome, HomeTooFar, home, senders_to, sender_birth, first_marked, unwind_mark, call_with, is_live, is_among, has_room, arrive, local_out, from_home, to_home, nonlocal_out, back}
 use Rattle.cs_model.specs.Shallow.{is_answer}
 use Rattle.cs_model.specs.End.{End, Out, out, done, stop, made, made_context, looked, given, is_done, and_then}
 use Rattle.cs_model.specs.End as ends
