@@ -8,8 +8,7 @@ use Rattle.cs_model.specs.declared.instruction.Op.{Op}
 use Rattle.cs_model.specs.declared.instruction.Op.TheVariants as op
 use Rattle.cs_model.specs.Ref.{Ref, birth_of, same_ref}
 use Rattle.cs_model.specs.State.{Kept, Run, State, special_at, is_nil, active_process}
-use Rattle.cs_model.specs.Read.{pc_of, receiver_of}
-use Rattle.cs_model.specs.Operation.{set_pc_of}
+use Rattle.cs_model.specs.Read.{receiver_of}
 use Rattle.cs_model.specs.Exec.{exec}
 use Rattle.cs_model.specs.Send.{send}
 use Rattle.cs_model.specs.Return.{Search, Met, Ended, TooLong, context_birth, sender_birth, senders_to, back}
@@ -18,7 +17,7 @@ use Rattle.cs_model.specs.PrimObject.{slot_index}
 use Rattle.cs_model.specs.PrimRun.{Result}
 use Rattle.cs_model.specs.PrimTable.{prim}
 use Rattle.cs_model.specs.Due.{is_idle, due}
-use Rattle.cs_model.specs.Step.{Message, message_in, return_in, primitive_in, call_in, arguments_of, with_kept, instruction_at, birth_limit, run}
+use Rattle.cs_model.specs.Step.{Message, message_in, return_in, primitive_in, call_in, arguments_of, with_kept, instruction_at, moved_past, birth_limit, run}
 use Rattle.cs_model.specs.Demand.{step_after, states_of, before_bytecode, was_active}
 use Rattle.cs_model.specs.End.{End, Out, given, is_done}
 use Rattle.cs_model.specs.End as ends
@@ -150,7 +149,7 @@ changed_by_op r o k = changed_by_store o k ++ changed_by_trials (trials r (exec 
 
 -- of a bytecode: the contexts of which it writes such a field, and those that 196 changes or ends
 unfoldable pub changed : State → List ℕ
-changed s = given (instruction_at s.kept) [] (λ i. changed_by_op s.run i.op (set_pc_of s.kept (pc_of s.kept + i.len)))
+changed s = given (instruction_at s.kept) [] (λ i. changed_by_op s.run i.op (moved_past s.kept i))
 
 -- the state in which the bytecode of a step is done, if it comes to that
 abbrev pub bytecode_state : State → Option State
