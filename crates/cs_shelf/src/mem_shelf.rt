@@ -94,9 +94,10 @@ impl MemShelf {
             record self.old { begun = None; calls = failed self.old.calls; last = save_fault name }) }
         ensures never_falls { self.old.calls.faults ≤ self.new.calls.faults }
     {
-        let Some(k) = self.begun else { unreachable!() };
+        let Some(k) = self.begun.take() else {
+            unreachable!()
+        };
         self.last.set(self.entries[k].name(), false);
-        self.begun = None;
         self.calls.fail();
     }
 }
@@ -158,9 +159,14 @@ impl Shelf for MemShelf {
             (λ bytes. take n buffer.new ≡ take n (drop at bytes))) }
         ensures rest { IfOk result (λ n. drop n buffer.new ≡ drop n buffer.old) }
         ensures ok { OnOk result (self.new ≡ record self.old {
-            calls = passed self.old.calls; asked = max self.old.asked (at + length buffer.old) }) }
-        ensures err { OnErr result (self.new ≡ record self.old { calls = failed self.old.calls;
-            last = read_fault name.now; asked = max self.old.asked (at + length buffer.old) }) }
+          calls = passed self.old.calls;
+          asked = max self.old.asked (at + length buffer.old);
+        }) }
+        ensures err { OnErr result (self.new ≡ record self.old {
+          calls = failed self.old.calls;
+          last = read_fault name.now;
+          asked = max self.old.asked (at + length buffer.old);
+        }) }
         ensures never_falls { self.old.calls.faults ≤ self.new.calls.faults }
     {
         self.asked = self.asked.max(u128::from(at) + buffer.len() as u128);
@@ -182,10 +188,17 @@ impl Shelf for MemShelf {
     fn start(&mut self, name: &str) -> Result<(), Failed>
         requires name { length name.now ≤ 4096 }
         ensures fails { IsErr result ↔ (IsListed self.old.calls ⊎ IsNone (place_of self.old.entries name.now)) }
-        ensures ok { OnOk result (self.new ≡ record self.old { begun = place_of self.old.entries name.now;
-            taken = none_taken self.old.taken.room; calls = passed self.old.calls }) }
-        ensures err { OnErr result (self.new ≡ record self.old { begun = None;
-            taken = none_taken self.old.taken.room; calls = failed self.old.calls; last = save_fault name.now }) }
+        ensures ok { OnOk result (self.new ≡ record self.old {
+          begun = place_of self.old.entries name.now;
+          taken = none_taken self.old.taken.room;
+          calls = passed self.old.calls;
+        }) }
+        ensures err { OnErr result (self.new ≡ record self.old {
+          begun = None;
+          taken = none_taken self.old.taken.room;
+          calls = failed self.old.calls;
+          last = save_fault name.now;
+        }) }
         ensures begins { OnOk result (name_at self.new.entries self.new.begun ≡ Some name.now) }
         ensures never_falls { self.old.calls.faults ≤ self.new.calls.faults }
     {
@@ -233,8 +246,11 @@ impl Shelf for MemShelf {
     fn finish(&mut self) -> Result<(), Failed>
         requires begun { IsSome (name_at self.old.entries self.old.begun) }
         ensures fails { IsErr result ↔ IsListed self.old.calls }
-        ensures ok { OnOk result (IfSome self.old.begun (λ k. self.new ≡ record self.old { begun = None;
-            entries = put_at self.old.entries k self.old.taken.bytes; calls = passed self.old.calls })) }
+        ensures ok { OnOk result (IfSome self.old.begun (λ k. self.new ≡ record self.old {
+          begun = None;
+          entries = put_at self.old.entries k self.old.taken.bytes;
+          calls = passed self.old.calls;
+        })) }
         ensures holds { OnOk result (IfSome (name_at self.old.entries self.old.begun)
             (λ name. content_of self.new.entries name ≡ Some self.old.taken.bytes)) }
         ensures contents { (other : List ℕ) → name_at self.old.entries self.old.begun ≢ Some other →
@@ -247,9 +263,10 @@ impl Shelf for MemShelf {
             self.give_up();
             return Err(Failed);
         }
-        let Some(k) = self.begun else { unreachable!() };
+        let Some(k) = self.begun.take() else {
+            unreachable!()
+        };
         put_content(&mut self.entries, k, self.taken.bytes());
-        self.begun = None;
         self.calls.pass();
         Ok(())
     }

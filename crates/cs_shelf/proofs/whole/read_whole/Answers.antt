@@ -1,6 +1,6 @@
 use Rattle.std.proofs.Common.{◌≡◌, ◌<◌, ◌≤◌, ◌+◌, length, take, rules, arith, vec_len, ◌∙◌, ap}
 use Rattle.std.proofs.lemmas.List.{length-take}
-use Rattle.cs_shelf.proofs.Reading.{asks_more, asks_none, begins_more, begins_all}
+use Rattle.cs_shelf.proofs.Reading.{asks_more, begins_more, begins_all}
 use Rattle.cs_shelf.proofs.whole.read_whole.Goals as goal
 
 pub returns-then-n-eq0-clause-whole : goal.returns-then-n-eq0-clause-whole

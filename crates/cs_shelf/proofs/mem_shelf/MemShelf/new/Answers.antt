@@ -1,4 +1,4 @@
-use Rattle.std.proofs.Common.{◌≡◌, ◌≤◌, ℕ, List, arith, ap, sym, subst, map, length, slice_index_or, string_bytes}
+use Rattle.std.proofs.Common.{◌≤◌, ℕ, List, arith, ap, sym, subst, map, length, slice_index_or, string_bytes}
 use Rattle.std.proofs.lemmas.List.Elements.{All-map}
 use Rattle.cs_shelf.specs.Memory.{AreKept, TakenView}
 use Rattle.cs_shelf.proofs.Entries.{kept_new}

@@ -1,4 +1,4 @@
-use Rattle.std.proofs.Common.{sym, ◌∙◌}
+use Rattle.std.proofs.Common.{sym}
 use Rattle.cs_shelf.proofs.Entries.{named_place}
 use Rattle.cs_shelf.proofs.mem_shelf.MemShelfShelf.start.Goals as goal
 
