@@ -7,12 +7,12 @@ use Rattle.cs_shelf.proofs.mem_shelf.MemShelfShelf.finish.Goals as goal
 pub put_content-requires-clause-fits : goal.put_content-requires-clause-fits
 put_content-requires-clause-fits c =
     let Fits : EntryView → Type 0 = λ e. length c.bytes.result.now ≤ e.room in
-    IfSome_then (slice_get c.self.inside.entries.items c.in-Some.k) {Q = Fits}
-    (roomy_at c.self.inside.taken.room c.self.inside.entries.items c.in-Some.k c.self.invariant)
+    IfSome_then _ {Q = Fits}
+    (roomy_at c.self.inside.taken.room c.self.inside.entries.items _ c.self.invariant)
     (λ e roomy. omega (arith, c.bytes.ensures.within))
 
 pub invariant_of-self : goal.invariant_of-self
-invariant_of-self c = kept_after _ _ _ c.in-Some.k _ c.put_content.ensures c.self.invariant
+invariant_of-self c = kept_after _ _ _ _ _ c.put_content.ensures c.self.invariant
 
 pub returns-clause-holds : goal.returns-clause-holds
 returns-clause-holds c =
