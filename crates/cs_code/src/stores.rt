@@ -1,7 +1,8 @@
 //! Stores into variables of every sort.
 //!
-//! A pop form takes the value first, and what is there is judged on the stack without it. A store form judges it on the stack with
-//! the value. Nothing is stored into a read-only object: the value is off the stack then in both forms, and the object is told of it.
+//! A pop form takes the value first, and what is there is judged on the stack without it. A store form judges it on
+//! the stack with the value. Nothing is stored into a read-only object: the value is off the stack then in both forms,
+//! and the object is told of it.
 ghost use Rattle.std.specs.Prelude.{◌≡◌, ◌<◌, true, false, [], ◌∷◌};
 ghost use Rattle.cs_model.specs.declared.instruction.Op.{Op};
 ghost use Rattle.cs_model.specs.Context.{is_context_ref};
@@ -48,8 +49,8 @@ fn push_three<W: World>(w: &mut W, a: Oop, b: Oop, c: Oop) -> CodeEnd
     }
 }
 
-/// Tells a read-only object of a store into its slot `i`: pushes the object, the value and the number of the slot, counted from 1, and
-/// sends `attemptToAssign:withIndex:`.
+/// Tells a read-only object of a store into its slot `i`, counted from 0: pushes the object, the value and the number of
+/// the slot counted from 1, and sends `attemptToAssign:withIndex:`.
 #[tactic(auto, unfolding(cs_model::specs::Exec::refuse_store))]
 fn refuse_store<W: World>(w: &mut W, target: Oop, i: u8, x: Oop) -> CodeEnd
     requires ready { IsReady (W.stored w.old) (W.view w.old) }
@@ -67,7 +68,8 @@ fn refuse_store<W: World>(w: &mut W, target: Oop, i: u8, x: Oop) -> CodeEnd
     }
 }
 
-/// Stores into slot `i` of a pointer object. Where the store is refused, the value is popped first if it is still on the stack.
+/// Stores into slot `i` of a pointer object. A read-only one refuses: the value is popped then, where it is still on the
+/// stack, which `kept` says, and the object is told of it.
 #[tactic(auto, unfolding(cs_model::specs::Exec::store_slot))]
 fn store_slot<W: World>(w: &mut W, target: Oop, i: u8, x: Oop, kept: bool) -> CodeEnd
     requires ready { IsReady (W.stored w.old) (W.view w.old) }
