@@ -28,7 +28,7 @@ entries_same : (births : List ℕ) (f : File) (k : ℕ) (os : List FileObject) �
     → map (λ x. (x.birth, obj_of (ref_of (memory_of births f)) x)) (loaded_from f births k os) ≡ zip (drop k births) (map (object_in f births) os)
 entries_same births f k [] fine long = sym (no_more (drop k births))
   where
-    no_more : (bs : List ℕ) → zip bs [] ≡ []
+    no_more : (bs : List ℕ) → zip {X = Obj} bs [] ≡ []
     no_more [] = refl
     no_more (b ∷ bs) = refl
 entries_same births f k (o ∷ os) fine long =

@@ -10,6 +10,7 @@ use Rattle.cs_model.specs.ImageFile.{FileObject, File}
 use Rattle.cs_model.specs.ImageFault.{is_lost}
 use Rattle.cs_heap.specs.Object.{Object}
 use Rattle.cs_classes.specs.Meaning.{head_of, ref_of, count_of, bytes_of, obj_of, context_of, method_of, used_bytes, depth_in, code_in, literals_in, header_in}
+use Rattle.cs_classes.proofs.Sorts.{obj_of-bytes, obj_of-method, obj_of-pointers}
 use Rattle.cs_image.specs.Loading.{translated, loaded}
 use Rattle.cs_image.proofs.Wording.{memory_of, meant, ref_translated, count_same, count_translated, loaded_words, length-loaded_words, get_loaded, words_pointers, words_raw, method_head, method_literals, IsMethodOf, word_stays}
 
@@ -169,7 +170,7 @@ plain_others format h =
     rw (a, b) refl
 
 pub object_same : (births : List ℕ) (f : File) (j : ℕ) (o : FileObject) → IsFine f o → obj_of (ref_of (memory_of births f)) (loaded f j o) ≡ obj_by (meant births f) (head_in o) o.words
-unfolding obj_of obj_by
+unfolding obj_of obj_by method_of
 object_same births f j o fine = go (o.class == context_class) (is_pointer_format o.format) (is_method_format o.format) refl refl refl
   where
     raw_bytes : (a b : ℕ) (xs ys : List ℕ) → a ≡ b → xs ≡ ys → used_bytes a xs ≡ bytes_in_words b ys
@@ -183,17 +184,25 @@ object_same births f j o fine = go (o.class == context_class) (is_pointer_format
         rw eb (ap (λ (ws : List ℕ). Ctx (context_of (ref_of (memory_of births f)) o.hash ws)) (words_pointers f o.format o.words p)
         ∙ ap Ctx (context_same births f o.hash o.words (fine.context eb).1 (fine.pointers p)))
     go false true d eb ec ed =
-        rw (eb, plain_pointers o.format ec, ec) (ap (λ (ws : List ℕ). Ptr (head_of (loaded f j o)) (map (ref_of (memory_of births f)) ws)) (words_pointers f o.format o.words ec)
+        let there : obj_by (meant births f) (head_in o) o.words ≡ Ptr (plain (head_in o)) (map (ref_by (meant births f)) o.words) = rw (eb, ec) refl in
+        obj_of-pointers (ref_of (memory_of births f)) (loaded f j o) eb (plain_pointers o.format ec)
+        ∙ ap (λ (ws : List ℕ). Ptr (head_of (loaded f j o)) (map (ref_of (memory_of births f)) ws)) (words_pointers f o.format o.words ec)
         ∙ ap (λ (h : Head). Ptr h (map (ref_of (memory_of births f)) (map (translated f) o.words))) (head_loaded f j o eb)
-        ∙ ap (Ptr (plain (head_in o))) (refs_same births f o.words (fine.pointers ec)))
+        ∙ ap (Ptr (plain (head_in o))) (refs_same births f o.words (fine.pointers ec)) ∙ sym there
     go false false true eb ec ed =
         let same = plain_others o.format ec in
         let p : is_pointer_format (plain_format o.format) ≡ false = ap is_pointer_format same ∙ ec in
         let m : is_method_format (plain_format o.format) ≡ true = ap is_method_format same ∙ ed in
-        rw (eb, p, m, ec, ed) (method_same births f j o eb (fine.method ec ed).0 same (fine.method ec ed).1)
+        let there : obj_by (meant births f) (head_in o) o.words
+        ≡ Method (head_in o) (header_in_words o.words) (map (ref_by (meant births f)) (literals_in_words o.words)) (bytecodes_in_words o.format o.words) = rw (eb, ec, ed) refl in
+        obj_of-method (ref_of (memory_of births f)) (loaded f j o) eb p m
+        ∙ method_same births f j o eb (fine.method ec ed).0 same (fine.method ec ed).1 ∙ sym there
     go false false false eb ec ed =
         let same = plain_others o.format ec in
         let p : is_pointer_format (plain_format o.format) ≡ false = ap is_pointer_format same ∙ ec in
         let m : is_method_format (plain_format o.format) ≡ false = ap is_method_format same ∙ ed in
         let words = words_raw f o.format o.words ec ed in
-        rw (eb, p, m, ec, ed) (λ i. Raw (head_other f j o eb same i) (raw_bytes (plain_format o.format) o.format (loaded_words f o.format o.words) o.words same words i))
+        let there : obj_by (meant births f) (head_in o) o.words ≡ Raw (head_in o) (bytes_in_words o.format o.words) = rw (eb, ec, ed) refl in
+        obj_of-bytes (ref_of (memory_of births f)) (loaded f j o) eb p m
+        ∙ ap (Raw (head_of (loaded f j o))) (raw_bytes (plain_format o.format) o.format (loaded_words f o.format o.words) o.words same words)
+        ∙ ap (λ (h : Head). Raw h (bytes_in_words o.format o.words)) (head_other f j o eb same) ∙ sym there

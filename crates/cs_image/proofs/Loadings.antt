@@ -86,3 +86,12 @@ birth_left births f objects count k x p e v =
     let next : filter is_visible (drop k f.objects) ≡ x ∷ filter is_visible (drop (k + 1) f.objects) = ap (filter is_visible) (drop_here f.objects k x e) ∙ rw v refl in
     let one = ap length next in
     omega (arith, p.next, one)
+
+-- how many visible objects are left
+pub next_counted : (objects : List FileObject) (k : ℕ) (x : FileObject) → slice_get objects k ≡ Some x → is_visible x ≡ true
+    → length (filter is_visible (drop k objects)) ≡ suc (length (filter is_visible (drop (k + 1) objects)))
+next_counted objects k x e v = ap (λ (xs : List FileObject). length (filter is_visible xs)) (drop_here objects k x e) ∙ rw v refl
+
+pub next_hidden : (objects : List FileObject) (k : ℕ) (x : FileObject) → slice_get objects k ≡ Some x → is_visible x ≡ false
+    → length (filter is_visible (drop k objects)) ≡ length (filter is_visible (drop (k + 1) objects))
+next_hidden objects k x e v = ap (λ (xs : List FileObject). length (filter is_visible xs)) (drop_here objects k x e) ∙ rw v refl

@@ -144,7 +144,8 @@ birth_of-stands births f word s =
 -- of what births are given with, the first that passes has the birth of its number, and where none passes or none is given, 0
 find-zip : (p : FileObject → Bool) (births : List ℕ) (xs : List FileObject)
     → option_map_or (λ e. e.0) (find (λ e. p e.1) (zip births xs)) 0 ≡ option_map_or (slice_index births) (number_of p xs) 0
-find-zip p births [] = refl
+find-zip p [] [] = refl
+find-zip p (b ∷ births) [] = refl
 find-zip p [] (x ∷ xs) = none (number_of p (x ∷ xs))
   where
     none : (r : Option ℕ) → 0 ≡ option_map_or (slice_index []) r 0

@@ -1,5 +1,5 @@
 -- The births of a file's objects: each has its own, below the next one.
-use Rattle.std.proofs.Common.{◌≡◌, ◌≢◌, ℕ, zero, suc, ◌+◌, ◌*◌, ◌/◌, ◌^◌, ◌<◌, ◌≤◌, ◌==◌, ◌&&◌, ◌||◌, inl, inr, ltb, leb, not, Bool, true, false, List, [], ◌∷◌, length, get_or, refl, ap, sym, subst, ◌∙◌, arith, slice_index}
+use Rattle.std.proofs.Common.{◌≡◌, ◌≢◌, ℕ, zero, suc, ◌+◌, ◌*◌, ◌/◌, ◌^◌, ◌<◌, ◌≤◌, ◌==◌, ◌&&◌, ◌||◌, inl, inr, ltb, leb, not, Bool, true, false, List, [], ◌∷◌, ◌++◌, length, get_or, refl, ap, sym, subst, ◌∙◌, arith, slice_index, add-one}
 use Rattle.std.specs.List.{list_any, range_with_len, AllByRecursion, IsDistinct}
 use Rattle.std.specs.List.Sorted.{IsPermutation, IsStrictlyIncreasing}
 use Rattle.std.proofs.lemmas.Bool.Decides.{nat_tests, eqb_tells}
@@ -8,7 +8,8 @@ use Rattle.std.proofs.lemmas.List.Kept.{AllPairs-from_increasing}
 use Rattle.std.proofs.lemmas.List.Sorted.{IsPermutation-sym}
 use Rattle.std.proofs.lemmas.List.FromFn.{get_or-range_with_len, length-range_with_len}
 use Rattle.std.proofs.lemmas.Map.Keys.{IsDistinct-from_apart, IsDistinct-head, IsDistinct-tail, IsDistinct-IsPermutation}
-use Rattle.cs_model.specs.ImageFile.{birth_count, births_in, has_births, next_birth_in, u64s_at}
+use Rattle.cs_image.proofs.Bytes.{length-u64s_at}
+use Rattle.cs_model.specs.ImageFile.{birth_count, births_in, has_births, heap_size, next_birth_in}
 use Rattle.cs_model.specs.ImageFault.{has_repeats, is_bad_births}
 
 -- the births of n objects
@@ -112,17 +113,22 @@ not_none : (b : Bool) → not b ≡ false → b ≡ true
 not_none true e = refl
 not_none false e = absurd (cc)
 
-length-u64s_at : (n : ℕ) (bytes : List ℕ) (place : ℕ) → length (u64s_at n bytes place) ≡ n
-length-u64s_at zero bytes place = refl
-length-u64s_at (suc n) bytes place = ap suc (length-u64s_at n bytes (place + 8))
+second : (a b : Bool) → a ≡ true → (a && b) ≡ false → b ≡ false
+second true b h e = e
+second false b h e = absurd (cc)
 
 above_test : (a b : ℕ) → leb a b ≡ false → b < a
 above_test a b h = grind (arith, nat_tests, h)
 
+section_long : (bytes : List ℕ) (n : ℕ) → has_births bytes ≡ true → length (births_in bytes n) ≡ birth_count bytes
+unfolding births_in
+section_long bytes n has = rw has (length-u64s_at (birth_count bytes) bytes (80 + heap_size bytes))
+
 section_births : (bytes : List ℕ) (n : ℕ) → has_births bytes ≡ true → is_bad_births bytes n ≡ false → AreBirths (births_in bytes n) n (next_birth_in bytes n)
-unfolding is_bad_births births_in
+unfolding is_bad_births
 section_births bytes n has fine =
-    let all : (not (birth_count bytes == n) || has_repeats births || list_any (λ birth. leb next birth) births || ltb (2 ^ 62) next) ≡ false = rw has fine in
+    let all : (not (birth_count bytes == n) || has_repeats births || list_any (λ birth. leb next birth) births || ltb (2 ^ 62) next) ≡ false =
+    second (has_births bytes) (not (birth_count bytes == n) || has_repeats births || list_any (λ birth. leb next birth) births || ltb (2 ^ 62) next) has fine in
     let a = or_false (not (birth_count bytes == n) || has_repeats births || list_any (λ birth. leb next birth) births) (ltb (2 ^ 62) next) all in
     let b = or_false (not (birth_count bytes == n) || has_repeats births) (list_any (λ birth. leb next birth) births) a.0 in
     let c = or_false (not (birth_count bytes == n)) (has_repeats births) b.0 in
@@ -141,7 +147,7 @@ section_births bytes n has fine =
     next = next_birth_in bytes n
 
     long_is : length births ≡ birth_count bytes
-    long_is = rw has (length-u64s_at (birth_count bytes) bytes _)
+    long_is = section_long bytes n has
 
 by_place : (bytes : List ℕ) (n : ℕ) → has_births bytes ≡ false → AreBirths (births_in bytes n) n (next_birth_in bytes n)
 unfolding births_in
@@ -161,6 +167,15 @@ births_known bytes n fine = go (has_births bytes) refl
     go true e = section_births bytes n e fine
     go false e = by_place bytes n e
 
+-- what was read of so many births
+pub births_read : (bytes births : List ℕ) (next count n : ℕ) → is_bad_births bytes count ≡ false → births ≡ births_in bytes count → next ≡ next_birth_in bytes count → count ≡ n
+    → AreBirths births n next
+births_read bytes births next count n fine is next_is few =
+    let P : List ℕ → Type 0 = λ bs. AreBirths bs count (next_birth_in bytes count) in
+    let Q : ℕ → Type 0 = λ m. AreBirths births count m in
+    let R : ℕ → Type 0 = λ m. AreBirths births m next in
+    subst R few (subst Q (sym next_is) (subst P (sym is) (births_known bytes count fine)))
+
 -- the next birth isn't too great
 pub next_small : (bytes : List ℕ) (n : ℕ) → is_bad_births bytes n ≡ false → n ≤ 2 ^ 62 → next_birth_in bytes n ≤ 2 ^ 62
 unfolding is_bad_births
@@ -170,5 +185,19 @@ next_small bytes n fine few = go (has_births bytes) refl
     within m h = grind (arith, nat_tests, h)
 
     go : (b : Bool) → has_births bytes ≡ b → next_birth_in bytes n ≤ 2 ^ 62
-    go true e = within (next_birth_in bytes n) (or_false _ (ltb (2 ^ 62) (next_birth_in bytes n)) (rw e fine)).1
+    go true e = within (next_birth_in bytes n)
+        (or_false (not (birth_count bytes == n) || has_repeats (births_in bytes n) || list_any (λ birth. leb (next_birth_in bytes n) birth) (births_in bytes n))
+        (ltb (2 ^ 62) (next_birth_in bytes n))
+        (second (has_births bytes) (not (birth_count bytes == n) || has_repeats (births_in bytes n) || list_any (λ birth. leb (next_birth_in bytes n) birth) (births_in bytes n)
+        || ltb (2 ^ 62) (next_birth_in bytes n)) e fine)).1
     go false e = rw e few
+
+-- one more birth by place
+pub range_more : (a n : ℕ) → range_with_len a (n + 1) ≡ range_with_len a n ++ (a + n) ∷ []
+range_more a n = ap (range_with_len a) (add-one n) ∙ go a n
+  where
+    go : (a n : ℕ) → range_with_len a (suc n) ≡ range_with_len a n ++ (a + n) ∷ []
+    go a zero = let same : a ≡ a + 0 = omega arith in ap (λ k. k ∷ []) same
+    go a (suc n) =
+        let same : a + 1 + n ≡ a + suc n = omega arith in
+        ap (λ (xs : List ℕ). a ∷ xs) (go (a + 1) n) ∙ ap (λ k. a ∷ range_with_len (a + 1) n ++ k ∷ []) same

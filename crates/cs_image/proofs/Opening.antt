@@ -1,5 +1,5 @@
 -- An image that loads can be opened: where a process is active, the opened state is running.
-use Rattle.std.proofs.Common.{◌≡◌, ◌≢◌, ℕ, ◌+◌, ◌*◌, ◌%◌, ◌<◌, ◌≤◌, ◌==◌, ◌&&◌, ◌||◌, leb, Bool, true, false, cond, not, List, [], ◌∷◌, length, map, drop, filter, get_or, Option, Some, None, IsSome, refl, ap, sym, subst, ◌∙◌, arith, slice_get, option_map, option_and_then, is_some, unwrap_or, nat_cmp, length-drop}
+use Rattle.std.proofs.Common.{◌≡◌, ◌≢◌, ℕ, ◌+◌, ◌*◌, ◌%◌, ◌<◌, ◌≤◌, ◌==◌, ◌&&◌, ◌||◌, leb, Bool, true, false, cond, not, List, [], ◌∷◌, length, map, drop, filter, get_or, Option, Some, None, IsSome, refl, ap, sym, subst, ◌∙◌, arith, slice_get, slice_index, option_map, option_and_then, is_some, unwrap_or, nat_cmp, length-drop}
 use Rattle.std.specs.Option.{option_map_or}
 use Rattle.std.specs.List.{find, range_with_len, slice_set}
 use Rattle.std.specs.Cmp.{nat_cmp_total}
@@ -138,7 +138,7 @@ is_some_some (Some x) e = (x, refl)
 -- ---- what a word names is in the state
 
 -- the birth of what a word names
-abbrev pub birth : File → ℕ → ℕ
+abbrev pub birth : List ℕ → File → ℕ → ℕ
 birth births f word = birth_in f births word
 
 find_visible : (p : FileObject → Bool) (os : List FileObject) (x : FileObject) → find p os ≡ Some x → is_visible x ≡ true → find p (filter is_visible os) ≡ Some x

@@ -2,6 +2,7 @@
 
 ghost use Rattle.std.specs.Prelude.{◌≡◌, ◌≤◌, ◌<◌, ◌+◌, ◌*◌, ◌^◌, ◌||◌, ◌==◌, not, nat_lt, nat_le, None, true, IfOk, length};
 ghost use Rattle.std.specs.List.{list_any, range_with_len};
+ghost use Rattle.std.specs.List.Sorted.{IsNonDecreasing};
 ghost use Rattle.cs_model.specs.Image.{when};
 ghost use Rattle.cs_model.specs.ImageFault as fault;
 ghost use Rattle.cs_model.specs.ImageFault.{has_repeats as has_repeats_in, is_bad_births};
@@ -30,7 +31,8 @@ pub(crate) fn visible_count(file: &FileHeap) -> usize
 {
     let mut count = 0;
     for number in 0..file.len() {
-        if file.object(number).class != 16 {
+        let o = file.object(number);
+        if o.class != 16 {
             count += 1;
         }
     }
@@ -97,14 +99,19 @@ fn are_sound(alloc: Global, births: &Births, count: usize) -> Result<bool, Alloc
         || list_any (λ birth. nat_le births.now.next birth) births.now.births.items
         || nat_lt (2 ^ 62) births.now.next)) }
 {
-    if births.births.len() != count || births.next > MOST {
-        return Ok(false);
-    }
-    if births.births.iter().any(|birth| births.next <= *birth) {
-        return Ok(false);
-    }
     let repeats = has_repeats(alloc, &births.births)?;
-    Ok(!repeats)
+    let is_bad = births.births.len() != count
+        || repeats
+        || reaches(&births.births, births.next)
+        || births.next > MOST;
+    Ok(!is_bad)
+}
+
+/// Whether one of these births isn't below the next one.
+fn reaches(births: &[u64], next: u64) -> bool
+    ensures { result ≡ list_any (λ birth. nat_le next birth) births.now }
+{
+    births.iter().any(|birth| next <= *birth)
 }
 
 /// Whether one of these numbers stands there twice.
@@ -113,12 +120,15 @@ fn has_repeats(alloc: Global, numbers: &[u64]) -> Result<bool, AllocError>
 {
     let mut sorted = numbers.to_vec(alloc)?;
     sorted.sort_unstable();
-    let repeats = has_neighbours(&sorted);
+    let repeats = repeats_in_order(&sorted);
     Ok(repeats)
 }
 
-/// Whether two neighbours among these numbers are equal.
-fn has_neighbours(numbers: &[u64]) -> bool {
+/// Whether one of these numbers, which don't fall, stands there twice: then it has an equal neighbour.
+fn repeats_in_order(numbers: &[u64]) -> bool
+    requires { IsNonDecreasing numbers.now }
+    ensures { result ≡ has_repeats_in numbers.now }
+{
     for i in 1..numbers.len() {
         if numbers[i - 1] == numbers[i] {
             return true;

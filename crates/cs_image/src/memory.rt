@@ -1,10 +1,11 @@
 //! The objects of a file in memory.
 
-ghost use Rattle.std.specs.Prelude.{◌≡◌, ◌<◌, ◌≤◌, ◌+◌, ◌*◌, ◌^◌, [], ◌∷◌, ◌++◌, true, false, IfOk, length, take};
+ghost use Rattle.std.specs.Prelude.{◌≡◌, ◌<◌, ◌≤◌, ◌+◌, ◌*◌, ◌^◌, ◌==◌, ◌&&◌, not, [], ◌∷◌, ◌++◌, true, false, IfOk, length, take};
 ghost use Rattle.cs_model.specs.ImageFile.{last_hash_in, special_address, visible};
 ghost use Rattle.cs_model.specs.ImageFault as fault;
 ghost use Rattle.cs_model.specs.ImageFault.{is_body, is_over, table_size};
 ghost use Rattle.cs_model.specs.Image.{when};
+ghost use Rattle.cs_model.specs.Obj.{context_class};
 ghost use Rattle.cs_model.specs.Words.{plain_format as plain_format_of};
 ghost use Rattle.cs_heap.specs.Object.{base, header_address, size, used};
 ghost use Rattle.cs_image.specs.Answer.{Tells};
@@ -117,6 +118,13 @@ fn loaded_word(file: &FileHeap, addresses: &[u32], o: &FileObject<'_>, i: usize)
     }
 }
 
+/// Whether an object of the file is read-only in memory: no context is.
+fn is_fixed(o: &FileObject<'_>) -> bool
+    ensures { result ≡ (o.now.fixed && not (o.now.class == context_class)) }
+{
+    o.fixed && o.class != CONTEXT
+}
+
 /// Adds an object of the file with its hash and its slots, read-only where its header says so and it is no context.
 fn load_object(heap: &mut Heap, file: &FileHeap, addresses: &[u32], o: &FileObject<'_>, birth: u64)
     requires addresses { addresses.now ≡ addresses_of file.now.objects 0 }
@@ -133,7 +141,7 @@ fn load_object(heap: &mut Heap, file: &FileHeap, addresses: &[u32], o: &FileObje
         unreachable!()
     };
     heap.set_hash(at, o.hash);
-    heap.set_fixed(at, o.fixed && o.class != CONTEXT);
+    heap.set_fixed(at, is_fixed(o));
     for i in 0..o.words.len() {
         heap.set_slot(at, i as u32, Oop(loaded_word(file, addresses, o, i)));
     }
