@@ -292,14 +292,14 @@ entry_names f i t h filled = elim (eqb_tells i 3) [
 ]
 
 -- which stands
-pub entry_stands : (f : File) (i : ℕ) → Table f → i < table_size → is_nil f (entry_in f i) ≡ false → Stands f (entry_in f i)
-entry_stands f i t h filled = let c = entry_names f i t h filled in stands_named f (entry_in f i) c.class c.named_is c.visible_is
+pub entry_stands : (births : List ℕ) (f : File) (i : ℕ) → Table f → i < table_size → is_nil f (entry_in f i) ≡ false → Stands births f (entry_in f i)
+entry_stands births f i t h filled = let c = entry_names f i t h filled in stands_named births f (entry_in f i) c.class c.named_is c.visible_is
 
 -- ---- the roots
 
-pub special_stands : (f : File) (special : ℕ) → is_bad_roots f special ≡ false → Stands f special
+pub special_stands : (births : List ℕ) (f : File) (special : ℕ) → is_bad_roots f special ≡ false → Stands births f special
 unfolding is_bad_roots
-special_stands f special h = go (named f special) refl
+special_stands births f special h = go (named f special) refl
   where
     held : option_map_or (is_process f) (active_process_in f special) false ≡ true
     held = not_false (option_map_or (is_process f) (active_process_in f special) false) h
@@ -308,18 +308,18 @@ special_stands f special h = go (named f special) refl
     from array = option_and_then (λ special. option_and_then (λ link. option_map (λ scheduler. slice_index scheduler 1)
         (fields_in f 2 (slice_index link 1))) (fields_in f 2 (slice_index special 3))) array
 
-    dead : special_in f special ≡ None → Stands f special
+    dead : special_in f special ≡ None → Stands births f special
     dead e = let none : option_map_or (is_process f) (from (special_in f special)) false ≡ false = ap (λ (o : Option (List ℕ)). option_map_or (is_process f) (from o) false) e in absurd (cc (sym held ∙ none))
 
     hidden : (x : FileObject) → is_visible x ≡ false → (b : Bool) → cond b (fields_of 51 x) None ≡ None
     hidden x v true = rw v refl
     hidden x v false = refl
 
-    by_visible : (x : FileObject) → named f special ≡ Some x → (b : Bool) → is_visible x ≡ b → Stands f special
-    by_visible x e true v = stands_named f special x e v
+    by_visible : (x : FileObject) → named f special ≡ Some x → (b : Bool) → is_visible x ≡ b → Stands births f special
+    by_visible x e true v = stands_named births f special x e v
     by_visible x e false v = dead (ap (option_and_then (λ o. cond (o.format == 2) (fields_of 51 o) None)) e ∙ hidden x v (x.format == 2))
 
-    go : (r : Option FileObject) → named f special ≡ r → Stands f special
+    go : (r : Option FileObject) → named f special ≡ r → Stands births f special
     go None e = dead (ap (option_and_then (λ o. cond (o.format == 2) (fields_of 51 o) None)) e)
     go (Some x) e = by_visible x e (is_visible x) refl
 

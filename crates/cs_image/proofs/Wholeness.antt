@@ -20,6 +20,7 @@ use Rattle.cs_classes.specs.declared.Roots.{Roots}
 use Rattle.cs_classes.proofs.Tables.{ties_same, ties_other}
 use Rattle.cs_image.specs.Loading.{address_named, classes_at, loaded, loaded_from, number_of, translated}
 use Rattle.cs_image.proofs.Below.{table_size_is}
+use Rattle.cs_image.proofs.Numbering.{AreBirths}
 use Rattle.cs_image.proofs.Describing.{IsBuilt, built_roots}
 use Rattle.cs_image.proofs.Naming.{Stands, stands_named, stands_there, slice_get-loaded_from, slot_counts-loaded_from, length-loaded_from}
 use Rattle.cs_image.proofs.Wording.{memory_of, is_reference_translated, count_same, count_translated, loaded_words, length-loaded_words, words_pointers, method_head, method_literals, natural_even}
@@ -28,17 +29,20 @@ use Rattle.cs_image.proofs.Soundness.{IsSoundFile, Table, table_parts, Firsts, f
 
 -- ---- objects by place
 
-pub record LoadedAt (f : File) (j : ℕ) (x : Object) : Type 0 where
+pub record LoadedAt (births : List ℕ) (f : File) (j : ℕ) (x : Object) : Type 0 where
   pub o : FileObject
   pub there : slice_get (visible f) j ≡ Some o
-  pub is : loaded f j o ≡ x
+  pub is : loaded f (slice_index births j) o ≡ x
 
-pub loaded_at : (f : File) (j : ℕ) (x : Object) → slice_get (memory_of f) j ≡ Some x → LoadedAt f j x
-loaded_at f j x e = go (slice_get (visible f) j) refl (sym (slice_get-loaded_from f 0 (visible f) j) ∙ e)
+pub loaded_at : (births : List ℕ) (f : File) (j : ℕ) (x : Object) → slice_get (memory_of births f) j ≡ Some x → LoadedAt births f j x
+loaded_at births f j x e = go (slice_get (visible f) j) refl (sym (slice_get-loaded_from births f 0 (visible f) j) ∙ e)
   where
-    go : (r : Option FileObject) → slice_get (visible f) j ≡ r → option_map (λ o. loaded f (0 + j) o) r ≡ Some x → LoadedAt f j x
+    go : (r : Option FileObject) → slice_get (visible f) j ≡ r → option_map (λ o. loaded f (slice_index births (0 + j)) o) r ≡ Some x → LoadedAt births f j x
     go None er h = absurd (cc)
-    go (Some o) er h = let same : loaded f (0 + j) o ≡ x = cc in let place : j ≡ 0 + j = omega arith in record { o = o; there = er; is = ap (λ n. loaded f n o) place ∙ same }
+    go (Some o) er h =
+        let same : loaded f (slice_index births (0 + j)) o ≡ x = cc in
+        let place : j ≡ 0 + j = omega arith in
+        record { o = o; there = er; is = ap (λ n. loaded f (slice_index births n) o) place ∙ same }
 
 -- ---- nil
 
@@ -59,11 +63,11 @@ visible_begins : (f : File) (s : Firsts f) → visible f ≡ s.nil ∷ filter is
 unfolding visible
 visible_begins f s = ap (filter is_visible) s.objects ∙ rw (nil_visible f s) refl
 
-pub nil_stands : (f : File) (s : Firsts f) → Stands f (nil_in f)
-nil_stands f s = stands_named f (nil_in f) s.nil (nil_named f s) (nil_visible f s)
+pub nil_stands : (births : List ℕ) (f : File) (s : Firsts f) → Stands births f (nil_in f)
+nil_stands births f s = stands_named births f (nil_in f) s.nil (nil_named f s) (nil_visible f s)
 
-pub nil_number : (f : File) (s : Firsts f) → (nil_stands f s).j ≡ 0
-nil_number f s = first (nil_stands f s).j (sym (nil_stands f s).number ∙ ap (number_of (λ o. address_in f o == nil_in f)) (visible_begins f s) ∙ rw p refl)
+pub nil_number : (births : List ℕ) (f : File) (s : Firsts f) → (nil_stands births f s).j ≡ 0
+nil_number births f s = first (nil_stands births f s).j (sym (nil_stands births f s).number ∙ ap (number_of (λ o. address_in f o == nil_in f)) (visible_begins f s) ∙ rw p refl)
   where
     here : nil_in f ≡ address_in f s.nil
     here = ap (λ (os : List FileObject). option_map_or (address_in f) (slice_get os 0) 0) s.objects
@@ -77,12 +81,12 @@ nil_number f s = first (nil_stands f s).j (sym (nil_stands f s).number ∙ ap (n
     first : (j : ℕ) → Some j ≡ Some 0 → j ≡ 0
     first j e = cc
 
-pub nil_of-memory : (f : File) (s : Firsts f) → nil_of (memory_of f) ≡ address_named f (nil_in f)
-nil_of-memory f s = ap (λ (r : Option ℕ). unwrap_or r 0) (ap (address_of (memory_of f)) (sym (nil_number f s)) ∙ (nil_stands f s).at)
+pub nil_of-memory : (births : List ℕ) (f : File) (s : Firsts f) → nil_of (memory_of births f) ≡ address_named f (nil_in f)
+nil_of-memory births f s = ap (λ (r : Option ℕ). unwrap_or r 0) (ap (address_of (memory_of births f)) (sym (nil_number births f s)) ∙ (nil_stands births f s).at)
 
-pub nil_of-base : (f : File) (s : Firsts f) → length s.nil.words ≡ 0 → nil_of (memory_of f) ≡ base
+pub nil_of-base : (births : List ℕ) (f : File) (s : Firsts f) → length s.nil.words ≡ 0 → nil_of (memory_of births f) ≡ base
 unfolding address_among
-nil_of-base f s none = ap (λ (ns : List ℕ). unwrap_or (address_among ns base 0) 0) (slot_counts-loaded_from f 0 (visible f) ∙ ap (map (λ o. length o.words)) (visible_begins f s))
+nil_of-base births f s none = ap (λ (ns : List ℕ). unwrap_or (address_among ns base 0) 0) (slot_counts-loaded_from births f 0 (visible f) ∙ ap (map (λ o. length o.words)) (visible_begins f s))
     ∙ ap (header_address base) none
 
 pub nil_aligned : (f : File) → f.base % 4 ≡ 0 → (s : Firsts f) → nil_in f % 4 ≡ 0
@@ -90,24 +94,24 @@ nil_aligned f aligned s =
     let here : nil_in f ≡ f.base + 4 * s.nil.place = ap (λ (os : List FileObject). option_map_or (address_in f) (slice_get os 0) 0) s.objects in
     omega (arith, here, aligned)
 
-pub translated_nil : (f : File) → f.base % 4 ≡ 0 → (s : Firsts f) → translated f (nil_in f) ≡ nil_of (memory_of f)
-translated_nil f aligned s =
+pub translated_nil : (births : List ℕ) (f : File) → f.base % 4 ≡ 0 → (s : Firsts f) → translated f (nil_in f) ≡ nil_of (memory_of births f)
+translated_nil births f aligned s =
     let z : (nil_in f % 4 == 0) ≡ true = zero_test _ (nil_aligned f aligned s) in
     let t : translated f (nil_in f) ≡ address_named f (nil_in f) = rw z refl in
-    t ∙ sym (nil_of-memory f s)
+    t ∙ sym (nil_of-memory births f s)
   where
     zero_test : (n : ℕ) → n ≡ 0 → (n == 0) ≡ true
     zero_test n e = grind (arith, nat_tests, e)
 
 -- ---- an object
 
-passes_map : (f : File) (ws : List ℕ) → NoneLost f ws → AllPass (is_reference (memory_of f)) (map (translated f) ws)
-passes_map f ws fine k d h =
+passes_map : (births : List ℕ) (f : File) (ws : List ℕ) → NoneLost f ws → AllPass (is_reference (memory_of births f)) (map (translated f) ws)
+passes_map births f ws fine k d h =
     let inside : k < length ws = omega (arith, h, length-map ws (translated f)) in
-    ap (is_reference (memory_of f)) (get_or-map (translated f) ws k 0 d inside) ∙ is_reference_translated f (get_or ws k 0) (fine k inside)
+    ap (is_reference (memory_of births f)) (get_or-map (translated f) ws k 0 d inside) ∙ is_reference_translated births f (get_or ws k 0) (fine k inside)
 
-passes_along : (f : File) (xs ys : List ℕ) → xs ≡ ys → AllPass (is_reference (memory_of f)) ys → AllPass (is_reference (memory_of f)) xs
-passes_along f xs ys e h = let P : List ℕ → Type 0 = AllPass (is_reference (memory_of f)) in subst P (sym e) h
+passes_along : (births : List ℕ) (f : File) (xs ys : List ℕ) → xs ≡ ys → AllPass (is_reference (memory_of births f)) ys → AllPass (is_reference (memory_of births f)) xs
+passes_along births f xs ys e h = let P : List ℕ → Type 0 = AllPass (is_reference (memory_of births f)) in subst P (sym e) h
 
 shape_plain : (format n : ℕ) → has_shape format n ≡ true → format_allows (plain_format format) n ≡ true
 shape_plain format n h = elim (eqb_tells format 4) [
@@ -136,12 +140,12 @@ same_test : (a b : ℕ) → a ≡ b → (a == b) ≡ true
 same_test a b e = grind (arith, nat_tests, e)
 
 -- a field that is nil or a number that isn't negative
-nil_or_count : (f : File) → f.base % 4 ≡ 0 → (s : Firsts f) → (w : ℕ) → (is_nil f w ≡ true) ⊎ (is_some (natural_in_word w) ≡ true)
-    → (translated f w == nil_of (memory_of f) || is_some (count_of (translated f w))) ≡ true
-nil_or_count f aligned s w (inl h) =
+nil_or_count : (births : List ℕ) (f : File) → f.base % 4 ≡ 0 → (s : Firsts f) → (w : ℕ) → (is_nil f w ≡ true) ⊎ (is_some (natural_in_word w) ≡ true)
+    → (translated f w == nil_of (memory_of births f) || is_some (count_of (translated f w))) ≡ true
+nil_or_count births f aligned s w (inl h) =
     let e : w ≡ nil_in f = equal w (nil_in f) h in
-    or_left _ _ (same_test _ _ (ap (translated f) e ∙ translated_nil f aligned s))
-nil_or_count f aligned s w (inr h) = or_right _ _ (ap is_some (count_translated f w) ∙ h)
+    or_left _ _ (same_test _ _ (ap (translated f) e ∙ translated_nil births f aligned s))
+nil_or_count births f aligned s w (inr h) = or_right _ _ (ap is_some (count_translated f w) ∙ h)
 
 pc_some : (f : File) (w m : ℕ) → names f (is_pc_of w) m ≡ true → is_some (natural_in_word w) ≡ true
 pc_some f w m h = go (named f m) h
@@ -212,8 +216,8 @@ context_facts f special j o g e h =
       depth = depth_within f special o g (or_cases _ _ parts.stackp);
     }
 
-context_sound : (f : File) (special j : ℕ) (o : FileObject) → Ground f special → ContextFacts f o → IsSoundContext (memory_of f) (loaded f j o)
-context_sound f special j o g c = record {
+context_sound : (births : List ℕ) (f : File) (special j : ℕ) (o : FileObject) → Ground f special → ContextFacts f o → IsSoundContext (memory_of births f) (loaded f (slice_index births j) o)
+context_sound births f special j o g c = record {
   format = ap plain_format c.three;
   slots = ap (λ n. n == 22 || n == 62) (length-loaded_words f o.format o.words) ∙ c.slots;
   pc = at 1 (omega (arith, c.long)) c.pc;
@@ -232,8 +236,8 @@ context_sound f special j o g c = record {
     read k h = ap (λ (ws : List ℕ). get_or ws k 0) words ∙ get_or-map (translated f) o.words k 0 0 h
 
     at : (k : ℕ) → k < length o.words → (is_nil f (get_or o.words k 0) ≡ true) ⊎ (is_some (natural_in_word (get_or o.words k 0)) ≡ true)
-        → (get_or (loaded_words f o.format o.words) k 0 == nil_of (memory_of f) || is_some (count_of (get_or (loaded_words f o.format o.words) k 0))) ≡ true
-    at k h d = ap (λ w. w == nil_of (memory_of f) || is_some (count_of w)) (read k h) ∙ nil_or_count f g.aligned g.first (get_or o.words k 0) d
+        → (get_or (loaded_words f o.format o.words) k 0 == nil_of (memory_of births f) || is_some (count_of (get_or (loaded_words f o.format o.words) k 0))) ≡ true
+    at k h d = ap (λ w. w == nil_of (memory_of births f) || is_some (count_of w)) (read k h) ∙ nil_or_count births f g.aligned g.first (get_or o.words k 0) d
 
 header_known : (r : Option ℕ) → option_map_or is_header r false ≡ true → r ≡ Some (unwrap_or r 0)
 header_known None h = absurd (cc)
@@ -257,10 +261,10 @@ method_from f j o p known fits =
       literals = subst S (sym (plain_others o.format p)) (subst R (sym l) (subst Q (sym header) fits));
     }
 
-method_sound : (f : File) (special j : ℕ) (o : FileObject) → Ground f special → slice_get (visible f) j ≡ Some o → is_pointer_format o.format ≡ false → is_method_format o.format ≡ true → IsSoundMethod (loaded f j o)
-method_sound f special j o g e p m =
+method_sound : (births : List ℕ) (f : File) (special j : ℕ) (o : FileObject) → Ground f special → slice_get (visible f) j ≡ Some o → is_pointer_format o.format ≡ false → is_method_format o.format ≡ true → IsSoundMethod (loaded f (slice_index births j) o)
+method_sound births f special j o g e p m =
     let body = and_true (option_map_or is_header (natural_in_word (slice_index o.words 0)) false) _ (method_body_at f special j o g.sound e m) in
-    method_from f j o p body.0 (less (literal_count (header_in_words o.words) + (cond (ltb 0 (unused_bytes o.format)) 1 0)) (length o.words) body.1)
+    method_from f (slice_index births j) o p body.0 (less (literal_count (header_in_words o.words) + (cond (ltb 0 (unused_bytes o.format)) 1 0)) (length o.words) body.1)
   where
     less : (a b : ℕ) → ltb a b ≡ true → a < b
     less a b h = grind (arith, nat_tests, h)
@@ -287,31 +291,31 @@ plain_method format = elim (eqb_tells format 4) [
 method_is_other : (format : ℕ) → is_method_format format ≡ true → is_pointer_format format ≡ false
 method_is_other format h = grind (arith, nat_tests, h)
 
-references_sound : (f : File) (j : ℕ) (o : FileObject) → IsFine f o → AllPass (is_reference (memory_of f)) (references_in (loaded f j o))
-references_sound f j o fine = go (is_pointer_format o.format) (is_method_format o.format) refl refl
+references_sound : (births : List ℕ) (f : File) (j : ℕ) (o : FileObject) → IsFine f o → AllPass (is_reference (memory_of births f)) (references_in (loaded f j o))
+references_sound births f j o fine = go (is_pointer_format o.format) (is_method_format o.format) refl refl
   where
-    go : (b c : Bool) → is_pointer_format o.format ≡ b → is_method_format o.format ≡ c → AllPass (is_reference (memory_of f)) (references_in (loaded f j o))
+    go : (b c : Bool) → is_pointer_format o.format ≡ b → is_method_format o.format ≡ c → AllPass (is_reference (memory_of births f)) (references_in (loaded f j o))
     go true c eb ec =
         let is : references_in (loaded f j o) ≡ map (translated f) o.words = rw (plain_pointer o.format, eb) (words_pointers f o.format o.words eb) in
-        passes_along f _ _ is (passes_map f o.words (fine.pointers eb))
+        passes_along births f _ _ is (passes_map births f o.words (fine.pointers eb))
     go false true eb ec =
         let m = (fine.method eb ec).0 in
         let some_words : 0 < length o.words = (let fits = m.fits in omega (arith, fits)) in
         let header = header_loaded f j o eb some_words in
         let is : references_in (loaded f j o) ≡ map (translated f) (literals_in_words o.words) =
         rw (plain_pointer o.format, eb, plain_method o.format, ec) (ap (λ h. take (literal_count h) (drop 1 (loaded_words f o.format o.words))) header ∙ method_literals f o.format o.words m) in
-        passes_along f _ _ is (passes_map f (literals_in_words o.words) (fine.method eb ec).1)
+        passes_along births f _ _ is (passes_map births f (literals_in_words o.words) (fine.method eb ec).1)
     go false false eb ec =
         let is : references_in (loaded f j o) ≡ [] = rw (plain_pointer o.format, eb, plain_method o.format, ec) refl in
-        passes_along f _ _ is (λ k d h. absurd (omega (arith, h)))
+        passes_along births f _ _ is (λ k d h. absurd (omega (arith, h)))
 
-object_sound : (f : File) (special j : ℕ) (o : FileObject) → Ground f special → slice_get (visible f) j ≡ Some o → IsSoundObject (memory_of f) (loaded f j o)
-object_sound f special j o g e = record {
+object_sound : (births : List ℕ) (f : File) (special j : ℕ) (o : FileObject) → Ground f special → slice_get (visible f) j ≡ Some o → IsSoundObject (memory_of births f) (loaded f (slice_index births j) o)
+object_sound births f special j o g e = record {
   shape = ap (format_allows (plain_format o.format)) (length-loaded_words f o.format o.words)
       ∙ shape_plain o.format (length o.words) (and_true (has_shape o.format (length o.words)) _ (formed_at f special j o g.sound e)).0;
-  references = references_sound f j o (fine_at f special j o g.sound e);
-  context = λ h. context_sound f special j o g (context_facts f special j o g e h);
-  method = λ h. let m : is_method_format o.format ≡ true = sym (plain_method o.format) ∙ h in method_sound f special j o g e (method_is_other o.format m) m;
+  references = references_sound births f (slice_index births j) o (fine_at f special j o g.sound e);
+  context = λ h. context_sound births f special j o g (context_facts f special j o g e h);
+  method = λ h. let m : is_method_format o.format ≡ true = sym (plain_method o.format) ∙ h in method_sound births f special j o g e (method_is_other o.format m) m;
 }
 
 -- ---- the class table
@@ -418,35 +422,37 @@ nil_empty f special g =
     let zero_shape : has_shape 0 (length s.nil.words) ≡ true = subst P form shape in
     equal (length s.nil.words) 0 zero_shape
 
-apart : (f : File) (j k : ℕ) (x y : Object) → slice_get (memory_of f) j ≡ Some x → slice_get (memory_of f) k ≡ Some y → x.birth ≡ y.birth → j ≡ k
-apart f j k x y ej ek same =
-    let a = loaded_at f j x ej in
-    let b = loaded_at f k y ek in
-    ap (λ (z : Object). z.birth) a.is ∙ same ∙ ap (λ (z : Object). z.birth) (sym b.is)
+apart : (births : List ℕ) (f : File) (next : ℕ) → AreBirths births (length (visible f)) next → (j k : ℕ) (x y : Object)
+    → slice_get (memory_of births f) j ≡ Some x → slice_get (memory_of births f) k ≡ Some y → x.birth ≡ y.birth → j ≡ k
+apart births f next known j k x y ej ek same =
+    let a = loaded_at births f j x ej in
+    let b = loaded_at births f k y ek in
+    known.apart j k (slice_get_within (visible f) j a.o a.there) (slice_get_within (visible f) k b.o b.there)
+    (ap (λ (z : Object). z.birth) a.is ∙ same ∙ ap (λ (z : Object). z.birth) (sym b.is))
 
-pub memory_whole : (f : File) (special : ℕ) (roots : Roots) → Ground f special → roots.special.0 ≡ address_named f special → roots.next_birth ≡ length (visible f)
-    → IsWhole (memory_of f) (classes_at f table_size) roots
-memory_whole f special roots g at next = record {
+pub memory_whole : (births : List ℕ) (f : File) (special : ℕ) (roots : Roots) → Ground f special → roots.special.0 ≡ address_named f special → AreBirths births (length (visible f)) roots.next_birth
+    → IsWhole (memory_of births f) (classes_at f table_size) roots
+memory_whole births f special roots g at known = record {
   heap = record {
-    apart = apart f;
-    each = λ k x e. let a = loaded_at f k x e in let P : Object → Type 0 = IsSoundObject (memory_of f) in subst P a.is (object_sound f special k a.o g a.there);
+    apart = apart births f roots.next_birth known;
+    each = λ k x e. let a = loaded_at births f k x e in let P : Object → Type 0 = IsSoundObject (memory_of births f) in subst P a.is (object_sound births f special k a.o g a.there);
   };
-  first = let l = length-loaded_from f 0 (visible f) in let three = visible_three f g.table in omega (arith, l, three);
-  nil = nil_of-base f g.first (nil_empty f special g);
+  first = let l = length-loaded_from births f 0 (visible f) in let three = visible_three f g.table in omega (arith, l, three);
+  nil = nil_of-base births f g.first (nil_empty f special g);
   births = λ k x e.
-      let a = loaded_at f k x e in
-      let birth : k ≡ x.birth = ap (λ (z : Object). z.birth) a.is in
-      let inside = slice_get_within (visible f) k a.o a.there in
-      omega (arith, birth, inside, next);
+      let a = loaded_at births f k x e in
+      let birth : slice_index births k ≡ x.birth = ap (λ (z : Object). z.birth) a.is in
+      let below = known.below k (slice_get_within (visible f) k a.o a.there) in
+      omega (arith, birth, below);
   indices = λ k x e.
-      let a = loaded_at f k x e in
+      let a = loaded_at births f k x e in
       let filled = class_filled f special k a.o g a.there in
       let got = get_filled f table_size a.o.class (entry_below f a.o.class filled) filled in
       ap (λ (z : Object). is_some (get (classes_at f table_size) z.class)) (sym a.is) ∙ ap is_some got;
   classes = λ index a e.
       let r = from_entry f table_size index a e in
-      ap (is_object (memory_of f)) r.address ∙ stands_there f (entry_in f index) (entry_stands f index g.table r.below r.filled);
-  special = ap (is_object (memory_of f)) at ∙ stands_there f special (special_stands f special g.sound.roots);
+      ap (is_object (memory_of births f)) r.address ∙ stands_there births f (entry_in f index) (entry_stands births f index g.table r.below r.filled);
+  special = ap (is_object (memory_of births f)) at ∙ stands_there births f special (special_stands births f special g.sound.roots);
 }
 
 pub ground_of : (bytes : List ℕ) → old_base bytes % 8 ≡ 0 → IsSoundFile (file_of bytes) (special_address bytes) → Ground (file_of bytes) (special_address bytes)
@@ -459,18 +465,11 @@ ground_of bytes base_is s = record {
 }
 
 -- what was built for a file without faults
-pub built_whole : (bytes : List ℕ) (file : File) (objects : List Object) (table : FinMap nat_cmp ℕ) (roots : Roots) → file ≡ file_of bytes → IsBuilt bytes file objects table roots
+pub built_whole : (births : List ℕ) (bytes : List ℕ) (file : File) (objects : List Object) (table : FinMap nat_cmp ℕ) (roots : Roots) → file ≡ file_of bytes → IsBuilt births bytes file objects table roots
     → old_base bytes % 8 ≡ 0 → IsSoundFile (file_of bytes) (special_address bytes) → IsWhole objects table roots
-built_whole bytes file objects table roots same b base_is s =
-    let r = built_roots bytes file objects table roots same b in
-    let whole = memory_whole (file_of bytes) (special_address bytes) roots (ground_of bytes base_is s) r.special r.next in
+built_whole births bytes file objects table roots same b base_is s =
+    let r = built_roots births bytes file objects table roots same b in
+    let whole = memory_whole births (file_of bytes) (special_address bytes) roots (ground_of bytes base_is s) r.special r.known in
     let P : List Object → Type 0 = λ os. IsWhole os (classes_at (file_of bytes) table_size) roots in
     let Q : FinMap nat_cmp ℕ → Type 0 = λ t. IsWhole objects t roots in
-    subst Q (sym (b.table_is ∙ ap (λ (f : File). classes_at f table_size) same)) (subst P (sym (b.objects_are ∙ ap (λ (f : File). loaded_from f 0 (visible f)) same)) whole)
-
--- births are places
-pub built_births : (bytes : List ℕ) (file : File) (objects : List Object) (table : FinMap nat_cmp ℕ) (roots : Roots) → IsBuilt bytes file objects table roots
-    → (k : ℕ) (x : Object) → slice_get objects k ≡ Some x → x.birth ≡ k
-built_births bytes file objects table roots b k x e =
-    let a = loaded_at file k x (ap (λ (os : List Object). slice_get os k) (sym b.objects_are) ∙ e) in
-    ap (λ (z : Object). z.birth) (sym a.is)
+    subst Q (sym (b.table_is ∙ ap (λ (f : File). classes_at f table_size) same)) (subst P (sym (b.objects_are ∙ ap (λ (f : File). loaded_from f births 0 (visible f)) same)) whole)

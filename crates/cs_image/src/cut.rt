@@ -13,7 +13,8 @@ ghost use Rattle.cs_image.specs.Answer.{Tells};
 use crate::error::ImageError;
 use crate::file::{FileHeap, Placed};
 use crate::shape::is_body;
-use cs_word::Header;
+use bitflags::Flags as _;
+use cs_word::{Flags, Header};
 use std::alloc::Global;
 
 /// The word at a place, and 0 past the end.
@@ -59,6 +60,7 @@ fn object_within(words: &[u32], first: u32, place: u32, slots: u64) -> Option<Pl
         class: header.class,
         format: header.format,
         hash: header.hash,
+        fixed: header.flags.contains(Flags::IS_IMMUTABLE),
         slots: slots as u32,
     })
 }

@@ -19,6 +19,8 @@ pub(crate) struct Placed {
     pub(crate) format: u8,
     /// Its identity hash.
     pub(crate) hash: u32,
+    /// Whether its header says that it is read-only.
+    pub(crate) fixed: bool,
     /// How many slots it has.
     pub(crate) slots: u32,
 }
@@ -35,6 +37,8 @@ pub(crate) struct FileObject<'a> {
     pub(crate) format: u8,
     /// Its identity hash.
     pub(crate) hash: u32,
+    /// Whether its header says that it is read-only.
+    pub(crate) fixed: bool,
     /// Its slots.
     pub(crate) words: &'a [u32],
 }
@@ -102,6 +106,7 @@ impl FileHeap {
             class: o.class,
             format: o.format,
             hash: o.hash,
+            fixed: o.fixed,
             words: slots_of(&self.words, &o),
         }
     }
