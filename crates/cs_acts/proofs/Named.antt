@@ -4,7 +4,7 @@ use Rattle.std.specs.Prelude.{slice_get, slice_index, nat_le, not, ◌==◌, ◌
 use Rattle.std.specs.Option.{option_map_or}
 use Rattle.std.specs.FinMap.{FinMap, get}
 use Rattle.std.specs.Ordering.{nat_cmp}
-use Rattle.std.proofs.lemmas.Bool.{eqb-true, false≢true}
+use Rattle.std.proofs.lemmas.Bool.{eqb-true, false≢true, or_right}
 use Rattle.std.proofs.lemmas.Bool.Decides.{nat_tests}
 use Rattle.std.proofs.lemmas.List.{length-map}
 use Rattle.std.proofs.lemmas.Option.{slice_get-get_or, slice_get-map, slice_get_past}
@@ -19,9 +19,9 @@ use Rattle.cs_heap.proofs.Laws.{object_placed}
 use Rattle.cs_classes.specs.declared.Roots.{Roots}
 use Rattle.cs_classes.proofs.Wholes.{get-classes_of}
 use Rattle.cs_classes.specs.Meaning.{classes_of, ref_of, ref_of_kind, obj_of, is_context}
-use Rattle.cs_classes.specs.Sound.{IsSound, IsSoundObject, is_reference, is_reference_kind}
+use Rattle.cs_classes.specs.Sound.{IsSound, IsSoundObject, is_closure_address, is_method_address, is_reference, is_reference_kind, is_sender, nil_of}
 use Rattle.cs_classes.proofs.Heaps.{object_there}
-use Rattle.cs_classes.proofs.Refs.{is_reference-object, ref_of-object, same_ref-ref_of}
+use Rattle.cs_classes.proofs.Refs.{both_true, is_nil_or_closure, is_nil_or_method, is_reference-object, is_sender-context, ref_of-object, same_ref-ref_of}
 use Rattle.cs_classes.proofs.Sorts.{AContext, AMethod, Bytes, Pointers, Sort, sort_of, obj_of-context, obj_of-pointers, obj_of-method, obj_of-bytes, not_pointers, references-pointers}
 use Rattle.cs_classes.proofs.Sounds.{sound_at, method_other}
 use Rattle.cs_model.specs.Ref.{Ref, same_ref}
@@ -30,7 +30,7 @@ use Rattle.cs_model.specs.Obj as obj
 use Rattle.cs_model.specs.Obj.{Obj, Context, Ptr, Raw, Method, Ctx, at_least, context_class, context_in, is_context_at, slots_in}
 use Rattle.cs_model.specs.State.{Kept, Rest, object_of, slots_of, special_at}
 use Rattle.cs_model.specs.Read.{class_index_of, class_of as class_in_table, index_of_class}
-use Rattle.cs_model.specs.Context.{is_context_ref}
+use Rattle.cs_model.specs.Context.{closure_class, has_class_index, is_context_ref}
 use Rattle.cs_acts.specs.Names.{Store, IsNamed, NamesOption, name_of}
 use Rattle.cs_acts.specs.Ready.{Holds}
 use Rattle.cs_acts.specs.Reading as reading
@@ -69,6 +69,7 @@ pub record HasSlots (os : List Object) (n w : ℕ) : Type 0 where
   pub object : Object
   pub at : object_at os w ≡ Some object
   pub words : pointer_words os n w ≡ Some object.words
+  pub other : is_context object ≡ false
   pub pointers : is_pointers object.format ≡ true
   pub enough : n ≤ length object.words
   pub count : slot_count_of os w ≡ length object.words
@@ -90,6 +91,7 @@ slots_there os n w has = go (place os w)
       object = x;
       at = at;
       words = ap (words_in n) named ∙ rw (p, q, r) refl;
+      other = p;
       pointers = q;
       enough = enough n (length x.words) r;
       count = field_at (λ y. length y.words) os w x at;
@@ -132,7 +134,7 @@ no_slots_there os n w has = go (place os w)
 pub slot_named : (os : List Object) (n w i : ℕ) → IsSound os → HasSlots os n w → i < slot_count_of os w → is_reference os (slot_of os w i) ≡ true
 slot_named os n w i sound h less =
     let s = sound_at os w h.object sound h.at in
-    let all = subst (λ ws. (j d : ℕ) → j < length ws → is_reference os (get_or ws j d) ≡ true) (references-pointers h.object h.pointers) s.references in
+    let all = subst (λ ws. (j d : ℕ) → j < length ws → is_reference os (get_or ws j d) ≡ true) (references-pointers h.object h.other h.pointers) s.references in
     subst (λ v. is_reference os v ≡ true) (sym (field_at (λ y. slice_index y.words i) os w h.object h.at)) (all i 0 (omega (arith, less, h.count)))
 
 -- ---- in the state
@@ -302,6 +304,39 @@ class_in_object refer x other = go (sort_of x)
 class_said : (refer : ℕ → Ref) (x : Object) (o : Option Obj) (b : Bool) → is_context x ≡ b → Says refer (Some x) o → x.class ≡ index_of_class o
 class_said refer x o true c h = eqb-true x.class context_class c ∙ sym (class_in_context o (h.1 c))
 class_said refer x o false c h = sym (ap index_of_class (h.0 c) ∙ class_in_object refer x c)
+
+-- what a word may stand for in a field of a context
+
+pub method_kind : (s : Store) (k : Kept) (o : Oop) → Holds s k → IsNamed s o → obj.is_method (object_of k (name_of s o)) ≡ true → is_nil_or_method s.memory.objects o.0 ≡ true
+method_kind s k o holds named h =
+    or_right (o.0 == nil_of s.memory.objects) (is_method_address s.memory.objects o.0) (method_read s k s.memory o refl holds named ∙ h)
+
+pub sender_kind : (s : Store) (k : Kept) (o : Oop) → Holds s k → IsNamed s o → is_context_ref k (name_of s o) ≡ true → is_sender s.memory.objects o.0 ≡ true
+sender_kind s k o holds named h =
+    let os = s.memory.objects in
+    let is = both_true (is_object os o.0) (class_of os o.0 == context_class) (context_read s k s.memory o refl holds named ∙ h) in
+    is_sender-context os o.0 is.0 (eqb-true (class_of os o.0) context_class is.1)
+
+pub closure_kind : (s : Store) (k : Kept) (o : Oop) → Holds s k → IsNamed s o → has_class_index closure_class (object_of k (name_of s o)) ≡ true → is_nil_or_closure s.memory.objects o.0 ≡ true
+closure_kind s k o holds named h =
+    or_right (o.0 == nil_of s.memory.objects) (is_closure_address s.memory.objects o.0) (go (place s.memory.objects o.0))
+  where
+    said : (p : Option Object) → object_named s.memory.objects o.0 ≡ p → Says (ref_of s.memory.objects) p (object_of k (name_of s o))
+    said p f = subst (λ q. Says (ref_of s.memory.objects) q (object_of k (name_of s o))) f (says s k o holds named)
+
+    index : (p : Option Obj) → has_class_index closure_class p ≡ true → index_of_class p ≡ closure_class
+    index None e = absurd (false≢true e)
+    index (Some (Ptr head slots)) e = eqb-true head.class closure_class e
+    index (Some (Raw head bytes)) e = eqb-true head.class closure_class e
+    index (Some (Method head header literals bytecodes)) e = eqb-true head.class closure_class e
+    index (Some (Ctx c)) e = absurd (false≢true e)
+
+    go : Place s.memory.objects o.0 → is_closure_address s.memory.objects o.0 ≡ true
+    go (There x f at is) =
+        let class : class_of s.memory.objects o.0 ≡ closure_class = field_at (λ y. y.class) s.memory.objects o.0 x at
+        ∙ class_said (ref_of s.memory.objects) x (object_of k (name_of s o)) (is_context x) refl (said (Some x) f) ∙ index (object_of k (name_of s o)) h in
+        ap₂ (λ b n. b && n == closure_class) is class
+    go (Nowhere f is) = absurd (false≢true (sym (ap (has_class_index closure_class) (said None f)) ∙ h))
 
 class_of_kind : (os : List Object) (k : Kept) (w : Kind) → is_reference_kind os w ≡ true → Says (ref_of os) (object_of_kind os w) (object_of k (ref_of_kind os w))
     → reading.class_index_of_kind os w ≡ class_index_of k (ref_of_kind os w)

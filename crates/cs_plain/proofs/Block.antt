@@ -143,7 +143,7 @@ module _ (w : PlainWorld) (v : Oop) (args : ℕ) (ready : IsReady (stored_of w) 
   at = found w v _ ready.sound named shape.is
 
   pointers : IsPointersOf (ref_of os) at.object shape.head shape.slots
-  pointers = pointers_of (ref_of os) at.object _ _ _ _ at.is
+  pointers = pointers_of (ref_of os) at.object _ _ at.is
 
   abbrev words : List ℕ
   words = at.object.words

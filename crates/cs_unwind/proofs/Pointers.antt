@@ -6,7 +6,7 @@ use Rattle.std.proofs.lemmas.Bool.Decides.{nat_tests}
 use Rattle.std.proofs.lemmas.List.{length-map}
 use Rattle.cs_word.specs.declared.Oop.{Oop}
 use Rattle.cs_heap.specs.Object.{Memory, Object, class_of, format_of, is_object, object_at, slot_count_of}
-use Rattle.cs_classes.specs.Meaning.{ref_of}
+use Rattle.cs_classes.specs.Meaning.{head_of, ref_of}
 use Rattle.cs_classes.proofs.Sorts.{AContext, AMethod, Bytes, Pointers, Sort, sort_of, obj_of-bytes, obj_of-method, obj_of-pointers}
 use Rattle.cs_model.specs.Ref.{Ref}
 use Rattle.cs_model.specs.Obj.{Obj, Ptr, Raw, Method, Ctx, at_least, is_context_at, slots_in, Head}
@@ -52,9 +52,7 @@ pointer s k m o e holds named has = subst (λ (n : Memory). IsPointer s k n o) (
     by : (x : Object) → object_at s.memory.objects o.0 ≡ Some x → is_object s.memory.objects o.0 ≡ true → Says (ref_of s.memory.objects) (Some x) (object_of k (name_of s o)) → Sort x → IsPointer s k s.memory o
     by x at is says (AContext c) = absurd (no_slots (object_of k (name_of s o)) (says.1 c) has)
     by x at is says (Pointers other pointers) = record {
-      class = x.class;
-      format = x.format;
-      hash = x.hash;
+      head = head_of x;
       slots = map (ref_of s.memory.objects) x.words;
       means = says.0 other ∙ ap Some (obj_of-pointers (ref_of s.memory.objects) x other pointers);
       there = is;
@@ -100,8 +98,8 @@ is_37 n e = ap (λ m. m == 37) e
 pub isnt_37 : (n : ℕ) → (n ≡ 37 → ⊥) → (n == 37) ≡ false
 isnt_37 n h = grind (arith, nat_tests, h)
 
-closure_of : (head : Head) (slots : List Ref) → nat_le 3 (length slots) ≡ true → nat_le 3 (length (closure_slots (Some (Ptr head slots)))) ≡ (class == 37 && format == 3)
-closure_of head slots e = go (class == 37 && format == 3)
+closure_of : (head : Head) (slots : List Ref) → nat_le 3 (length slots) ≡ true → nat_le 3 (length (closure_slots (Some (Ptr head slots)))) ≡ (head.class == 37 && head.format == 3)
+closure_of head slots e = go (head.class == 37 && head.format == 3)
   where
     go : (b : Bool) → nat_le 3 (length (if b then slots else [])) ≡ b
     go true = e
@@ -158,7 +156,7 @@ slot_named s k x i value e less names = let some = names.is ∙ slot_there k x i
 
 pub array_read : (s : Store) (k : Kept) (m : Memory) (o : Oop) → IsPointer s k m o → (format_of m.objects o.0 == 2) ≡ is_some (array_elements (object_of k (name_of s o)))
 array_read s k m o p =
-    ap (λ f. f == 2) p.format_is ∙ go (p.format == 2) ∙ ap (λ q. is_some (array_elements q)) (sym p.means)
+    ap (λ f. f == 2) p.format_is ∙ go (p.head.format == 2) ∙ ap (λ q. is_some (array_elements q)) (sym p.means)
   where
     go : (b : Bool) → b ≡ is_some (if b then Some p.slots else None)
     go true = refl
