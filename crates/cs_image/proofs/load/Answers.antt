@@ -98,8 +98,7 @@ returns-clause-fault c =
     let same : c.in_ok-file.file ≡ file_of c.args.bytes.now = c.in_ok-file.ensures.1 in
     let fine : objects_fault (file_of c.args.bytes.now) (special_address c.args.bytes.now) ≡ None =
     ap (λ (f : File). objects_fault f (special_address c.args.bytes.now)) (sym same)
-    ∙ ap (λ (special : ℕ). objects_fault c.in_ok-file.file special) (sym c.u32_at.ensures) ∙ c.in_ok-check_objects.ensures.0 in
-    (
+    ∙ ap (λ (special : ℕ). objects_fault c.in_ok-file.file special) (sym c.u32_at.ensures) ∙ c.in_ok-check_objects.ensures.0 in (
       no_fault c.args.bytes.now c.args.limit_words c.in_ok-check_header.ensures.0 c.in_ok-file.ensures.0
           (room c.in_ok-file.file (file_of c.args.bytes.now) c.args.limit_words same c.in_ok-addresses.ensures.0) fine
           (count_is c.args.bytes.now c.visible_count.result c.in_ok-file.file same c.visible_count.ensures ∙ c.in_ok-births.ensures.0),

@@ -45,9 +45,12 @@ pub returns-clause-objects : goal.returns-clause-objects
 returns-clause-objects c =
     all_loaded c.args.births.now c.args.file.now c.loop-number.heap.objects c.loop-number.count c.loop-number.number c.loop-number.invariant.objects (omega arith)
 
-
 pub bounds-births-count : goal.bounds-births-count
 bounds-births-count c =
     let visible_one : is_visible (seen c.object-o.result) ≡ true = grind (arith, nat_tests, c.if-o-ne16.true) in
-    omega (arith, c.requires.births, birth_left c.args.births.now c.args.file.now c.loop-number.heap.objects c.loop-number.count c.loop-number.number
-    (seen c.object-o.result) c.loop-number.invariant.objects c.object-o.ensures.value visible_one)
+    omega (
+      arith,
+      c.requires.births,
+      birth_left c.args.births.now c.args.file.now c.loop-number.heap.objects c.loop-number.count c.loop-number.number
+          (seen c.object-o.result) c.loop-number.invariant.objects c.object-o.ensures.value visible_one,
+    )
