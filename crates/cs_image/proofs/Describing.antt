@@ -83,6 +83,7 @@ pub record HasRoots (births : List ℕ) (bytes : List ℕ) (roots : Roots) : Typ
   pub births_are : births ≡ births_in bytes (length (visible (file_of bytes)))
   pub next : roots.next_birth ≡ next_birth_in bytes (length (visible (file_of bytes)))
   pub known : AreBirths births (length (visible (file_of bytes))) roots.next_birth
+  pub small : roots.last_hash < 4194304
   pub header : roots.header ≡ take 64 bytes
 
 pub kept_same : (births : List ℕ) (bytes : List ℕ) (roots : Roots) → HasRoots births bytes roots → IsSoundFile (file_of bytes) (special_address bytes)
@@ -144,6 +145,7 @@ built_roots births bytes file objects table roots same b = record {
   births_are = b.births_are ∙ ap (λ (f : File). births_in bytes (length (visible f))) same;
   next = b.next ∙ ap (λ (f : File). next_birth_in bytes (length (visible f))) same;
   known = let P : File → Type 0 = λ f. AreBirths births (length (visible f)) roots.next_birth in subst P same b.known;
+  small = let h = b.hash in omega (arith, h);
   header = b.header;
 }
 
