@@ -11,7 +11,7 @@ use Rattle.cs_model.specs.Image.{birth_in, object_in, classes_in, described, fau
 use Rattle.cs_model.specs.ImageFault.{ImageFault}
 use Rattle.cs_model.specs.State.{Kept}
 use Rattle.cs_heap.specs.Object.{Object, birth_of}
-use Rattle.cs_classes.specs.Meaning.{birth_at, classes_of, header_of, kept_of, obj_of, ref_of, objects_of}
+use Rattle.cs_classes.specs.Meaning.{classes_of, header_of, kept_of, obj_of, ref_of, objects_of}
 use Rattle.cs_classes.specs.declared.Roots.{Roots}
 use Rattle.cs_classes.proofs.Wholes.{classes_of-insert, get-classes_of}
 use Rattle.cs_image.specs.Loading.{address_named, classes_at, loaded_from}

@@ -1,5 +1,5 @@
 -- The classes that the machine makes objects of by their indices stand in the table of an image that loads.
-use Rattle.std.proofs.Common.{◌≡◌, ℕ, zero, suc, ◌<◌, ◌==◌, ◌&&◌, not, Bool, true, false, List, Some, is_some, refl, ap, sym, subst, ◌∙◌, arith, rules, inl, inr}
+use Rattle.std.proofs.Common.{◌≡◌, ℕ, zero, suc, ◌<◌, ◌==◌, ◌&&◌, not, Bool, true, false, List, is_some, refl, ap, sym, ◌∙◌, arith, rules, inl, inr}
 use Rattle.std.specs.FinMap.{FinMap, get, gets, insert}
 use Rattle.std.specs.Ordering.{nat_cmp}
 use Rattle.std.proofs.lemmas.Bool.Decides.{eqb_tells}

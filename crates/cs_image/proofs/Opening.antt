@@ -1,7 +1,7 @@
 -- An image that loads can be opened: where a process is active, the opened state is running.
-use Rattle.std.proofs.Common.{◌≡◌, ◌≢◌, ℕ, ◌+◌, ◌*◌, ◌%◌, ◌<◌, ◌≤◌, ◌==◌, ◌&&◌, ◌||◌, leb, Bool, true, false, cond, not, List, [], ◌∷◌, length, map, drop, filter, get_or, Option, Some, None, IsSome, refl, ap, sym, subst, ◌∙◌, arith, slice_get, slice_index, option_map, option_and_then, is_some, unwrap_or, nat_cmp, length-drop}
+use Rattle.std.proofs.Common.{◌≡◌, ◌≢◌, ℕ, ◌+◌, ◌*◌, ◌%◌, ◌<◌, ◌≤◌, ◌==◌, ◌&&◌, ◌||◌, leb, Bool, true, false, cond, not, List, [], ◌∷◌, length, map, drop, get_or, Option, Some, None, IsSome, refl, ap, sym, subst, ◌∙◌, arith, slice_get, slice_index, option_map, option_and_then, is_some, unwrap_or, nat_cmp, length-drop}
 use Rattle.std.specs.Option.{option_map_or}
-use Rattle.std.specs.List.{find, range_with_len, slice_set}
+use Rattle.std.specs.List.{slice_set}
 use Rattle.std.specs.Cmp.{nat_cmp_total}
 use Rattle.std.specs.FinMap.{FinMap, get, get-insert, insert}
 use Rattle.std.proofs.lemmas.Bool.Decides.{nat_tests}

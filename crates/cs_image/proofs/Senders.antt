@@ -1,5 +1,5 @@
 -- The senders of an image that loads: each context's is nil or a context.
-use Rattle.std.proofs.Common.{◌≡◌, ℕ, ◌<◌, ◌%◌, ◌==◌, ◌||◌, Bool, true, false, List, Some, None, refl, ap, sym, subst, ◌∙◌}
+use Rattle.std.proofs.Common.{◌≡◌, ℕ, ◌%◌, ◌==◌, ◌||◌, Bool, true, false, List, Some, None, refl, ap, sym, subst, ◌∙◌}
 use Rattle.std.specs.FinMap.{FinMap}
 use Rattle.std.specs.Ordering.{nat_cmp}
 use Rattle.cs_model.specs.Ref.{Ref}

@@ -1,9 +1,7 @@
 -- An image that loads gives a valid state once it is opened.
-use Rattle.std.proofs.Common.{◌≡◌, ℕ, ◌<◌, ◌%◌, ◌==◌, ◌||◌, not, ltb, Bool, true, false, List, [], ◌∷◌, length, Option, Some, None, is_some, refl, ap, sym, subst, ◌∙◌, arith, slice_get, slice_index, option_map}
+use Rattle.std.proofs.Common.{◌≡◌, ℕ, ◌<◌, ◌%◌, ◌==◌, not, Bool, true, false, List, [], ◌∷◌, length, Option, Some, None, is_some, refl, ap, sym, subst, ◌∙◌, arith, slice_get, slice_index, option_map}
 use Rattle.std.specs.FinMap.{FinMap, get}
 use Rattle.std.specs.Ordering.{nat_cmp}
-use Rattle.std.specs.List.{find}
-use Rattle.std.proofs.lemmas.Bool.Decides.{nat_tests}
 use Rattle.cs_model.specs.declared.event.Event.{Event}
 use Rattle.cs_model.specs.Ref.{Ref}
 use Rattle.cs_model.specs.Image.{head_in}
@@ -12,7 +10,7 @@ use Rattle.cs_model.specs.State.{Kept, IsValid, is_class_index, object_at}
 use Rattle.cs_model.specs.Settle.{opened}
 use Rattle.cs_model.specs.Words.{obj_by, is_pointer_format, is_method_format}
 use Rattle.cs_model.specs.ImageFile.{FileObject, File, file_of, is_visible, nil_in, old_base, special_address, visible}
-use Rattle.cs_model.specs.ImageFault.{bad_class, entry_in, has_entry, table_size}
+use Rattle.cs_model.specs.ImageFault.{entry_in, table_size}
 use Rattle.cs_model.proofs.Leading.{Plain}
 use Rattle.cs_heap.specs.Object.{Object}
 use Rattle.cs_heap.specs.Object as heap
@@ -24,7 +22,7 @@ use Rattle.cs_image.specs.Loading.{address_named, classes_at, loaded_from}
 use Rattle.cs_image.proofs.Naming.{birth_in-stands, birth_of-named, stands_named}
 use Rattle.cs_image.proofs.Numbering.{AreBirths}
 use Rattle.cs_image.proofs.Wording.{memory_of, meant}
-use Rattle.cs_image.proofs.Soundness.{IsSoundFile, and_true, context_at, entry_names, find_none_at, known_classes, map_none, seven, visible_from}
+use Rattle.cs_image.proofs.Soundness.{IsSoundFile, and_true, context_at, entry_names, known_classes, seven}
 use Rattle.cs_image.proofs.Describing.{IsBuilt, built_roots}
 use Rattle.cs_image.proofs.Wholeness.{index_at, Ground, from_entry, ground_of, memory_whole, nil_empty, nil_named, nil_number, nil_stands, nil_visible}
 use Rattle.cs_image.proofs.Opening.{HasFile, birth, equal, file_active, file_can_open, has_file, held}
