@@ -11,7 +11,7 @@ use Rattle.cs_model.specs.Image.{birth_in, object_in, classes_in, described, fau
 use Rattle.cs_model.specs.ImageFault.{ImageFault}
 use Rattle.cs_model.specs.State.{Kept}
 use Rattle.cs_heap.specs.Object.{Object, birth_of}
-use Rattle.cs_classes.specs.Meaning.{birth_at, classes_of, header_of, kept_of, obj_of, ref_of, objects_of}
+use Rattle.cs_classes.specs.Meaning.{classes_of, header_of, kept_of, obj_of, ref_of, objects_of}
 use Rattle.cs_classes.specs.declared.Roots.{Roots}
 use Rattle.cs_classes.proofs.Wholes.{classes_of-insert, get-classes_of}
 use Rattle.cs_image.specs.Loading.{address_named, classes_at, loaded_from}
@@ -83,6 +83,7 @@ pub record HasRoots (births : List ℕ) (bytes : List ℕ) (roots : Roots) : Typ
   pub births_are : births ≡ births_in bytes (length (visible (file_of bytes)))
   pub next : roots.next_birth ≡ next_birth_in bytes (length (visible (file_of bytes)))
   pub known : AreBirths births (length (visible (file_of bytes))) roots.next_birth
+  pub small : roots.last_hash < 4194304
   pub header : roots.header ≡ take 64 bytes
 
 pub kept_same : (births : List ℕ) (bytes : List ℕ) (roots : Roots) → HasRoots births bytes roots → IsSoundFile (file_of bytes) (special_address bytes)
@@ -144,6 +145,7 @@ built_roots births bytes file objects table roots same b = record {
   births_are = b.births_are ∙ ap (λ (f : File). births_in bytes (length (visible f))) same;
   next = b.next ∙ ap (λ (f : File). next_birth_in bytes (length (visible f))) same;
   known = let P : File → Type 0 = λ f. AreBirths births (length (visible f)) roots.next_birth in subst P same b.known;
+  small = let h = b.hash in omega (arith, h);
   header = b.header;
 }
 

@@ -1,7 +1,7 @@
 -- An image that loads can be opened: where a process is active, the opened state is running.
-use Rattle.std.proofs.Common.{◌≡◌, ◌≢◌, ℕ, ◌+◌, ◌*◌, ◌%◌, ◌<◌, ◌≤◌, ◌==◌, ◌&&◌, ◌||◌, leb, Bool, true, false, cond, not, List, [], ◌∷◌, length, map, drop, filter, get_or, Option, Some, None, IsSome, refl, ap, sym, subst, ◌∙◌, arith, slice_get, slice_index, option_map, option_and_then, is_some, unwrap_or, nat_cmp, length-drop}
+use Rattle.std.proofs.Common.{◌≡◌, ◌≢◌, ℕ, ◌+◌, ◌*◌, ◌%◌, ◌<◌, ◌≤◌, ◌==◌, ◌&&◌, ◌||◌, leb, Bool, true, false, cond, not, List, [], ◌∷◌, length, map, drop, get_or, Option, Some, None, IsSome, refl, ap, sym, subst, ◌∙◌, arith, slice_get, slice_index, option_map, option_and_then, is_some, unwrap_or, nat_cmp, length-drop}
 use Rattle.std.specs.Option.{option_map_or}
-use Rattle.std.specs.List.{find, range_with_len, slice_set}
+use Rattle.std.specs.List.{slice_set}
 use Rattle.std.specs.Cmp.{nat_cmp_total}
 use Rattle.std.specs.FinMap.{FinMap, get, get-insert, insert}
 use Rattle.std.proofs.lemmas.Bool.Decides.{nat_tests}
@@ -37,7 +37,7 @@ use Rattle.cs_image.proofs.Wording.{memory_of, meant, natural_even}
 use Rattle.cs_image.proofs.Elements.{object_same}
 use Rattle.cs_image.proofs.Soundness.{IsSoundFile, and_true, not_true, not_false, context_at, fine_at, seven, special_stands, visible_three}
 use Rattle.cs_image.proofs.Describing.{IsBuilt, built_roots}
-use Rattle.cs_image.proofs.Wholeness.{Ground, ground_of, memory_whole, nil_aligned, nil_number, nil_stands}
+use Rattle.cs_image.proofs.Wholeness.{and_then_some, map_some, passes_some, is_some_some, visible_named, named_aligned, context_seen, seen, Ground, ground_of, memory_whole, nil_aligned, nil_number, nil_stands}
 
 -- ---- the state alone
 
@@ -117,61 +117,17 @@ opens k r filled = subst IsRunning (sym is) (record {
     code = beside k r.p r.m (stored k r) (Ptr r.head r.slots) r.method r.process r.code
         (λ e. let wrong : false ≡ true = ap (λ (o : Obj). lies_in (Some o) r.pc) e ∙ r.lies in absurd (cc))
 
--- ---- options
-
-and_then_some : {X Y : Type 0} (g : X → Option Y) (r : Option X) (y : Y) → option_and_then g r ≡ Some y → (x : X) × (r ≡ Some x) × (g x ≡ Some y)
-and_then_some g None y e = absurd (cc)
-and_then_some g (Some x) y e = (x, refl, e)
-
-map_some : {X Y : Type 0} (g : X → Y) (r : Option X) (y : Y) → option_map g r ≡ Some y → (x : X) × (r ≡ Some x) × (g x ≡ y)
-map_some g None y e = absurd (cc)
-map_some g (Some x) y e = (x, refl, cc)
-
-pub passes_some : {X : Type 0} (g : X → Bool) (r : Option X) → option_map_or g r false ≡ true → (x : X) × (r ≡ Some x) × (g x ≡ true)
-passes_some g None e = absurd (cc)
-passes_some g (Some x) e = (x, refl, e)
-
-is_some_some : {X : Type 0} (r : Option X) → is_some r ≡ true → (x : X) × (r ≡ Some x)
-is_some_some None e = absurd (cc)
-is_some_some (Some x) e = (x, refl)
-
 -- ---- what a word names is in the state
 
 -- the birth of what a word names
 abbrev pub birth : List ℕ → File → ℕ → ℕ
 birth births f word = birth_in f births word
 
-find_visible : (p : FileObject → Bool) (os : List FileObject) (x : FileObject) → find p os ≡ Some x → is_visible x ≡ true → find p (filter is_visible os) ≡ Some x
-find_visible p [] x e v = absurd (cc)
-find_visible p (o ∷ os) x e v = go (p o) (is_visible o) refl refl e (find_visible p os x)
-  where
-    go : (b c : Bool) → p o ≡ b → is_visible o ≡ c → cond b (Some o) (find p os) ≡ Some x
-        → (find p os ≡ Some x → is_visible x ≡ true → find p (filter is_visible os) ≡ Some x)
-        → find p (cond c (o ∷ filter is_visible os) (filter is_visible os)) ≡ Some x
-    go true true pb vb e rest = rw pb e
-    go true false pb vb e rest = let same : o ≡ x = cc in absurd (cc (sym vb ∙ ap is_visible same ∙ v))
-    go false true pb vb e rest = rw pb (rest e v)
-    go false false pb vb e rest = rest e v
-
-find_passes : (p : FileObject → Bool) (os : List FileObject) (x : FileObject) → find p os ≡ Some x → p x ≡ true
-find_passes p [] x e = absurd (cc)
-find_passes p (o ∷ os) x e = go (p o) refl e (find_passes p os x)
-  where
-    go : (b : Bool) → p o ≡ b → cond b (Some o) (find p os) ≡ Some x → (find p os ≡ Some x → p x ≡ true) → p x ≡ true
-    go true pb e rest = let same : o ≡ x = cc in ap p (sym same) ∙ pb
-    go false pb e rest = rest e
-
 pub equal : (a b : ℕ) → (a == b) ≡ true → a ≡ b
 equal a b h = grind (arith, nat_tests, h)
 
 same_test : (a b : ℕ) → a ≡ b → (a == b) ≡ true
 same_test a b e = grind (arith, nat_tests, e)
-
-named_aligned : (f : File) (word : ℕ) (x : FileObject) → f.base % 4 ≡ 0 → named f word ≡ Some x → word % 4 ≡ 0
-unfolding named
-named_aligned f word x aligned e =
-    let at : address_in f x ≡ word = equal _ _ (find_passes (λ o. address_in f o == word) f.objects x e) in
-    omega (arith, at, aligned)
 
 ref_aligned : (births : List ℕ) (f : File) (word : ℕ) → word % 4 ≡ 0 → ref_by (meant births f) word ≡ meant births f word
 ref_aligned births f word z = let a = odd word z in let b = two word z in rw (a, b) refl
@@ -196,15 +152,11 @@ pub record Held (births : List ℕ) (f : File) (k : Kept) (word : ℕ) (x : File
   pub at : object_at k (birth births f word) ≡ Some (obj_by (meant births f) (head_in x) x.words)
   pub names : ref_by (meant births f) word ≡ meant births f word
 
-visible_named : (births : List ℕ) (f : File) (word : ℕ) (x : FileObject) → named f word ≡ Some x → is_visible x ≡ true → find (λ o. address_in f o == word) (visible f) ≡ Some x
-unfolding named visible
-visible_named births f word x e v = find_visible (λ o. address_in f o == word) f.objects x e v
-
 pub held : (births : List ℕ) (f : File) (special : ℕ) (k : Kept) → HasFile births f special k → (word : ℕ) (x : FileObject) → named f word ≡ Some x → is_visible x ≡ true → Held births f k word x
 held births f special k h word x e v =
     let s = stands_named births f word x e v in
     let there : slice_get (visible f) s.j ≡ Some x = sym (ap (option_and_then (slice_get (visible f))) s.number)
-    ∙ sym (find-number (λ o. address_in f o == word) (visible f)) ∙ visible_named births f word x e v in
+    ∙ sym (find-number (λ o. address_in f o == word) (visible f)) ∙ visible_named f word x e v in
     let here : heap.object_at (memory_of births f) (address_named f word) ≡ Some (loaded f (slice_index births (0 + s.j)) x) =
     object_at-address (memory_of births f) (address_named f word) s.j s.at ∙ slice_get-loaded_from births f 0 (visible f) s.j
     ∙ ap (option_map (λ o. loaded f (slice_index births (0 + s.j)) o)) there in
@@ -333,9 +285,6 @@ record LiveHeld (births : List ℕ) (f : File) (k : Kept) (word : ℕ) : Type 0 
   at : object_at k (birth births f word) ≡ Some (Ctx (context_by (meant births f) y.hash y.words))
   live : natural_in_word (slot y 1) ≡ Some pc
 
-pub context_seen : (y : FileObject) → (y.class == context_class) ≡ true → is_visible y ≡ true
-context_seen y h = let is : y.class ≡ context_class = equal y.class context_class h in ap (λ (n : ℕ). not (n == 16)) is
-
 live_held : (births : List ℕ) (f : File) (special : ℕ) (k : Kept) → HasFile births f special k → (word : ℕ) → names f is_live_context word ≡ true → LiveHeld births f k word
 unfolding obj_by
 live_held births f special k h word e =
@@ -358,15 +307,6 @@ pub record MethodHeld (births : List ℕ) (f : File) (k : Kept) (word pc : ℕ) 
   pub names : ref_by (meant births f) word ≡ meant births f word
   pub at : object_at k (birth births f word) ≡ Some method
   pub lies : lies_in (Some method) pc ≡ true
-
--- a word that isn't lost and names an object names a visible one
-seen : (f : File) (word : ℕ) (x : FileObject) → f.base % 4 ≡ 0 → is_lost f word ≡ false → named f word ≡ Some x → is_visible x ≡ true
-seen f word x aligned kept e = go (word % 4 == 0) (names f is_visible word) (same_test _ _ (named_aligned f word x aligned e)) kept (ap (λ (r : Option FileObject). option_map_or is_visible r false) e)
-  where
-    go : (b c : Bool) → b ≡ true → (b && not c) ≡ false → c ≡ is_visible x → is_visible x ≡ true
-    go true true h g e = sym e
-    go true false h g e = absurd (cc)
-    go false c h g e = absurd (cc)
 
 -- a method is no context, since a context's format is 3
 no_context : (f : File) (special j : ℕ) (m : FileObject) → IsSoundFile f special → slice_get (visible f) j ≡ Some m → is_method_format m.format ≡ true → (m.class == context_class) ≡ false
@@ -496,13 +436,13 @@ file_can_open births f special k h busy =
     no_nil w true e n = absurd (cc (sym (nil_held births f special k h w e) ∙ n))
 
 -- the state of a heap into which a file was loaded
-pub has_file : (births : List ℕ) (f : File) (special : ℕ) (table : FinMap nat_cmp ℕ) (roots : Roots) → Ground f special → roots.special.0 ≡ address_named f special → AreBirths births (length (visible f)) roots.next_birth
+pub has_file : (births : List ℕ) (f : File) (special : ℕ) (table : FinMap nat_cmp ℕ) (roots : Roots) → Ground f special → roots.special.0 ≡ address_named f special → AreBirths births (length (visible f)) roots.next_birth → roots.last_hash < 4194304
     → HasFile births f special (kept_of (memory_of births f) table roots None)
-has_file births f special table roots g at next =
+has_file births f special table roots g at next small =
     let three = visible_three f g.table in
     record {
       ground_of = g;
-      sound = (memory_whole births f special roots g at next).heap;
+      sound = (memory_whole births f special roots g at next small).heap;
       objects = refl;
       special = ap (heap.birth_of (memory_of births f)) at ∙ birth_of-named births f special (special_stands births f special g.sound.roots);
       nil = birth_is_place births f (visible f) 0 (omega (arith, three));
@@ -522,4 +462,4 @@ built_opens births bytes file objects table roots same b base_is s =
     let r = built_roots births bytes file objects table roots same b in
     let P : List Object → Type 0 = λ os. is_idle (kept_of os table roots None) ≡ false → IsRunning (open_kept (kept_of os table roots None)) in
     subst P (sym (b.objects_are ∙ ap (λ (f : File). loaded_from f births 0 (visible f)) same))
-    (file_opens births f special (kept_of (memory_of births f) table roots None) (has_file births f special table roots (ground_of bytes base_is s) r.special r.known))
+    (file_opens births f special (kept_of (memory_of births f) table roots None) (has_file births f special table roots (ground_of bytes base_is s) r.special r.known r.small))

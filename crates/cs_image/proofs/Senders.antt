@@ -19,7 +19,8 @@ use Rattle.cs_image.proofs.Wording.{memory_of, meant}
 use Rattle.cs_image.proofs.Soundness.{IsSoundFile, context_at, seven}
 use Rattle.cs_image.proofs.Describing.{IsBuilt, built_roots}
 use Rattle.cs_image.proofs.Wholeness.{ground_of}
-use Rattle.cs_image.proofs.Opening.{HasFile, context_seen, has_file, held, nil_held, passes_some, slot}
+use Rattle.cs_image.proofs.Opening.{HasFile, has_file, held, nil_held, slot}
+use Rattle.cs_image.proofs.Wholeness.{context_seen, passes_some}
 use Rattle.cs_image.proofs.Pcs.{context_of_words, from_file}
 
 -- a word that names a context of the file names one of the state
@@ -67,4 +68,4 @@ built_senders births bytes file objects table roots same b base_is s =
     let r = built_roots births bytes file objects table roots same b in
     let P : List Object → Type 0 = λ os. SendersStand (kept_of os table roots None) in
     subst P (sym (b.objects_are ∙ ap (λ (f : File). loaded_from f births 0 (visible f)) same))
-    (file_senders births f special (kept_of (memory_of births f) table roots None) (has_file births f special table roots (ground_of bytes base_is s) r.special r.known))
+    (file_senders births f special (kept_of (memory_of births f) table roots None) (has_file births f special table roots (ground_of bytes base_is s) r.special r.known r.small))

@@ -1,9 +1,7 @@
 -- An image that loads gives a valid state once it is opened.
-use Rattle.std.proofs.Common.{◌≡◌, ℕ, ◌%◌, ◌==◌, ◌||◌, not, ltb, Bool, true, false, List, [], ◌∷◌, length, Option, Some, None, is_some, refl, ap, sym, subst, ◌∙◌, arith, slice_get, slice_index, option_map}
+use Rattle.std.proofs.Common.{◌≡◌, ℕ, ◌<◌, ◌%◌, ◌==◌, not, Bool, true, false, List, [], ◌∷◌, length, Option, Some, None, is_some, refl, ap, sym, subst, ◌∙◌, arith, slice_get, slice_index, option_map}
 use Rattle.std.specs.FinMap.{FinMap, get}
 use Rattle.std.specs.Ordering.{nat_cmp}
-use Rattle.std.specs.List.{find}
-use Rattle.std.proofs.lemmas.Bool.Decides.{nat_tests}
 use Rattle.cs_model.specs.declared.event.Event.{Event}
 use Rattle.cs_model.specs.Ref.{Ref}
 use Rattle.cs_model.specs.Image.{head_in}
@@ -12,7 +10,7 @@ use Rattle.cs_model.specs.State.{Kept, IsValid, is_class_index, object_at}
 use Rattle.cs_model.specs.Settle.{opened}
 use Rattle.cs_model.specs.Words.{obj_by, is_pointer_format, is_method_format}
 use Rattle.cs_model.specs.ImageFile.{FileObject, File, file_of, is_visible, nil_in, old_base, special_address, visible}
-use Rattle.cs_model.specs.ImageFault.{bad_class, entry_in, has_entry, table_size}
+use Rattle.cs_model.specs.ImageFault.{entry_in, table_size}
 use Rattle.cs_model.proofs.Leading.{Plain}
 use Rattle.cs_heap.specs.Object.{Object}
 use Rattle.cs_heap.specs.Object as heap
@@ -24,9 +22,9 @@ use Rattle.cs_image.specs.Loading.{address_named, classes_at, loaded_from}
 use Rattle.cs_image.proofs.Naming.{birth_in-stands, birth_of-named, stands_named}
 use Rattle.cs_image.proofs.Numbering.{AreBirths}
 use Rattle.cs_image.proofs.Wording.{memory_of, meant}
-use Rattle.cs_image.proofs.Soundness.{IsSoundFile, and_true, context_at, entry_names, find_none_at, known_classes, map_none, seven, visible_from}
+use Rattle.cs_image.proofs.Soundness.{IsSoundFile, and_true, context_at, entry_names, known_classes, seven}
 use Rattle.cs_image.proofs.Describing.{IsBuilt, built_roots}
-use Rattle.cs_image.proofs.Wholeness.{Ground, from_entry, ground_of, memory_whole, nil_empty, nil_named, nil_number, nil_stands, nil_visible}
+use Rattle.cs_image.proofs.Wholeness.{index_at, Ground, from_entry, ground_of, memory_whole, nil_empty, nil_named, nil_number, nil_stands, nil_visible}
 use Rattle.cs_image.proofs.Opening.{HasFile, birth, equal, file_active, file_can_open, has_file, held}
 use Rattle.cs_image.proofs.Pcs.{file_pcs, from_file}
 use Rattle.cs_image.proofs.Starting.{Sleeps, opened_valid}
@@ -42,21 +40,6 @@ class_of_words named head words = go (head.class == context_class) (is_pointer_f
     go false true m ea ep em = rw (ea, ep) refl
     go false false true ea ep em = rw (ea, ep, em) refl
     go false false false ea ep em = rw (ea, ep, em) refl
-
-index_at : (f : File) (special j : ℕ) (o : FileObject) → IsSoundFile f special → slice_get (visible f) j ≡ Some o → is_class_index o.class ≡ true
-unfolding bad_class
-index_at f special j o s e =
-    let p = find_none_at (λ o. ltb o.class 4 || not (has_entry f o.class)) (visible f) j o (map_none (λ o. o.place) (find (λ o. ltb o.class 4 || not (has_entry f o.class)) (visible f)) s.classes) e in
-    let high = first (ltb o.class 4) _ p in
-    let seen : is_visible o ≡ true = (visible_from f j o e).passes in
-    rw (above o.class high) seen
-  where
-    first : (a b : Bool) → (a || b) ≡ false → a ≡ false
-    first true b h = absurd (cc)
-    first false b h = refl
-
-    above : (n : ℕ) → ltb n 4 ≡ false → ltb 3 n ≡ true
-    above n h = grind (arith, nat_tests, h)
 
 file_indices : (births : List ℕ) (f : File) (special : ℕ) (k : Kept) → HasFile births f special k → (i : ℕ) (o : Obj) → object_at k i ≡ Some o → is_class_index (class_index_in o) ≡ true
 file_indices births f special k h i o there =
@@ -160,12 +143,12 @@ sleeps births f special roots g w h =
       none = refl;
     }
 
-file_valid : (births : List ℕ) (f : File) (special : ℕ) (roots : Roots) → Ground f special → roots.special.0 ≡ address_named f special → AreBirths births (length (visible f)) roots.next_birth
+file_valid : (births : List ℕ) (f : File) (special : ℕ) (roots : Roots) → Ground f special → roots.special.0 ≡ address_named f special → AreBirths births (length (visible f)) roots.next_birth → roots.last_hash < 4194304
     → (events : List Event) (snapping : Bool) → IsValid (opened (kept_of (memory_of births f) (classes_at f table_size) roots None) events snapping)
-file_valid births f special roots g at next events snapping =
+file_valid births f special roots g at next small events snapping =
     let k : Kept = kept_of (memory_of births f) (classes_at f table_size) roots None in
-    let h = has_file births f special (classes_at f table_size) roots g at next in
-    opened_valid k events snapping (sleeps births f special roots g (memory_whole births f special roots g at next) h) (file_can_open births f special k h)
+    let h = has_file births f special (classes_at f table_size) roots g at next small in
+    opened_valid k events snapping (sleeps births f special roots g (memory_whole births f special roots g at next small) h) (file_can_open births f special k h)
 
 -- what was built for a file without faults
 pub built_valid : (births : List ℕ) (bytes : List ℕ) (file : File) (objects : List Object) (table : FinMap nat_cmp ℕ) (roots : Roots) → file ≡ file_of bytes → IsBuilt births bytes file objects table roots
@@ -174,7 +157,7 @@ pub built_valid : (births : List ℕ) (bytes : List ℕ) (file : File) (objects 
 built_valid births bytes file objects table roots same b base_is s =
     let f : File = file_of bytes in
     let r = built_roots births bytes file objects table roots same b in
-    let valid = file_valid births f (special_address bytes) roots (ground_of bytes base_is s) r.special r.known in
+    let valid = file_valid births f (special_address bytes) roots (ground_of bytes base_is s) r.special r.known r.small in
     let P : List Object → Type 0 = λ os. (events : List Event) (snapping : Bool) → IsValid (opened (kept_of os (classes_at f table_size) roots None) events snapping) in
     let Q : FinMap nat_cmp ℕ → Type 0 = λ t. (events : List Event) (snapping : Bool) → IsValid (opened (kept_of objects t roots None) events snapping) in
     subst Q (sym (b.table_is ∙ ap (λ (f : File). classes_at f table_size) same)) (subst P (sym (b.objects_are ∙ ap (λ (f : File). loaded_from f births 0 (visible f)) same)) valid)

@@ -1,4 +1,4 @@
-use Rattle.std.proofs.Common.{◌≡◌, ℕ, ◌+◌, ◌-◌, ◌*◌, ◌/◌, ◌≤◌, length, take, drop, length-drop, refl, ap, ◌∙◌, arith, rules}
+use Rattle.std.proofs.Common.{◌≡◌, ◌+◌, ◌-◌, ◌*◌, ◌/◌, ◌≤◌, length, take, drop, length-drop, refl, ap, ◌∙◌, arith, rules}
 use Rattle.std.proofs.lemmas.List.{length-take-le}
 use Rattle.cs_model.specs.ImageFile.{words_in, heap_size}
 use Rattle.cs_image.proofs.Bytes.{words_read, whole_written}

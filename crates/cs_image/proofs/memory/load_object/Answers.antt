@@ -1,4 +1,4 @@
-use Rattle.std.proofs.Common.{◌≡◌, ℕ, ◌<◌, ◌==◌, ◌&&◌, not, Bool, List, [], ◌∷◌, ◌++◌, length, ap, sym, subst, ◌∙◌, arith}
+use Rattle.std.proofs.Common.{◌≡◌, ℕ, ◌<◌, ◌==◌, ◌&&◌, not, List, [], ◌∷◌, ◌++◌, length, ap, sym, subst, ◌∙◌, arith}
 use Rattle.cs_model.specs.Obj.{context_class}
 use Rattle.cs_heap.specs.Object.{Memory, Object, is_object, new_object, slot_count_of, with_fixed, with_hash, with_slot}
 use Rattle.cs_image.specs.Heap.{seen}
