@@ -192,7 +192,7 @@ fn bury(heap: &mut Heap, context: Oop)
 
 impl PlainWorld {
     ghost use Rattle.std.specs.Prelude.{ℕ, IfErr, IfOk, IfSome, IsSomeAnd, None, OnOk, true};
-    ghost use Rattle.std.specs.FinMap.{get};
+    ghost use Rattle.cs_classes.specs.Senders.{SendersStand};
     ghost use Rattle.cs_classes.specs.Sound.{IsWhole};
     ghost use Rattle.cs_model.specs.Due.{is_idle};
     ghost use Rattle.cs_model.specs.Obj.{Context, Ctx};
@@ -212,11 +212,11 @@ impl PlainWorld {
 
     /// Opens a loaded image: the active process gives its context to the machine. With no active process none is active.
     ///
-    /// Where a process is active, the context that it gives must be live. Closures have a class. The pc of each context must be nil or lie in its
-    /// method.
+    /// Where a process is active, the context that it gives must be live. The sender of each context must be nil or a context, and
+    /// its pc nil or in its method.
     pub fn new(_alloc: Global, loaded: Loaded) -> Result<PlainWorld, AllocError>
         requires whole { IsWhole loaded.heap.objects loaded.classes loaded.roots }
-        requires closures { is_some (get loaded.classes 37) ≡ true }
+        requires senders { SendersStand (loaded_kept loaded) }
         requires running { is_idle (loaded_kept loaded) ≡ false → IsRunning (open_kept (loaded_kept loaded)) }
         requires pcs { (i : ℕ) (c : Context) → object_at (loaded_kept loaded) i ≡ Some (Ctx c) → PcLies (loaded_kept loaded) c }
         ensures view { IfOk result (λ w. view_of w ≡ open_kept (loaded_kept loaded)) }
