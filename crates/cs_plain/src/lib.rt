@@ -9,8 +9,7 @@ ghost use Rattle.cs_word.specs.Word.{small_word};
 ghost use Rattle.cs_heap.specs.Object.{is_watched, slot_count_of};
 ghost use Rattle.cs_heap.specs.Writes.{slots_stored};
 ghost use Rattle.cs_classes.specs.Meaning.{count_of};
-ghost use Rattle.cs_model.specs.Obj.{context_size, literal_count, temporary_count};
-ghost use Rattle.cs_model.specs.Ref.{natural_of};
+ghost use Rattle.cs_model.specs.Obj.{context_size, literal_count};
 ghost use Rattle.cs_acts.specs.Reading.{is_context_at};
 ghost use Rattle.cs_acts.specs.Ready.{IsReady};
 ghost use Rattle.cs_plain.specs.Storing.{buried, copied, with_fields};
@@ -19,7 +18,7 @@ use cs_acts::read::{active_process, nil, same, slot};
 use cs_acts::{Act, Full, Loaded, Roots, World};
 use cs_classes::Classes;
 use cs_heap::{BASE, Heap};
-use cs_word::{Kind, Oop};
+use cs_word::{MethodHeader, Oop};
 use std::alloc::{AllocError, Global};
 
 /// A world of heap contexts.
@@ -66,22 +65,18 @@ const PROCESS_SLOTS: u32 = 4;
 
 const SUSPENDED_CONTEXT: u32 = 1;
 
-/// The number itself, and 0 for a negative one.
-fn natural(value: i32) -> u32
-    ensures { result ≡ unwrap_or (natural_of value) 0 }
-{
-    if value < 0 { 0 } else { value as u32 }
-}
-
 /// The number that a word is, and 0 where it is no SmallInteger or a negative one.
-#[tactic(auto, unfolding(cs_classes::specs::Meaning::count_of))]
 fn count(word: Oop) -> u32
     ensures { result ≡ unwrap_or (count_of word.0) 0 }
 {
-    match word.kind() {
-        Kind::Small(value) => natural(value),
-        _ => 0,
-    }
+    word.natural().unwrap_or(0)
+}
+
+/// The header that a method's first word is.
+fn header_of(word: Oop) -> MethodHeader
+    ensures { result.0 ≡ unwrap_or (count_of word.0) 0 }
+{
+    MethodHeader(count(word))
 }
 
 /// The word of a count below 2^30.
@@ -93,14 +88,10 @@ fn count_word(count: u32) -> Oop
 }
 
 /// Whether a word is a SmallInteger that isn't negative.
-#[tactic(auto, unfolding(cs_classes::specs::Meaning::count_of))]
 fn is_count(word: Oop) -> bool
     ensures { result ≡ is_some (count_of word.0) }
 {
-    match word.kind() {
-        Kind::Small(value) => value >= 0,
-        _ => false,
-    }
+    word.natural().is_some()
 }
 
 /// Whether a word is the address of a context.
@@ -111,29 +102,18 @@ fn is_context(heap: &Heap, o: Oop) -> bool
 }
 
 /// How many slots a context has for a method of this header: 56 values fit on a large stack, and 16 on another.
-fn context_slots(header: u32) -> u32
-    ensures { result ≡ 6 + context_size header }
+fn context_slots(header: MethodHeader) -> u32
+    ensures { result ≡ 6 + context_size header.0 }
 {
-    if header / (1 << 17) % 2 == 1 {
-        STACK + 56
-    } else {
-        STACK + 16
-    }
-}
-
-/// How many temporaries a method of this header has, its arguments among them.
-fn temporaries(header: u32) -> u32
-    ensures { result ≡ temporary_count header }
-{
-    header / (1 << 18) % (1 << 6)
+    STACK + header.context_size()
 }
 
 /// The pc at which a method of this header is entered: its first one, or with `skip` that behind the three bytes that name a
 /// primitive.
-fn entry_pc(header: u32, skip: bool) -> u32
-    ensures { result ≡ 4 * (literal_count header + 1) + 1 + (if skip then 3 else 0) }
+fn entry_pc(header: MethodHeader, skip: bool) -> u32
+    ensures { result ≡ 4 * (literal_count header.0 + 1) + 1 + (if skip then 3 else 0) }
 {
-    let first = 4 * (header % (1 << 15) + 1) + 1;
+    let first = 4 * (header.literals() + 1) + 1;
     if skip { first + 3 } else { first }
 }
 
@@ -294,19 +274,19 @@ impl PlainWorld {
     /// the new stack; above them come so many copied values of the closure.
     fn new_context(
         &mut self,
-        header: u32,
+        header: MethodHeader,
         fields: Fields,
         args: u32,
         copied: u32,
     ) -> Result<(), Full>
         requires ready { IsReady (stored_of self.old) (view_of self.old) }
         requires sender { self.old.active ≡ Some fields.sender }
-        requires fits { CanCall (stored_of self.old) (view_of self.old) header args copied fields }
-        ensures view { OnOk result (view_of self.new ≡ called_of (view_of self.old) args (called_context (stored_of self.old) (view_of self.old) header args copied fields)) }
+        requires fits { CanCall (stored_of self.old) (view_of self.old) header.0 args copied fields }
+        ensures view { OnOk result (view_of self.new ≡ called_of (view_of self.old) args (called_context (stored_of self.old) (view_of self.old) header.0 args copied fields)) }
         ensures ready { OnOk result (IsReady (stored_of self.new) (view_of self.new)) }
         ensures names { OnOk result (KeepsNames (stored_of self.old) (stored_of self.new)) }
         ensures limit { self.new.heap.limit ≡ self.old.heap.limit }
-        ensures full { IfErr result (CausesFull (stored_of self.new) None (view_of self.old) 0 (called_of (view_of self.old) args (called_context (stored_of self.old) (view_of self.old) header args copied fields))) }
+        ensures full { IfErr result (CausesFull (stored_of self.new) None (view_of self.old) 0 (called_of (view_of self.old) args (called_context (stored_of self.old) (view_of self.old) header.0 args copied fields))) }
     {
         let sender = fields.sender;
         let closure = fields.closure;
@@ -547,11 +527,11 @@ impl World for PlainWorld {
     }
 
     fn enter(&mut self, method: Oop, args: u32, skip: bool) -> Result<(), Full> {
-        let header = count(self.heap.slot(method, 0));
+        let header = header_of(self.heap.slot(method, 0));
         let fields = Fields {
             sender: self.active_context(),
             pc: count_word(entry_pc(header, skip)),
-            stackp: count_word(temporaries(header)),
+            stackp: count_word(header.temporaries()),
             method,
             closure: Oop(BASE),
             receiver: self.stack_at(self.depth() - (args + 1)),
@@ -562,7 +542,7 @@ impl World for PlainWorld {
     fn enter_block(&mut self, closure: Oop, args: u32) -> Result<(), Full> {
         let outer = self.heap.slot(closure, OUTER_CONTEXT);
         let method = self.heap.slot(outer, METHOD);
-        let header = count(self.heap.slot(method, 0));
+        let header = header_of(self.heap.slot(method, 0));
         let copied = self.heap.slot_count(closure) - FIRST_COPIED;
         let fields = Fields {
             sender: self.active_context(),
