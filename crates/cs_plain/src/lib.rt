@@ -1,7 +1,7 @@
 //! A world in which each activation is a context in the heap.
 //!
-//! It is the plainest representation of the machine: what it keeps is what the model says, and no frame, page or marriage
-//! stands between.
+//! It is the plainest representation of the machine: what it keeps is what the model says, and no frame, page or
+//! marriage stands between.
 #![tactic(auto)]
 
 ghost use Rattle.std.specs.Prelude.{◌≡◌, ◌<◌, ◌≤◌, ◌+◌, ◌*◌, ◌^◌, false, if◌then◌else◌, is_some, pos, Some, unwrap_or};
@@ -30,7 +30,8 @@ pub struct PlainWorld {
     active: Option<Oop>,
 }
 
-/// The slots of a context, in the order of the Blue Book: sender, pc, stackp, method, closure, receiver, and then its stack.
+/// The slots of a context, in the order of the Blue Book: sender, pc, stackp, method, closure, receiver, and then its
+/// stack.
 const SENDER: u32 = 0;
 
 const PC: u32 = 1;
@@ -108,8 +109,8 @@ fn context_slots(header: MethodHeader) -> u32
     STACK + header.context_size()
 }
 
-/// The pc at which a method of this header is entered: its first one, or with `skip` that behind the three bytes that name a
-/// primitive.
+/// The pc at which a method of this header is entered: its first one, or with `skip` that behind the three bytes that
+/// name a primitive.
 fn entry_pc(header: MethodHeader, skip: bool) -> u32
     ensures { result ≡ 4 * (literal_count header.0 + 1) + 1 + (if skip then 3 else 0) }
 {
@@ -190,15 +191,17 @@ impl PlainWorld {
     ghost use Rattle.cs_plain.specs.Cutting.{AtHome, CanLand, landed_of};
     ghost use Rattle.cs_plain.specs.View.{birth_at, loaded_kept, stored_of, taken_of, view_of};
 
-    /// Opens a loaded image: the active process gives its context to the machine. With no active process none is active.
+    /// Opens a loaded image: the active process gives its context to the machine. With no active process no context is
+    /// active.
     ///
-    /// Where a process is active, the context that it gives must be live. The sender of each context must be nil or a context, and
-    /// its pc nil or in its method.
+    /// Where a process is active, the context that it gives must be live. The sender of each context must be nil or a
+    /// context, and its pc nil or in its method.
     pub fn new(_alloc: Global, loaded: Loaded) -> Result<PlainWorld, AllocError>
         requires whole { IsWhole loaded.heap.objects loaded.classes loaded.roots }
         requires senders { SendersStand (loaded_kept loaded) }
         requires running { is_idle (loaded_kept loaded) ≡ false → IsRunning (open_kept (loaded_kept loaded)) }
-        requires pcs { (i : ℕ) (c : Context) → object_at (loaded_kept loaded) i ≡ Some (Ctx c) → PcLies (loaded_kept loaded) c }
+        requires pcs { (i : ℕ) (c : Context) → object_at (loaded_kept loaded) i ≡ Some (Ctx c) →
+            PcLies (loaded_kept loaded) c }
         ensures view { IfOk result (λ w. view_of w ≡ open_kept (loaded_kept loaded)) }
         ensures sound { IfOk result (λ w. IsSound (stored_of w) (view_of w)) }
         ensures limit { IfOk result (λ w. (stored_of w).memory.limit ≡ loaded.heap.limit) }
@@ -270,8 +273,8 @@ impl PlainWorld {
         context
     }
 
-    /// Makes a context of these fields active. So many arguments leave the stack of the active one, with what is below them, for
-    /// the new stack; above them come so many copied values of the closure.
+    /// Makes a context of these fields active. So many arguments leave the stack of the active one, with what is below
+    /// them, for the new stack; above them come so many copied values of the closure.
     fn new_context(
         &mut self,
         header: MethodHeader,
@@ -282,11 +285,14 @@ impl PlainWorld {
         requires ready { IsReady (stored_of self.old) (view_of self.old) }
         requires sender { self.old.active ≡ Some fields.sender }
         requires fits { CanCall (stored_of self.old) (view_of self.old) header.0 args copied fields }
-        ensures view { OnOk result (view_of self.new ≡ called_of (view_of self.old) args (called_context (stored_of self.old) (view_of self.old) header.0 args copied fields)) }
+        ensures view { OnOk result (view_of self.new ≡ called_of (view_of self.old) args
+            (called_context (stored_of self.old) (view_of self.old) header.0 args copied fields)) }
         ensures ready { OnOk result (IsReady (stored_of self.new) (view_of self.new)) }
         ensures names { OnOk result (KeepsNames (stored_of self.old) (stored_of self.new)) }
         ensures limit { self.new.heap.limit ≡ self.old.heap.limit }
-        ensures full { IfErr result (CausesFull (stored_of self.new) None (view_of self.old) 0 (called_of (view_of self.old) args (called_context (stored_of self.old) (view_of self.old) header.0 args copied fields))) }
+        ensures full { IfErr result (CausesFull (stored_of self.new) None (view_of self.old) 0
+            (called_of (view_of self.old) args
+            (called_context (stored_of self.old) (view_of self.old) header.0 args copied fields))) }
     {
         let sender = fields.sender;
         let closure = fields.closure;
@@ -306,11 +312,13 @@ impl PlainWorld {
         Ok(())
     }
 
-    /// Makes the active context dead, and its senders, until the home is met: the context of this birth. Answers the home.
+    /// Makes the active context dead, and its senders, until the home is met: the context of this birth. Answers the
+    /// home.
     fn bury_to(&mut self, home: u64) -> Oop
         requires ready { IsReady (stored_of self.old) (view_of self.old) }
         requires target { IsSomeAnd (sender_birth (view_of self.old) home) (CanCut (view_of self.old) home) }
-        ensures { IfSome (sender_birth (view_of self.old) home) (λ target. AtHome self.old self.new home target result) }
+        ensures { IfSome (sender_birth (view_of self.old) home)
+            (λ target. AtHome self.old self.new home target result) }
     {
         let mut context = self.active_context();
         for _ in 0..LINKS {
@@ -328,8 +336,11 @@ impl PlainWorld {
     fn land(&mut self, dying: Oop, v: Oop)
         requires sound { IsSound (stored_of self.old) (view_of self.old) }
         requires named { IsNamed (stored_of self.old) v }
-        requires target { IsSomeAnd (birth_at self.old.heap.objects dying) (λ home. IsSomeAnd (sender_birth (view_of self.old) home) (CanLand (view_of self.old) home)) }
-        ensures view { IfSome (birth_at self.old.heap.objects dying) (λ home. IfSome (sender_birth (view_of self.old) home) (λ target. view_of self.new ≡ landed_of (view_of self.old) home target (name_of (stored_of self.old) v))) }
+        requires target { IsSomeAnd (birth_at self.old.heap.objects dying)
+            (λ home. IsSomeAnd (sender_birth (view_of self.old) home) (CanLand (view_of self.old) home)) }
+        ensures view { IfSome (birth_at self.old.heap.objects dying)
+            (λ home. IfSome (sender_birth (view_of self.old) home)
+            (λ target. view_of self.new ≡ landed_of (view_of self.old) home target (name_of (stored_of self.old) v))) }
         ensures ready { IsReady (stored_of self.new) (view_of self.new) }
         ensures names { KeepsNames (stored_of self.old) (stored_of self.new) }
         ensures limit { self.new.heap.limit ≡ self.old.heap.limit }
