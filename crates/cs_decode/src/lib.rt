@@ -10,5 +10,3 @@ pub use assembler::{assemble, name};
 pub use decoder::{BadCode, decode};
 pub use forms::is_instr;
 
-#[cfg(test)]
-mod tests;

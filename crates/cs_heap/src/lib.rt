@@ -289,5 +289,3 @@ impl Heap {
     }
 }
 
-#[cfg(test)]
-mod tests;

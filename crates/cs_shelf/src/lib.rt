@@ -15,8 +15,6 @@ mod last_fault;
 mod mem_shelf;
 mod mem_sink;
 mod out_sink;
-#[cfg(test)]
-mod tests;
 mod whole;
 
 pub use file_shelf::FileShelf;

@@ -80,5 +80,3 @@ impl Oop {
     }
 }
 
-#[cfg(test)]
-mod tests;

@@ -1,6 +1,6 @@
 //! Each public call once on its way to success, and the failures that the calls list.
 
-use crate::{
+use cs_shelf::{
     FileShelf, MemShelf, MemSink, OutSink, ReadError, Shelf, Sink, read_whole, write_whole,
 };
 use std::alloc::AllocError;

@@ -1,7 +1,7 @@
 //! Loading a small image, whole and damaged.
 
-use crate::{ImageError, load};
 use byteorder::{ByteOrder, LittleEndian};
+use cs_image::{ImageError, load};
 use std::alloc::{AllocError, Global};
 
 /// The size of the small image: its header and a heap of 4,560 bytes.
