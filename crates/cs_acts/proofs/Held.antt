@@ -50,9 +50,9 @@ says s k o h named = says_kind s k h (kind_of o.0) named
 
 context_slots : (n : ℕ) (o : Option Obj) → is_context_at o ≡ true → at_least n (slots_in o) ≡ None
 context_slots n None h = absurd (cc)
-context_slots n (Some (Ptr class format hash slots)) h = absurd (cc)
-context_slots n (Some (Raw class format hash bytes)) h = absurd (cc)
-context_slots n (Some (Method class format hash header literals bytecodes)) h = absurd (cc)
+context_slots n (Some (Ptr head slots)) h = absurd (cc)
+context_slots n (Some (Raw head bytes)) h = absurd (cc)
+context_slots n (Some (Method head header literals bytecodes)) h = absurd (cc)
 context_slots n (Some (Ctx c)) h = refl
 
 at_least-map : (refer : ℕ → Ref) (n : ℕ) (words : List ℕ) → at_least n (Some (map refer words)) ≡ option_map (map refer) (if nat_le n (length words) then Some words else None)

@@ -10,3 +10,5 @@ pub mod Headers
 pub mod Dropping
 pub mod Leading
 pub mod Filling
+pub mod ContextKinds
+pub mod Dirty

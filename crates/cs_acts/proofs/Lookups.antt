@@ -71,16 +71,16 @@ module _ {k m : Kept} (alike : Alike k m) where
 
 no_slots : (o : Option Obj) → is_context_at o ≡ true → slots_in o ≡ None
 no_slots None h = absurd (cc)
-no_slots (Some (Ptr class format hash slots)) h = absurd (cc)
-no_slots (Some (Raw class format hash bytes)) h = absurd (cc)
-no_slots (Some (Method class format hash header literals bytecodes)) h = absurd (cc)
+no_slots (Some (Ptr head slots)) h = absurd (cc)
+no_slots (Some (Raw head bytes)) h = absurd (cc)
+no_slots (Some (Method head header literals bytecodes)) h = absurd (cc)
 no_slots (Some (Ctx c)) h = refl
 
 no_method : (o : Option Obj) → is_context_at o ≡ true → is_method o ≡ false
 no_method None h = absurd (cc)
-no_method (Some (Ptr class format hash slots)) h = absurd (cc)
-no_method (Some (Raw class format hash bytes)) h = absurd (cc)
-no_method (Some (Method class format hash header literals bytecodes)) h = absurd (cc)
+no_method (Some (Ptr head slots)) h = absurd (cc)
+no_method (Some (Raw head bytes)) h = absurd (cc)
+no_method (Some (Method head header literals bytecodes)) h = absurd (cc)
 no_method (Some (Ctx c)) h = refl
 
 -- an object of the heap is that of the state, or both are contexts

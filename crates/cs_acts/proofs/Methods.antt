@@ -10,7 +10,7 @@ use Rattle.cs_word.specs.declared.Kind.TheVariants as kind
 use Rattle.cs_word.specs.Word.{small_value}
 use Rattle.cs_heap.specs.Format.{is_method}
 use Rattle.cs_heap.specs.Object.{Memory, Object, byte_in, byte_of, field_of, format_of, is_object, object_at, slot_count_of, slot_of}
-use Rattle.cs_classes.specs.Meaning.{bytes_of, ref_of, obj_of, is_context, header_in, literals_in, used_bytes, code_in, count_of, unused_bytes}
+use Rattle.cs_classes.specs.Meaning.{bytes_of, ref_of, obj_of, is_context, header_in, literals_in, used_bytes, code_in, count_of, unused_bytes, head_of}
 use Rattle.cs_classes.specs.Sound.{IsSoundMethod, IsSoundObject, is_reference}
 use Rattle.cs_classes.proofs.Heaps.{is_object-object_at}
 use Rattle.cs_classes.proofs.Sorts.{AContext, AMethod, Bytes, Pointers, Sort, sort_of, obj_of-pointers, obj_of-method, obj_of-bytes, references-method}
@@ -41,14 +41,14 @@ pub record IsMethodAt (os : List Object) (o : Option Obj) (w : ℕ) : Type 0 whe
   pub there : object_at os w ≡ Some object
   pub sound : IsSoundObject os object
   pub format : is_method object.format ≡ true
-  pub means : o ≡ Some (Method object.class object.format object.hash (header_in object.words) (map (ref_of os) (literals_in object.words)) (used_bytes object.format (code_in object.words)))
+  pub means : o ≡ Some (Method (head_of object) (header_in object.words) (map (ref_of os) (literals_in object.words)) (used_bytes object.format (code_in object.words)))
 
 -- only a method has a place where a pc lies
 no_context : (o : Option Obj) (pc : ℕ) → is_context_at o ≡ true → lies_in o pc ≡ true → ⊥
 no_context None pc h i = absurd (cc)
-no_context (Some (Ptr class format hash slots)) pc h i = absurd (cc)
-no_context (Some (Raw class format hash bytes)) pc h i = absurd (cc)
-no_context (Some (Method class format hash header literals bytecodes)) pc h i = absurd (cc)
+no_context (Some (Ptr head slots)) pc h i = absurd (cc)
+no_context (Some (Raw head bytes)) pc h i = absurd (cc)
+no_context (Some (Method head header literals bytecodes)) pc h i = absurd (cc)
 no_context (Some (Ctx c)) pc h i = absurd (cc)
 
 found_method : (os : List Object) (o : Option Obj) (w pc : ℕ) (x : Object) → object_at os w ≡ Some x → IsSoundObject os x → Says (ref_of os) (Some x) o → lies_in o pc ≡ true → IsMethodAt os o w

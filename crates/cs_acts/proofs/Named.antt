@@ -4,7 +4,7 @@ use Rattle.std.specs.Prelude.{slice_get, slice_index, nat_le, not, ◌==◌, ◌
 use Rattle.std.specs.Option.{option_map_or}
 use Rattle.std.specs.FinMap.{FinMap, get}
 use Rattle.std.specs.Ordering.{nat_cmp}
-use Rattle.std.proofs.lemmas.Bool.{eqb-true, false≢true}
+use Rattle.std.proofs.lemmas.Bool.{eqb-true, false≢true, or_right}
 use Rattle.std.proofs.lemmas.Bool.Decides.{nat_tests}
 use Rattle.std.proofs.lemmas.List.{length-map}
 use Rattle.std.proofs.lemmas.Option.{slice_get-get_or, slice_get-map, slice_get_past}
@@ -12,25 +12,26 @@ use Rattle.cs_word.specs.declared.Oop.{Oop}
 use Rattle.cs_word.specs.declared.Kind.{Kind}
 use Rattle.cs_word.specs.declared.Kind.TheVariants as kind
 use Rattle.cs_word.specs.Word.{kind_of, small_value}
+use Rattle.cs_word.specs.Header.{bit, flag_bits}
 use Rattle.cs_word.proofs.Words.{kind_of-object}
 use Rattle.cs_heap.specs.Format.{is_pointers, is_method}
-use Rattle.cs_heap.specs.Object.{Memory, Object, birth_of, class_of, field_of, format_of, index_of, is_object, object_at, slot_count_of, slot_of}
+use Rattle.cs_heap.specs.Object.{Memory, Object, birth_of, class_of, field_of, flags_of, format_of, index_of, is_fixed, is_object, object_at, slot_count_of, slot_of}
 use Rattle.cs_heap.proofs.Laws.{object_placed}
 use Rattle.cs_classes.specs.declared.Roots.{Roots}
 use Rattle.cs_classes.proofs.Wholes.{get-classes_of}
 use Rattle.cs_classes.specs.Meaning.{classes_of, ref_of, ref_of_kind, obj_of, is_context}
-use Rattle.cs_classes.specs.Sound.{IsSound, IsSoundObject, is_reference, is_reference_kind}
+use Rattle.cs_classes.specs.Sound.{IsSound, IsSoundObject, is_closure_address, is_method_address, is_reference, is_reference_kind, is_sender, nil_of}
 use Rattle.cs_classes.proofs.Heaps.{object_there}
-use Rattle.cs_classes.proofs.Refs.{is_reference-object, ref_of-object, same_ref-ref_of}
+use Rattle.cs_classes.proofs.Refs.{both_true, is_nil_or_closure, is_nil_or_method, is_reference-object, is_sender-context, ref_of-object, same_ref-ref_of}
 use Rattle.cs_classes.proofs.Sorts.{AContext, AMethod, Bytes, Pointers, Sort, sort_of, obj_of-context, obj_of-pointers, obj_of-method, obj_of-bytes, not_pointers, references-pointers}
 use Rattle.cs_classes.proofs.Sounds.{sound_at, method_other}
 use Rattle.cs_model.specs.Ref.{Ref, same_ref}
 use Rattle.cs_model.specs.Ref as ref
 use Rattle.cs_model.specs.Obj as obj
-use Rattle.cs_model.specs.Obj.{Obj, Context, Ptr, Raw, Method, Ctx, at_least, context_class, context_in, is_context_at, slots_in}
-use Rattle.cs_model.specs.State.{Kept, Rest, object_of, slots_of, special_at}
+use Rattle.cs_model.specs.Obj.{Obj, Context, Ptr, Raw, Method, Ctx, at_least, context_class, context_in, is_context_at, is_fixed_at, slots_in}
+use Rattle.cs_model.specs.State.{Kept, Rest, is_read_only, object_of, slots_of, special_at}
 use Rattle.cs_model.specs.Read.{class_index_of, class_of as class_in_table, index_of_class}
-use Rattle.cs_model.specs.Context.{is_context_ref}
+use Rattle.cs_model.specs.Context.{closure_class, has_class_index, is_context_ref}
 use Rattle.cs_acts.specs.Names.{Store, IsNamed, NamesOption, name_of}
 use Rattle.cs_acts.specs.Ready.{Holds}
 use Rattle.cs_acts.specs.Reading as reading
@@ -69,6 +70,7 @@ pub record HasSlots (os : List Object) (n w : ℕ) : Type 0 where
   pub object : Object
   pub at : object_at os w ≡ Some object
   pub words : pointer_words os n w ≡ Some object.words
+  pub other : is_context object ≡ false
   pub pointers : is_pointers object.format ≡ true
   pub enough : n ≤ length object.words
   pub count : slot_count_of os w ≡ length object.words
@@ -90,6 +92,7 @@ slots_there os n w has = go (place os w)
       object = x;
       at = at;
       words = ap (words_in n) named ∙ rw (p, q, r) refl;
+      other = p;
       pointers = q;
       enough = enough n (length x.words) r;
       count = field_at (λ y. length y.words) os w x at;
@@ -132,7 +135,7 @@ no_slots_there os n w has = go (place os w)
 pub slot_named : (os : List Object) (n w i : ℕ) → IsSound os → HasSlots os n w → i < slot_count_of os w → is_reference os (slot_of os w i) ≡ true
 slot_named os n w i sound h less =
     let s = sound_at os w h.object sound h.at in
-    let all = subst (λ ws. (j d : ℕ) → j < length ws → is_reference os (get_or ws j d) ≡ true) (references-pointers h.object h.pointers) s.references in
+    let all = subst (λ ws. (j d : ℕ) → j < length ws → is_reference os (get_or ws j d) ≡ true) (references-pointers h.object h.other h.pointers) s.references in
     subst (λ v. is_reference os v ≡ true) (sym (field_at (λ y. slice_index y.words i) os w h.object h.at)) (all i 0 (omega (arith, less, h.count)))
 
 -- ---- in the state
@@ -198,9 +201,9 @@ same_words s k a b holds p q fits fits_too = sym (same_ref-ref_of s.memory.objec
 
 context_alone : (o : Option Obj) → is_context_at o ≡ true → is_some (context_in o) ≡ true
 context_alone None h = absurd (cc)
-context_alone (Some (Ptr class format hash slots)) h = absurd (cc)
-context_alone (Some (Raw class format hash bytes)) h = absurd (cc)
-context_alone (Some (Method class format hash header literals bytecodes)) h = absurd (cc)
+context_alone (Some (Ptr head slots)) h = absurd (cc)
+context_alone (Some (Raw head bytes)) h = absurd (cc)
+context_alone (Some (Method head header literals bytecodes)) h = absurd (cc)
 context_alone (Some (Ctx c)) h = refl
 
 -- what is no context in the heap is none in the state
@@ -244,9 +247,9 @@ method_sort os x b sound f = go (sort_of x) b f
 
 context_no_method : (o : Option Obj) → is_context_at o ≡ true → obj.is_method o ≡ false
 context_no_method None h = refl
-context_no_method (Some (Ptr class format hash slots)) h = refl
-context_no_method (Some (Raw class format hash bytes)) h = refl
-context_no_method (Some (Method class format hash header literals bytecodes)) h = absurd (cc)
+context_no_method (Some (Ptr head slots)) h = refl
+context_no_method (Some (Raw head bytes)) h = refl
+context_no_method (Some (Method head header literals bytecodes)) h = absurd (cc)
 context_no_method (Some (Ctx c)) h = refl
 
 pub method_read : (s : Store) (k : Kept) (m : Memory) (o : Oop) → m ≡ s.memory → Holds s k → IsNamed s o → reading.is_method_at m.objects o.0 ≡ obj.is_method (object_of k (name_of s o))
@@ -269,6 +272,43 @@ method_read s k m o e holds named = subst (λ (m : Memory). reading.is_method_at
         ∙ is_it x (is_context x) (sound_at s.memory.objects o.0 x holds.whole.heap at) refl (said (Some x) f)
     go (Nowhere f is) = ap (λ b. b && is_method (format_of s.memory.objects o.0)) is ∙ sym (ap obj.is_method (said None f))
 
+-- what is read-only in the heap is so in the state, where no context is
+context_not_fixed : (o : Option Obj) → is_context_at o ≡ true → is_fixed_at o ≡ false
+context_not_fixed None h = absurd (cc)
+context_not_fixed (Some (Ptr head slots)) h = absurd (cc)
+context_not_fixed (Some (Raw head bytes)) h = absurd (cc)
+context_not_fixed (Some (Method head header literals bytecodes)) h = absurd (cc)
+context_not_fixed (Some (Ctx c)) h = refl
+
+fixed_object : (refer : ℕ → Ref) (x : Object) → is_context x ≡ false → (flag_bits x.flags % 2 == 1) ≡ is_fixed_at (Some (obj_of refer x))
+fixed_object refer x other = ap (λ n. n == 1) (lowest (flag_bits x.flags)) ∙ sym (go (sort_of x))
+  where
+    lowest : (n : ℕ) → n % 2 ≡ bit n 0
+    lowest n = omega arith
+
+    go : Sort x → is_fixed_at (Some (obj_of refer x)) ≡ (bit (flag_bits x.flags) 0 == 1)
+    go (AContext c) = absurd (false≢true (sym other ∙ c))
+    go (Pointers o p) = ap (λ y. is_fixed_at (Some y)) (obj_of-pointers refer x o p)
+    go (AMethod o b m) = ap (λ y. is_fixed_at (Some y)) (obj_of-method refer x o b m)
+    go (Bytes o b m) = ap (λ y. is_fixed_at (Some y)) (obj_of-bytes refer x o b m)
+
+pub read_only_read : (s : Store) (k : Kept) (m : Memory) (o : Oop) → m ≡ s.memory → Holds s k → IsNamed s o → reading.is_read_only_at m.objects o.0 ≡ is_read_only k (name_of s o)
+read_only_read s k m o e holds named = subst (λ (m : Memory). reading.is_read_only_at m.objects o.0 ≡ is_read_only k (name_of s o)) (sym e) (go (place s.memory.objects o.0))
+  where
+    said : (p : Option Object) → object_named s.memory.objects o.0 ≡ p → Says (ref_of s.memory.objects) p (object_of k (name_of s o))
+    said p f = subst (λ q. Says (ref_of s.memory.objects) q (object_of k (name_of s o))) f (says s k o holds named)
+
+    is_it : (x : Object) (b : Bool) → is_context x ≡ b → Says (ref_of s.memory.objects) (Some x) (object_of k (name_of s o)) → (not b && flag_bits x.flags % 2 == 1) ≡ is_read_only k (name_of s o)
+    is_it x true f h = sym (context_not_fixed (object_of k (name_of s o)) (h.1 f))
+    is_it x false f h = fixed_object (ref_of s.memory.objects) x f ∙ sym (ap is_fixed_at (h.0 f))
+
+    go : Place s.memory.objects o.0 → reading.is_read_only_at s.memory.objects o.0 ≡ is_read_only k (name_of s o)
+    go (There x f at is) =
+        ap₂ (λ b c. b && not (c == context_class) && is_fixed s.memory.objects o.0) is (field_at (λ y. y.class) s.memory.objects o.0 x at)
+        ∙ ap (λ n. not (is_context x) && n % 2 == 1) (field_at (λ y. flag_bits y.flags) s.memory.objects o.0 x at)
+        ∙ is_it x (is_context x) refl (said (Some x) f)
+    go (Nowhere f is) = ap (λ b. b && not (class_of s.memory.objects o.0 == context_class) && is_fixed s.memory.objects o.0) is ∙ sym (ap is_fixed_at (said None f))
+
 -- ---- special objects and classes
 
 pub special_named : (s : Store) (k : Kept) (r : Roots) → r ≡ s.roots → Holds s k → IsNamed s r.special
@@ -285,9 +325,9 @@ special_names s k r i o e holds names =
 
 class_in_context : (o : Option Obj) → is_context_at o ≡ true → index_of_class o ≡ context_class
 class_in_context None h = absurd (cc)
-class_in_context (Some (Ptr class format hash slots)) h = absurd (cc)
-class_in_context (Some (Raw class format hash bytes)) h = absurd (cc)
-class_in_context (Some (Method class format hash header literals bytecodes)) h = absurd (cc)
+class_in_context (Some (Ptr head slots)) h = absurd (cc)
+class_in_context (Some (Raw head bytes)) h = absurd (cc)
+class_in_context (Some (Method head header literals bytecodes)) h = absurd (cc)
 class_in_context (Some (Ctx c)) h = refl
 
 class_in_object : (refer : ℕ → Ref) (x : Object) → is_context x ≡ false → index_of_class (Some (obj_of refer x)) ≡ x.class
@@ -302,6 +342,39 @@ class_in_object refer x other = go (sort_of x)
 class_said : (refer : ℕ → Ref) (x : Object) (o : Option Obj) (b : Bool) → is_context x ≡ b → Says refer (Some x) o → x.class ≡ index_of_class o
 class_said refer x o true c h = eqb-true x.class context_class c ∙ sym (class_in_context o (h.1 c))
 class_said refer x o false c h = sym (ap index_of_class (h.0 c) ∙ class_in_object refer x c)
+
+-- what a word may stand for in a field of a context
+
+pub method_kind : (s : Store) (k : Kept) (o : Oop) → Holds s k → IsNamed s o → obj.is_method (object_of k (name_of s o)) ≡ true → is_nil_or_method s.memory.objects o.0 ≡ true
+method_kind s k o holds named h =
+    or_right (o.0 == nil_of s.memory.objects) (is_method_address s.memory.objects o.0) (method_read s k s.memory o refl holds named ∙ h)
+
+pub sender_kind : (s : Store) (k : Kept) (o : Oop) → Holds s k → IsNamed s o → is_context_ref k (name_of s o) ≡ true → is_sender s.memory.objects o.0 ≡ true
+sender_kind s k o holds named h =
+    let os = s.memory.objects in
+    let is = both_true (is_object os o.0) (class_of os o.0 == context_class) (context_read s k s.memory o refl holds named ∙ h) in
+    is_sender-context os o.0 is.0 (eqb-true (class_of os o.0) context_class is.1)
+
+pub closure_kind : (s : Store) (k : Kept) (o : Oop) → Holds s k → IsNamed s o → has_class_index closure_class (object_of k (name_of s o)) ≡ true → is_nil_or_closure s.memory.objects o.0 ≡ true
+closure_kind s k o holds named h =
+    or_right (o.0 == nil_of s.memory.objects) (is_closure_address s.memory.objects o.0) (go (place s.memory.objects o.0))
+  where
+    said : (p : Option Object) → object_named s.memory.objects o.0 ≡ p → Says (ref_of s.memory.objects) p (object_of k (name_of s o))
+    said p f = subst (λ q. Says (ref_of s.memory.objects) q (object_of k (name_of s o))) f (says s k o holds named)
+
+    index : (p : Option Obj) → has_class_index closure_class p ≡ true → index_of_class p ≡ closure_class
+    index None e = absurd (false≢true e)
+    index (Some (Ptr head slots)) e = eqb-true head.class closure_class e
+    index (Some (Raw head bytes)) e = eqb-true head.class closure_class e
+    index (Some (Method head header literals bytecodes)) e = eqb-true head.class closure_class e
+    index (Some (Ctx c)) e = absurd (false≢true e)
+
+    go : Place s.memory.objects o.0 → is_closure_address s.memory.objects o.0 ≡ true
+    go (There x f at is) =
+        let class : class_of s.memory.objects o.0 ≡ closure_class = field_at (λ y. y.class) s.memory.objects o.0 x at
+        ∙ class_said (ref_of s.memory.objects) x (object_of k (name_of s o)) (is_context x) refl (said (Some x) f) ∙ index (object_of k (name_of s o)) h in
+        ap₂ (λ b n. b && n == closure_class) is class
+    go (Nowhere f is) = absurd (false≢true (sym (ap (has_class_index closure_class) (said None f)) ∙ h))
 
 class_of_kind : (os : List Object) (k : Kept) (w : Kind) → is_reference_kind os w ≡ true → Says (ref_of os) (object_of_kind os w) (object_of k (ref_of_kind os w))
     → reading.class_index_of_kind os w ≡ class_index_of k (ref_of_kind os w)

@@ -9,7 +9,7 @@ use Rattle.cs_word.specs.declared.Kind.{Kind}
 use Rattle.cs_word.specs.declared.Kind.TheVariants as kind
 use Rattle.cs_word.specs.Word.{kind_of}
 use Rattle.cs_heap.specs.Object.{Object, size, slot_counts, used}
-use Rattle.cs_classes.specs.Meaning.{bytes_of, code_in, header_in, is_context, literals_in, method_of, obj_of, ref_of, unused_bytes, used_bytes}
+use Rattle.cs_classes.specs.Meaning.{bytes_of, code_in, header_in, is_context, literals_in, method_of, obj_of, ref_of, unused_bytes, used_bytes, head_of}
 use Rattle.cs_classes.proofs.Heaps.{stands}
 use Rattle.cs_classes.proofs.Sorts.{AContext, AMethod, Bytes, Pointers, Sort, obj_of-bytes, obj_of-method, obj_of-pointers, sort_of}
 use Rattle.cs_model.specs.Ref.{Ref}
@@ -50,15 +50,15 @@ method-pc refer x pc h =
 lies-object : (refer : ℕ → Ref) (x : Object) (pc : ℕ) → Sort x → is_context x ≡ false → lies_in (Some (obj_of refer x)) pc ≡ true → pc ≤ 4 * length x.words + 5
 unfolding method_of
 lies-object refer x pc (AContext c) other h = absurd (cc)
-lies-object refer x pc (Pointers o p) other h = absurd (let e : lies_in (Some (Ptr x.class x.format x.hash (map refer x.words))) pc ≡ true = ap (λ y. lies_in (Some y) pc) (sym (obj_of-pointers refer x o p)) ∙ h in cc)
+lies-object refer x pc (Pointers o p) other h = absurd (let e : lies_in (Some (Ptr (head_of x) (map refer x.words))) pc ≡ true = ap (λ y. lies_in (Some y) pc) (sym (obj_of-pointers refer x o p)) ∙ h in cc)
 lies-object refer x pc (AMethod o p m) other h = method-pc refer x pc (ap (λ y. lies_in (Some y) pc) (sym (obj_of-method refer x o p m)) ∙ h)
-lies-object refer x pc (Bytes o p m) other h = absurd (let e : lies_in (Some (Raw x.class x.format x.hash (used_bytes x.format x.words))) pc ≡ true = ap (λ y. lies_in (Some y) pc) (sym (obj_of-bytes refer x o p m)) ∙ h in cc)
+lies-object refer x pc (Bytes o p m) other h = absurd (let e : lies_in (Some (Raw (head_of x) (used_bytes x.format x.words))) pc ≡ true = ap (λ y. lies_in (Some y) pc) (sym (obj_of-bytes refer x o p m)) ∙ h in cc)
 
 no_pc : (o : Option Obj) (pc : ℕ) → is_context_at o ≡ true → lies_in o pc ≡ true → ⊥
 no_pc None pc c h = absurd (cc)
-no_pc (Some (Ptr class format hash slots)) pc c h = absurd (cc)
-no_pc (Some (Raw class format hash bytes)) pc c h = absurd (cc)
-no_pc (Some (Method class format hash header literals bytecodes)) pc c h = absurd (cc)
+no_pc (Some (Ptr head slots)) pc c h = absurd (cc)
+no_pc (Some (Raw head bytes)) pc c h = absurd (cc)
+no_pc (Some (Method head header literals bytecodes)) pc c h = absurd (cc)
 no_pc (Some (Ctx d)) pc c h = absurd (cc)
 
 said-pc : (os : List Object) (p : Option Object) (o : Option Obj) (pc : ℕ) → Says (ref_of os) p o → lies_in o pc ≡ true → ((x : Object) → p ≡ Some x → length x.words ≤ used os) → pc ≤ 4 * used os + 5

@@ -4,7 +4,7 @@ use Rattle.std.specs.FinMap.{get}
 use Rattle.cs_heap.specs.Format.{format_allows, is_method, is_pointers}
 use Rattle.cs_heap.specs.Object.{Object}
 use Rattle.cs_classes.specs.Meaning.{is_context, unused_bytes}
-use Rattle.cs_model.specs.Obj.{Obj, Raw, context_class}
+use Rattle.cs_model.specs.Obj.{Obj, Raw, context_class, new_head}
 use Rattle.cs_model.specs.State.{Kept}
 use Rattle.cs_model.specs.Operation.{new_pointers}
 use Rattle.cs_acts.specs.Layout.{Layout, first_page, new_frame_words, page_words}
@@ -31,7 +31,7 @@ pub record CanAllocate (k : Kept) (class format slots : ℕ) : Type 0 where
 -- an object as it is made: its slots are nil, its bytes 0
 abbrev pub blank_of : Kept → ℕ → ℕ → ℕ → Obj
 blank_of k class format slots =
-    if is_pointers format then new_pointers k class format slots else Raw class format 0 (replicate (4 * slots - unused_bytes format) 0)
+    if is_pointers format then new_pointers k class format slots else Raw (new_head class format) (replicate (4 * slots - unused_bytes format) 0)
 
 -- ---- contexts
 

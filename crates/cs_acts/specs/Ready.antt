@@ -1,12 +1,12 @@
 -- When a world can be asked for something.
-use Rattle.std.specs.Prelude.{◌≡◌, ℕ, ◌<◌, ◌≤◌, Bool, true, false, ◌&&◌, nat_lt, nat_le, length, slice_get, Option, Some, None, is_some}
+use Rattle.std.specs.Prelude.{◌≡◌, ℕ, ◌<◌, ◌≤◌, Bool, true, false, ◌&&◌, nat_lt, nat_le, length, slice_get, Option, Some, None}
 use Rattle.std.specs.FinMap.{get}
 use Rattle.cs_heap.specs.Object.{Object, used}
 use Rattle.cs_classes.specs.Meaning.{obj_of, objects_of, ref_of, is_context, kept_of}
+use Rattle.cs_classes.specs.Kinds.{KindsStand}
 use Rattle.cs_classes.specs.Sound.{IsWhole}
 use Rattle.cs_model.specs.Obj.{Obj, Context, Ptr, Raw, Method, Ctx, is_context_at}
 use Rattle.cs_model.specs.State.{Kept, PcLies, object_at}
-use Rattle.cs_model.specs.Context.{closure_class}
 use Rattle.cs_model.specs.Keeps.{Keeps}
 use Rattle.cs_model.specs.Read.{IsRunning}
 use Rattle.cs_acts.specs.Names.{Store}
@@ -22,14 +22,14 @@ pub record Holds (s : Store) (k : Kept) : Type 0 where
   pub most : s.memory.limit ≤ 67108864
   pub rest : (kept_of s.memory.objects s.table s.roots k.rest.active).rest ≡ k.rest
 
--- all that the state names is there, contexts keep their pcs, births are below the next one, the heap holds what it must, and closures
--- have a class
+-- all that the state names is there, contexts keep their pcs, and their fields name what they must; births are below the next one; and
+-- the heap holds what it must
 pub record IsSound (s : Store) (k : Kept) : Type 0 where
   pub closed : Keeps k k
   pub pcs : (i : ℕ) (c : Context) → object_at k i ≡ Some (Ctx c) → PcLies k c
+  pub kinds : KindsStand k
   pub births : (i : ℕ) (o : Obj) → object_at k i ≡ Some o → i < k.rest.next
   pub holds : Holds s k
-  pub closures : is_some (get s.table closure_class) ≡ true
 
 -- and a context is active
 pub record IsReady (s : Store) (k : Kept) : Type 0 where
@@ -39,7 +39,7 @@ pub record IsReady (s : Store) (k : Kept) : Type 0 where
 -- the slots that may be written: those of a pointer object, and the literals of a method behind its header
 abbrev pub is_storable : Option Obj → ℕ → Bool
 is_storable None i = false
-is_storable (Some (Ptr class format hash slots)) i = nat_lt i (length slots)
-is_storable (Some (Raw class format hash bytes)) i = false
-is_storable (Some (Method class format hash header literals bytecodes)) i = nat_lt 0 i && nat_le i (length literals)
+is_storable (Some (Ptr head slots)) i = nat_lt i (length slots)
+is_storable (Some (Raw head bytes)) i = false
+is_storable (Some (Method head header literals bytecodes)) i = nat_lt 0 i && nat_le i (length literals)
 is_storable (Some (Ctx c)) i = false

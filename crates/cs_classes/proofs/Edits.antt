@@ -9,7 +9,7 @@ use Rattle.cs_heap.proofs.Laws.{byte_in-with_byte_in_other, byte_in-with_byte_in
 use Rattle.cs_model.specs.Ref.{Ref}
 use Rattle.cs_model.specs.Obj.{Method, Obj, Ptr, Raw, literal_count}
 use Rattle.cs_model.specs.Operation.{with_byte, with_hash, with_slot}
-use Rattle.cs_classes.specs.Meaning.{bytes_of, code_in, context_of, count_of, header_in, is_context, literals_in, method_of, obj_of, unused_bytes, used_bytes}
+use Rattle.cs_classes.specs.Meaning.{bytes_of, code_in, context_of, count_of, header_in, is_context, literals_in, method_of, obj_of, unused_bytes, used_bytes, head_of}
 use Rattle.cs_classes.proofs.Sorts.{AContext, AMethod, Bytes, Pointers, Sort, not_pointers, obj_of-bytes, obj_of-context, obj_of-method, obj_of-pointers, sort_of}
 
 -- ---- lists
@@ -28,7 +28,7 @@ drop_set n xs i y h = ap (λ (j : ℕ). drop n (set xs j y)) (omega (arith, h)) 
 pub obj_of-set_word : (refer : ℕ → Ref) (x : Object) (i v : ℕ) → is_context x ≡ false → is_pointers x.format ≡ true
     → obj_of refer (set_word i v x) ≡ with_slot i (refer v) (obj_of refer x)
 obj_of-set_word refer x i v o p =
-    obj_of-pointers refer (set_word i v x) o p ∙ ap (Ptr x.class x.format x.hash) (map-set refer x.words i v)
+    obj_of-pointers refer (set_word i v x) o p ∙ ap (Ptr (head_of x)) (map-set refer x.words i v)
     ∙ sym (ap (with_slot i (refer v)) (obj_of-pointers refer x o p))
 
 -- ---- literals of methods
@@ -51,11 +51,11 @@ pub obj_of-set_literal : (refer : ℕ → Ref) (x : Object) (i v : ℕ) → is_c
     → obj_of refer (set_word i v x) ≡ with_slot i (refer v) (obj_of refer x)
 obj_of-set_literal refer x i v o m h l =
     let b = not_pointers x.format m in
-    let made : ℕ → List ℕ → List ℕ → Obj = λ header literals code. Method x.class x.format x.hash header (map refer literals) (used_bytes x.format code) in
+    let made : ℕ → List ℕ → List ℕ → Obj = λ header literals code. Method (head_of x) header (map refer literals) (used_bytes x.format code) in
     obj_of-method refer (set_word i v x) o b m
     ∙ ap (λ (n : ℕ). made n (literals_in (set x.words i v)) (code_in (set x.words i v))) (header_in-set x.words i v h)
     ∙ ap₂ (made (header_in x.words)) (literals_in-set x.words i v h) (code_in-set_literal x.words i v h l)
-    ∙ ap (λ (ls : List Ref). Method x.class x.format x.hash (header_in x.words) ls (used_bytes x.format (code_in x.words))) (map-set refer (literals_in x.words) (i - 1) v)
+    ∙ ap (λ (ls : List Ref). Method (head_of x) (header_in x.words) ls (used_bytes x.format (code_in x.words))) (map-set refer (literals_in x.words) (i - 1) v)
     ∙ sym (ap (with_slot i (refer v)) (obj_of-method refer x o b m))
 
 -- ---- bytes
@@ -114,7 +114,7 @@ pub obj_of-set_byte : (refer : ℕ → Ref) (x : Object) (i b : ℕ) → is_cont
     → obj_of refer (set_byte i b x) ≡ with_byte i b (obj_of refer x)
 obj_of-set_byte refer x i b o p m f =
     obj_of-bytes refer (set_byte i b x) o p m
-    ∙ ap (Raw x.class x.format x.hash) (used_bytes-set_byte x.format x.words i b f)
+    ∙ ap (Raw (head_of x)) (used_bytes-set_byte x.format x.words i b f)
     ∙ sym (ap (with_byte i b) (obj_of-bytes refer x o p m))
 
 -- ---- bytecodes of methods, which are counted from behind the literals
@@ -146,11 +146,11 @@ obj_of-set_code refer x i b o m f =
     let v : ℕ = with_byte_in (slice_index x.words (k / 4)) (k % 4) b in
     let behind : n < k / 4 = omega arith in
     let p = not_pointers x.format m in
-    let made : ℕ → List ℕ → List ℕ → Obj = λ header literals code. Method x.class x.format x.hash header (map refer literals) (used_bytes x.format code) in
+    let made : ℕ → List ℕ → List ℕ → Obj = λ header literals code. Method (head_of x) header (map refer literals) (used_bytes x.format code) in
     obj_of-method refer (set_byte k b x) o p m
     ∙ ap (λ (h : ℕ). made h (literals_in (set x.words (k / 4) v)) (code_in (set x.words (k / 4) v))) (header_in-set x.words (k / 4) v (omega (arith, behind)))
     ∙ ap₂ (made (header_in x.words)) (literals_in-set_code x.words (k / 4) v behind) (code_in-set_byte x.words n i b refl)
-    ∙ ap (Method x.class x.format x.hash (header_in x.words) (map refer (literals_in x.words))) (used_bytes-set_byte x.format (code_in x.words) i b f)
+    ∙ ap (Method (head_of x) (header_in x.words) (map refer (literals_in x.words))) (used_bytes-set_byte x.format (code_in x.words) i b f)
     ∙ sym (ap (with_byte i b) (obj_of-method refer x o p m))
 
 -- ---- hashes

@@ -7,14 +7,15 @@ use Rattle.cs_heap.specs.Object.{Object, at_index, birth_of, index_of, is_object
 use Rattle.cs_heap.proofs.Laws.{field_of-old, field_of-with_object_kept, index_of-with_object, object_at-old}
 use Rattle.cs_heap.proofs.Places.{has_index, object_at-found}
 
--- an edit that keeps what an object is known by: how many slots it has, its birth and its class
+-- an edit that keeps what an object is known by: how many slots it has, its birth, its class and its format
 pub record IsEdit (f : Object → Object) : Type 0 where
   pub slots : (x : Object) → length (f x).words ≡ length x.words
   pub birth : (x : Object) → (f x).birth ≡ x.birth
   pub class : (x : Object) → (f x).class ≡ x.class
+  pub format : (x : Object) → (f x).format ≡ x.format
 
 pub set_word-IsEdit : (i v : ℕ) → IsEdit (set_word i v)
-set_word-IsEdit i v = record { slots = λ (x : Object). length-set x.words i v; birth = λ (x : Object). refl; class = λ (x : Object). refl }
+set_word-IsEdit i v = record { slots = λ (x : Object). length-set x.words i v; birth = λ (x : Object). refl; class = λ (x : Object). refl; format = λ (x : Object). refl }
 
 -- ---- what is at an address
 

@@ -9,3 +9,4 @@ pub mod Sounds
 pub mod Wholes
 pub mod Writes
 pub mod Makings
+pub mod Fields

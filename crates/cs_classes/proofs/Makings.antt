@@ -1,5 +1,5 @@
 -- What a new object is, and what it adds to the kept parts: the laws for the crates above.
-use Rattle.std.proofs.Common.{◌≡◌, ℕ, zero, suc, ◌+◌, ◌-◌, ◌*◌, ◌<◌, true, false, List, [], ◌∷◌, ◌++◌, length, map, take, replicate, Option, Some, None, is_some, refl, ap, ap₂, subst, sym, ◌∙◌, arith, get_or}
+use Rattle.std.proofs.Common.{◌≡◌, ℕ, zero, suc, ◌+◌, ◌-◌, ◌*◌, ◌<◌, Bool, true, false, List, [], ◌∷◌, ◌++◌, length, map, take, replicate, Option, Some, None, is_some, refl, ap, ap₂, subst, sym, ◌∙◌, arith, get_or}
 use Rattle.std.specs.Prelude.{slice_index, unwrap_or, ◌==◌, ◌||◌, IsTrue}
 use Rattle.std.specs.List.{AllPass}
 use Rattle.std.specs.Option.{option_map_or}
@@ -8,21 +8,22 @@ use Rattle.std.specs.FinMap.{FinMap, get}
 use Rattle.std.proofs.lemmas.Bool.{eq-eqb, false≢true, or_left}
 use Rattle.std.proofs.lemmas.Bool.Decides.{nat_tests}
 use Rattle.std.proofs.lemmas.List.{get_or-replicate, length-replicate, take-replicate}
+use Rattle.std.proofs.lemmas.List.Elements.{All-drop}
 use Rattle.cs_heap.specs.Format.{format_allows, is_method, is_pointers}
 use Rattle.cs_heap.specs.Object.{Object, address_of, base, is_object, new_object, new_slot}
-use Rattle.cs_heap.proofs.Laws.{address_of-below, index_of-address, object_at-address}
+use Rattle.cs_heap.proofs.Laws.{address_of-below, index_of-address, is_object-old, object_at-address}
 use Rattle.cs_model.specs.Ref.{Ref}
 use Rattle.cs_model.specs.Ref as ref
-use Rattle.cs_model.specs.Obj.{Ctx, Method, Obj, Ptr, Raw}
-use Rattle.cs_model.specs.State.{Kept}
+use Rattle.cs_model.specs.Obj.{Ctx, Method, Obj, Ptr, Raw, new_head}
+use Rattle.cs_model.specs.State.{Kept, is_class_index}
 use Rattle.cs_model.specs.Operation.{add_of, new_pointers}
 use Rattle.cs_model.specs.Operation as operation
 use Rattle.cs_model.specs.Instance.{new_context}
 use Rattle.cs_classes.specs.declared.Roots.{Roots}
-use Rattle.cs_classes.specs.Meaning.{birth_at, bytes_of, code_in, context_of, count_of, depth_in, header_in, is_context, kept_of, literals_in, obj_of, ref_of, unused_bytes, used_bytes}
-use Rattle.cs_classes.specs.Sound.{IsSoundMethod, IsSoundObject, IsWhole, is_reference, nil_of, references_in}
-use Rattle.cs_classes.proofs.Refs.{is_reference-object, is_reference-push, nil_of-push, ref_of-object, ref_of-push}
-use Rattle.cs_classes.proofs.Sorts.{map_alike, not_pointers, obj_of-bytes, obj_of-context, obj_of-method, obj_of-pointers, references-method, references-pointers}
+use Rattle.cs_classes.specs.Meaning.{birth_at, bytes_of, code_in, context_of, count_of, depth_in, header_in, is_context, kept_of, literals_in, obj_of, ref_of, unused_bytes, used_bytes, head_of}
+use Rattle.cs_classes.specs.Sound.{IsSoundMethod, IsSoundObject, IsWhole, is_closure_address, is_method_address, is_reference, is_sender, is_weak, nil_of, references_in}
+use Rattle.cs_classes.proofs.Refs.{is_nil_or_closure, is_nil_or_method, is_reference-object, is_reference-push, is_sender-nil, nil_of-push, ref_of-object, ref_of-push}
+use Rattle.cs_classes.proofs.Sorts.{map_alike, not_pointers, obj_of-bytes, obj_of-context, obj_of-method, obj_of-pointers, references-context, references-method, references-pointers}
 use Rattle.cs_classes.proofs.Wholes.{after_birth, kept_of-push, whole-push}
 
 -- a new object is added, which is the one that o says
@@ -47,6 +48,18 @@ ref_of-nil os table roots w =
     ref_of-object os base (nil_is_object os table roots w)
     ∙ ap (λ (o : Option Object). ref.Obj (option_map_or (λ (x : Object). x.birth) o 0)) (object_at-address os base 0 (nil_address os (omega (arith, w.first)) w.nil))
 
+-- nil may stand in each field of a context
+
+pub is_sender-base : (os : List Object) (table : FinMap nat_cmp ℕ) (roots : Roots) → IsWhole os table roots → is_sender os base ≡ true
+is_sender-base os table roots w =
+    subst (λ n. is_sender os n ≡ true) w.nil (is_sender-nil os (ap (is_object os) w.nil ∙ nil_is_object os table roots w))
+
+pub is_nil_or_method-base : (os : List Object) (table : FinMap nat_cmp ℕ) (roots : Roots) → IsWhole os table roots → is_nil_or_method os base ≡ true
+is_nil_or_method-base os table roots w = or_left (base == nil_of os) (is_method_address os base) (eq-eqb base (nil_of os) (sym w.nil))
+
+pub is_nil_or_closure-base : (os : List Object) (table : FinMap nat_cmp ℕ) (roots : Roots) → IsWhole os table roots → is_nil_or_closure os base ≡ true
+is_nil_or_closure-base os table roots w = or_left (base == nil_of os) (is_closure_address os base) (eq-eqb base (nil_of os) (sym w.nil))
+
 -- ---- the new object
 
 module _ {os : List Object} {table : FinMap nat_cmp ℕ} {roots : Roots} (w : IsWhole os table roots) where
@@ -69,9 +82,9 @@ module _ {os : List Object} {table : FinMap nat_cmp ℕ} {roots : Roots} (w : Is
       (is_reference-push os y base (is_reference-object os base (nil_is_object os table roots w)))
 
   -- a pointer object, whose slots are nil
-  pub makes-pointers : (class format slots : ℕ) → (class == 36) ≡ false → is_pointers format ≡ true → IsTrue (format_allows format slots) → is_some (get table class) ≡ true
+  pub makes-pointers : (class format slots : ℕ) → is_class_index class ≡ true → (class == 36) ≡ false → is_weak format ≡ false → is_pointers format ≡ true → IsTrue (format_allows format slots) → is_some (get table class) ≡ true
       → Makes os (new_object class format slots roots.next_birth) table roots (λ k. new_pointers k class format slots)
-  makes-pointers class format slots other p shape entry = makes y (λ k. new_pointers k class format slots) refl entry sound (λ active. means)
+  makes-pointers class format slots kind other plain p shape entry = makes y (λ k. new_pointers k class format slots) refl entry sound (λ active. means)
     where
       y : Object
       y = new_object class format slots roots.next_birth
@@ -81,14 +94,19 @@ module _ {os : List Object} {table : FinMap nat_cmp ℕ} {roots : Roots} (w : Is
 
       sound : IsSoundObject (os ++ y ∷ []) y
       sound = record {
+        kind = kind;
+        plain = plain;
         shape = subst (λ (n : ℕ). IsTrue (format_allows format n)) (sym (length-replicate slots (new_slot format))) shape;
-        references = subst (AllPass (is_reference (os ++ y ∷ []))) (sym (references-pointers y p ∙ words)) (all_nils y slots);
+        references = subst (AllPass (is_reference (os ++ y ∷ []))) (sym (references-pointers y other p ∙ words)) (all_nils y slots);
         context = λ c. absurd (false≢true (sym other ∙ c));
         method = λ m. absurd (false≢true (sym (not_pointers format m) ∙ p));
       }
 
-      means : obj_of (ref_of (os ++ y ∷ [])) y ≡ Ptr class format 0 (replicate slots (ref.Obj (birth_at os 0)))
-      means = obj_of-pointers (ref_of (os ++ y ∷ [])) y other p ∙ ap (Ptr class format 0) (ap (map (ref_of (os ++ y ∷ []))) words ∙ nils y slots)
+      means : obj_of (ref_of (os ++ y ∷ [])) y ≡ Ptr (new_head class format) (replicate slots (ref.Obj (birth_at os 0)))
+      means = obj_of-pointers (ref_of (os ++ y ∷ [])) y other p ∙ ap (Ptr (new_head class format)) (ap (map (ref_of (os ++ y ∷ []))) words ∙ nils y slots)
+
+  bits_plain : (n : ℕ) → is_pointers n ≡ false → is_weak n ≡ false
+  bits_plain n h = grind (arith, nat_tests)
 
   zero_bytes : (n : ℕ) → bytes_of (replicate n 0) ≡ replicate (4 * n) 0
   unfolding bytes_of
@@ -99,9 +117,9 @@ module _ {os : List Object} {table : FinMap nat_cmp ℕ} {roots : Roots} (w : Is
       later n = omega arith
 
   -- a raw object, whose bytes are 0
-  pub makes-bytes : (class format slots : ℕ) → (class == 36) ≡ false → is_pointers format ≡ false → is_method format ≡ false → IsTrue (format_allows format slots) → is_some (get table class) ≡ true
-      → Makes os (new_object class format slots roots.next_birth) table roots (λ k. Raw class format 0 (replicate (4 * slots - unused_bytes format) 0))
-  makes-bytes class format slots other p m shape entry = makes y (λ k. Raw class format 0 (replicate (4 * slots - unused_bytes format) 0)) refl entry sound (λ active. means)
+  pub makes-bytes : (class format slots : ℕ) → is_class_index class ≡ true → (class == 36) ≡ false → is_pointers format ≡ false → is_method format ≡ false → IsTrue (format_allows format slots) → is_some (get table class) ≡ true
+      → Makes os (new_object class format slots roots.next_birth) table roots (λ k. Raw (new_head class format) (replicate (4 * slots - unused_bytes format) 0))
+  makes-bytes class format slots kind other p m shape entry = makes y (λ k. Raw (new_head class format) (replicate (4 * slots - unused_bytes format) 0)) refl entry sound (λ active. means)
     where
       y : Object
       y = new_object class format slots roots.next_birth
@@ -114,6 +132,8 @@ module _ {os : List Object} {table : FinMap nat_cmp ℕ} {roots : Roots} (w : Is
 
       sound : IsSoundObject (os ++ y ∷ []) y
       sound = record {
+        kind = kind;
+        plain = bits_plain format p;
         shape = subst (λ (n : ℕ). IsTrue (format_allows format n)) (sym (length-replicate slots (new_slot format))) shape;
         references = subst (AllPass (is_reference (os ++ y ∷ []))) (sym none) (λ k d l. absurd (omega (arith, l)));
         context = λ c. absurd (false≢true (sym other ∙ c));
@@ -125,27 +145,29 @@ module _ {os : List Object} {table : FinMap nat_cmp ℕ} {roots : Roots} (w : Is
           ∙ ap (take (4 * slots - unused_bytes format)) (zero_bytes slots)
           ∙ take-replicate (4 * slots - unused_bytes format) (4 * slots) 0 (omega arith)
 
-      means : obj_of (ref_of (os ++ y ∷ [])) y ≡ Raw class format 0 (replicate (4 * slots - unused_bytes format) 0)
-      means = obj_of-bytes (ref_of (os ++ y ∷ [])) y other p m ∙ ap (Raw class format 0) (ap (used_bytes format) words ∙ bytes)
+      means : obj_of (ref_of (os ++ y ∷ [])) y ≡ Raw (new_head class format) (replicate (4 * slots - unused_bytes format) 0)
+      means = obj_of-bytes (ref_of (os ++ y ∷ [])) y other p m ∙ ap (Raw (new_head class format)) (ap (used_bytes format) words ∙ bytes)
 
   -- a method, whose header and literals stand already: all words of a new one are 0 until these are written
-  pub makes-method : (y : Object) → y.birth ≡ roots.next_birth → is_some (get table y.class) ≡ true → is_context y ≡ false → is_method y.format ≡ true
+  pub makes-method : (y : Object) → y.birth ≡ roots.next_birth → is_some (get table y.class) ≡ true → is_class_index y.class ≡ true → is_context y ≡ false → is_method y.format ≡ true
       → IsTrue (format_allows y.format (length y.words)) → IsSoundMethod y → AllPass (is_reference os) (literals_in y.words)
-      → Makes os y table roots (λ k. Method y.class y.format y.hash (header_in y.words) (map (ref_of os) (literals_in y.words)) (used_bytes y.format (code_in y.words)))
-  makes-method y next entry other m shape sound_method all =
-      makes y (λ k. Method y.class y.format y.hash (header_in y.words) (map (ref_of os) (literals_in y.words)) (used_bytes y.format (code_in y.words))) next entry sound (λ active. means)
+      → Makes os y table roots (λ k. Method (head_of y) (header_in y.words) (map (ref_of os) (literals_in y.words)) (used_bytes y.format (code_in y.words)))
+  makes-method y next entry kind other m shape sound_method all =
+      makes y (λ k. Method (head_of y) (header_in y.words) (map (ref_of os) (literals_in y.words)) (used_bytes y.format (code_in y.words))) next entry sound (λ active. means)
     where
       sound : IsSoundObject (os ++ y ∷ []) y
       sound = record {
+        kind = kind;
+        plain = bits_plain y.format (not_pointers y.format m);
         shape = shape;
         references = subst (AllPass (is_reference (os ++ y ∷ []))) (sym (references-method y m)) (λ k d l. is_reference-push os y (get_or (literals_in y.words) k d) (all k d l));
         context = λ c. absurd (false≢true (sym other ∙ c));
         method = λ _. sound_method;
       }
 
-      means : obj_of (ref_of (os ++ y ∷ [])) y ≡ Method y.class y.format y.hash (header_in y.words) (map (ref_of os) (literals_in y.words)) (used_bytes y.format (code_in y.words))
+      means : obj_of (ref_of (os ++ y ∷ [])) y ≡ Method (head_of y) (header_in y.words) (map (ref_of os) (literals_in y.words)) (used_bytes y.format (code_in y.words))
       means = obj_of-method (ref_of (os ++ y ∷ [])) y other (not_pointers y.format m) m
-          ∙ ap (λ (ls : List Ref). Method y.class y.format y.hash (header_in y.words) ls (used_bytes y.format (code_in y.words)))
+          ∙ ap (λ (ls : List Ref). Method (head_of y) (header_in y.words) ls (used_bytes y.format (code_in y.words)))
           (map_alike (is_reference os) (ref_of (os ++ y ∷ [])) (ref_of os) (ref_of-push os y) (literals_in y.words) all)
 
   -- a context: its fields are nil and its stack is empty
@@ -155,10 +177,10 @@ module _ {os : List Object} {table : FinMap nat_cmp ℕ} {roots : Roots} (w : Is
       let size : length (replicate (suc (suc (suc (suc (suc (suc m)))))) base) - 6 ≡ m = omega (arith, length-replicate (suc (suc (suc (suc (suc (suc m)))))) base) in
       λ i. record { hash = 0; sender = refer base; pc = None; method = refer base; closure = refer base; receiver = refer base; stack = []; size = size i }
 
-  pub makes-context : (size : ℕ) → (size == 16 || size == 56) ≡ true → is_some (get table 36) ≡ true
+  pub makes-context : (size : ℕ) → (size == 16 || size == 56) ≡ true
       → Makes os (new_object 36 3 (6 + size) roots.next_birth) table roots (λ k. Ctx (new_context (operation.nil_of k) size))
   unfolding count_of
-  makes-context size fits entry = makes y (λ k. Ctx (new_context (operation.nil_of k) size)) refl entry sound (λ active. means)
+  makes-context size fits = makes y (λ k. Ctx (new_context (operation.nil_of k) size)) refl w.entries.contexts sound (λ active. means)
     where
       y : Object
       y = new_object 36 3 (6 + size) roots.next_birth
@@ -175,6 +197,12 @@ module _ {os : List Object} {table : FinMap nat_cmp ℕ} {roots : Roots} (w : Is
       nil : nil_of (os ++ y ∷ []) ≡ base
       nil = nil_of-push os y (omega (arith, w.first)) ∙ w.nil
 
+      nil_there : is_object (os ++ y ∷ []) (nil_of (os ++ y ∷ [])) ≡ true
+      nil_there = ap (is_object (os ++ y ∷ [])) nil ∙ is_object-old os y base (nil_is_object os table roots w)
+
+      no_more : (i : ℕ) → i < 6 → (b : Bool) → (slice_index y.words i == nil_of (os ++ y ∷ []) || b) ≡ true
+      no_more i l b = or_left (slice_index y.words i == nil_of (os ++ y ∷ [])) b (eq-eqb (slice_index y.words i) (nil_of (os ++ y ∷ [])) (word i l ∙ sym nil))
+
       is_nil : (i : ℕ) → i < 6 → IsTrue (slice_index y.words i == nil_of (os ++ y ∷ []) || is_some (count_of (slice_index y.words i)))
       is_nil i l = or_left (slice_index y.words i == nil_of (os ++ y ∷ [])) (is_some (count_of (slice_index y.words i))) (eq-eqb (slice_index y.words i) (nil_of (os ++ y ∷ [])) (word i l ∙ sym nil))
 
@@ -186,14 +214,20 @@ module _ {os : List Object} {table : FinMap nat_cmp ℕ} {roots : Roots} (w : Is
 
       sound : IsSoundObject (os ++ y ∷ []) y
       sound = record {
+        kind = refl;
+        plain = refl;
         shape = allowed (length y.words);
-        references = all_nils y (6 + size);
+        references = subst (AllPass (is_reference (os ++ y ∷ []))) (sym (references-context y refl refl))
+            (All-drop (λ v. is_reference (os ++ y ∷ []) v ≡ true) 1 (replicate (6 + size) base) (all_nils y (6 + size)));
         context = λ c. record {
           format = refl;
           slots = subst (λ (n : ℕ). IsTrue (n == 22 || n == 62)) (sym long) (shape size fits);
+          sender = subst (λ v. is_sender (os ++ y ∷ []) v ≡ true) (nil ∙ sym (word 0 (omega arith))) (is_sender-nil (os ++ y ∷ []) nil_there);
           pc = is_nil 1 (omega arith);
           stackp = is_nil 2 (omega arith);
           depth = omega (arith, depth);
+          method = no_more 3 (omega arith) (is_method_address (os ++ y ∷ []) (slice_index y.words 3));
+          closure = no_more 4 (omega arith) (is_closure_address (os ++ y ∷ []) (slice_index y.words 4));
         };
         method = λ m. absurd (false≢true m);
       }

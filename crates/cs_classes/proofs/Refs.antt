@@ -1,19 +1,20 @@
 -- What words refer to: that it stays when objects change or come, and that one word alone refers to each thing.
-use Rattle.std.proofs.Common.{◌≡◌, ℕ, ℤ, pos, ◌^◌, ◌<◌, Bool, true, false, List, [], ◌∷◌, ◌++◌, length, Some, refl, ap, sym, ◌∙◌, arith, eqb}
-use Rattle.std.specs.Prelude.{unwrap_or, ◌==◌}
-use Rattle.std.proofs.lemmas.Bool.{eq-eqb, eqb-true, ne_eqb, false≢true}
+use Rattle.std.proofs.Common.{◌≡◌, ℕ, ℤ, pos, ◌^◌, ◌%◌, ◌<◌, Bool, true, false, List, [], ◌∷◌, ◌++◌, length, Some, refl, ap, ap₂, sym, ◌∙◌, arith, eqb, ◌⊎◌, inl, inr}
+use Rattle.std.specs.Prelude.{unwrap_or, ◌==◌, ◌&&◌, ◌||◌}
+use Rattle.std.proofs.lemmas.Bool.{eq-eqb, eqb-true, ne_eqb, false≢true, or_left, or_right}
 use Rattle.std.proofs.lemmas.Bool.Decides.{Decides-int_eq}
 use Rattle.std.proofs.lemmas.Int.{ints}
 use Rattle.cs_word.specs.declared.Kind.{Kind}
 use Rattle.cs_word.specs.declared.Kind.TheVariants as kind
 use Rattle.cs_word.specs.Word.{IsSmall, character_word, kind_of, small_word}
-use Rattle.cs_word.proofs.Words.{kind_of-character_word, kind_of-injective, kind_of-object, kind_of-small_word}
-use Rattle.cs_heap.specs.Object.{Object, address_among, base, birth_of, is_object, with_object}
-use Rattle.cs_heap.proofs.Laws.{index_of-injective, is_object-old, is_object-with_object, object_placed, slot_counts-with_object}
+use Rattle.cs_word.proofs.Words.{kind_of-character_word, kind_of-injective, kind_of-link, kind_of-object, kind_of-small_word}
+use Rattle.cs_heap.specs.Format.{is_method}
+use Rattle.cs_heap.specs.Object.{Object, address_among, base, birth_of, class_of, field_of, format_of, is_object, slot_count_of, with_object}
+use Rattle.cs_heap.proofs.Laws.{field_of-old, field_of-with_object_kept, index_of-injective, is_object-old, is_object-with_object, object_placed, slot_counts-with_object}
 use Rattle.cs_model.specs.Ref.{Ref, index_of, same_ref}
 use Rattle.cs_model.specs.Ref as ref
 use Rattle.cs_classes.specs.Meaning.{count_of, count_of_kind, ref_of, ref_of_kind}
-use Rattle.cs_classes.specs.Sound.{IsSound, is_reference, is_reference_kind, nil_of}
+use Rattle.cs_classes.specs.Sound.{IsSound, is_closure_address, is_method_address, is_reference, is_reference_kind, is_sender, is_sender_kind, nil_of}
 use Rattle.cs_classes.proofs.Heaps.{IsEdit, birth_of-object_at, birth_of-push, birth_of-with_object, object_there, stands}
 
 -- ---- what a word of each kind refers to
@@ -60,6 +61,85 @@ index_of-ref_of os w h = at (kind_of w) h
     at (kind.Object a) h = refl
     at (kind.Link b) h = absurd (false≢true h)
 
+-- ---- words that name nothing but objects
+
+abbrev pub is_placed_kind : List Object → Kind → Bool
+is_placed_kind os (kind.Small value) = true
+is_placed_kind os (kind.Character code) = true
+is_placed_kind os (kind.Object address) = is_object os address
+is_placed_kind os (kind.Link word) = true
+
+-- a word is no address, or that of an object
+unfoldable pub is_placed : List Object → ℕ → Bool
+is_placed os w = is_placed_kind os (kind_of w)
+
+pub placed-reference : (os : List Object) (w : ℕ) → is_reference os w ≡ true → is_placed os w ≡ true
+unfolding is_placed is_reference
+placed-reference os w h = at (kind_of w) h
+  where
+    at : (k : Kind) → is_reference_kind os k ≡ true → is_placed_kind os k ≡ true
+    at (kind.Small z) h = refl
+    at (kind.Character c) h = refl
+    at (kind.Object a) h = h
+    at (kind.Link b) h = refl
+
+pub both_true : (a b : Bool) → (a && b) ≡ true → (a ≡ true) × (b ≡ true)
+both_true true b h = (refl, h)
+both_true false b h = absurd (false≢true h)
+
+pub either_true : (a b : Bool) → (a || b) ≡ true → (a ≡ true) ⊎ (b ≡ true)
+either_true true b h = inl refl
+either_true false b h = inr h
+
+-- one of two stays true where the first stays as it is
+pub either_still : (a b c d : Bool) → a ≡ c → (b ≡ true → d ≡ true) → (a || b) ≡ true → (c || d) ≡ true
+either_still true b c d e f h = or_left c d (sym e)
+either_still false b c d e f h = or_right c d (f h)
+
+pub placed-sender : (os : List Object) (w : ℕ) → is_sender os w ≡ true → is_placed os w ≡ true
+unfolding is_placed is_sender
+placed-sender os w h = at (kind_of w) h
+  where
+    at : (k : Kind) → is_sender_kind os k ≡ true → is_placed_kind os k ≡ true
+    at (kind.Small z) h = refl
+    at (kind.Character c) h = refl
+    at (kind.Object a) h = (both_true (is_object os a) (a == nil_of os || class_of os a == 36) h).0
+    at (kind.Link b) h = refl
+
+-- ---- senders
+
+pub is_sender-nil : (os : List Object) → is_object os (nil_of os) ≡ true → is_sender os (nil_of os) ≡ true
+unfolding is_sender
+is_sender-nil os h =
+    let nil : ℕ = nil_of os in
+    ap (is_sender_kind os) (kind_of-object nil (object_placed os nil h).aligned) ∙ ap (λ b. b && (nil == nil || class_of os nil == 36)) h
+    ∙ or_left (nil == nil) (class_of os nil == 36) (eq-eqb nil nil refl)
+
+pub is_sender-context : (os : List Object) (a : ℕ) → is_object os a ≡ true → class_of os a ≡ 36 → is_sender os a ≡ true
+unfolding is_sender
+is_sender-context os a h c =
+    ap (is_sender_kind os) (kind_of-object a (object_placed os a h).aligned) ∙ ap (λ b. b && (a == nil_of os || class_of os a == 36)) h
+    ∙ or_right (a == nil_of os) (class_of os a == 36) (eq-eqb (class_of os a) 36 c)
+
+pub is_sender-small : (os : List Object) (z : ℤ) → IsSmall z → is_sender os (small_word z) ≡ true
+unfolding is_sender
+is_sender-small os z h = ap (is_sender_kind os) (kind_of-small_word z h)
+
+pub is_sender-link : (os : List Object) (w : ℕ) → w % 8 ≡ 4 → is_sender os w ≡ true
+unfolding is_sender
+is_sender-link os w h = ap (is_sender_kind os) (kind_of-link w h)
+
+-- a sender that refers to an object is a reference
+pub sender_named : (os : List Object) (w b : ℕ) → is_sender os w ≡ true → ref_of os w ≡ ref.Obj b → is_reference os w ≡ true
+unfolding is_sender ref_of is_reference
+sender_named os w b h e = at (kind_of w) h e
+  where
+    at : (k : Kind) → is_sender_kind os k ≡ true → ref_of_kind os k ≡ ref.Obj b → is_reference_kind os k ≡ true
+    at (kind.Small z) h e = refl
+    at (kind.Character c) h e = refl
+    at (kind.Object a) h e = (both_true (is_object os a) (a == nil_of os || class_of os a == 36) h).0
+    at (kind.Link v) h e = absurd (cc)
+
 -- ---- when an object changes
 
 pub ref_of-with_object : (os : List Object) (a : ℕ) (f : Object → Object) → IsEdit f → ref_of (with_object os a f) ≡ ref_of os
@@ -85,17 +165,52 @@ is_reference-with_object os a f h = λ i w. at (kind_of w) i
 pub nil_of-with_object : (os : List Object) (a : ℕ) (f : Object → Object) → IsEdit f → nil_of (with_object os a f) ≡ nil_of os
 nil_of-with_object os a f h = ap (λ (ns : List ℕ). unwrap_or (address_among ns base 0) 0) (slot_counts-with_object os a f h.slots)
 
+pub class_of-with_object : (os : List Object) (a b : ℕ) (f : Object → Object) → IsEdit f → class_of (with_object os a f) b ≡ class_of os b
+class_of-with_object os a b f h = field_of-with_object_kept (λ x. x.class) os a b f h.slots h.class
+
+pub format_of-with_object : (os : List Object) (a b : ℕ) (f : Object → Object) → IsEdit f → format_of (with_object os a f) b ≡ format_of os b
+format_of-with_object os a b f h = field_of-with_object_kept (λ x. x.format) os a b f h.slots h.format
+
+pub slot_count_of-with_object : (os : List Object) (a b : ℕ) (f : Object → Object) → IsEdit f → slot_count_of (with_object os a f) b ≡ slot_count_of os b
+slot_count_of-with_object os a b f h = field_of-with_object_kept (λ x. length x.words) os a b f h.slots h.slots
+
+pub is_sender-with_object : (os : List Object) (a : ℕ) (f : Object → Object) → IsEdit f → is_sender (with_object os a f) ≡ is_sender os
+unfolding is_sender
+is_sender-with_object os a f h = λ i w. at (kind_of w) i
+  where
+    at : (k : Kind) → is_sender_kind (with_object os a f) k ≡ is_sender_kind os k
+    at (kind.Small z) = refl
+    at (kind.Character c) = refl
+    at (kind.Object b) = λ i. is_object-with_object os a b f h.slots i && (b == nil_of-with_object os a f h i || class_of-with_object os a b f h i == 36)
+    at (kind.Link w) = refl
+
+-- a word is nil or the address of a method, or of a closure
+abbrev pub is_nil_or_method : List Object → ℕ → Bool
+is_nil_or_method os w = w == nil_of os || is_method_address os w
+
+abbrev pub is_nil_or_closure : List Object → ℕ → Bool
+is_nil_or_closure os w = w == nil_of os || is_closure_address os w
+
+pub is_nil_or_method-with_object : (os : List Object) (a : ℕ) (f : Object → Object) → IsEdit f → is_nil_or_method (with_object os a f) ≡ is_nil_or_method os
+is_nil_or_method-with_object os a f h = λ i w. w == nil_of-with_object os a f h i || (is_object-with_object os a w f h.slots i && is_method (format_of-with_object os a w f h i))
+
+pub is_nil_or_closure-with_object : (os : List Object) (a : ℕ) (f : Object → Object) → IsEdit f → is_nil_or_closure (with_object os a f) ≡ is_nil_or_closure os
+is_nil_or_closure-with_object os a f h = λ i w. w == nil_of-with_object os a f h i || (is_object-with_object os a w f h.slots i && class_of-with_object os a w f h i == 37)
+
 -- ---- when one comes
 
-pub ref_of-push : (os : List Object) (y : Object) (w : ℕ) → is_reference os w ≡ true → ref_of (os ++ y ∷ []) w ≡ ref_of os w
-unfolding ref_of is_reference
-ref_of-push os y w h = at (kind_of w) h
+pub ref_of-push_placed : (os : List Object) (y : Object) (w : ℕ) → is_placed os w ≡ true → ref_of (os ++ y ∷ []) w ≡ ref_of os w
+unfolding ref_of is_placed
+ref_of-push_placed os y w h = at (kind_of w) h
   where
-    at : (k : Kind) → is_reference_kind os k ≡ true → ref_of_kind (os ++ y ∷ []) k ≡ ref_of_kind os k
+    at : (k : Kind) → is_placed_kind os k ≡ true → ref_of_kind (os ++ y ∷ []) k ≡ ref_of_kind os k
     at (kind.Small z) h = refl
     at (kind.Character c) h = refl
     at (kind.Object b) h = ap ref.Obj (birth_of-push os y b h)
     at (kind.Link w) h = refl
+
+pub ref_of-push : (os : List Object) (y : Object) (w : ℕ) → is_reference os w ≡ true → ref_of (os ++ y ∷ []) w ≡ ref_of os w
+ref_of-push os y w h = ref_of-push_placed os y w (placed-reference os w h)
 
 pub is_reference-push : (os : List Object) (y : Object) (w : ℕ) → is_reference os w ≡ true → is_reference (os ++ y ∷ []) w ≡ true
 unfolding is_reference
@@ -111,6 +226,37 @@ pub nil_of-push : (os : List Object) (y : Object) → 0 < length os → nil_of (
 unfolding address_among
 nil_of-push [] y h = absurd (omega (arith, h))
 nil_of-push (x ∷ os) y h = refl
+
+-- what is said of the object at an address still holds
+object_still : (os : List Object) (y : Object) (a : ℕ) (g : Object → ℕ) (p : ℕ → Bool) → (is_object os a && p (field_of g os a)) ≡ true
+    → (is_object (os ++ y ∷ []) a && p (field_of g (os ++ y ∷ []) a)) ≡ true
+object_still os y a g p h =
+    let s = both_true (is_object os a) (p (field_of g os a)) h in
+    ap₂ (λ (b : Bool) (n : ℕ). b && p n) (is_object-old os y a s.0) (field_of-old g os y a s.0) ∙ s.1
+
+pub is_nil_or_method-push : (os : List Object) (y : Object) (w : ℕ) → 0 < length os → is_nil_or_method os w ≡ true → is_nil_or_method (os ++ y ∷ []) w ≡ true
+is_nil_or_method-push os y w some =
+    either_still (w == nil_of os) (is_method_address os w) (w == nil_of (os ++ y ∷ [])) (is_method_address (os ++ y ∷ []) w)
+    (ap (λ n. w == n) (sym (nil_of-push os y some))) (object_still os y w (λ x. x.format) is_method)
+
+pub is_nil_or_closure-push : (os : List Object) (y : Object) (w : ℕ) → 0 < length os → is_nil_or_closure os w ≡ true → is_nil_or_closure (os ++ y ∷ []) w ≡ true
+is_nil_or_closure-push os y w some =
+    either_still (w == nil_of os) (is_closure_address os w) (w == nil_of (os ++ y ∷ [])) (is_closure_address (os ++ y ∷ []) w)
+    (ap (λ n. w == n) (sym (nil_of-push os y some))) (object_still os y w (λ x. x.class) (λ n. n == 37))
+
+pub is_sender-push : (os : List Object) (y : Object) (w : ℕ) → 0 < length os → is_sender os w ≡ true → is_sender (os ++ y ∷ []) w ≡ true
+unfolding is_sender
+is_sender-push os y w some h = at (kind_of w) h
+  where
+    at : (k : Kind) → is_sender_kind os k ≡ true → is_sender_kind (os ++ y ∷ []) k ≡ true
+    at (kind.Small z) h = refl
+    at (kind.Character c) h = h
+    at (kind.Object b) h =
+        let s = both_true (is_object os b) (b == nil_of os || class_of os b == 36) h in
+        ap (λ t. t && (b == nil_of (os ++ y ∷ []) || class_of (os ++ y ∷ []) b == 36)) (is_object-old os y b s.0)
+        ∙ either_still (b == nil_of os) (class_of os b == 36) (b == nil_of (os ++ y ∷ [])) (class_of (os ++ y ∷ []) b == 36)
+        (ap (λ n. b == n) (sym (nil_of-push os y some))) (λ e. ap (λ n. n == 36) (field_of-old (λ x. x.class) os y b s.0) ∙ e) s.1
+    at (kind.Link v) h = refl
 
 -- ---- one thing has one word
 

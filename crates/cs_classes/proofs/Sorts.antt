@@ -1,13 +1,14 @@
 -- What an object of the heap is as an object of the model: one of four sorts by its class and format.
 use Rattle.std.proofs.Common.{◌≡◌, ℕ, zero, suc, ◌<◌, ◌≤◌, Bool, true, false, List, [], ◌∷◌, length, map, take, drop, refl, ap, sym, ◌∙◌, arith, get_or, ap₂, subst}
 use Rattle.std.specs.List.{AllPass}
+use Rattle.std.specs.Prelude.{slice_index}
 use Rattle.std.proofs.lemmas.Bool.Decides.{nat_tests}
 use Rattle.std.proofs.lemmas.List.Elements.{All-drop, All-take}
 use Rattle.cs_heap.specs.Format.{is_method, is_pointers}
 use Rattle.cs_heap.specs.Object.{Object}
 use Rattle.cs_model.specs.Ref.{Ref}
-use Rattle.cs_model.specs.Obj.{Context, Ctx, Method, Ptr, Raw}
-use Rattle.cs_classes.specs.Meaning.{code_in, context_of, depth_in, header_in, is_context, literals_in, method_of, obj_of, used_bytes}
+use Rattle.cs_model.specs.Obj.{Context, Ctx, Method, Ptr, Raw, Head}
+use Rattle.cs_classes.specs.Meaning.{code_in, context_of, depth_in, header_in, is_context, literals_in, method_of, obj_of, used_bytes, head_of}
 use Rattle.cs_classes.specs.Sound.{references_in}
 
 pub data Sort (x : Object) : Type 0 where
@@ -29,36 +30,34 @@ pub obj_of-context : (refer : ℕ → Ref) (x : Object) → is_context x ≡ tru
 unfolding obj_of
 obj_of-context refer x h = rw h refl
 
-pub obj_of-pointers : (refer : ℕ → Ref) (x : Object) → is_context x ≡ false → is_pointers x.format ≡ true → obj_of refer x ≡ Ptr x.class x.format x.hash (map refer x.words)
+pub obj_of-pointers : (refer : ℕ → Ref) (x : Object) → is_context x ≡ false → is_pointers x.format ≡ true → obj_of refer x ≡ Ptr (head_of x) (map refer x.words)
 unfolding obj_of
 obj_of-pointers refer x h i = rw (h, i) refl
 
 pub obj_of-method : (refer : ℕ → Ref) (x : Object) → is_context x ≡ false → is_pointers x.format ≡ false → is_method x.format ≡ true
-    → obj_of refer x ≡ Method x.class x.format x.hash (header_in x.words) (map refer (literals_in x.words)) (used_bytes x.format (code_in x.words))
+    → obj_of refer x ≡ Method (head_of x) (header_in x.words) (map refer (literals_in x.words)) (used_bytes x.format (code_in x.words))
 unfolding obj_of method_of
 obj_of-method refer x h i j = rw (h, i, j) refl
 
 pub obj_of-bytes : (refer : ℕ → Ref) (x : Object) → is_context x ≡ false → is_pointers x.format ≡ false → is_method x.format ≡ false
-    → obj_of refer x ≡ Raw x.class x.format x.hash (used_bytes x.format x.words)
+    → obj_of refer x ≡ Raw (head_of x) (used_bytes x.format x.words)
 unfolding obj_of
 obj_of-bytes refer x h i j = rw (h, i, j) refl
 
 -- ---- and from what it is to its sort
 
-pub record IsPointersOf (refer : ℕ → Ref) (x : Object) (c f h : ℕ) (refs : List Ref) : Type 0 where
+pub record IsPointersOf (refer : ℕ → Ref) (x : Object) (head : Head) (refs : List Ref) : Type 0 where
   pub other : is_context x ≡ false
   pub pointers : is_pointers x.format ≡ true
-  pub class : x.class ≡ c
-  pub format : x.format ≡ f
-  pub hash : x.hash ≡ h
+  pub head_is : head_of x ≡ head
   pub slots : map refer x.words ≡ refs
 
-pub pointers_of : (refer : ℕ → Ref) (x : Object) (class format hash : ℕ) (slots : List Ref) → obj_of refer x ≡ Ptr class format hash slots → IsPointersOf refer x class format hash slots
-pointers_of refer x class format hash slots h = go (sort_of x)
+pub pointers_of : (refer : ℕ → Ref) (x : Object) (head : Head) (slots : List Ref) → obj_of refer x ≡ Ptr head slots → IsPointersOf refer x head slots
+pointers_of refer x head slots h = go (sort_of x)
   where
-    go : Sort x → IsPointersOf refer x class format hash slots
+    go : Sort x → IsPointersOf refer x head slots
     go (AContext p) = absurd (let e = sym (obj_of-context refer x p) ∙ h in cc)
-    go (Pointers p q) = let e = sym (obj_of-pointers refer x p q) ∙ h in record { other = p; pointers = q; class = cc; format = cc; hash = cc; slots = cc }
+    go (Pointers p q) = let e = sym (obj_of-pointers refer x p q) ∙ h in record { other = p; pointers = q; head_is = cc; slots = cc }
     go (AMethod p q r) = absurd (let e = sym (obj_of-method refer x p q r) ∙ h in cc)
     go (Bytes p q r) = absurd (let e = sym (obj_of-bytes refer x p q r) ∙ h in cc)
 
@@ -81,41 +80,59 @@ pub map_alike : (p : ℕ → Bool) (r s : ℕ → Ref) → ((w : ℕ) → p w �
 map_alike p r s h [] all = refl
 map_alike p r s h (w ∷ ws) all = ap₂ (λ (a : Ref) (rest : List Ref). a ∷ rest) (h w (all 0 0 (omega arith))) (map_alike p r s h ws (λ k d l. all (suc k) d (omega (arith, l))))
 
-pub context_alike : (p : ℕ → Bool) (r s : ℕ → Ref) → ((w : ℕ) → p w ≡ true → r w ≡ s w) → (hash : ℕ) (ws : List ℕ) → 6 ≤ length ws → AllPass p ws → context_of r hash ws ≡ context_of s hash ws
+-- what holds of all words behind the first one
+pub behind_first : (P : ℕ → Type 0) (ws : List ℕ) → ((k d : ℕ) → k < length (drop 1 ws) → P (get_or (drop 1 ws) k d)) → (i : ℕ) → 0 < i → i < length ws → P (get_or ws i 0)
+behind_first P [] all i some l = absurd (omega (arith, l))
+behind_first P (w ∷ ws) all zero some l = absurd (omega (arith, some))
+behind_first P (w ∷ ws) all (suc i) some l = all i 0 (omega (arith, l))
+
+pub drop_six : {X : Type 0} (xs : List X) → drop 6 xs ≡ drop 5 (drop 1 xs)
+drop_six [] = refl
+drop_six (x ∷ xs) = refl
+
+-- the values of a context, where all words behind its sender are alike, and what its sender refers to is equal
+pub context_alike : (p : ℕ → Bool) (r s : ℕ → Ref) → ((w : ℕ) → p w ≡ true → r w ≡ s w) → (hash : ℕ) (ws : List ℕ) → 6 ≤ length ws
+    → r (slice_index ws 0) ≡ s (slice_index ws 0) → AllPass p (drop 1 ws) → context_of r hash ws ≡ context_of s hash ws
 unfolding context_of
-context_alike p r s h hash ws enough all = λ i. record {
-  hash = hash;
-  sender = h (get_or ws 0 0) (all 0 0 (omega (arith, enough))) i;
-  pc = (context_of r hash ws).pc;
-  method = h (get_or ws 3 0) (all 3 0 (omega (arith, enough))) i;
-  closure = h (get_or ws 4 0) (all 4 0 (omega (arith, enough))) i;
-  receiver = h (get_or ws 5 0) (all 5 0 (omega (arith, enough))) i;
-  stack = map_alike p r s h (take (depth_in ws) (drop 6 ws)) (All-take (λ (w : ℕ). p w ≡ true) (depth_in ws) (drop 6 ws) (All-drop (λ (w : ℕ). p w ≡ true) 6 ws all)) i;
-  size = (context_of r hash ws).size;
-}
+context_alike p r s h hash ws enough sender all =
+    let word : (i : ℕ) → 0 < i → i < 6 → p (get_or ws i 0) ≡ true = λ i some l. behind_first (λ w. p w ≡ true) ws all i some (omega (arith, l, enough)) in
+    let stack : AllPass p (drop 6 ws) = subst (AllPass p) (sym (drop_six ws)) (All-drop (λ (w : ℕ). p w ≡ true) 5 (drop 1 ws) all) in
+    λ i. record {
+      hash = hash;
+      sender = sender i;
+      pc = (context_of r hash ws).pc;
+      method = h (get_or ws 3 0) (word 3 (omega arith) (omega arith)) i;
+      closure = h (get_or ws 4 0) (word 4 (omega arith) (omega arith)) i;
+      receiver = h (get_or ws 5 0) (word 5 (omega arith) (omega arith)) i;
+      stack = map_alike p r s h (take (depth_in ws) (drop 6 ws)) (All-take (λ (w : ℕ). p w ≡ true) (depth_in ws) (drop 6 ws) stack) i;
+      size = (context_of r hash ws).size;
+    }
 
 pub not_pointers : (format : ℕ) → is_method format ≡ true → is_pointers format ≡ false
 not_pointers format h = grind (arith, nat_tests)
 
-pub references-pointers : (x : Object) → is_pointers x.format ≡ true → references_in x ≡ x.words
-references-pointers x h = rw h refl
+pub references-pointers : (x : Object) → is_context x ≡ false → is_pointers x.format ≡ true → references_in x ≡ x.words
+references-pointers x other h = rw (h, other) refl
+
+pub references-context : (x : Object) → is_context x ≡ true → x.format ≡ 3 → references_in x ≡ drop 1 x.words
+references-context x c f = let h : is_pointers x.format ≡ true = ap is_pointers f in rw (h, c) refl
 
 pub references-method : (x : Object) → is_method x.format ≡ true → references_in x ≡ literals_in x.words
 references-method x h = rw (not_pointers x.format h, h) refl
 
 pub obj_of-alike : (p : ℕ → Bool) (r s : ℕ → Ref) → ((w : ℕ) → p w ≡ true → r w ≡ s w) → (x : Object) → AllPass p (references_in x)
-    → (is_context x ≡ true → (x.format ≡ 3) × (6 ≤ length x.words)) → obj_of r x ≡ obj_of s x
+    → (is_context x ≡ true → (x.format ≡ 3) × ((6 ≤ length x.words) × (r (slice_index x.words 0) ≡ s (slice_index x.words 0)))) → obj_of r x ≡ obj_of s x
 obj_of-alike p r s h x all context = go (sort_of x)
   where
     go : Sort x → obj_of r x ≡ obj_of s x
     go (AContext c) =
         let shape = context c in
-        let words = subst (AllPass p) (references-pointers x (ap is_pointers shape.0)) all in
-        obj_of-context r x c ∙ ap Ctx (context_alike p r s h x.hash x.words shape.1 words) ∙ sym (obj_of-context s x c)
+        let words = subst (AllPass p) (references-context x c shape.0) all in
+        obj_of-context r x c ∙ ap Ctx (context_alike p r s h x.hash x.words shape.1.0 shape.1.1 words) ∙ sym (obj_of-context s x c)
     go (Pointers o q) =
-        let words = subst (AllPass p) (references-pointers x q) all in
-        obj_of-pointers r x o q ∙ ap (Ptr x.class x.format x.hash) (map_alike p r s h x.words words) ∙ sym (obj_of-pointers s x o q)
+        let words = subst (AllPass p) (references-pointers x o q) all in
+        obj_of-pointers r x o q ∙ ap (Ptr (head_of x)) (map_alike p r s h x.words words) ∙ sym (obj_of-pointers s x o q)
     go (AMethod o b m) =
         let words = subst (AllPass p) (references-method x m) all in
-        obj_of-method r x o b m ∙ ap (λ (ls : List Ref). Method x.class x.format x.hash (header_in x.words) ls (used_bytes x.format (code_in x.words))) (map_alike p r s h (literals_in x.words) words) ∙ sym (obj_of-method s x o b m)
+        obj_of-method r x o b m ∙ ap (λ (ls : List Ref). Method (head_of x) (header_in x.words) ls (used_bytes x.format (code_in x.words))) (map_alike p r s h (literals_in x.words) words) ∙ sym (obj_of-method s x o b m)
     go (Bytes o b m) = obj_of-bytes r x o b m ∙ sym (obj_of-bytes s x o b m)

@@ -21,14 +21,14 @@ use Rattle.cs_model.specs.Operation.{edit_object, store_byte_of, store_of}
 use Rattle.cs_model.specs.Operation as operation
 use Rattle.cs_classes.specs.declared.Roots.{Roots}
 use Rattle.cs_classes.specs.Meaning.{context_of, count_of, depth_in, header_in, is_context, kept_of, obj_of, objects_of, ref_of}
-use Rattle.cs_classes.specs.Sound.{IsSoundObject, IsWhole, is_reference, nil_of}
+use Rattle.cs_classes.specs.Sound.{IsSoundObject, IsWhole, is_reference, is_sender, nil_of}
 use Rattle.cs_classes.proofs.Heaps.{IsEdit, is_object-object_at, object_there, set_word-IsEdit, with_object-twice}
 use Rattle.cs_classes.proofs.Objects.{get-objects_of}
-use Rattle.cs_classes.proofs.Refs.{count_of-small, is_reference-small, ref_of-object, small_natural}
+use Rattle.cs_classes.proofs.Refs.{count_of-small, is_nil_or_closure, is_nil_or_method, is_reference-small, ref_of-object, small_natural}
 use Rattle.cs_classes.proofs.Edits.{obj_of-hash, obj_of-set_byte, obj_of-set_code, obj_of-set_literal, obj_of-set_word}
 use Rattle.cs_classes.proofs.Contexts.{context_of-closure, context_of-lower, context_of-method, context_of-pc, context_of-push, context_of-receiver, context_of-sender, context_of-stack, context_of-stackp, depth_is, obj_of-edit_context}
 use Rattle.cs_classes.proofs.Sounds.{IsContextWrite, method_other, sound-hash, sound-set_bytes, sound-set_code, sound-set_context, sound-set_literal, sound-set_slot, sound_at, whole_context}
-use Rattle.cs_classes.proofs.Wholes.{kept_of-with_object, whole-with_object}
+use Rattle.cs_classes.proofs.Wholes.{HashFits, kept_of-with_object, no_entry, whole-with_hash}
 
 -- a write: the heap is whole again, and its kept parts are those that g makes
 pub record Does (os us : List Object) (table : FinMap nat_cmp ℕ) (roots : Roots) (g : Kept → Kept) : Type 0 where
@@ -76,14 +76,19 @@ module _ {os : List Object} {table : FinMap nat_cmp ℕ} {roots : Roots} {a : �
   pub sound_object : IsSoundObject os x
   sound_object = sound_at os a x h.whole.heap h.there
 
-  -- any edit that keeps the object sound
-  pub does-edit : (f : Object → Object) (g : Obj → Obj) → IsEdit f → IsSoundObject os (f x) → obj_of (ref_of os) (f x) ≡ g (obj_of (ref_of os) x)
+  -- any edit that keeps the object sound, and gives it no hash but its index where it is a class
+  does-edit_by : (f : Object → Object) (g : Obj → Obj) → IsEdit f → HashFits table a (f x).hash → IsSoundObject os (f x) → obj_of (ref_of os) (f x) ≡ g (obj_of (ref_of os) x)
       → Does os (with_object os a f) table roots (λ k. edit_object k (ref_of os a) g)
-  does-edit f g edit sound means = record {
-    whole = whole-with_object os table roots a x f edit h.whole h.there sound;
+  does-edit_by f g edit hash sound means = record {
+    whole = whole-with_hash os table roots a x f edit hash h.whole h.there sound;
     kept = λ active. kept_of-with_object os table roots active a x f g edit h.whole.heap h.there means
         ∙ ap (λ (r : Ref). edit_object (kept_of os table roots active) r g) (sym (ref_of-object os a (is_object-object_at os a x h.there)));
   }
+
+  -- the same where its hash stays
+  pub does-edit : (f : Object → Object) (g : Obj → Obj) → IsEdit f → (f x).hash ≡ x.hash → IsSoundObject os (f x) → obj_of (ref_of os) (f x) ≡ g (obj_of (ref_of os) x)
+      → Does os (with_object os a f) table roots (λ k. edit_object k (ref_of os a) g)
+  does-edit f g edit hash = does-edit_by f g edit (λ index e three. hash ∙ (h.whole.entries.class index a x e three h.there).hash)
 
   slot_is : (i : ℕ) → slot_of os a i ≡ slice_index x.words i
   slot_is i = ap (λ (o : Option Object). option_map_or (λ (y : Object). slice_index y.words i) o 0) h.there
@@ -94,7 +99,7 @@ module _ {os : List Object} {table : FinMap nat_cmp ℕ} {roots : Roots} {a : �
       → Does os (with_slot os a i v) table roots (λ k. store_of k (ref_of os a) i (ref_of os v))
   unfolding store_of
   does-set_slot i v other p r =
-      does-edit (set_word i v) (operation.with_slot i (ref_of os v)) (set_word-IsEdit i v) (sound-set_slot os x i v sound_object other p r) (obj_of-set_word (ref_of os) x i v other p)
+      does-edit (set_word i v) (operation.with_slot i (ref_of os v)) (set_word-IsEdit i v) refl (sound-set_slot os x i v sound_object other p r) (obj_of-set_word (ref_of os) x i v other p)
 
   -- ---- methods
 
@@ -102,7 +107,7 @@ module _ {os : List Object} {table : FinMap nat_cmp ℕ} {roots : Roots} {a : �
       → Does os (with_slot os a i v) table roots (λ k. store_of k (ref_of os a) i (ref_of os v))
   unfolding store_of
   does-set_literal i v m l u r =
-      does-edit (set_word i v) (operation.with_slot i (ref_of os v)) (set_word-IsEdit i v) (sound-set_literal os x i v sound_object m l r)
+      does-edit (set_word i v) (operation.with_slot i (ref_of os v)) (set_word-IsEdit i v) refl (sound-set_literal os x i v sound_object m l r)
       (obj_of-set_literal (ref_of os) x i v (method_other os x sound_object m) m l u)
 
   -- bytecode i, counted from behind the literals
@@ -112,7 +117,7 @@ module _ {os : List Object} {table : FinMap nat_cmp ℕ} {roots : Roots} {a : �
   does-set_code i b m f =
       let n : ℕ = 4 * (1 + literal_count (header_in x.words)) + i in
       let v : ℕ = heap.with_byte_in (slice_index x.words (n / 4)) (n % 4) b in
-      let done = does-edit (set_word (n / 4) v) (operation.with_byte i b) (set_word-IsEdit (n / 4) v) (sound-set_code os x (n / 4) v sound_object m (omega arith))
+      let done = does-edit (set_word (n / 4) v) (operation.with_byte i b) (set_word-IsEdit (n / 4) v) refl (sound-set_code os x (n / 4) v sound_object m (omega arith))
       (obj_of-set_code (ref_of os) x i b (method_other os x sound_object m) m f) in
       subst (λ (w : ℕ). Does os (with_slot os a (n / 4) (heap.with_byte_in w (n % 4) b)) table roots (λ k. edit_object k (ref_of os a) (operation.with_byte i b))) (sym (slot_is (n / 4))) done
 
@@ -123,16 +128,22 @@ module _ {os : List Object} {table : FinMap nat_cmp ℕ} {roots : Roots} {a : �
   unfolding store_byte_of
   does-set_byte i b other p m f =
       let v : ℕ = heap.with_byte_in (slice_index x.words (i / 4)) (i % 4) b in
-      let done = does-edit (set_word (i / 4) v) (operation.with_byte i b) (set_word-IsEdit (i / 4) v) (sound-set_bytes os x (i / 4) v sound_object other p m)
+      let done = does-edit (set_word (i / 4) v) (operation.with_byte i b) (set_word-IsEdit (i / 4) v) refl (sound-set_bytes os x (i / 4) v sound_object other p m)
       (obj_of-set_byte (ref_of os) x i b other p m f) in
       subst (λ (w : ℕ). Does os (with_slot os a (i / 4) (heap.with_byte_in w (i % 4) b)) table roots (λ k. edit_object k (ref_of os a) (operation.with_byte i b))) (sym (slot_is (i / 4))) done
 
   -- ---- hashes
 
-  pub does-set_hash : (hash : ℕ) → Does os (with_hash os a hash) table roots (λ k. edit_object k (ref_of os a) (operation.with_hash hash))
-  does-set_hash hash =
-      does-edit (λ (y : Object). record y { hash = hash }) (operation.with_hash hash) (record { slots = λ (y : Object). refl; birth = λ (y : Object). refl; class = λ (y : Object). refl })
-      (sound-hash os x hash sound_object) (obj_of-hash (ref_of os) x hash)
+  -- a class of the table keeps its index as its hash
+  pub does-set_hash : (hash : ℕ) → HashFits table a hash → Does os (with_hash os a hash) table roots (λ k. edit_object k (ref_of os a) (operation.with_hash hash))
+  does-set_hash hash fits =
+      does-edit_by (λ (y : Object). record y { hash = hash }) (operation.with_hash hash)
+      (record { slots = λ (y : Object). refl; birth = λ (y : Object). refl; class = λ (y : Object). refl; format = λ (y : Object). refl })
+      fits (sound-hash os x hash sound_object) (obj_of-hash (ref_of os) x hash)
+
+  -- an object that has no hash yet may take any
+  pub does-first_hash : (hash : ℕ) → x.hash ≡ 0 → Does os (with_hash os a hash) table roots (λ k. edit_object k (ref_of os a) (operation.with_hash hash))
+  does-first_hash hash none = does-set_hash hash (λ index e three. absurd (no_entry os table roots a x h.whole h.there none index e))
 
   -- ---- contexts
 
@@ -143,36 +154,80 @@ module _ {os : List Object} {table : FinMap nat_cmp ℕ} {roots : Roots} {a : �
     context_edit : (i v : ℕ) (g : Context → Context) → IsContextWrite os x i v → context_of (ref_of os) x.hash (set x.words i v) ≡ g (context_of (ref_of os) x.hash x.words)
         → Does os (with_slot os a i v) table roots (λ k. edit_object k (ref_of os a) (edit_context g))
     context_edit i v g write means =
-        does-edit (set_word i v) (edit_context g) (set_word-IsEdit i v) (sound-set_context os x i v sound_object c write) (obj_of-edit_context (ref_of os) x (set_word i v x) g c c means)
+        does-edit (set_word i v) (edit_context g) (set_word-IsEdit i v) refl (sound-set_context os x i v sound_object c write) (obj_of-edit_context (ref_of os) x (set_word i v x) g c c means)
 
-    plain : (i v : ℕ) → (i ≡ 1 → ⊥) → (i ≡ 2 → ⊥) → is_reference os v ≡ true → IsContextWrite os x i v
-    plain i v one two r = record { reference = r; pc = λ e. absurd (one e); stackp = λ e. absurd (two e); depth = λ e. absurd (two e) }
+    -- the receiver, or a value behind the fields
+    plain : (i v : ℕ) → 5 ≤ i → is_reference os v ≡ true → IsContextWrite os x i v
+    plain i v l r = record {
+      reference = λ some. r;
+      sender = λ e. absurd (omega (arith, e, l));
+      pc = λ e. absurd (omega (arith, e, l));
+      stackp = λ e. absurd (omega (arith, e, l));
+      depth = λ e. absurd (omega (arith, e, l));
+      method = λ e. absurd (omega (arith, e, l));
+      closure = λ e. absurd (omega (arith, e, l));
+    }
 
-    pub does-set_sender : (v : ℕ) → is_reference os v ≡ true → Does os (with_slot os a 0 v) table roots (λ k. edit_object k (ref_of os a) (edit_context (λ d. record d { sender = ref_of os v })))
+    -- nil, a context, or no address
+    pub does-set_sender : (v : ℕ) → is_sender os v ≡ true → Does os (with_slot os a 0 v) table roots (λ k. edit_object k (ref_of os a) (edit_context (λ d. record d { sender = ref_of os v })))
     does-set_sender v r =
-        context_edit 0 v (λ d. record d { sender = ref_of os v }) (plain 0 v (λ e. omega (arith, e)) (λ e. omega (arith, e)) r) (context_of-sender (ref_of os) x.hash x.words v fields)
+        context_edit 0 v (λ d. record d { sender = ref_of os v }) (record {
+          reference = λ e. absurd (omega (arith, e));
+          sender = λ e. r;
+          pc = λ e. absurd (omega (arith, e));
+          stackp = λ e. absurd (omega (arith, e));
+          depth = λ e. absurd (omega (arith, e));
+          method = λ e. absurd (omega (arith, e));
+          closure = λ e. absurd (omega (arith, e));
+        }) (context_of-sender (ref_of os) x.hash x.words v fields)
 
     -- nil, or a SmallInteger that isn't negative
     pub does-set_pc : (v : ℕ) → is_reference os v ≡ true → IsTrue (v == nil_of os || is_some (count_of v)) → Does os (with_slot os a 1 v) table roots (λ k. edit_object k (ref_of os a) (edit_context (with_pc (count_of v))))
     does-set_pc v r h =
-        context_edit 1 v (with_pc (count_of v)) (record { reference = r; pc = λ e. h; stackp = λ e. absurd (omega (arith, e)); depth = λ e. absurd (omega (arith, e)) }) (context_of-pc (ref_of os) x.hash x.words v fields)
+        context_edit 1 v (with_pc (count_of v)) (record {
+          reference = λ some. r;
+          sender = λ e. absurd (omega (arith, e));
+          pc = λ e. h;
+          stackp = λ e. absurd (omega (arith, e));
+          depth = λ e. absurd (omega (arith, e));
+          method = λ e. absurd (omega (arith, e));
+          closure = λ e. absurd (omega (arith, e));
+        }) (context_of-pc (ref_of os) x.hash x.words v fields)
 
-    pub does-set_method : (v : ℕ) → is_reference os v ≡ true → Does os (with_slot os a 3 v) table roots (λ k. edit_object k (ref_of os a) (edit_context (λ d. record d { method = ref_of os v })))
-    does-set_method v r =
-        context_edit 3 v (λ d. record d { method = ref_of os v }) (plain 3 v (λ e. omega (arith, e)) (λ e. omega (arith, e)) r) (context_of-method (ref_of os) x.hash x.words v fields)
+    -- nil or a method
+    pub does-set_method : (v : ℕ) → is_reference os v ≡ true → is_nil_or_method os v ≡ true → Does os (with_slot os a 3 v) table roots (λ k. edit_object k (ref_of os a) (edit_context (λ d. record d { method = ref_of os v })))
+    does-set_method v r h =
+        context_edit 3 v (λ d. record d { method = ref_of os v }) (record {
+          reference = λ some. r;
+          sender = λ e. absurd (omega (arith, e));
+          pc = λ e. absurd (omega (arith, e));
+          stackp = λ e. absurd (omega (arith, e));
+          depth = λ e. absurd (omega (arith, e));
+          method = λ e. h;
+          closure = λ e. absurd (omega (arith, e));
+        }) (context_of-method (ref_of os) x.hash x.words v fields)
 
-    pub does-set_closure : (v : ℕ) → is_reference os v ≡ true → Does os (with_slot os a 4 v) table roots (λ k. edit_object k (ref_of os a) (edit_context (λ d. record d { closure = ref_of os v })))
-    does-set_closure v r =
-        context_edit 4 v (λ d. record d { closure = ref_of os v }) (plain 4 v (λ e. omega (arith, e)) (λ e. omega (arith, e)) r) (context_of-closure (ref_of os) x.hash x.words v fields)
+    -- nil or a closure
+    pub does-set_closure : (v : ℕ) → is_reference os v ≡ true → is_nil_or_closure os v ≡ true → Does os (with_slot os a 4 v) table roots (λ k. edit_object k (ref_of os a) (edit_context (λ d. record d { closure = ref_of os v })))
+    does-set_closure v r h =
+        context_edit 4 v (λ d. record d { closure = ref_of os v }) (record {
+          reference = λ some. r;
+          sender = λ e. absurd (omega (arith, e));
+          pc = λ e. absurd (omega (arith, e));
+          stackp = λ e. absurd (omega (arith, e));
+          depth = λ e. absurd (omega (arith, e));
+          method = λ e. absurd (omega (arith, e));
+          closure = λ e. h;
+        }) (context_of-closure (ref_of os) x.hash x.words v fields)
 
     pub does-set_receiver : (v : ℕ) → is_reference os v ≡ true → Does os (with_slot os a 5 v) table roots (λ k. edit_object k (ref_of os a) (edit_context (λ d. record d { receiver = ref_of os v })))
     does-set_receiver v r =
-        context_edit 5 v (λ d. record d { receiver = ref_of os v }) (plain 5 v (λ e. omega (arith, e)) (λ e. omega (arith, e)) r) (context_of-receiver (ref_of os) x.hash x.words v fields)
+        context_edit 5 v (λ d. record d { receiver = ref_of os v }) (plain 5 v (omega arith) r) (context_of-receiver (ref_of os) x.hash x.words v fields)
 
     -- a value of the stack, counted from the lowest; a word beyond the stack means nothing
     pub does-set_stack : (i v : ℕ) → is_reference os v ≡ true → Does os (with_slot os a (6 + i) v) table roots (λ k. edit_object k (ref_of os a) (edit_context (stored i (ref_of os v))))
     does-set_stack i v r =
-        context_edit (6 + i) v (stored i (ref_of os v)) (plain (6 + i) v (λ e. omega (arith, e)) (λ e. omega (arith, e)) r) (context_of-stack (ref_of os) x.hash x.words i v fields)
+        context_edit (6 + i) v (stored i (ref_of os v)) (plain (6 + i) v (omega arith) r) (context_of-stack (ref_of os) x.hash x.words i v fields)
 
     -- a word of stackp
     stackp_write : (y : Object) (d : ℕ) → length y.words ≡ length x.words → d ≤ length x.words - 6 → IsContextWrite os y 2 (small_word (pos d))
@@ -180,10 +235,13 @@ module _ {os : List Object} {table : FinMap nat_cmp ℕ} {roots : Roots} {a : �
         let small : d < 2 ^ 30 = small_depth os x d sound_object c l in
         let count = count_of-small d small in
         record {
-          reference = is_reference-small os (pos d) (small_natural d small);
+          reference = λ some. is_reference-small os (pos d) (small_natural d small);
+          sender = λ e. absurd (omega (arith, e));
           pc = λ e. absurd (omega (arith, e));
           stackp = λ e. or_right (small_word (pos d) == nil_of os) (is_some (count_of (small_word (pos d)))) (ap is_some count);
           depth = λ e. omega (arith, ap (λ (o : Option ℕ). unwrap_or o 0) count, l, long);
+          method = λ e. absurd (omega (arith, e));
+          closure = λ e. absurd (omega (arith, e));
         }
 
     -- the n topmost values leave the stack
@@ -214,11 +272,11 @@ module _ {os : List Object} {table : FinMap nat_cmp ℕ} {roots : Roots} {a : �
         let w : ℕ = small_word (pos (d + 1)) in
         let first : Object = set_word (6 + d) v x in
         let l : d + 1 ≤ length x.words - 6 = omega (arith, room) in
-        let first_sound = sound-set_context os x (6 + d) v sound_object c (plain (6 + d) v (λ e. omega (arith, e)) (λ e. omega (arith, e)) r) in
+        let first_sound = sound-set_context os x (6 + d) v sound_object c (plain (6 + d) v (omega arith) r) in
         let both : Object → Object = λ (y : Object). set_word 2 w (set_word (6 + d) v y) in
         let done = does-edit both (edit_context (pushed (ref_of os v)))
-        (record { slots = λ (y : Object). length-set (set y.words (6 + d) v) 2 w ∙ length-set y.words (6 + d) v; birth = λ (y : Object). refl; class = λ (y : Object). refl })
-        (sound-set_context os first 2 w first_sound c (stackp_write first (d + 1) (length-set x.words (6 + d) v) l))
+        (record { slots = λ (y : Object). length-set (set y.words (6 + d) v) 2 w ∙ length-set y.words (6 + d) v; birth = λ (y : Object). refl; class = λ (y : Object). refl; format = λ (y : Object). refl })
+        refl (sound-set_context os first 2 w first_sound c (stackp_write first (d + 1) (length-set x.words (6 + d) v) l))
         (obj_of-edit_context (ref_of os) x (both x) (pushed (ref_of os v)) c c
         (context_of-push (ref_of os) x.hash x.words v w fields room (count_of-small (d + 1) (small_depth os x (d + 1) sound_object c l)))) in
         subst (λ (us : List Object). Does os us table roots (λ k. edit_object k (ref_of os a) (edit_context (pushed (ref_of os v)))))

@@ -2,3 +2,4 @@ pub mod Table
 pub mod Meaning
 pub mod Sound
 pub mod Senders
+pub mod Kinds

@@ -11,7 +11,8 @@ use Rattle.cs_heap.specs.Format.{is_pointers, is_method, unused_units}
 use Rattle.cs_heap.specs.Object.{Object, birth_of, byte_in, object_at}
 use Rattle.cs_model.specs.Ref.{Ref, natural_of}
 use Rattle.cs_model.specs.Ref as ref
-use Rattle.cs_model.specs.Obj.{Obj, Context, Ptr, Raw, Method, Ctx, context_class, context_fields, literal_count}
+use Rattle.cs_word.specs.Header.{bit, flag_bits}
+use Rattle.cs_model.specs.Obj.{Obj, Head, Context, Ptr, Raw, Method, Ctx, context_class, context_fields, literal_count}
 use Rattle.cs_model.specs.State.{Kept}
 use Rattle.cs_classes.specs.declared.Roots.{Roots}
 
@@ -82,8 +83,12 @@ literals_in words = take (literal_count (header_in words)) (drop 1 words)
 abbrev pub code_in : List ℕ → List ℕ
 code_in words = drop (1 + literal_count (header_in words)) words
 
+-- an object is read-only where its header says so: flag 0, isImmutable
+abbrev pub head_of : Object → Head
+head_of x = record { class = x.class; format = x.format; hash = x.hash; fixed = bit (flag_bits x.flags) 0 == 1 }
+
 unfoldable pub method_of : (ℕ → Ref) → Object → Obj
-method_of refer x = Method x.class x.format x.hash (header_in x.words) (map refer (literals_in x.words)) (used_bytes x.format (code_in x.words))
+method_of refer x = Method (head_of x) (header_in x.words) (map refer (literals_in x.words)) (used_bytes x.format (code_in x.words))
 
 -- whether an object is a context
 abbrev pub is_context : Object → Bool
@@ -92,8 +97,8 @@ is_context x = x.class == context_class
 -- the object of the model that an object of the heap is, where this is what its words refer to
 unfoldable pub obj_of : (ℕ → Ref) → Object → Obj
 obj_of refer x = if is_context x then Ctx (context_of refer x.hash x.words) else
-    (if is_pointers x.format then Ptr x.class x.format x.hash (map refer x.words) else
-    (if is_method x.format then method_of refer x else Raw x.class x.format x.hash (used_bytes x.format x.words)))
+    (if is_pointers x.format then Ptr (head_of x) (map refer x.words) else
+    (if is_method x.format then method_of refer x else Raw (head_of x) (used_bytes x.format x.words)))
 
 -- the object at an address, if there is one
 abbrev pub meaning_at : List Object → ℕ → Option Obj

@@ -7,7 +7,7 @@ use Rattle.std.proofs.lemmas.Bool.Decides.{eqb_tells, nat_tests}
 use Rattle.cs_heap.specs.Object.{used}
 use Rattle.cs_model.specs.Ref.{Ref, Small, Char}
 use Rattle.cs_model.specs.Ref as ref
-use Rattle.cs_model.specs.Obj.{Obj, Context, Ptr, Ctx, context_in, lies_in, words_of}
+use Rattle.cs_model.specs.Obj.{Obj, Context, Ptr, Ctx, context_in, lies_in, words_of, Head}
 use Rattle.cs_model.specs.State.{Kept, object_at, object_of, put}
 use Rattle.cs_model.specs.Keeps.{Keeps}
 use Rattle.cs_model.specs.Demand.{words_at, words_below, words_in}
@@ -30,16 +30,16 @@ use Rattle.cs_code.proofs.Tops.{insert-twice}
 -- ---- writes to it
 
 -- what is added and then written is added as it is written
-pub stored-added : (k : Kept) (class format hash i : ℕ) (slots : List Ref) (x : Ref) → store_of (add_of k (Ptr class format hash slots)) (next_ref k) i x ≡ add_of k (Ptr class format hash (slice_set slots i x))
+pub stored-added : (k : Kept) (head : Head) (i : ℕ) (slots : List Ref) (x : Ref) → store_of (add_of k (Ptr head slots)) (next_ref k) i x ≡ add_of k (Ptr head (slice_set slots i x))
 unfolding store_of add_of put
-stored-added k class format hash i slots x =
-    let o : Obj = Ptr class format hash slots in
+stored-added k head i slots x =
+    let o : Obj = Ptr head slots in
     ap (λ (q : Option Obj). edit_found (with_slot i x) k.rest.next q (add_of k o)) (add_there k o)
-    ∙ ap (λ (m : FinMap nat_cmp Obj). let t : Kept = record { objects = m; rest = with_next (k.rest.next + 1) k.rest } in t) (insert-twice k.objects k.rest.next o (Ptr class format hash (slice_set slots i x)))
+    ∙ ap (λ (m : FinMap nat_cmp Obj). let t : Kept = record { objects = m; rest = with_next (k.rest.next + 1) k.rest } in t) (insert-twice k.objects k.rest.next o (Ptr head (slice_set slots i x)))
 
-pub storable-added : (v k : Kept) (class format hash i : ℕ) (slots : List Ref) (r : Ref) → Keeps v (add_of k (Ptr class format hash slots)) → r ≡ next_ref k → i < length slots → is_storable (object_of v r) i ≡ true
-storable-added v k class format hash i slots r keeps is few =
-    let there = keeps.whole k.rest.next (Ptr class format hash slots) (add_there k (Ptr class format hash slots)) refl in
+pub storable-added : (v k : Kept) (head : Head) (i : ℕ) (slots : List Ref) (r : Ref) → Keeps v (add_of k (Ptr head slots)) → r ≡ next_ref k → i < length slots → is_storable (object_of v r) i ≡ true
+storable-added v k head i slots r keeps is few =
+    let there = keeps.whole k.rest.next (Ptr head slots) (add_there k (Ptr head slots)) refl in
     let below : nat_lt i (length slots) ≡ true = grind (arith, nat_tests, few) in
     ap (λ (q : Ref). is_storable (object_of v q) i) is ∙ ap (λ (o : Option Obj). is_storable o i) there ∙ below
 

@@ -6,7 +6,7 @@ use Rattle.std.proofs.lemmas.List.{length-replicate, take-take, take_all}
 use Rattle.std.proofs.lemmas.Bool.Decides.{eqb_tells}
 use Rattle.cs_word.specs.declared.Oop.{Oop}
 use Rattle.cs_model.specs.Ref.{Ref}
-use Rattle.cs_model.specs.Obj.{Obj, Context, Ptr, Ctx, lies_in, popped, with_stack, words_of, words_of_slots}
+use Rattle.cs_model.specs.Obj.{Obj, Context, Ptr, Ctx, lies_in, popped, with_stack, words_of, words_of_slots, Head, new_head}
 use Rattle.cs_heap.specs.Object.{birth_of, size}
 use Rattle.cs_classes.proofs.Wholes.{get-classes_of}
 use Rattle.cs_model.specs.Context.{closure_class}
@@ -54,14 +54,14 @@ here s l k ready = record {
 }
 
 -- slot i of the object that was added is written
-pub written : (a b c : Store) (l m n : Option Layout) (v w k : Kept) (class format hash i : ℕ) (slots : List Ref) (o x : Oop) (y : Ref) → Leads a b l m v (add_of k (Ptr class format hash slots)) 1
+pub written : (a b c : Store) (l m n : Option Layout) (v w k : Kept) (head : Head) (i : ℕ) (slots : List Ref) (o x : Oop) (y : Ref) → Leads a b l m v (add_of k (Ptr head slots)) 1
     → name_of b o ≡ next_ref k → name_of b x ≡ y
     → ((u : Kept) → Keeps v u → Keeps w (store_of u (name_of b o) i (name_of b x))) → (m ≡ None → SameKept w (store_of v (name_of b o) i (name_of b x))) → n ≡ m
-    → c.memory.limit ≡ b.memory.limit → MakesAtMost 0 m b c → IsReady c w → KeepsNames b c → Leads a c l n w (add_of k (Ptr class format hash (slice_set slots i y))) 1
-written a b c l m n v w k class format hash i slots o x y led object value state exact layout limit contexts ready names =
+    → c.memory.limit ≡ b.memory.limit → MakesAtMost 0 m b c → IsReady c w → KeepsNames b c → Leads a c l n w (add_of k (Ptr head (slice_set slots i y))) 1
+written a b c l m n v w k head i slots o x y led object value state exact layout limit contexts ready names =
     subst (λ (t : Kept). Leads a c l n w t 1)
-    (ap₂ (λ (p q : Ref). store_of (add_of k (Ptr class format hash slots)) p i q) object value ∙ stored-added k class format hash i slots y)
-    (then a b c l m n v w (add_of k (Ptr class format hash slots)) 1 0 (λ (t : Kept). store_of t (name_of b o) i (name_of b x)) led state exact layout limit contexts ready names)
+    (ap₂ (λ (p q : Ref). store_of (add_of k (Ptr head slots)) p i q) object value ∙ stored-added k head i slots y)
+    (then a b c l m n v w (add_of k (Ptr head slots)) 1 0 (λ (t : Kept). store_of t (name_of b o) i (name_of b x)) led state exact layout limit contexts ready names)
 
 -- a pc of a method in the heap is a SmallInteger
 pub pc-fits : (s : Store) (k : Kept) (o : Oop) → IsReady s k → Names s o (active_context k).method → pc_of k < 2 ^ 29
@@ -106,10 +106,10 @@ copied-more k copied i j x z enough few place is =
     let next : suc i ≡ i + 1 = omega arith in
     one-more (last_values copied xs) copied i x (nil_of k) value few ∙ ap (λ (n : ℕ). copied_so_far k copied n) next
 
-pub set-copied : (k : Kept) (args i : ℕ) (x : Ref) (values more : List Ref) → slice_set values i x ≡ more → Ptr closure_class 3 0 (slice_set (slots_with k args values) (3 + i) x) ≡ closure_with k args more
+pub set-copied : (k : Kept) (args i : ℕ) (x : Ref) (values more : List Ref) → slice_set values i x ≡ more → Ptr (new_head closure_class 3) (slice_set (slots_with k args values) (3 + i) x) ≡ closure_with k args more
 set-copied k args i x values more e =
     let place : 3 + i ≡ suc (suc (suc i)) = omega arith in
-    ap (λ (j : ℕ). Ptr closure_class 3 0 (slice_set (slots_with k args values) j x)) place ∙ ap (λ (ws : List Ref). closure_with k args ws) e
+    ap (λ (j : ℕ). Ptr (new_head closure_class 3) (slice_set (slots_with k args values) j x)) place ∙ ap (λ (ws : List Ref). closure_with k args ws) e
 
 pub none-copied : (k : Kept) (copied : ℕ) → copied_so_far k copied 0 ≡ replicate copied (nil_of k)
 none-copied k copied = let all : copied - 0 ≡ copied = omega arith in ap (λ (n : ℕ). replicate n (nil_of k)) all
@@ -194,7 +194,7 @@ can-make s k slots sound births = record {
 -- it is made with nil behind a look at the active context
 pub made-bare : (a b c : Store) (l m n : Option Layout) (k v w : Kept) (copied slots : ℕ) → slots ≡ copied → IsReady a k → v ≡ k → m ≡ l → b.memory.limit ≡ a.memory.limit → MakesAtMost 1 l a b → IsSound b v → KeepsNames a b
     → ((u : Kept) → Keeps v u → Keeps w (add_of u (blank_of u 37 3 (3 + slots)))) → (m ≡ None → SameKept w (add_of v (blank_of v 37 3 (3 + slots)))) → n ≡ m → c.memory.limit ≡ b.memory.limit
-    → MakesAtMost 0 m b c → (IsReady b v → IsReady c w) → KeepsNames b c → Leads a c l n w (add_of k (Ptr 37 3 0 (replicate (suc (suc (suc copied))) (nil_of k)))) 1
+    → MakesAtMost 0 m b c → (IsReady b v → IsReady c w) → KeepsNames b c → Leads a c l n w (add_of k (Ptr (new_head 37 3) (replicate (suc (suc (suc copied))) (nil_of k)))) 1
 made-bare a b c l m n k v w copied slots size ready same laid limit contexts sound names state exact layout limit_after contexts_after after names_after =
     let ready_there : IsReady b v = record { sound = sound; running = subst IsRunning (sym same) ready.running } in
     let looked_at : Leads a b l m v k 1 = record {
@@ -207,7 +207,7 @@ made-bare a b c l m n k v w copied slots size ready same laid limit contexts sou
       names = names;
     } in
     let count : 3 + slots ≡ suc (suc (suc copied)) = omega (arith, size) in
-    subst (λ (i : ℕ). Leads a c l n w (add_of k (Ptr 37 3 0 (replicate i (nil_of k)))) 1) count
+    subst (λ (i : ℕ). Leads a c l n w (add_of k (Ptr (new_head 37 3) (replicate i (nil_of k)))) 1) count
     (then a b c l m n v w k 1 0 (λ (u : Kept). add_of u (blank_of u 37 3 (3 + slots))) looked_at state exact layout limit_after contexts_after (after ready_there) names_after)
 
 -- ---- words
@@ -227,12 +227,12 @@ pub bare-refused : (s : Store) (l : Option Layout) (k v : Kept) (copied args slo
     → CausesFull s l k (words_of_slots (3 + copied)) (add_of k (bare_closure k copied args)) why
 bare-refused s l k v copied args slots why equal_slots same cause =
     let count : 3 + slots ≡ suc (suc (suc copied)) = omega (arith, equal_slots) in
-    let there : CausesFull s l k (words_of_slots (3 + slots)) (add_of k (Ptr 37 3 0 (replicate (3 + slots) (nil_of k)))) why =
-    subst (λ (u : Kept). CausesFull s l u (words_of_slots (3 + slots)) (add_of u (Ptr 37 3 0 (replicate (3 + slots) (nil_of u)))) why) same cause in
-    let same_words : words_in (add_of k (bare_closure k copied args)) ≡ words_in (add_of k (Ptr 37 3 0 (replicate (3 + slots) (nil_of k)))) =
+    let there : CausesFull s l k (words_of_slots (3 + slots)) (add_of k (Ptr (new_head 37 3) (replicate (3 + slots) (nil_of k)))) why =
+    subst (λ (u : Kept). CausesFull s l u (words_of_slots (3 + slots)) (add_of u (Ptr (new_head 37 3) (replicate (3 + slots) (nil_of u)))) why) same cause in
+    let same_words : words_in (add_of k (bare_closure k copied args)) ≡ words_in (add_of k (Ptr (new_head 37 3) (replicate (3 + slots) (nil_of k)))) =
     words-added k (bare_closure k copied args)
     ∙ ap (λ (n : ℕ). words_in k + n) (words-closure k copied args (replicate copied (nil_of k)) (length-replicate copied (nil_of k))
     ∙ ap (λ (n : ℕ). words_of_slots (3 + n)) (sym equal_slots) ∙ ap (λ (n : ℕ). words_of_slots n) (sym (length-replicate (3 + slots) (nil_of k))))
-    ∙ sym (words-added k (Ptr 37 3 0 (replicate (3 + slots) (nil_of k)))) in
+    ∙ sym (words-added k (Ptr (new_head 37 3) (replicate (3 + slots) (nil_of k)))) in
     subst (λ (n : ℕ). CausesFull s l k (words_of_slots (3 + n)) (add_of k (bare_closure k copied args)) why) equal_slots
-    (cause-weighed s l k (add_of k (Ptr 37 3 0 (replicate (3 + slots) (nil_of k)))) (add_of k (bare_closure k copied args)) (words_of_slots (3 + slots)) why same_words there)
+    (cause-weighed s l k (add_of k (Ptr (new_head 37 3) (replicate (3 + slots) (nil_of k)))) (add_of k (bare_closure k copied args)) (words_of_slots (3 + slots)) why same_words there)

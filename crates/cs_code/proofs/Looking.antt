@@ -90,9 +90,9 @@ this-as k room =
 field-as : (k : Kept) (i : ℕ) (o : Option Obj) (x : Ref) (e : End) (t : Kept) → is_some (context_in o) ≡ true → Some x ≡ option_and_then (λ c. context_get k c i) (context_in o)
     → EndsAs (push_out k x) e t → EndsAs (push_field k i o) e t
 field-as k i None x e t h there ends_as = absurd (cc)
-field-as k i (Some (Ptr class format hash slots)) x e t h there ends_as = absurd (cc)
-field-as k i (Some (Raw class format hash bytes)) x e t h there ends_as = absurd (cc)
-field-as k i (Some (Method class format hash header literals bytecodes)) x e t h there ends_as = absurd (cc)
+field-as k i (Some (Ptr head slots)) x e t h there ends_as = absurd (cc)
+field-as k i (Some (Raw head bytes)) x e t h there ends_as = absurd (cc)
+field-as k i (Some (Method head header literals bytecodes)) x e t h there ends_as = absurd (cc)
 field-as k i (Some (Ctx c)) x e t h there ends_as =
     subst (λ f. EndsAs (given f (stop why.BadField k) (λ (y : Ref). if i == 0 then looked (push_out k y) else push_out k y)) e t) there (go (i == 0))
   where
@@ -134,9 +134,9 @@ push-looks k x = go (nat_lt (depth_of k) (size_of k))
 found-looks : (k : Kept) (i : ℕ) (o : Option Obj) (x : Ref) → is_some (context_in o) ≡ true → Some x ≡ option_and_then (λ c. context_get k c i) (context_in o) → (push_field k i o).count.looks ≡ made_by_reading i
 unfolding looked
 found-looks k i None x h there = absurd (cc)
-found-looks k i (Some (Ptr class format hash slots)) x h there = absurd (cc)
-found-looks k i (Some (Raw class format hash bytes)) x h there = absurd (cc)
-found-looks k i (Some (Method class format hash header literals bytecodes)) x h there = absurd (cc)
+found-looks k i (Some (Ptr head slots)) x h there = absurd (cc)
+found-looks k i (Some (Raw head bytes)) x h there = absurd (cc)
+found-looks k i (Some (Method head header literals bytecodes)) x h there = absurd (cc)
 found-looks k i (Some (Ctx c)) x h there =
     subst (λ (f : Option Ref). (given f (stop why.BadField k) (λ (y : Ref). if i == 0 then looked (push_out k y) else push_out k y)).count.looks ≡ made_by_reading i) there (go (i == 0))
   where

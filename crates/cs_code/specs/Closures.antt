@@ -2,7 +2,7 @@
 use Rattle.std.specs.Prelude.{ℕ, pos, ◌-◌, List, ◌∷◌, ◌++◌, replicate, take}
 use Rattle.cs_model.specs.Ref.{Ref, Small}
 use Rattle.cs_model.specs.Ref as ref
-use Rattle.cs_model.specs.Obj.{Obj, Ptr}
+use Rattle.cs_model.specs.Obj.{Obj, Ptr, new_head}
 use Rattle.cs_model.specs.State.{Kept}
 use Rattle.cs_model.specs.Read.{active_birth, pc_of, stack_of}
 use Rattle.cs_model.specs.Operation.{last_values, nil_of}
@@ -13,7 +13,7 @@ abbrev pub slots_with : Kept → ℕ → List Ref → List Ref
 slots_with k args values = ref.Obj (active_birth k) ∷ Small (pos (pc_of k)) ∷ Small (pos args) ∷ values
 
 abbrev pub closure_with : Kept → ℕ → List Ref → Obj
-closure_with k args values = Ptr closure_class 3 0 (slots_with k args values)
+closure_with k args values = Ptr (new_head closure_class 3) (slots_with k args values)
 
 -- all of whose copied values are nil
 abbrev pub bare_closure : Kept → ℕ → ℕ → Obj

@@ -90,9 +90,9 @@ between first count pc len h fits = go (nat_le first pc) (nat_le pc (first + cou
 
 lies_past : (o : Option Obj) (pc : ℕ) (i : Instr) → lies_in o pc ≡ true → decode_at (bytecodes_in o) (pc - first_pc (literals_in o)) ≡ Some i → lies_in o (pc + i.len) ≡ true
 lies_past None pc i h e = absurd (cc)
-lies_past (Some (Ptr class format hash slots)) pc i h e = absurd (cc)
-lies_past (Some (Raw class format hash bytes)) pc i h e = absurd (cc)
-lies_past (Some (Method class format hash header literals bytecodes)) pc i h e = between (first_pc literals) (length bytecodes) pc i.len h (fitting bytecodes (pc - first_pc literals) i e)
+lies_past (Some (Ptr head slots)) pc i h e = absurd (cc)
+lies_past (Some (Raw head bytes)) pc i h e = absurd (cc)
+lies_past (Some (Method head header literals bytecodes)) pc i h e = between (first_pc literals) (length bytecodes) pc i.len h (fitting bytecodes (pc - first_pc literals) i e)
 lies_past (Some (Ctx c)) pc i h e = absurd (cc)
 
 pub lies_behind : (k : Kept) (i : Instr) → IsRunning k → instruction_at k ≡ Some i → lies_in (method_of k) (pc_of k + i.len) ≡ true

@@ -237,9 +237,9 @@ kill_contexts k i j h = elim (eqb_tells j i) [
 ]
   where
     dies : (o : Obj) → is_some (context_in (Some o)) ≡ true → is_some (context_in (Some (dead_object k.rest.nil o))) ≡ true
-    dies (Ptr class format hash slots) s = s
-    dies (Raw class format hash bytes) s = s
-    dies (Method class format hash header literals bytecodes) s = s
+    dies (Ptr head slots) s = s
+    dies (Raw head bytes) s = s
+    dies (Method head header literals bytecodes) s = s
     dies (Ctx c) s = refl
 
     go : (o : Option Obj) → object_at k i ≡ o → is_some (context_in o) ≡ true → is_some (context_in (object_at (edit_found (dead_object k.rest.nil) i o k) i)) ≡ true

@@ -50,9 +50,9 @@ bytes_kept v m (ref.Obj i) bytes k h = go (object_at m i) refl h
   where
     go : (o : Option Obj) → object_at m i ≡ o → or_bytes (byte_string o) None ≡ Some bytes → or_bytes (byte_string (object_at v i)) None ≡ Some bytes
     go None e h = absurd (cc)
-    go (Some (Ptr class format hash slots)) e h = absurd (cc)
-    go (Some (Raw class format hash bs)) e h = ap (λ o. or_bytes (byte_string o) None) (k.whole i (Raw class format hash bs) e refl) ∙ h
-    go (Some (Method class format hash header literals bytecodes)) e h = absurd (cc)
+    go (Some (Ptr head slots)) e h = absurd (cc)
+    go (Some (Raw head bs)) e h = ap (λ o. or_bytes (byte_string o) None) (k.whole i (Raw head bs) e refl) ∙ h
+    go (Some (Method head header literals bytecodes)) e h = absurd (cc)
     go (Some (Ctx c)) e h = absurd (cc)
 
 -- ---- in the heap

@@ -32,9 +32,9 @@ bytes_in (Some x) = if is_byte_format x.format then Some (used_bytes x.format x.
 
 context_bytes : (o : Option Obj) → is_context_at o ≡ true → byte_string o ≡ None
 context_bytes None h = refl
-context_bytes (Some (Ptr class format hash slots)) h = absurd (cc)
-context_bytes (Some (Raw class format hash bytes)) h = absurd (cc)
-context_bytes (Some (Method class format hash header literals bytecodes)) h = absurd (cc)
+context_bytes (Some (Ptr head slots)) h = absurd (cc)
+context_bytes (Some (Raw head bytes)) h = absurd (cc)
+context_bytes (Some (Method head header literals bytecodes)) h = absurd (cc)
 context_bytes (Some (Ctx c)) h = refl
 
 no_bytes : (x : Object) → is_byte_format x.format ≡ false → bytes_in (Some x) ≡ None

@@ -48,9 +48,9 @@ field_replies k args i value = given_replies k value _ (λ x. if_replies k (i ==
 
 slot_replies : (k : Kept) (args i : ℕ) (o : Option Obj) → Replies k (slot_at k args i o)
 slot_replies k args i None = failing k
-slot_replies k args i (Some (Ptr class format hash slots)) = given_replies k (slice_get slots i) _ (λ x. answering k args x)
-slot_replies k args i (Some (Raw class format hash bytes)) = failing k
-slot_replies k args i (Some (Method class format hash header literals bytecodes)) = failing k
+slot_replies k args i (Some (Ptr head slots)) = given_replies k (slice_get slots i) _ (λ x. answering k args x)
+slot_replies k args i (Some (Raw head bytes)) = failing k
+slot_replies k args i (Some (Method head header literals bytecodes)) = failing k
 slot_replies k args i (Some (Ctx c)) = field_replies k args i (context_get k c i)
 
 slot_at_replies : (k : Kept) (args : ℕ) → Replies k (slot_at_prim k args)

@@ -1,12 +1,13 @@
 -- The laws of the object memory, for the crates above: what is read after a write and after an allocation, and how the
 -- addresses lie. A function over a heap often needs no proof file where it names the ruleset at the end of this file:
 -- #[tactic(auto, using(cs_heap::proofs::Laws::heap_laws))].
-use Rattle.std.proofs.Common.{◌≡◌, ◌≢◌, ◌⊎◌, inl, inr, ℕ, zero, suc, ◌+◌, ◌*◌, ◌/◌, ◌%◌, ◌<◌, ◌≤◌, Bool, true, false, List, [], ◌∷◌, ◌++◌, length, get_or, map, Option, Some, None, option_map, option_and_then, is_some, refl, ap, sym, ◌∙◌, arith, eqb, get_or-set_same, get_or-set_other, length-append}
+use Rattle.std.proofs.Common.{◌≡◌, ◌≢◌, ◌⊎◌, inl, inr, ℕ, zero, suc, ◌+◌, ◌*◌, ◌/◌, ◌%◌, ◌<◌, ◌≤◌, Bool, true, false, cond, List, [], ◌∷◌, ◌++◌, length, get_or, map, Option, Some, None, option_map, option_and_then, is_some, refl, ap, sym, ◌∙◌, arith, eqb, get_or-set_same, get_or-set_other, length-append}
 use Rattle.std.proofs.lemmas.List.{length-replicate, length-set}
 use Rattle.std.proofs.lemmas.Bool.Decides.{nat_tests}
 use Rattle.std.specs.Prelude.{slice_get, slice_set, sum_by}
 use Rattle.std.specs.Option.{option_map_or}
-use Rattle.cs_heap.specs.Object.{Object, address_among, address_of, at_index, base, birth_of, class_of, format_of, byte_in, byte_of, field_of, hash_of, header_address, index_among, index_of, is_object, new_object, new_slot, next_address, next_of, object_at, set_word, size, slot_count_of, slot_counts, slot_of, units, used, with_byte, with_byte_in, with_hash, with_object, with_slot}
+use Rattle.cs_heap.specs.Object.{Object, address_among, address_of, at_index, base, birth_of, class_of, format_of, byte_in, byte_of, field_of, hash_of, header_address, index_among, index_of, is_fixed, is_object, new_object, new_slot, next_address, next_of, object_at, set_word, size, slot_count_of, slot_counts, slot_of, units, used, with_byte, with_byte_in, with_fixed, with_hash, with_object, with_slot}
+use Rattle.cs_word.specs.Header.{flag_bits, with_immutable}
 use Rattle.cs_heap.proofs.Places.{Found, address_past, found_by_address, found_by_index, has_index, index_split, next_of-found, object_at-found, split_by_index, used-append, used-cons, used-push}
 
 -- ---- addresses and indices
@@ -307,6 +308,63 @@ hash_of-with_hash_same xs a hash h = let f = has_index xs a h in
 pub hash_of-with_hash_other : (xs : List Object) (a hash b : ℕ) → a ≢ b → hash_of (with_hash xs a hash) b ≡ hash_of xs b
 hash_of-with_hash_other xs a hash b other = field_of-with_object_other (λ (x : Object). x.hash) xs a b (give_hash hash) (λ x. refl) other
 
+-- ---- an object is made read-only, or is so no longer
+
+abbrev pub give_fixed : Bool → Object → Object
+give_fixed on x = record x { flags = with_immutable on x.flags }
+
+pub index_of-with_fixed : (xs : List Object) (a : ℕ) (on : Bool) (b : ℕ) → index_of (with_fixed xs a on) b ≡ index_of xs b
+index_of-with_fixed xs a on b = index_of-with_object xs a b (give_fixed on) (λ x. refl)
+
+pub is_object-with_fixed : (xs : List Object) (a : ℕ) (on : Bool) (b : ℕ) → is_object (with_fixed xs a on) b ≡ is_object xs b
+is_object-with_fixed xs a on b = ap is_some (index_of-with_fixed xs a on b)
+
+pub used-with_fixed : (xs : List Object) (a : ℕ) (on : Bool) → used (with_fixed xs a on) ≡ used xs
+used-with_fixed xs a on = used-with_object xs a (give_fixed on) (λ x. refl)
+
+-- all but the flags stays
+pub field_of-with_fixed : (g : Object → ℕ) (xs : List Object) (a : ℕ) (on : Bool) (b : ℕ) → ((x : Object) → g (give_fixed on x) ≡ g x) → field_of g (with_fixed xs a on) b ≡ field_of g xs b
+field_of-with_fixed g xs a on b same = field_of-with_object_kept g xs a b (give_fixed on) (λ x. refl) same
+
+pub class_of-with_fixed : (xs : List Object) (a : ℕ) (on : Bool) (b : ℕ) → class_of (with_fixed xs a on) b ≡ class_of xs b
+class_of-with_fixed xs a on b = field_of-with_fixed (λ (x : Object). x.class) xs a on b (λ x. refl)
+
+pub format_of-with_fixed : (xs : List Object) (a : ℕ) (on : Bool) (b : ℕ) → format_of (with_fixed xs a on) b ≡ format_of xs b
+format_of-with_fixed xs a on b = field_of-with_fixed (λ (x : Object). x.format) xs a on b (λ x. refl)
+
+pub hash_of-with_fixed : (xs : List Object) (a : ℕ) (on : Bool) (b : ℕ) → hash_of (with_fixed xs a on) b ≡ hash_of xs b
+hash_of-with_fixed xs a on b = field_of-with_fixed (λ (x : Object). x.hash) xs a on b (λ x. refl)
+
+pub birth_of-with_fixed : (xs : List Object) (a : ℕ) (on : Bool) (b : ℕ) → birth_of (with_fixed xs a on) b ≡ birth_of xs b
+birth_of-with_fixed xs a on b = field_of-with_fixed (λ (x : Object). x.birth) xs a on b (λ x. refl)
+
+pub slot_count_of-with_fixed : (xs : List Object) (a : ℕ) (on : Bool) (b : ℕ) → slot_count_of (with_fixed xs a on) b ≡ slot_count_of xs b
+slot_count_of-with_fixed xs a on b = field_of-with_fixed (λ (x : Object). length x.words) xs a on b (λ x. refl)
+
+pub slot_of-with_fixed : (xs : List Object) (a : ℕ) (on : Bool) (b i : ℕ) → slot_of (with_fixed xs a on) b i ≡ slot_of xs b i
+slot_of-with_fixed xs a on b i = field_of-with_fixed (λ (x : Object). get_or x.words i 0) xs a on b (λ x. refl)
+
+lowest : (on : Bool) (n : ℕ) → eqb ((n / 2 * 2 + cond on 1 0) % 2) 1 ≡ on
+lowest true n = grind (arith, nat_tests)
+lowest false n = grind (arith, nat_tests)
+
+pub is_fixed-with_fixed_same : (xs : List Object) (a : ℕ) (on : Bool) → is_object xs a ≡ true → is_fixed (with_fixed xs a on) a ≡ on
+is_fixed-with_fixed_same xs a on h =
+    let f = has_index xs a h in
+    ap (λ (n : ℕ). eqb (n % 2) 1) (field_of-with_object_same (λ (x : Object). flag_bits x.flags) xs a (give_fixed on) (λ x. refl)
+    ∙ ap (λ (o : Option Object). option_map_or (λ (x : Object). flag_bits x.flags / 2 * 2 + cond on 1 0) o 0) (object_at-found xs a f.0 f.1))
+    ∙ lowest on (flag_bits f.1.split.x.flags)
+
+pub is_fixed-with_fixed_other : (xs : List Object) (a : ℕ) (on : Bool) (b : ℕ) → a ≢ b → is_fixed (with_fixed xs a on) b ≡ is_fixed xs b
+is_fixed-with_fixed_other xs a on b other = ap (λ (n : ℕ). eqb (n % 2) 1) (field_of-with_object_other (λ (x : Object). flag_bits x.flags) xs a b (give_fixed on) (λ x. refl) other)
+
+-- stores and hashes leave it
+pub is_fixed-with_slot : (xs : List Object) (a i v b : ℕ) → is_fixed (with_slot xs a i v) b ≡ is_fixed xs b
+is_fixed-with_slot xs a i v b = ap (λ (n : ℕ). eqb (n % 2) 1) (field_of-with_slot (λ (x : Object). flag_bits x.flags) xs a i v b (λ x. refl))
+
+pub is_fixed-with_hash : (xs : List Object) (a hash b : ℕ) → is_fixed (with_hash xs a hash) b ≡ is_fixed xs b
+is_fixed-with_hash xs a hash b = ap (λ (n : ℕ). eqb (n % 2) 1) (field_of-with_hash (λ (x : Object). flag_bits x.flags) xs a hash b (λ x. refl))
+
 -- ---- a byte is stored
 
 -- a word with one byte replaced: that byte, and the others
@@ -413,6 +471,10 @@ next_address-set_word xs y a i v h = h ∙ ap (next_address xs) (sym (set_word_k
 pub with_hash-new : (xs : List Object) (y : Object) (a hash : ℕ) → a ≡ next_address xs (length y.words) → with_hash (pushed xs y) a hash ≡ pushed xs (give_hash hash y)
 with_hash-new xs y a hash h = with_object-new xs y a (give_hash hash) h
 
+pub is_fixed-new : (xs : List Object) (a class format slots birth : ℕ) → a ≡ next_address xs slots → is_fixed (pushed xs (new_object class format slots birth)) a ≡ false
+is_fixed-new xs a class format slots birth h =
+    ap (λ (n : ℕ). eqb (n % 2) 1) (field_of-new (λ (x : Object). flag_bits x.flags) xs (new_object class format slots birth) a (next_address-new xs a class format slots birth h))
+
 -- before, nothing was there
 pub no_object-next : (xs : List Object) (slots : ℕ) → is_object xs (next_address xs slots) ≡ false
 no_object-next xs slots = go (is_object xs (next_address xs slots)) refl
@@ -483,4 +545,4 @@ pub used-pushed : (xs : List Object) (y : Object) → used (pushed xs y) ≡ use
 used-pushed xs y = used-push xs y
 
 -- what the tactics may use of a heap after a call
-pub ruleset heap_laws = (is_object-with_slot, class_of-with_slot, format_of-with_slot, hash_of-with_slot, birth_of-with_slot, slot_count_of-with_slot, slot_of-with_slot_same, slot_of-with_slot_other_slot, slot_of-with_slot_other_object, used-with_slot, is_object-with_hash, class_of-with_hash, format_of-with_hash, birth_of-with_hash, slot_count_of-with_hash, slot_of-with_hash, hash_of-with_hash_same, hash_of-with_hash_other, used-with_hash, next_address-new, next_address-set_word, is_object-new, field_of-new, with_slot-new, with_hash-new, is_object-old, field_of-old)
+pub ruleset heap_laws = (is_object-with_slot, class_of-with_slot, format_of-with_slot, hash_of-with_slot, birth_of-with_slot, slot_count_of-with_slot, slot_of-with_slot_same, slot_of-with_slot_other_slot, slot_of-with_slot_other_object, used-with_slot, is_object-with_hash, class_of-with_hash, format_of-with_hash, birth_of-with_hash, slot_count_of-with_hash, slot_of-with_hash, hash_of-with_hash_same, hash_of-with_hash_other, used-with_hash, is_object-with_fixed, class_of-with_fixed, format_of-with_fixed, hash_of-with_fixed, birth_of-with_fixed, slot_count_of-with_fixed, slot_of-with_fixed, used-with_fixed, is_fixed-with_fixed_same, is_fixed-with_fixed_other, is_fixed-with_slot, is_fixed-with_hash, is_fixed-new, next_address-new, next_address-set_word, is_object-new, field_of-new, with_slot-new, with_hash-new, is_object-old, field_of-old)

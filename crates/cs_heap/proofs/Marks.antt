@@ -1,15 +1,16 @@
 -- What the marks tell: which addresses are objects, and where the next object is.
-use Rattle.std.proofs.Common.{◌≡◌, ◌≢◌, ℕ, zero, suc, ◌+◌, ◌*◌, ◌/◌, ◌%◌, ◌-◌, ◌<◌, ◌≤◌, Bool, true, false, cond, List, [], ◌∷◌, ◌++◌, length, get_or, replicate, Some, None, is_some, refl, ap, sym, ◌∙◌, subst, arith, eqb, leb, not, ◌&&◌, length-append}
+use Rattle.std.proofs.Common.{◌≡◌, ◌≢◌, ℕ, zero, suc, ◌+◌, ◌*◌, ◌/◌, ◌%◌, ◌-◌, ◌<◌, ◌≤◌, Bool, true, false, cond, List, [], ◌∷◌, ◌++◌, length, get_or, replicate, Some, None, is_some, refl, ap, sym, ◌∙◌, subst, arith, eqb, leb, not, min, ◌&&◌, length-append}
 use Rattle.std.proofs.lemmas.List.{get_or-append-add, get_or-append_right, get_or_append_left}
 use Rattle.std.proofs.lemmas.Grind.{flat_map-append}
 use Rattle.std.proofs.lemmas.Bool.Decides.{nat_tests}
 use Rattle.std.specs.Prelude.{flat_map}
 use Rattle.cs_heap.specs.Object.{Object, address_of, base, body_units, header_address, index_of, units, units_before, used}
-use Rattle.cs_heap.specs.Layout.{IsLaid, address_from, marked, marks_of, unit_in}
+use Rattle.cs_heap.specs.Layout.{IsLaid, address_from, headers_in, marked, marks_of, unit_in}
 use Rattle.cs_heap.specs.declared.Heap.TheInside.{Inside}
 use Rattle.cs_heap.proofs.OneObject.{length-marked, marks_of_is}
 use Rattle.cs_heap.proofs.Places.{Split, address_past, address_split, found_is, split_here, split_next, used-append}
-use Rattle.cs_heap.proofs.Standing.{length-all_marks}
+use Rattle.cs_heap.proofs.Standing.{length-all_marks, length-marks}
+use Rattle.cs_heap.proofs.Watching.{headers_in-at, length-headers_in}
 
 blank : (n u : ℕ) → get_or {A = ℕ} (replicate n 0) u 0 ≡ 0
 blank zero u = refl
@@ -56,27 +57,34 @@ marked_split (x ∷ xs) at u h =
 
 pub marked_found : (h : Inside) (xs : List Object) → IsLaid h xs → (u : ℕ) → get_or h.marks.items u 0 ≢ 0 → is_some (index_of xs (base + 8 * u)) ≡ true
 marked_found h xs laid u m =
-    let s = marked_split xs base u (λ z. m (ap (λ (zs : List ℕ). get_or zs u 0) laid.marks ∙ z)) in
+    let s = marked_split xs base u (λ z. m (none (get_or h.marks.items u 0) (sym (headers_in-at h.marks.items u) ∙ ap (λ (zs : List ℕ). get_or zs u 0) laid.marks ∙ z))) in
     ap is_some (found_is xs (base + 8 * u) s.0 s.1).index_is
+  where
+    none : (n : ℕ) → min n 1 ≡ 0 → n ≡ 0
+    none n e = omega (arith, e)
 
 -- the object behind those before, if there is one
 pub walk : (h : Inside) (before after : List Object) → IsLaid h (before ++ after) → (u : ℕ) → 2 * u ≡ used before → address_from h.marks.items u ≡ address_of (before ++ after) (length before)
 walk h before [] laid u e =
-    let last : length h.marks.items ≤ u = omega (arith, ap length laid.marks, length-all_marks (before ++ []), used-append before [], e) in
+    let last : length h.marks.items ≤ u = omega (arith, length-marks h (before ++ []) laid, used-append before [], e) in
     let test : leb (length h.marks.items) u ≡ true = grind (arith, nat_tests) in
     rw test (sym (address_past (before ++ []) base (length before) (omega (arith, length-append before []))))
 walk h before (y ∷ ys) laid u e =
     let size_is : length (flat_map marks_of before) ≡ u = omega (arith, length-all_marks before, e) in
-    let marks_are : h.marks.items ≡ flat_map marks_of before ++ (marks_of y ++ flat_map marks_of ys) = laid.marks ∙ flat_map-append marks_of before (y ∷ ys) in
-    let here : get_or h.marks.items u 0 ≡ get_or (marks_of y ++ flat_map marks_of ys) 0 0 =
+    let marks_are : headers_in h.marks.items ≡ flat_map marks_of before ++ (marks_of y ++ flat_map marks_of ys) = laid.marks ∙ flat_map-append marks_of before (y ∷ ys) in
+    let here : get_or (headers_in h.marks.items) u 0 ≡ get_or (marks_of y ++ flat_map marks_of ys) 0 0 =
     ap (λ (zs : List ℕ). get_or zs u 0) marks_are ∙ ap (λ (v : ℕ). get_or (flat_map marks_of before ++ (marks_of y ++ flat_map marks_of ys)) v 0) (sym size_is ∙ omega arith)
     ∙ get_or-append-add (flat_map marks_of before) (marks_of y ++ flat_map marks_of ys) 0 0 in
     let first : get_or (marks_of y ++ flat_map marks_of ys) 0 0 ≡ get_or (marked 0 1 (length y.words)) 0 0 =
     get_or_append_left (marks_of y) (flat_map marks_of ys) 0 0 (omega (arith, long_marks y)) ∙ ap (λ (zs : List ℕ). get_or zs 0 0) (marks_of_is y) in
-    let inside : u < length h.marks.items = omega (arith, ap length marks_are, length-append (flat_map marks_of before) (marks_of y ++ flat_map marks_of ys), length-append (marks_of y) (flat_map marks_of ys), long_marks y, size_is) in
+    let inside : u < length h.marks.items = omega (arith, length-headers_in h.marks.items, ap length marks_are, length-append (flat_map marks_of before) (marks_of y ++ flat_map marks_of ys), length-append (marks_of y) (flat_map marks_of ys), long_marks y, size_is) in
     let test : leb (length h.marks.items) u ≡ false = grind (arith, nat_tests) in
-    rw (test, here, first) (header_first (length y.words) (used before) u e) ∙ sym (address_split before ys y base)
+    rw test (ap (λ t. cond t (Some (base + 8 * (u + 1))) (Some (base + 8 * u))) (same_zero (get_or h.marks.items u 0) (get_or (marked 0 1 (length y.words)) 0 0) (sym (headers_in-at h.marks.items u) ∙ here ∙ first))
+    ∙ header_first (length y.words) (used before) u e) ∙ sym (address_split before ys y base)
   where
+    same_zero : (m n : ℕ) → min m 1 ≡ n → eqb m 0 ≡ eqb n 0
+    same_zero m n e = grind (arith, nat_tests)
+
     header_first : (n b u : ℕ) → 2 * u ≡ b → cond (eqb (get_or (marked 0 1 n) 0 0) 0) (Some (base + 8 * (u + 1))) (Some (base + 8 * u)) ≡ Some (header_address (base + 4 * b) n)
     header_first n b u e = go (leb 255 n)
       where
@@ -113,5 +121,5 @@ unit_in_of address above aligned =
 pub nonzero : (n : ℕ) → not (eqb n 0) ≡ true → n ≢ 0
 nonzero n h e = let zero_is : eqb n 0 ≡ true = grind (arith, nat_tests) in cc
 
-pub one_is_marked : (n : ℕ) → n ≡ 1 → not (eqb n 0) ≡ true
-one_is_marked n e = let other : eqb n 0 ≡ false = grind (arith, nat_tests) in rw other refl
+pub is_marked : (n : ℕ) → 0 < n → not (eqb n 0) ≡ true
+is_marked n e = let other : eqb n 0 ≡ false = grind (arith, nat_tests) in rw other refl

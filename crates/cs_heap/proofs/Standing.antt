@@ -7,11 +7,12 @@ use Rattle.std.proofs.lemmas.Bool.Decides.{nat_tests}
 use Rattle.std.specs.Prelude.{flat_map}
 use Rattle.std.specs.List.{AllByRecursion}
 use Rattle.cs_heap.specs.Object.{Memory, Object, base, body_units, set_word, size, units, units_before, used, with_object}
-use Rattle.cs_heap.specs.Layout.{IsHeap, IsLaid, IsStorable, births_of, count_in, header, header_in, marked, marks_of, memory, objects, objects_in, row, words_of}
+use Rattle.cs_heap.specs.Layout.{IsHeap, IsLaid, IsStorable, births_of, count_in, header, header_in, headers_in, marked, marks_of, memory, objects, objects_in, row, words_of}
 use Rattle.cs_heap.specs.declared.Heap.TheInside.{Inside}
 use Rattle.cs_heap.proofs.OneObject.{births_of_is, count_in_row, fits_body, high_in_row, length-marked, length-words_of, low_in_row, marks_of_is, row-set_header, row-set_slot, slot_in_row, value_marked, words_of_is}
 use Rattle.cs_heap.proofs.Decoding.{bits_back, enough_words, header_back, in_front, objects_back, stored_header}
 use Rattle.cs_heap.proofs.Places.{Found, Split, used-cons, with_object-found}
+use Rattle.cs_heap.proofs.Watching.{headers_in-at, length-headers_in}
 use Rattle.cs_word.specs.Header.{header_bits, header_of}
 use Rattle.cs_word.specs.declared.header.Header.{Header}
 
@@ -28,6 +29,9 @@ length-all_births (x ∷ xs) = omega (arith, length-append (births_of x) (flat_m
 pub length-all_marks : (xs : List Object) → 2 * length (flat_map marks_of xs) ≡ used xs
 length-all_marks [] = refl
 length-all_marks (x ∷ xs) = omega (arith, length-append (marks_of x) (flat_map marks_of xs), ap length (marks_of_is x), length-marked 1 (length x.words), used-cons x xs, length-all_marks xs)
+
+pub length-marks : (h : Inside) (xs : List Object) → IsLaid h xs → 2 * length h.marks.items ≡ used xs
+length-marks h xs laid = omega (arith, length-headers_in h.marks.items, ap length laid.marks, length-all_marks xs)
 
 -- ---- one object among others
 
@@ -69,7 +73,8 @@ pub record IsThere (h : Inside) (u : ℕ) (x : Object) : Type 0 where
   pub slot_is : (i : ℕ) → i < length x.words → get_or h.words.items (2 * u + 2 + i) 0 ≡ get_or x.words i 0
   pub birth_is : get_or h.births.items u 0 ≡ x.birth
   pub births_within : u < length h.births.items
-  pub mark_is : get_or h.marks.items u 0 ≡ 1
+  pub mark_is : 0 < get_or h.marks.items u 0
+  pub marks_within : u < length h.marks.items
   pub marks_length : 2 * length h.marks.items ≡ length h.words.items
 
 module _ (h : Inside) (before after : List Object) (x : Object) (laid : IsLaid h (before ++ x ∷ after)) where
@@ -79,7 +84,7 @@ module _ (h : Inside) (before after : List Object) (x : Object) (laid : IsLaid h
   births_are : h.births.items ≡ flat_map births_of before ++ (births_of x ++ flat_map births_of after)
   births_are = laid.births ∙ flat_map-append births_of before (x ∷ after)
 
-  marks_are : h.marks.items ≡ flat_map marks_of before ++ (marks_of x ++ flat_map marks_of after)
+  marks_are : headers_in h.marks.items ≡ flat_map marks_of before ++ (marks_of x ++ flat_map marks_of after)
   marks_are = laid.marks ∙ flat_map-append marks_of before (x ∷ after)
 
   length-words : length h.words.items ≡ used before + size (length x.words) + used after
@@ -136,7 +141,7 @@ module _ (h : Inside) (before after : List Object) (x : Object) (laid : IsLaid h
   pub there : (u : ℕ) → 2 * u ≡ used before + 2 * units_before (length x.words) → IsThere h u x
   there u e =
       let birth = read_marked h.births.items (flat_map births_of before) (births_of x) (flat_map births_of after) u x.birth births_are (length-all_births before) (births_of_is x) e in
-      let mark = read_marked h.marks.items (flat_map marks_of before) (marks_of x) (flat_map marks_of after) u 1 marks_are (length-all_marks before) (marks_of_is x) e in
+      let mark = read_marked (headers_in h.marks.items) (flat_map marks_of before) (marks_of x) (flat_map marks_of after) u 1 marks_are (length-all_marks before) (marks_of_is x) e in
       record {
         storable = all-middle before after x laid.storable;
         header_is = read_header u e;
@@ -146,8 +151,9 @@ module _ (h : Inside) (before after : List Object) (x : Object) (laid : IsLaid h
         slot_is = λ i less. read_slot u i e less;
         birth_is = birth.0;
         births_within = birth.1;
-        mark_is = mark.0;
-        marks_length = omega (arith, ap length laid.marks, length-all_marks (before ++ x ∷ after), ap length laid.words, length-all_words (before ++ x ∷ after));
+        mark_is = omega (arith, mark.0, headers_in-at h.marks.items u);
+        marks_within = omega (arith, mark.1, length-headers_in h.marks.items);
+        marks_length = omega (arith, length-marks h (before ++ x ∷ after) laid, ap length laid.words, length-all_words (before ++ x ∷ after));
       }
     where
       one : (u : ℕ) → 255 ≤ length x.words → 2 * u ≡ used before + 2 * units_before (length x.words) → 0 < u
@@ -232,7 +238,7 @@ known h xs laid address k f =
 
 -- one object changed in its words alone
 pub changed : (h new : Inside) (xs : List Object) (address k : ℕ) (g : Object → Object) → (f : Found xs address k) → IsLaid h xs
-    → new.words.items ≡ flat_map words_of (f.split.before ++ g f.split.x ∷ f.split.after) → new.births.items ≡ h.births.items → new.marks.items ≡ h.marks.items
+    → new.words.items ≡ flat_map words_of (f.split.before ++ g f.split.x ∷ f.split.after) → new.births.items ≡ h.births.items → headers_in new.marks.items ≡ headers_in h.marks.items
     → (g f.split.x).birth ≡ f.split.x.birth → length (g f.split.x).words ≡ length f.split.x.words → IsStorable (g f.split.x)
     → IsLaid new (with_object xs address g)
 changed h new xs address k g f laid words births marks birth count storable =

@@ -1,11 +1,12 @@
 -- How the heap keeps its objects: all their words in one row as 32-bit Spur lays them out, and beside it, for each unit
 -- of 8 bytes, the birth of the object whose header it is and a mark that says that there is one.
 use Rattle.std.specs.Prelude.{◌≡◌, ℕ, zero, suc, ◌+◌, ◌*◌, ◌/◌, ◌%◌, ◌-◌, ◌^◌, ◌<◌, ◌≤◌, ◌==◌, ◌&&◌, IsTrue, List, [], ◌∷◌, ◌++◌, Option, Some, None}
-use Rattle.std.specs.Prelude.{if◌then◌else◌, nat_le, min, length, slice_index, slice_set, take, drop, replicate, flat_map, vec_capacity}
+use Rattle.std.specs.Prelude.{if◌then◌else◌, nat_le, map, min, length, slice_index, slice_set, take, drop, replicate, flat_map, vec_capacity}
 use Rattle.std.specs.List.{AllByRecursion}
-use Rattle.std.specs.Option.{option_map_or}
+use Rattle.std.specs.Ordering.{nat_cmp}
+use Rattle.std.specs.FinSet.{FinSet, empty, insert}
 use Rattle.cs_heap.specs.Format.{format_allows}
-use Rattle.cs_heap.specs.Object.{Memory, Object, base, body_units, class_of, format_of, hash_of, no_flags, object_at, slot_count_of, units, units_before}
+use Rattle.cs_heap.specs.Object.{Memory, Object, base, body_units, units, units_before}
 use Rattle.cs_word.specs.Header.{flag_bits, header_bits, header_of}
 use Rattle.cs_word.specs.declared.header.Header.{Header}
 use Rattle.cs_heap.specs.declared.Heap.TheInside.{Inside}
@@ -20,16 +21,6 @@ header x = record {
   format = x.format;
   hash = x.hash;
   slots = min 255 (length x.words);
-}
-
--- the header of the object at an address
-abbrev pub header_seen : List Object → ℕ → Header
-header_seen xs address = record {
-  class = class_of xs address;
-  flags = option_map_or (λ x. x.flags) (object_at xs address) no_flags;
-  format = format_of xs address;
-  hash = hash_of xs address;
-  slots = min 255 (slot_count_of xs address);
 }
 
 -- what stands before the header of an object of so many slots: from 255 on the count, and 255 in the top byte
@@ -111,8 +102,24 @@ objects_in (suc most) (w ∷ ws) births = let slots = first_count (w ∷ ws) in
 abbrev pub objects : Inside → List Object
 objects h = objects_in (length h.words.items) h.words.items h.births.items
 
+-- A unit's mark is 0 where it is no header, 1 where it is one, and 2 where it is that of a watched object. Here for each
+-- unit whether it is a header, 1 or 0.
+abbrev pub headers_in : List ℕ → List ℕ
+headers_in = map (λ mark. min mark 1)
+
+-- the addresses of the watched objects, where the first of these units has the address `at`
+unfoldable pub watched_in : ℕ → List ℕ → FinSet nat_cmp
+watched_in at [] = empty
+watched_in at (mark ∷ marks) =
+    let rest = watched_in (at + 8) marks in if mark == 2 then insert rest at else rest
+
 abbrev pub memory : Inside → Memory
-memory h = record { limit = h.limit; objects = objects h }
+memory h = record {
+  limit = h.limit;
+  objects = objects h;
+  watched = watched_in base h.marks.items;
+  dirty = h.dirty;
+}
 
 -- ---- what always holds
 
@@ -128,7 +135,7 @@ pub record IsStorable (x : Object) : Type 0 where
 pub record IsLaid (h : Inside) (xs : List Object) : Type 0 where
   pub words : h.words.items ≡ flat_map words_of xs
   pub births : h.births.items ≡ flat_map births_of xs
-  pub marks : h.marks.items ≡ flat_map marks_of xs
+  pub marks : headers_in h.marks.items ≡ flat_map marks_of xs
   pub storable : AllByRecursion IsStorable xs
 
 -- the objects are within the limit, for which there is room

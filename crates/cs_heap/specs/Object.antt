@@ -1,9 +1,13 @@
 -- The object memory as an ordered list of objects, and the addresses at which they lie.
 use Rattle.std.specs.Prelude.{ℕ, zero, suc, ◌+◌, ◌*◌, ◌/◌, ◌%◌, ◌-◌, ◌^◌, ◌==◌, Bool, List, [], ◌∷◌, Option, Some, None, is_some}
-use Rattle.std.specs.Prelude.{if◌then◌else◌, nat_le, max, map, length, slice_index, slice_set, slice_get, option_map, option_and_then, sum_by, replicate}
+use Rattle.std.specs.Prelude.{if◌then◌else◌, nat_le, max, min, map, length, slice_index, slice_set, slice_get, option_map, option_and_then, sum_by, replicate}
 use Rattle.std.specs.Option.{option_map_or}
+use Rattle.std.specs.Ordering.{nat_cmp}
+use Rattle.std.specs.FinSet.{FinSet, contains}
 use Rattle.cs_heap.specs.Format.{is_pointers}
+use Rattle.cs_word.specs.Header.{flag_bits, with_immutable}
 use Rattle.cs_word.specs.declared.header.Flags.{Flags}
+use Rattle.cs_word.specs.declared.header.Header.{Header}
 
 -- An object: the index of its class, its header flags, its format and identity hash, its birth, and its slots as words.
 pub record Object : Type 0 where
@@ -14,10 +18,13 @@ pub record Object : Type 0 where
   pub birth : ℕ
   pub words : List ℕ
 
--- The memory: the objects in the order in which they lie, which take at most `limit` words.
+-- The memory: the objects in the order in which they lie, which take at most `limit` words, the addresses of those that
+-- are watched, and whether a slot of a watched one was stored since the memory was made or cleaned.
 pub record Memory : Type 0 where
   pub limit : ℕ
   pub objects : List Object
+  pub watched : FinSet nat_cmp
+  pub dirty : Bool
 
 -- ---- what an object takes, in units of 8 bytes
 
@@ -101,6 +108,14 @@ hash_of = field_of (λ x. x.hash)
 abbrev pub birth_of : List Object → ℕ → ℕ
 birth_of = field_of (λ x. x.birth)
 
+-- the header's flags as a number
+abbrev pub flags_of : List Object → ℕ → ℕ
+flags_of = field_of (λ x. flag_bits x.flags)
+
+-- an object is fixed, which is read-only, where its header says isImmutable
+abbrev pub is_fixed : List Object → ℕ → Bool
+is_fixed objects address = flags_of objects address % 2 == 1
+
 abbrev pub slot_count_of : List Object → ℕ → ℕ
 slot_count_of = field_of (λ x. length x.words)
 
@@ -114,6 +129,20 @@ byte_in word j = word / 256 ^ j % 256
 -- byte i of an object: four in each word, the lowest first
 abbrev pub byte_of : List Object → ℕ → ℕ → ℕ
 byte_of objects address i = byte_in (slot_of objects address (i / 4)) (i % 4)
+
+-- whether the object at an address is watched
+abbrev pub is_watched : Memory → ℕ → Bool
+is_watched m address = contains m.watched address
+
+-- the header of the object at an address: its count of slots is 255 where there are as many or more
+abbrev pub header_seen : List Object → ℕ → Header
+header_seen objects address = record {
+  class = class_of objects address;
+  flags = record { 0 = flags_of objects address };
+  format = format_of objects address;
+  hash = hash_of objects address;
+  slots = min 255 (slot_count_of objects address);
+}
 
 -- the address of the object right behind that at an address
 abbrev pub next_of : List Object → ℕ → Option ℕ
@@ -164,3 +193,6 @@ with_byte objects address i byte =
 
 abbrev pub with_hash : List Object → ℕ → ℕ → List Object
 with_hash objects address hash = with_object objects address (λ x. record x { hash = hash })
+
+abbrev pub with_fixed : List Object → ℕ → Bool → List Object
+with_fixed objects address on = with_object objects address (λ x. record x { flags = with_immutable on x.flags })

@@ -12,11 +12,13 @@
 
 mod rows;
 
-ghost use Rattle.std.specs.Prelude.{◌≡◌, ℕ, ◌+◌, ◌*◌, ◌<◌, ◌≤◌, ◌^◌, ◌↔◌, [], ◌∷◌, ◌++◌, IfOk, IsErr, IsTrue, OnErr, option_map};
+ghost use Rattle.std.specs.Prelude.{◌≡◌, ℕ, ◌+◌, ◌*◌, ◌<◌, ◌≤◌, ◌^◌, ◌↔◌, [], ◌∷◌, ◌++◌, IfOk, IsErr, IsTrue, OnErr, false, option_map};
+ghost use Rattle.std.specs.FinSet.{empty};
 ghost use Rattle.cs_word.specs.Header.{IsWritable};
 ghost use Rattle.cs_heap.specs.Format.{format_allows};
-ghost use Rattle.cs_heap.specs.Object.{address_of, birth_of, byte_of, class_of, format_of, hash_of, is_object, new_object};
-ghost use Rattle.cs_heap.specs.Object.{next_address, next_of, size as size_of, slot_count_of, slot_of, used, with_byte, with_hash, with_slot};
+ghost use Rattle.cs_heap.specs.Object.{address_of, birth_of, byte_of, class_of, format_of, hash_of, header_seen, is_fixed, is_watched};
+ghost use Rattle.cs_heap.specs.Object.{is_object, next_address, next_of, size as size_of, slot_count_of, slot_of, used};
+ghost use Rattle.cs_heap.specs.Writes.{byte_stored, cleaned, fixed_stored, hash_stored, object_added, slot_stored, watch_begun};
 
 use bitflags::Flags as _;
 use cs_word::{Flags, Header, Oop};
@@ -26,11 +28,17 @@ use std::marker::Model;
 /// The address of the first word of the first object, in bytes.
 pub const BASE: u32 = 65536;
 
+/// The mark of a unit that is a header.
+const HEADER: u8 = 1;
+
+/// The mark of one whose object is watched.
+const WATCHED: u8 = 2;
+
 /// The object memory.
 ///
 /// It is seen as `limit`, the words that its objects may take, and `objects`, the list of them in
-/// the order of their addresses, each with class, flags, format, hash, birth and words. A call that
-/// takes an object has the condition that it is one of this heap, which `is_object` tests, and one
+/// the order of their addresses, each with class, flags, format, hash, birth and words; and beside
+/// them `watched`, the addresses of the watched ones, and `dirty`. A call that takes an object has the condition that it is one of this heap, which `is_object` tests, and one
 /// that takes an index that it is in range, by `slot_count`.
 #[derive(Drop)]
 pub struct Heap {
@@ -38,17 +46,21 @@ pub struct Heap {
     words: Vec<u32>,
     /// For each unit that is a header the birth of its object, for the others 0.
     births: Vec<u64>,
-    /// For each unit 1 where it is a header, and else 0.
+    /// For each unit `HEADER` where it is a header, `WATCHED` where its object is watched, and else 0.
     marks: Vec<u8>,
     limit: u32,
+    /// Whether a slot of a watched object was stored since `new` or `clean`.
+    dirty: bool,
 }
 
 impl Model for Heap {
+    ghost use Rattle.cs_heap.specs.Code.{memory_code};
+    ghost use Rattle.cs_heap.specs.Layout.{IsHeap, memory};
     ghost use Rattle.cs_heap.specs.Object.{Memory};
 
     ghost Value = { Memory };
 
-    ghost use Rattle.cs_heap.specs.Layout.{IsHeap, memory};
+    ghost coded = { memory_code };
 
     ghost view = { memory };
 
@@ -85,15 +97,15 @@ pub fn format_allows(format: u8, slots: u32) -> bool
 }
 
 impl Heap {
-    ghost use Rattle.cs_heap.specs.Layout.{header_seen};
-
-    /// An empty heap whose objects may take `limit_words` words. It reserves all memory that it
-    /// will ever use.
+    /// An empty heap whose objects may take `limit_words` words. It isn't dirty. It reserves all
+    /// memory that it will ever use.
     pub fn new(alloc: Global, limit_words: u32) -> Result<Heap, AllocError>
         requires least { 4096 ≤ limit_words }
         requires most { limit_words ≤ 67108864 }
         ensures limit { IfOk result (λ heap. heap.limit ≡ limit_words) }
         ensures empty { IfOk result (λ heap. heap.objects ≡ []) }
+        ensures unwatched { IfOk result (λ heap. heap.watched ≡ empty) }
+        ensures clean { IfOk result (λ heap. heap.dirty ≡ false) }
     {
         let limit = limit_words as usize;
         let words = Vec::with_capacity(alloc, limit)?;
@@ -104,10 +116,11 @@ impl Heap {
             births,
             marks,
             limit: limit_words,
+            dirty: false,
         })
     }
 
-    /// Adds an object at the end, without flags and with hash 0. Where its format has pointers,
+    /// Adds an object at the end, without flags, with hash 0 and not watched. Where its format has pointers,
     /// each slot holds the address of the first object, which is nil in an image; else each is 0.
     /// `HeapFull` comes exactly where the objects would take more words than the limit, and then
     /// the heap is as it was.
@@ -122,10 +135,9 @@ impl Heap {
         requires shape { IsTrue (format_allows format slots) }
         ensures full { IsErr result ↔ (self.old.limit < used self.old.objects + size_of slots) }
         ensures unchanged_if_full { OnErr result (self.new ≡ self.old) }
-        ensures added { IfOk result (λ _. self.new ≡ record self.old {
-          objects = self.old.objects ++ new_object class format slots birth ∷ [];
-        }) }
+        ensures added { IfOk result (λ _. self.new ≡ object_added self.old class format slots birth) }
         ensures address { IfOk result (λ o. o.0 ≡ next_address self.old.objects slots) }
+        ensures unwatched { IfOk result (λ o. is_watched self.new o.0 ≡ false) }
     {
         if u64::from(self.used_words()) + size(slots) > u64::from(self.limit) {
             return Err(HeapFull);
@@ -140,7 +152,7 @@ impl Heap {
         };
         rows::push_object(&mut self.words, header, slots, rows::new_slot(format));
         rows::push_marked(&mut self.births, slots, birth, 0);
-        rows::push_marked(&mut self.marks, slots, 1, 0);
+        rows::push_marked(&mut self.marks, slots, HEADER, 0);
         Ok(rows::address(unit))
     }
 
@@ -248,28 +260,63 @@ impl Heap {
         rows::byte_in(self.slot(o, i / 4).0, i % 4)
     }
 
-    /// Stores `v` in slot `i`, counted from 0, and changes nothing else.
+    /// Whether the object is read-only.
+    pub fn is_fixed(&self, o: Oop) -> bool
+        requires { IsTrue (is_object self.now.objects o.0) }
+        ensures { result ≡ is_fixed self.now.objects o.0 }
+    {
+        self.header(o).flags.contains(Flags::IS_IMMUTABLE)
+    }
+
+    /// Whether the object is watched.
+    pub fn is_watched(&self, o: Oop) -> bool
+        requires { IsTrue (is_object self.now.objects o.0) }
+        ensures { result ≡ is_watched self.now o.0 }
+    {
+        self.marks[rows::unit_of(o)] == WATCHED
+    }
+
+    /// Whether a slot of a watched object was stored since the heap was made or cleaned.
+    pub fn dirty(&self) -> bool
+        ensures { result ≡ self.now.dirty }
+    {
+        self.dirty
+    }
+
+    /// What the object's header says; its count of slots is 255 where there are as many or more.
+    pub fn header(&self, o: Oop) -> Header
+        requires { IsTrue (is_object self.now.objects o.0) }
+        ensures value { result ≡ header_seen self.now.objects o.0 }
+        ensures writable { IsWritable result }
+        ensures shape { IsTrue (format_allows result.format (slot_count_of self.now.objects o.0)) }
+    {
+        rows::header_at(&self.words, rows::unit_of(o))
+    }
+
+    /// Stores `v` in slot `i`, counted from 0. Where the object is watched, the heap is dirty from here
+    /// on. Nothing else changes.
     pub fn set_slot(&mut self, o: Oop, i: u32, v: Oop)
         requires { i < slot_count_of self.old.objects o.0 }
-        ensures { self.new ≡ record self.old { objects = with_slot self.old.objects o.0 i v.0 } }
+        ensures { self.new ≡ slot_stored self.old o.0 i v.0 }
     {
+        self.dirty |= self.is_watched(o);
         self.words[rows::slot_place(o, i)] = v.0;
     }
 
     /// Stores `b` in byte `i`, counted as `byte` counts, and changes nothing else.
     pub fn set_byte(&mut self, o: Oop, i: u32, b: u8)
         requires { i < 4 * slot_count_of self.old.objects o.0 }
-        ensures { self.new ≡ record self.old { objects = with_byte self.old.objects o.0 i b } }
+        ensures { self.new ≡ byte_stored self.old o.0 i b }
     {
         let word = rows::with_byte_in(self.slot(o, i / 4).0, i % 4, b);
-        self.set_slot(o, i / 4, Oop(word));
+        self.words[rows::slot_place(o, i / 4)] = word;
     }
 
     /// Gives the object the identity hash `h`, of 22 bits, and changes nothing else.
     pub fn set_hash(&mut self, o: Oop, h: u32)
         requires object { IsTrue (is_object self.old.objects o.0) }
         requires below { h < 2 ^ 22 }
-        ensures { self.new ≡ record self.old { objects = with_hash self.old.objects o.0 h } }
+        ensures { self.new ≡ hash_stored self.old o.0 h }
     {
         let header = Header {
             hash: h,
@@ -278,14 +325,30 @@ impl Heap {
         rows::set_header(&mut self.words, rows::unit_of(o), header);
     }
 
-    /// The object's header.
-    fn header(&self, o: Oop) -> Header
-        requires { IsTrue (is_object self.now.objects o.0) }
-        ensures value { result ≡ header_seen self.now.objects o.0 }
-        ensures writable { IsWritable result }
-        ensures shape { IsTrue (format_allows result.format (slot_count_of self.now.objects o.0)) }
+    /// Makes the object read-only where `on`, and else ends that, and changes nothing else.
+    pub fn set_fixed(&mut self, o: Oop, on: bool)
+        requires { IsTrue (is_object self.old.objects o.0) }
+        ensures { self.new ≡ fixed_stored self.old o.0 on }
     {
-        rows::header_at(&self.words, rows::unit_of(o))
+        let mut header = self.header(o);
+        header.flags.set(Flags::IS_IMMUTABLE, on);
+        rows::set_header(&mut self.words, rows::unit_of(o), header);
+    }
+
+    /// Watches the object from here on, and changes nothing else.
+    pub fn watch(&mut self, o: Oop)
+        requires { IsTrue (is_object self.old.objects o.0) }
+        ensures { self.new ≡ watch_begun self.old o.0 }
+    {
+        let place = rows::unit_of(o);
+        self.marks[place] = WATCHED;
+    }
+
+    /// Makes the heap not dirty, and changes nothing else: watched objects stay so.
+    pub fn clean(&mut self)
+        ensures { self.new ≡ cleaned self.old }
+    {
+        self.dirty = false;
     }
 }
 

@@ -24,15 +24,15 @@ store_rest k (ref.Obj j) x = go (object_at k j)
 
 plain : (o : Option Obj) → slots_in o ≡ Some [] → is_context_at o ≡ false
 plain None h = refl
-plain (Some (Ptr class format hash slots)) h = refl
-plain (Some (Raw class format hash bytes)) h = refl
-plain (Some (Method class format hash header literals bytecodes)) h = refl
+plain (Some (Ptr head slots)) h = refl
+plain (Some (Raw head bytes)) h = refl
+plain (Some (Method head header literals bytecodes)) h = refl
 plain (Some (Ctx c)) h = absurd (cc)
 
 plain_slot : (x : Ref) (o : Obj) → slots_in (Some (with_slot 1 x o)) ≡ Some [] → is_context_at (Some o) ≡ false
-plain_slot x (Ptr class format hash slots) h = refl
-plain_slot x (Raw class format hash bytes) h = refl
-plain_slot x (Method class format hash header literals bytecodes) h = refl
+plain_slot x (Ptr head slots) h = refl
+plain_slot x (Raw head bytes) h = refl
+plain_slot x (Method head header literals bytecodes) h = refl
 plain_slot x (Ctx c) h = absurd (cc)
 
 plain_edit : (k : Kept) (x : Ref) (j n : ℕ) (o : Option Obj) → object_at k j ≡ o → slots_in (object_at (edit_found (with_slot 1 x) j o k) n) ≡ Some [] → is_context_at (object_at k n) ≡ false

@@ -5,7 +5,7 @@ use Rattle.std.specs.List.{AllByRecursion}
 use Rattle.cs_model.specs.Ref.{Ref, birth_of}
 use Rattle.cs_model.specs.Ref as ref
 use Rattle.cs_model.specs.Obj.{Context, Ctx, lies_in}
-use Rattle.cs_model.specs.State.{Kept, object_at, object_of, slots_of, special_at, scheduler_of, active_process, is_nil, IsHeld, ContextHeld}
+use Rattle.cs_model.specs.State.{Kept, object_at, object_of, is_read_only, slots_of, special_at, scheduler_of, active_process, is_nil, IsHeld, ContextHeld}
 use Rattle.cs_model.specs.Read.{IsRunning, class_of, active_birth, active_context, stack_of, depth_of, size_of, pc_of, receiver_of, method_of, literals_of, bytecodes_of}
 use Rattle.cs_model.specs.Operation.{nil_of}
 use Rattle.cs_model.specs.Number.{boolean}
@@ -14,7 +14,7 @@ use Rattle.cs_model.specs.Enter.{can_evaluate}
 use Rattle.cs_model.specs.Exec.{literal_at, variable_value}
 use Rattle.cs_model.specs.Lookup.{lookup}
 use Rattle.cs_model.specs.Return.{sender_birth, senders_to, home, is_marked, is_live}
-use Rattle.cs_model.specs.Process.{slot_or_none}
+use Rattle.cs_model.specs.Process.{slot_or_none, shaped_scheduler}
 use Rattle.cs_model.specs.PrimProcess.{is_semaphore}
 use Rattle.cs_model.specs.Instance.{class_index_for, hash_of}
 use Rattle.cs_model.specs.Due.{is_idle}
@@ -23,13 +23,13 @@ use Rattle.cs_model.specs.Report.{place_at, no_place, place_of}
 use Rattle.cs_model.specs.Keeps.{Keeps}
 use Rattle.cs_model.specs.Alike.{SoughtHeld}
 use Rattle.cs_model.proofs.Same.{Same, same, SameOption, none, some, Any, two, if_same, equal, holds, option_equal, option_holds, is}
-use Rattle.cs_model.proofs.Reading.{rest_same, Has, nil_same, boolean_same, is_nil_same, object_at_same, object_of_same, slots_of_same, special_at_same, scheduler_same, active_process_same, class_of_same, active_birth_same, active_ref_same, active_context_same, slice_same, stack_same, depth_same, size_same, pc_same, receiver_same, method_same, literals_same, bytecodes_same}
+use Rattle.cs_model.proofs.Reading.{rest_same, Has, nil_same, boolean_same, is_nil_same, object_at_same, object_of_same, is_read_only_same, slots_of_same, special_at_same, scheduler_same, active_process_same, class_of_same, active_birth_same, active_ref_same, active_context_same, slice_same, stack_same, depth_same, size_same, pc_same, receiver_same, method_same, literals_same, bytecodes_same}
 use Rattle.cs_model.proofs.Fields.{context_get_same, accepts_same}
 use Rattle.cs_model.proofs.Making.{class_index_for_same, hash_of_same}
 use Rattle.cs_model.proofs.Entering.{can_evaluate_same}
 use Rattle.cs_model.proofs.Executing.{literal_at_same, variable_value_same}
 use Rattle.cs_model.proofs.Searching.{lookup_same, sender_birth_same, senders_to_same, home_same, is_marked_same, is_live_same}
-use Rattle.cs_model.proofs.Scheduling.{slot_same}
+use Rattle.cs_model.proofs.Scheduling.{slot_same, shaped_scheduler_same}
 use Rattle.cs_model.proofs.Processing.{is_semaphore_same}
 use Rattle.cs_model.proofs.Happening.{is_idle_same}
 use Rattle.cs_model.proofs.Stepping.{instruction_at_same}
@@ -41,6 +41,9 @@ object_at-kept v m i k h = option_equal (object_at_same k (same i h))
 
 pub object_of-kept : (v m : Kept) (x : Ref) → Keeps v m → IsHeld v x → object_of m x ≡ object_of v x
 object_of-kept v m x k h = option_equal (object_of_same k (same x h))
+
+pub is_read_only-kept : (v m : Kept) (x : Ref) → Keeps v m → IsHeld v x → is_read_only m x ≡ is_read_only v x
+is_read_only-kept v m x k h = equal (is_read_only_same k (same x h))
 
 pub slots_of-kept : (v m : Kept) (n : ℕ) (x : Ref) → Keeps v m → IsHeld v x → slots_of m n x ≡ slots_of v n x
 slots_of-kept v m n x k h = option_equal (slots_of_same k n (same x h))
@@ -95,6 +98,9 @@ bytecodes_of-kept v m k = equal (bytecodes_same k)
 
 pub scheduler_of-kept : (v m : Kept) → Keeps v m → scheduler_of m ≡ scheduler_of v
 scheduler_of-kept v m k = option_equal (scheduler_same k)
+
+pub shaped_scheduler-kept : (v m : Kept) → Keeps v m → shaped_scheduler m ≡ shaped_scheduler v
+shaped_scheduler-kept v m k = option_equal (shaped_scheduler_same k)
 
 pub active_process-kept : (v m : Kept) → Keeps v m → active_process m ≡ active_process v
 active_process-kept v m k = option_equal (active_process_same k)
@@ -156,7 +162,7 @@ unfolding place_of
 place_of-kept v m k = equal (place_at_same k (active_process_same k))
 
 -- what is read of a state that is kept
-pub ruleset reads_kept = (object_at-kept, object_of-kept, slots_of-kept, slot_or_none-kept, special_at-kept, nil_of-kept, is_nil-kept, boolean-kept, class_of-kept, active_birth-kept, active_context-kept, stack_of-kept, depth_of-kept, size_of-kept, pc_of-kept, receiver_of-kept, method_of-kept, literals_of-kept, bytecodes_of-kept, scheduler_of-kept, active_process-kept, literal_at-kept, variable_value-kept, context_get-kept, accepts-kept, class_index_for-kept, hash_of-kept, can_evaluate-kept, lookup-kept, sender_birth-kept, senders_to-kept, home-kept, is_marked-kept, is_live-kept, is_semaphore-kept, is_idle-kept, instruction_at-kept, place_of-kept)
+pub ruleset reads_kept = (object_at-kept, object_of-kept, is_read_only-kept, slots_of-kept, slot_or_none-kept, special_at-kept, nil_of-kept, is_nil-kept, boolean-kept, class_of-kept, active_birth-kept, active_context-kept, stack_of-kept, depth_of-kept, size_of-kept, pc_of-kept, receiver_of-kept, method_of-kept, literals_of-kept, bytecodes_of-kept, scheduler_of-kept, shaped_scheduler-kept, active_process-kept, literal_at-kept, variable_value-kept, context_get-kept, accepts-kept, class_index_for-kept, hash_of-kept, can_evaluate-kept, lookup-kept, sender_birth-kept, senders_to-kept, home-kept, is_marked-kept, is_live-kept, is_semaphore-kept, is_idle-kept, instruction_at-kept, place_of-kept)
 
 -- ---- what is there
 
@@ -174,6 +180,9 @@ slot_or_none-held v n i x y k h e = option_holds (slot_same k n i (same x h)) y 
 
 pub scheduler_of-held : (v : Kept) (x : Ref) → Keeps v v → scheduler_of v ≡ Some x → IsHeld v x
 scheduler_of-held v x k e = option_holds (scheduler_same k) x e
+
+pub shaped_scheduler-held : (v : Kept) (x : Ref) → Keeps v v → shaped_scheduler v ≡ Some x → IsHeld v x
+shaped_scheduler-held v x k e = option_holds (shaped_scheduler_same k) x e
 
 pub active_process-held : (v : Kept) (x : Ref) → Keeps v v → active_process v ≡ Some x → IsHeld v x
 active_process-held v x k e = option_holds (active_process_same k) x e
@@ -215,7 +224,7 @@ pub context_get-held : (v : Kept) (c : Context) (i : ℕ) (x : Ref) → Keeps v 
 context_get-held v c i x k h e = option_holds (context_get_same k (same c h) i) x e
 
 -- what is read of a closed state
-pub ruleset reads_held = (special_at-held, class_of-held, slots_of-held, slot_or_none-held, scheduler_of-held, active_process-held, literal_at-held, variable_value-held, stack_at-held, nil_of-held, active_ref-held, active_context-held, stack_of-held, receiver_of-held, literals_of-held, boolean-held, lookup-held, context_get-held)
+pub ruleset reads_held = (special_at-held, class_of-held, slots_of-held, slot_or_none-held, scheduler_of-held, shaped_scheduler-held, active_process-held, literal_at-held, variable_value-held, stack_at-held, nil_of-held, active_ref-held, active_context-held, stack_of-held, receiver_of-held, literals_of-held, boolean-held, lookup-held, context_get-held)
 
 -- ---- where a context is active
 

@@ -4,14 +4,14 @@ use Rattle.cs_model.specs.Ref.{Ref}
 use Rattle.cs_model.specs.State.{Kept, IsHeld}
 use Rattle.cs_model.specs.PrimAnswer.{answer, receiver, argument, answer_if, with_count}
 use Rattle.cs_model.specs.PrimNumber.{number_prim}
-use Rattle.cs_model.specs.PrimObject.{answer_in}
+use Rattle.cs_model.specs.PrimObject.{answer_in, unless_read_only}
 use Rattle.cs_model.specs.End.{Out}
 use Rattle.cs_model.specs.End as ends
 use Rattle.cs_model.specs.Keeps.{Keeps}
 use Rattle.cs_model.specs.Alike.{Alike}
 use Rattle.cs_model.proofs.Same.{Same, same, SameOption, none, some, is, and_then_same, or_same}
 use Rattle.cs_model.proofs.Keeping.{Moved}
-use Rattle.cs_model.proofs.Reading.{up, nil_same, stack_same, from_top_same}
+use Rattle.cs_model.proofs.Reading.{up, is_read_only_same, nil_same, stack_same, from_top_same}
 use Rattle.cs_model.proofs.Operating.{receiver_below_same}
 use Rattle.cs_model.proofs.Combining.{fail_alike, moved_alike, behind, given_alike, if_alike}
 use Rattle.cs_model.proofs.Executing.{instead_moved, small_operands_same, number_result_same}
@@ -58,6 +58,9 @@ if_moved (same false a) s t = t
 pub answer_in_alike : {v m : Kept} {o p : Option Kept} {x y : Ref} → MovedOption v o p → Keeps v m → (args : ℕ) → Same (IsHeld v) x y → Alike v (answer_in o v args x) (answer_in p m args y)
 answer_in_alike nothing k args s = fail_alike k
 answer_in_alike (gives t) k args s = behind t (answer_alike t.keeps args (up t.grows s))
+
+pub unless_read_only_alike : {v m : Kept} {x y : Ref} {a b : Out} → Keeps v m → Same (IsHeld v) x y → Alike v a b → Alike v (unless_read_only v x a) (unless_read_only m y b)
+unless_read_only_alike k s h = if_alike (is_read_only_same k s) (fail_alike k) h
 
 -- ---- numbers
 

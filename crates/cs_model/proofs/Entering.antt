@@ -15,15 +15,15 @@ use Rattle.cs_model.proofs.Operating.{append_same, last_values_same, drop_same, 
 use Rattle.cs_model.proofs.Fields.{and_same}
 use Rattle.cs_model.proofs.Combining.{moved_alike, stop_alike, if_alike, made_context_alike}
 
-closure_object : {v : Kept} (class format hash : ℕ) (slots : List Ref) → (b : Bool) → AllHeld v slots → Same (AllHeld v) (if b then slots else []) (if b then slots else [])
-closure_object class format hash slots true h = same slots h
-closure_object class format hash slots false h = same [] (record { all = tt })
+closure_object : {v : Kept} (slots : List Ref) → (b : Bool) → AllHeld v slots → Same (AllHeld v) (if b then slots else []) (if b then slots else [])
+closure_object slots true h = same slots h
+closure_object slots false h = same [] (record { all = tt })
 
 closure_slots_same : {v : Kept} {o p : Option Obj} → SameOption (NamesHeld v) o p → Same (AllHeld v) (closure_slots o) (closure_slots p)
 closure_slots_same none = same [] (record { all = tt })
-closure_slots_same (some (Ptr class format hash slots) h) = closure_object class format hash slots (class == closure_class && format == 3) (record { all = h })
-closure_slots_same (some (Raw class format hash bytes) h) = same [] (record { all = tt })
-closure_slots_same (some (Method class format hash header literals bytecodes) h) = same [] (record { all = tt })
+closure_slots_same (some (Ptr head slots) h) = closure_object slots (head.class == closure_class && head.format == 3) (record { all = h })
+closure_slots_same (some (Raw head bytes) h) = same [] (record { all = tt })
+closure_slots_same (some (Method head header literals bytecodes) h) = same [] (record { all = tt })
 closure_slots_same (some (Ctx c) h) = same [] (record { all = tt })
 
 pub slots_same : {v m : Kept} {x y : Ref} → Keeps v m → Same (IsHeld v) x y → Same (AllHeld v) (closure_slots (object_of v x)) (closure_slots (object_of m y))

@@ -5,7 +5,7 @@ use Rattle.cs_model.specs.Ref as ref
 use Rattle.cs_model.specs.Obj.{Obj, Context, Ptr, Raw, Method, Ctx, is_context, context_fields, edit_context, is_method}
 use Rattle.cs_model.specs.State.{Kept, IsHeld, ContextHeld, NamesHeld}
 use Rattle.cs_model.specs.Operation.{nil_of}
-use Rattle.cs_model.specs.Context.{pc_value, context_get, is_context_ref, has_class_index, closure_class, lies_if_live, lies_if_index, at_most, accepts, of_depth, to_depth, with_field, context_put}
+use Rattle.cs_model.specs.Context.{pc_value, context_get, is_context_ref, has_class_index, closure_class, lies_if_live, lies_if_index, is_at_most, accepts, of_depth, to_depth, with_field, context_put}
 use Rattle.cs_model.specs.Keeps.{Keeps}
 use Rattle.cs_model.proofs.Same.{some_same, option_is, Same, same, SameOption, Any, is, of, value, of_option, two, if_same, if_option, all-append, all-take, all-replicate, all-slice_set}
 use Rattle.cs_model.proofs.Keeping.{Moved, IsEdit, edit_found_moved}
@@ -43,7 +43,7 @@ unfolding accepts
 accepts_same k (same b a) s i t =
     if_same (is (i == 0)) (or_else_same (is_nil_same k t) (is_context_ref_same k t))
     (if_same (is (i == 1)) (if_same (is_nil_same k t) (is (not b)) (two (λ o x. lies_if_index o (index_of x)) (option_is (object_of_same k (context_method s))) t))
-    (if_same (is (i == 2)) (two (λ c x. not b && at_most c.size (index_of x)) s t)
+    (if_same (is (i == 2)) (two (λ c x. not b && is_at_most c.size (index_of x)) s t)
     (if_same (is (i == 3)) (two (λ o c. not b && is_method o && lies_if_live o c.pc) (option_is (object_of_same k t)) s)
     (if_same (is (i == 4)) (and_same (is (not b)) (or_else_same (is_nil_same k t) (of_option (has_class_index closure_class) (object_of_same k t))))
     (value (λ c. i == 5 || nat_lt (i - context_fields) (length c.stack)) s)))))
@@ -69,15 +69,15 @@ with_field_held v t i x nil g c h =
     (stack_held c _ h (all-slice_set (IsHeld v) c.stack (i - context_fields) x h.stack g)))))))
 
 edit_context_context : (f : Context → Context) (o : Obj) → is_context o ≡ true → is_context (edit_context f o) ≡ true
-edit_context_context f (Ptr class format hash slots) h = h
-edit_context_context f (Raw class format hash bytes) h = h
-edit_context_context f (Method class format hash header literals bytecodes) h = h
+edit_context_context f (Ptr head slots) h = h
+edit_context_context f (Raw head bytes) h = h
+edit_context_context f (Method head header literals bytecodes) h = h
 edit_context_context f (Ctx c) h = h
 
 edit_context_held : (v : Kept) (f : Context → Context) → ((c : Context) → ContextHeld v c → ContextHeld v (f c)) → (o : Obj) → NamesHeld v o → NamesHeld v (edit_context f o)
-edit_context_held v f g (Ptr class format hash slots) h = h
-edit_context_held v f g (Raw class format hash bytes) h = tt
-edit_context_held v f g (Method class format hash header literals bytecodes) h = h
+edit_context_held v f g (Ptr head slots) h = h
+edit_context_held v f g (Raw head bytes) h = tt
+edit_context_held v f g (Method head header literals bytecodes) h = h
 edit_context_held v f g (Ctx c) h = g c h
 
 -- a change of contexts that names what v has

@@ -2,25 +2,25 @@
 use Rattle.std.proofs.Common.{◌≡◌, ℕ, zero, suc, ◌+◌, ◌-◌, ◌%◌, ◌==◌, ◌&&◌, not, pos, negsuc, Bool, true, false, refl, sym, ap, subst, ◌∙◌, Option, Some, None, is_some, length, replicate, nat_lt, if◌then◌else◌}
 use Rattle.cs_model.specs.Ref.{Ref, Small, Char, birth_of, index_of, same_ref}
 use Rattle.cs_model.specs.Ref as ref
-use Rattle.cs_model.specs.Obj.{Obj, Context, Ptr, Raw, Method, Ctx, class_index_in, context_class, hash_in, is_context, is_header, literal_count, words_of, stored}
+use Rattle.cs_model.specs.Obj.{Obj, Context, Ptr, Raw, Method, Ctx, new_head, class_index_in, context_class, hash_in, is_context, is_header, literal_count, words_of, stored}
 use Rattle.cs_model.specs.State.{Kept, object_at, IsHeld, NamesHeld}
 use Rattle.cs_model.specs.Operation.{add_of}
 use Rattle.cs_model.specs.Instance.{Index, IndexAt, NoIndex, NoneFree, Hashed}
-use Rattle.cs_model.specs.PrimObject.{small_count, hash_prim, has_index, first_instance, instance_from, entry_index, table_index, some_instance_prim, index_but_context, next_instance_prim, method_of, is_method_index, make_method, is_method_shape, new_method_prim, copy_kinds, copy_fits, count_of, copy_to, replace_prim, identical_prim, class_prim, copied, look_if, copy_object, copy_prim, answer_hashed, behavior_hash_prim, quick_prim}
+use Rattle.cs_model.specs.PrimObject.{small_count, hash_prim, has_index, first_instance, instance_from, entry_index, table_index, some_instance_prim, index_but_context, next_instance_prim, blank_method, is_method_index, make_method, is_method_shape, new_method_prim, copy_kinds, copy_fits, count_of, copy_to, replace_prim, identical_prim, class_prim, copied, look_if, copy_object, copy_prim, answer_hashed, behavior_hash_prim, is_unwritable, read_only_prim, can_be_fixed, boolean_in, set_read_only_prim, quick_prim}
 use Rattle.cs_model.specs.PrimContext.{stack_at_prim, stack_put, stack_at_put_prim, stackp_prim}
 use Rattle.cs_model.specs.End.{Out}
 use Rattle.cs_model.specs.Keeps.{Keeps}
 use Rattle.cs_model.specs.Alike.{Alike}
 use Rattle.cs_model.proofs.Same.{Same, same, SameOption, none, some, Any, is, of, value, of_option, two, same_by, and_then_same, map_same, or_same, if_option, plain, any_option, option_is, all-replicate, all-slice_set}
 use Rattle.cs_model.proofs.Keeping.{kept_context, edit_found_moved}
-use Rattle.cs_model.proofs.Reading.{listed, Has, up, nil_same, boolean_same, same_ref_same, next_same, object_at_same, object_of_same, context_in_same, class_at_same, class_of_same, slice_same}
-use Rattle.cs_model.proofs.Operating.{add_moved, next_held, next_ref_same, stack_held}
+use Rattle.cs_model.proofs.Reading.{listed, Has, up, nil_same, boolean_same, same_ref_same, next_same, object_at_same, object_of_same, is_read_only_same, context_in_same, class_at_same, class_of_same, slice_same}
+use Rattle.cs_model.proofs.Operating.{set_fixed_moved, add_moved, next_held, next_ref_same, stack_held}
 use Rattle.cs_model.proofs.Fields.{edit_context_edit}
 use Rattle.cs_model.proofs.Making.{new_made, shape_of_same, class_index_for_same, take_index_moved, take_index_next, SameHashed, hashes, no_class, none_left, behavior_hash_same, hash_of_same, hash_given_moved}
 use Rattle.cs_model.proofs.Combining.{fail_alike, behind, made_alike, looked_alike, given_alike, if_alike}
 use Rattle.cs_model.proofs.Searching.{birth_of_same}
-use Rattle.cs_model.proofs.Answering.{answer_alike, prim_receiver_same, argument_same, answer_if_alike, with_count_alike, MovedOption, nothing, gives, and_then_moved, if_moved, answer_in_alike}
-use Rattle.cs_model.proofs.Elements.{range_of_same, copy_elements_moved}
+use Rattle.cs_model.proofs.Answering.{answer_alike, prim_receiver_same, argument_same, answer_if_alike, with_count_alike, MovedOption, nothing, gives, and_then_moved, if_moved, answer_in_alike, unless_read_only_alike}
+use Rattle.cs_model.proofs.Elements.{range_of_same, front_same, copy_elements_moved}
 use Rattle.cs_model.proofs.Objecting.{slot_index_same, slot_at_case, answer_made_alike}
 
 -- ---- the identity hash
@@ -90,9 +90,9 @@ next_instance_alike k args =
 
 -- ---- a new method
 
-method_made_same : {v m : Kept} → Keeps v m → (index count header : ℕ) → Same (NamesHeld v) (method_of v index count header) (method_of m index count header)
+method_made_same : {v m : Kept} → Keeps v m → (index count header : ℕ) → Same (NamesHeld v) (blank_method v index count header) (blank_method m index count header)
 method_made_same {v} k index count header =
-    of (NamesHeld v) (λ nil. Method index (24 + (3 - (count + 3) % 4)) 0 header (replicate (literal_count header) nil) (replicate count 0)) (nil_same k) (λ nil h. all-replicate (IsHeld v) (literal_count header) nil h)
+    of (NamesHeld v) (λ nil. Method (new_head index (24 + (3 - (count + 3) % 4))) header (replicate (literal_count header) nil) (replicate count 0)) (nil_same k) (λ nil h. all-replicate (IsHeld v) (literal_count header) nil h)
 
 make_method_alike : {v m : Kept} {x y : Ref} {i j : Index} → Keeps v m → Same (IsHeld v) x y → (count header : ℕ) → Same Any i j → Alike v (make_method v x count header i) (make_method m y count header j)
 make_method_alike k s count header (same NoIndex a) = fail_alike k
@@ -117,17 +117,19 @@ copy_to_alike k s t start stop from =
     given_alike _ _ (plain (of_option count_of (range_of_same k s))) (fail_alike k) (λ mine a.
     given_alike _ _ (plain (of_option count_of (range_of_same k t))) (fail_alike k) (λ its b.
     if_alike (is (copy_fits start stop from mine its))
-    (let c = copy_elements_moved k (stop + 1 - start) s (start - 1) t (from - 1) in behind c (answer_alike c.keeps 4 (up c.grows s)))
+    (let c = copy_elements_moved k (stop + 1 - start) s (value (λ n. n + (start - 1)) (front_same k s)) t (value (λ n. n + (from - 1)) (front_same k t)) in
+    behind c (answer_alike c.keeps 4 (up c.grows s)))
     (fail_alike k)))
 
 pub replace_alike : {v m : Kept} → Keeps v m → (args : ℕ) → Alike v (replace_prim v args) (replace_prim m args)
 unfolding replace_prim
 replace_alike k args =
-    with_count_alike k 4 args (given_alike _ _ (plain (value index_of (argument_same k 4 0))) (fail_alike k) (λ start a.
+    with_count_alike k 4 args (unless_read_only_alike k (prim_receiver_same k 4)
+    (given_alike _ _ (plain (value index_of (argument_same k 4 0))) (fail_alike k) (λ start a.
     given_alike _ _ (plain (value index_of (argument_same k 4 1))) (fail_alike k) (λ stop b.
     given_alike _ _ (plain (value index_of (argument_same k 4 3))) (fail_alike k) (λ from c.
     if_alike (two copy_kinds (option_is (object_of_same k (prim_receiver_same k 4))) (option_is (object_of_same k (argument_same k 4 2))))
-    (copy_to_alike k (prim_receiver_same k 4) (argument_same k 4 2) start stop from) (fail_alike k)))))
+    (copy_to_alike k (prim_receiver_same k 4) (argument_same k 4 2) start stop from) (fail_alike k))))))
 
 -- ---- identity, class, copy and hash
 
@@ -140,9 +142,9 @@ unfolding class_prim
 class_prim_alike k args = with_count_alike k 0 args (answer_alike k 0 (or_same (class_of_same k (prim_receiver_same k 0)) (nil_same k)))
 
 copied_held : (v : Kept) (o : Obj) → NamesHeld v o → NamesHeld v (copied o)
-copied_held v (Ptr class format hash slots) h = h
-copied_held v (Raw class format hash bytes) h = tt
-copied_held v (Method class format hash header literals bytecodes) h = h
+copied_held v (Ptr head slots) h = h
+copied_held v (Raw head bytes) h = tt
+copied_held v (Method head header literals bytecodes) h = h
 copied_held v (Ctx c) h = record { sender = h.sender; method = h.method; closure = h.closure; receiver = h.receiver; stack = h.stack }
 
 look_if_alike : {v : Kept} {a b : Out} → (x : Bool) → Alike v a b → Alike v (look_if x a) (look_if x b)
@@ -165,6 +167,26 @@ answer_hashed_alike k (hashes index s) = behind s (answer_alike s.keeps 0 (same 
 pub behavior_hash_alike : {v m : Kept} → Keeps v m → (args : ℕ) → Alike v (behavior_hash_prim v args) (behavior_hash_prim m args)
 unfolding behavior_hash_prim
 behavior_hash_alike k args = with_count_alike k 0 args (answer_hashed_alike k (behavior_hash_same k (prim_receiver_same k 0)))
+
+-- ---- objects that may not be stored into
+
+pub read_only_alike : {v m : Kept} → Keeps v m → (args : ℕ) → Alike v (read_only_prim v args) (read_only_prim m args)
+unfolding read_only_prim
+read_only_alike k args = with_count_alike k 0 args (answer_alike k 0 (boolean_same k (of_option is_unwritable (object_of_same k (prim_receiver_same k 0)))))
+
+boolean_in_same : {v m : Kept} {P : Ref → Type 0} {x y : Ref} → Keeps v m → Same P x y → SameOption Any (boolean_in v x) (boolean_in m y)
+boolean_in_same k s =
+    if_option (same_ref_same s (boolean_same k (is true))) (some true tt)
+    (if_option (same_ref_same s (boolean_same k (is false))) (some false tt) none)
+
+pub set_read_only_alike : {v m : Kept} → Keeps v m → (args : ℕ) → Alike v (set_read_only_prim v args) (set_read_only_prim m args)
+unfolding set_read_only_prim
+set_read_only_alike k args =
+    with_count_alike k 1 args (if_alike (of_option can_be_fixed (object_of_same k (prim_receiver_same k 1)))
+    (given_alike _ _ (boolean_in_same k (argument_same k 1 0)) (fail_alike k) (λ on a.
+    let s = set_fixed_moved k (prim_receiver_same k 1) on in
+    behind s (answer_alike s.keeps 1 (up s.grows (boolean_same k (is_read_only_same k (prim_receiver_same k 1)))))))
+    (fail_alike k))
 
 -- ---- quick answers
 

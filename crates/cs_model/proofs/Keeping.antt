@@ -44,9 +44,9 @@ ContextHeld-grows g c h = record {
 }
 
 pub NamesHeld-grows : {v t : Kept} → Grows v t → (o : Obj) → NamesHeld v o → NamesHeld t o
-NamesHeld-grows g (Ptr class format hash slots) h = all-grows g slots h
-NamesHeld-grows g (Raw class format hash bytes) h = tt
-NamesHeld-grows g (Method class format hash header literals bytecodes) h = all-grows g literals h
+NamesHeld-grows g (Ptr head slots) h = all-grows g slots h
+NamesHeld-grows g (Raw head bytes) h = tt
+NamesHeld-grows g (Method head header literals bytecodes) h = all-grows g literals h
 NamesHeld-grows g (Ctx c) h = ContextHeld-grows g c h
 
 -- the same rest is held by more objects

@@ -4,7 +4,7 @@ use Rattle.std.specs.List.{AllByRecursion}
 use Rattle.cs_model.specs.Ref.{Ref}
 use Rattle.cs_model.specs.Obj.{Obj, Context}
 use Rattle.cs_model.specs.State.{Kept, put, IsHeld, ContextHeld, NamesHeld}
-use Rattle.cs_model.specs.Operation.{put_active, set_pc_of, push_of, drop_of, set_stack_of, store_of, store_byte_of, add_of, enter_of, kill_of, kill_all, resume_of, suspend_of, leave_of, cut_to_of}
+use Rattle.cs_model.specs.Operation.{put_active, set_pc_of, push_of, drop_of, set_stack_of, store_of, store_byte_of, set_fixed_of, add_of, enter_of, kill_of, kill_all, resume_of, suspend_of, leave_of, cut_to_of}
 use Rattle.cs_model.specs.Context.{context_put}
 use Rattle.cs_model.specs.Enter.{enter_block_of}
 use Rattle.cs_model.specs.Instance.{take_index, hash_given}
@@ -17,7 +17,7 @@ use Rattle.cs_model.specs.Keeps.{Keeps}
 use Rattle.cs_model.specs.Alike.{IsHeldIf}
 use Rattle.cs_model.proofs.Keeping.{IsHeld-grows}
 use Rattle.cs_model.proofs.Reading.{Has}
-use Rattle.cs_model.proofs.Surviving.{grows-put, grows-put_active, grows-set_pc, grows-push, grows-drop, grows-set_stack, grows-store, grows-store_byte, grows-add, grows-enter, grows-enter_block, grows-kill, grows-kill_all, grows-resume_at, grows-suspend_all, grows-leave, grows-cut_to, grows-context_put, grows-take_index, grows-hash_given, grows-fill, grows-spread, grows-stop_running, grows-take_out, grows-settle, grows-open, grows-forgotten}
+use Rattle.cs_model.proofs.Surviving.{grows-put, grows-put_active, grows-set_pc, grows-push, grows-drop, grows-set_stack, grows-store, grows-store_byte, grows-set_fixed, grows-add, grows-enter, grows-enter_block, grows-kill, grows-kill_all, grows-resume_at, grows-suspend_all, grows-leave, grows-cut_to, grows-context_put, grows-take_index, grows-hash_given, grows-fill, grows-spread, grows-stop_running, grows-take_out, grows-settle, grows-open, grows-forgotten}
 
 pub held-put : (v : Kept) (i : ℕ) (o : Obj) (z : Ref) → Keeps v v → NamesHeld v o → IsHeld v z → IsHeld (put v i o) z
 held-put v i o z k h still = IsHeld-grows (grows-put v i o k h) z still
@@ -42,6 +42,9 @@ held-store v o i x z k h still = IsHeld-grows (grows-store v o i x k h) z still
 
 pub held-store_byte : (v : Kept) (o : Ref) (i b : ℕ) (z : Ref) → Keeps v v → IsHeld v z → IsHeld (store_byte_of v o i b) z
 held-store_byte v o i b z k still = IsHeld-grows (grows-store_byte v o i b k) z still
+
+pub held-set_fixed : (v : Kept) (o : Ref) (on : Bool) (z : Ref) → Keeps v v → IsHeld v z → IsHeld (set_fixed_of v o on) z
+held-set_fixed v o on z k still = IsHeld-grows (grows-set_fixed v o on k) z still
 
 pub held-add : (v : Kept) (o : Obj) (z : Ref) → Keeps v v → NamesHeld v o → IsHeld v z → IsHeld (add_of v o) z
 held-add v o z k h still = IsHeld-grows (grows-add v o k h) z still
@@ -101,4 +104,4 @@ pub held-forgotten : (v : Kept) (z : Ref) → Keeps v v → IsHeld v z → IsHel
 held-forgotten v z k still = IsHeld-grows (grows-forgotten v k) z still
 
 -- a reference that was held still is
-pub ruleset stays_held = (held-put, held-put_active, held-set_pc, held-push, held-drop, held-set_stack, held-store, held-store_byte, held-add, held-enter, held-enter_block, held-kill, held-kill_all, held-resume_at, held-suspend_all, held-leave, held-cut_to, held-context_put, held-take_index, held-hash_given, held-fill, held-spread, held-stop_running, held-take_out, held-settle, held-open, held-forgotten)
+pub ruleset stays_held = (held-put, held-put_active, held-set_pc, held-push, held-drop, held-set_stack, held-store, held-store_byte, held-set_fixed, held-add, held-enter, held-enter_block, held-kill, held-kill_all, held-resume_at, held-suspend_all, held-leave, held-cut_to, held-context_put, held-take_index, held-hash_given, held-fill, held-spread, held-stop_running, held-take_out, held-settle, held-open, held-forgotten)

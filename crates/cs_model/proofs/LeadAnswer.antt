@@ -1,10 +1,10 @@
 -- What the answers of primitives lead to.
 use Rattle.std.proofs.Common.{◌≡◌, ℕ, ◌+◌, ◌==◌, refl, Option, Some, None, option_and_then}
 use Rattle.cs_model.specs.Ref.{Ref}
-use Rattle.cs_model.specs.State.{Kept}
+use Rattle.cs_model.specs.State.{Kept, is_read_only}
 use Rattle.cs_model.specs.PrimAnswer.{answer, answer_if, with_count}
 use Rattle.cs_model.specs.PrimNumber.{number_prim}
-use Rattle.cs_model.specs.PrimObject.{answer_in}
+use Rattle.cs_model.specs.PrimObject.{answer_in, unless_read_only}
 use Rattle.cs_model.specs.End.{Out}
 use Rattle.cs_model.proofs.LeadCombining.{Ready, Goes, goes_trans, ready_behind, runs_settled, Leading, fail_leading, behind, given_leading, if_leading}
 use Rattle.cs_model.proofs.LeadOperation.{push_goes, drop_goes}
@@ -24,6 +24,9 @@ answer_behind args x g = behind g.leads (answer_leading args x (ready_behind g))
 
 pub with_count_leading : {P : Kept → Type 0} {k : Kept} {o : Out} (wanted args : ℕ) → Ready k → Leading P k o → Leading P k (with_count k wanted args o)
 with_count_leading wanted args r h = if_leading (wanted == args) (λ e. h) (λ e. fail_leading r)
+
+pub unless_read_only_leading : {P : Kept → Type 0} {k : Kept} {o : Out} (x : Ref) → Ready k → Leading P k o → Leading P k (unless_read_only k x o)
+unless_read_only_leading {k = k} x r h = if_leading (is_read_only k x) (λ e. fail_leading r) (λ e. h)
 
 pub answer_if_leading : {P : Kept → Type 0} {k : Kept} (args : ℕ) (value : Option Ref) → Ready k → Leading P k (answer_if k args value)
 answer_if_leading {k = k} args value r = given_leading value (λ x. answer k args x) (fail_leading r) (λ x e. answer_leading args x r)

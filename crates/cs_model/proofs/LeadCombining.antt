@@ -43,9 +43,9 @@ active_known {k} r = known_is k.rest.active k.rest.nil r.active
 
 found_is : (o : Option Obj) → IsSome (pc_in o) → o ≡ Some (Ctx (unwrap_or (context_in o) blank))
 found_is None h = absurd (cc)
-found_is (Some (Ptr class format hash slots)) h = absurd (cc)
-found_is (Some (Raw class format hash bytes)) h = absurd (cc)
-found_is (Some (Method class format hash header literals bytecodes)) h = absurd (cc)
+found_is (Some (Ptr head slots)) h = absurd (cc)
+found_is (Some (Raw head bytes)) h = absurd (cc)
+found_is (Some (Method head header literals bytecodes)) h = absurd (cc)
 found_is (Some (Ctx c)) h = refl
 
 -- the active context is there

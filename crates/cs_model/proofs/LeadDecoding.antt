@@ -63,9 +63,9 @@ decode_fits bytes at i e = decoded_fits bytes at (len_of (slice_index bytes at))
 
 lies_further : (m : Option Obj) (pc len : ℕ) → lies_in m pc ≡ true → (pc - first_pc (literals_in m)) + len ≤ length (bytecodes_in m) → lies_in m (pc + len) ≡ true
 lies_further None pc len h fits = absurd (cc)
-lies_further (Some (Ptr class format hash slots)) pc len h fits = absurd (cc)
-lies_further (Some (Raw class format hash bytes)) pc len h fits = absurd (cc)
-lies_further (Some (Method class format hash header literals bytecodes)) pc len h fits =
+lies_further (Some (Ptr head slots)) pc len h fits = absurd (cc)
+lies_further (Some (Raw head bytes)) pc len h fits = absurd (cc)
+lies_further (Some (Method head header literals bytecodes)) pc len h fits =
     let low : first_pc literals ≤ pc = leb-true (first_pc literals) pc (and_left _ _ h) in
     lies_between_by (first_pc literals) (length bytecodes) (pc + len) (omega (arith, low)) (omega (arith, low, fits))
 lies_further (Some (Ctx c)) pc len h fits = absurd (cc)
@@ -90,9 +90,9 @@ obey_leading {k} i r e =
 
 bare_context : (o : Option Obj) → slots_in o ≡ Some [] → context_in o ≡ None
 bare_context None e = refl
-bare_context (Some (Ptr class format hash slots)) e = refl
-bare_context (Some (Raw class format hash bytes)) e = refl
-bare_context (Some (Method class format hash header literals bytecodes)) e = refl
+bare_context (Some (Ptr head slots)) e = refl
+bare_context (Some (Raw head bytes)) e = refl
+bare_context (Some (Method head header literals bytecodes)) e = refl
 bare_context (Some (Ctx c)) e = absurd (cc)
 
 no_bytes : (at : ℕ) (i : Instr) → decode_at [] at ≡ Some i → ⊥

@@ -48,9 +48,9 @@ lies_between_by first count pc h g = ap₂ (λ a b. a && b) (le-leb first pc h) 
 
 pub method_entry : (method : Option Obj) → is_method method ≡ true → IsEntry method false
 method_entry None h = absurd (cc)
-method_entry (Some (Ptr class format hash slots)) h = absurd (cc)
-method_entry (Some (Raw class format hash bytes)) h = absurd (cc)
-method_entry (Some (Method class format hash header literals bytecodes)) h = record { lies = lies_between_by (first_pc literals) (length bytecodes) (first_pc literals + 0) (omega arith) (omega arith) }
+method_entry (Some (Ptr head slots)) h = absurd (cc)
+method_entry (Some (Raw head bytes)) h = absurd (cc)
+method_entry (Some (Method head header literals bytecodes)) h = record { lies = lies_between_by (first_pc literals) (length bytecodes) (first_pc literals + 0) (omega arith) (omega arith) }
 method_entry (Some (Ctx c)) h = absurd (cc)
 
 three_bytes : (bytes : List ℕ) (n : ℕ) → number_in bytes ≡ Some n → 3 ≤ length bytes
@@ -70,9 +70,9 @@ no_primitive header n h = absurd (omega (arith, primitive_bytes header [] n h))
 
 primitive_entry_at : (method : Option Obj) (n : ℕ) → primitive_number (header_in method) (bytecodes_in method) ≡ Some n → IsEntry method true
 primitive_entry_at None n h = absurd (no_primitive 0 n h)
-primitive_entry_at (Some (Ptr class format hash slots)) n h = absurd (no_primitive 0 n h)
-primitive_entry_at (Some (Raw class format hash bytes)) n h = absurd (no_primitive 0 n h)
-primitive_entry_at (Some (Method class format hash header literals bytecodes)) n h =
+primitive_entry_at (Some (Ptr head slots)) n h = absurd (no_primitive 0 n h)
+primitive_entry_at (Some (Raw head bytes)) n h = absurd (no_primitive 0 n h)
+primitive_entry_at (Some (Method head header literals bytecodes)) n h =
     record { lies = lies_between_by (first_pc literals) (length bytecodes) (first_pc literals + 3) (omega arith) (omega (arith, primitive_bytes header bytecodes n h)) }
 primitive_entry_at (Some (Ctx c)) n h = absurd (no_primitive 0 n h)
 
@@ -150,9 +150,9 @@ block_beside {k} f closure p r block =
 
 kill_case : {k : Kept} (i : ℕ) (o : Option Obj) → object_at k i ≡ o → Sound k → (k.rest.active ≡ Some i → ⊥) → Leads k (edit_found (dead_object k.rest.nil) i o k)
 kill_case i None e s apart = leads_itself s
-kill_case {k} i (Some (Ptr class format hash slots)) e s apart = put_leads i (Ptr class format hash slots) (Ptr class format hash slots) s e (like_itself (Ptr class format hash slots)) (no_context_lies refl) (λ a. absurd (apart a))
-kill_case {k} i (Some (Raw class format hash bytes)) e s apart = put_leads i (Raw class format hash bytes) (Raw class format hash bytes) s e (like_itself (Raw class format hash bytes)) (no_context_lies refl) (λ a. absurd (apart a))
-kill_case {k} i (Some (Method class format hash header literals bytecodes)) e s apart = put_leads i (Method class format hash header literals bytecodes) (Method class format hash header literals bytecodes) s e (like_itself (Method class format hash header literals bytecodes)) (no_context_lies refl) (λ a. absurd (apart a))
+kill_case {k} i (Some (Ptr head slots)) e s apart = put_leads i (Ptr head slots) (Ptr head slots) s e (like_itself (Ptr head slots)) (no_context_lies refl) (λ a. absurd (apart a))
+kill_case {k} i (Some (Raw head bytes)) e s apart = put_leads i (Raw head bytes) (Raw head bytes) s e (like_itself (Raw head bytes)) (no_context_lies refl) (λ a. absurd (apart a))
+kill_case {k} i (Some (Method head header literals bytecodes)) e s apart = put_leads i (Method head header literals bytecodes) (Method head header literals bytecodes) s e (like_itself (Method head header literals bytecodes)) (no_context_lies refl) (λ a. absurd (apart a))
 kill_case {k} i (Some (Ctx c)) e s apart = put_leads i (Ctx c) (Ctx (dead k.rest.nil c)) s e (like_context c (dead k.rest.nil c)) (context_lies (dead k.rest.nil c) (λ pc h. absurd (cc))) (λ a. absurd (apart a))
 
 -- a context that isn't active dies

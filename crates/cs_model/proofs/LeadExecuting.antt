@@ -8,18 +8,18 @@ use Rattle.cs_model.specs.declared.instruction.Op.TheVariants as op
 use Rattle.cs_model.specs.Ref.{Ref, Small, Char, same_ref}
 use Rattle.cs_model.specs.Ref as ref
 use Rattle.cs_model.specs.Obj.{Obj, Context, Ptr, Raw, Method, Ctx, slots_in, context_in, lies_in, words_of_slots, pushed, popped}
-use Rattle.cs_model.specs.State.{Kept, object_at, object_of, special_at}
+use Rattle.cs_model.specs.State.{Kept, object_at, object_of, is_read_only, special_at}
 use Rattle.cs_model.specs.Read.{blank, active_birth, active_context, stack_of, depth_of, size_of, pc_of, receiver_of, method_of, literals_of, from_top, class_of}
-use Rattle.cs_model.specs.Operation.{edit_active, push_of, drop_of, pop_of, set_pc_of, store_of, add_of, next_ref, nil_of, last_values}
+use Rattle.cs_model.specs.Operation.{edit_active, push_of, drop_of, pop_of, set_pc_of, add_of, next_ref, nil_of, last_values}
 use Rattle.cs_model.specs.Context.{context_get, accepts, context_put}
 use Rattle.cs_model.specs.Number.{boolean}
 use Rattle.cs_model.specs.Instance.{Made, New, NotInstantiable, TableFull, instantiate}
-use Rattle.cs_model.specs.Exec.{push_out, top_of, with_top, pop_out, dup_out, push_field, push_receiver_out, birth_or_zero, is_active, store_in_context, store_field, store_receiver_out, push_temp_out, store_temp_out, literal_at, push_literal_out, variable_value, push_variable_out, store_variable_out, vector_at, vector_slot, push_vector_out, store_vector_out, pop_into, store_into, pc_of_sum, if_lies, pc_after, jump_out, must_be_boolean, special_send_out, jump_if_out, is_local, return_out, send_literal_out, send_super_out, argument_count_in, selector_pair, send_selector_out, at_once, special_out, same_out, class_out, common_out, array_class, slots_equal, array_made, with_array, with_slots, fill_of, new_array_out, pop_array_out, new_closure, closure_out, this_context_out, exec}
+use Rattle.cs_model.specs.Exec.{push_out, top_of, with_top, pop_out, dup_out, push_all, special_send_out, attempt_to_assign, refuse_store, store_slot, push_field, push_receiver_out, birth_or_zero, is_active, store_in_context, store_field, store_receiver_out, push_temp_out, store_temp_out, literal_at, push_literal_out, variable_value, push_variable_out, store_variable_out, vector_at, vector_slot, push_vector_out, store_vector_out, pop_into, store_into, pc_of_sum, if_lies, pc_after, jump_out, must_be_boolean, jump_if_out, is_local, return_out, send_literal_out, send_super_out, argument_count_in, selector_pair, send_selector_out, at_once, special_out, same_out, class_out, common_out, array_class, slots_equal, array_made, with_array, with_slots, fill_of, new_array_out, pop_array_out, new_closure, closure_out, this_context_out, exec}
 use Rattle.cs_model.specs.End.{Out, out, stop, done, given, made, looked, and_then}
 use Rattle.cs_model.specs.End as ends
 use Rattle.cs_model.proofs.Editing.{active_context-put}
 use Rattle.cs_model.proofs.Leading.{becomes_of, Leads, leads_itself, leads_trans}
-use Rattle.cs_model.proofs.LeadCombining.{Runs, Ready, Goes, goes_itself, goes_trans, goes_by, ready_behind, active_found, Leading, out_leading, done_leading, done_goes, stop_leading, stop_behind, behind, made_leading, looked_leading, given_leading, if_leading, and_then_leading}
+use Rattle.cs_model.proofs.LeadCombining.{Runs, Ready, Goes, goes_itself, goes_trans, goes_by, ready_behind, active_found, Leading, out_leading, done_leading, done_goes, stop_leading, stop_behind, behind, made_leading, looked_leading, given_leading, if_leading, and_then_leading, and_then_goes}
 use Rattle.cs_model.proofs.LeadOperation.{KeepsPlace, edit_active_goes, set_pc_goes, push_goes, drop_goes, set_stack_goes, store_goes, Mild, mild_itself, no_context_lies, edit_object_leads, edit_object-rest, add_goes, add_below, held_below}
 use Rattle.cs_model.proofs.LeadFields.{context_put_goes}
 use Rattle.cs_model.proofs.LeadInstance.{MadeGoes, instantiate_goes}
@@ -45,13 +45,37 @@ pub dup_leading : {k : Kept} → Ready k → Leading Runs k (dup_out k)
 unfolding dup_out
 dup_leading {k} r = with_top_leading (λ x. push_out k x) r (λ x. push_leading x r)
 
+pub push_all_leading : (xs : List Ref) {k : Kept} → Ready k → Leading Runs k (push_all xs k)
+unfolding push_all
+push_all_leading [] r = done_goes (goes_itself r)
+push_all_leading (x ∷ xs) r = and_then_goes (λ t. push_all xs t) (push_leading x r) (λ t s l. push_all_leading xs s)
+
+pub send_leading : {P : Kept → Type 0} {k : Kept} (selector : Ref) (args : ℕ) (above : Option Ref) → Ready k → Leading P k (out (ends.Send selector args above) k)
+send_leading selector args above r = out_leading (ends.Send selector args above) (leads_itself r.sound) r.runs
+
+pub special_send_leading : {P : Kept → Type 0} {k : Kept} (special args : ℕ) → Ready k → Leading P k (special_send_out k special args)
+unfolding special_send_out
+special_send_leading {P} {k} special args r = given_leading (special_at k special) (λ selector. out (ends.Send selector args None) k) (stop_leading r.sound why.BadSpecial) (λ x e. send_leading x args None r)
+
+-- ---- stores into slots
+
+refuse_leading : {P : Kept → Type 0} {bare : Kept} (target : Ref) (i : ℕ) (v : Ref) → Ready bare → Leading P bare (refuse_store bare target i v)
+unfolding refuse_store
+refuse_leading target i v r =
+    and_then_goes (λ t. special_send_out t attempt_to_assign 2) (push_all_leading (target ∷ v ∷ Small (pos (i + 1)) ∷ []) r) (λ t s l. special_send_leading attempt_to_assign 2 s)
+
+store_slot_leading : {k bare : Kept} (target : Ref) (i : ℕ) (v : Ref) → Ready k → Goes k bare → Leading Runs k (store_slot k bare target i v)
+unfolding store_slot
+store_slot_leading {k} target i v r g =
+    if_leading (is_read_only k target) (λ e. behind g.leads (refuse_leading target i v (ready_behind g))) (λ e. done_goes (store_goes target i v r))
+
 -- ---- receiver fields
 
 push_field_leading : {k : Kept} (i : ℕ) (o : Option Obj) → Ready k → Leading Runs k (push_field k i o)
 push_field_leading i None r = stop_leading r.sound why.BadField
-push_field_leading {k} i (Some (Ptr class format hash slots)) r = given_leading (slice_get slots i) (λ x. push_out k x) (stop_leading r.sound why.BadField) (λ x e. push_leading x r)
-push_field_leading i (Some (Raw class format hash bytes)) r = stop_leading r.sound why.BadField
-push_field_leading i (Some (Method class format hash header literals bytecodes)) r = stop_leading r.sound why.BadField
+push_field_leading {k} i (Some (Ptr head slots)) r = given_leading (slice_get slots i) (λ x. push_out k x) (stop_leading r.sound why.BadField) (λ x e. push_leading x r)
+push_field_leading i (Some (Raw head bytes)) r = stop_leading r.sound why.BadField
+push_field_leading i (Some (Method head header literals bytecodes)) r = stop_leading r.sound why.BadField
 push_field_leading {k} i (Some (Ctx c)) r =
     given_leading (context_get k c i) (λ x. if i == 0 then looked (push_out k x) else push_out k x) (stop_leading r.sound why.BadField)
     (λ x e. if_leading (i == 0) (λ f. looked_leading (push_leading x r)) (λ f. push_leading x r))
@@ -77,16 +101,16 @@ store_in_context_leading {k} i v c r e =
     (λ f. if_leading (accepts k (is_active k (receiver_of k)) c i v) (λ h. done_goes (context_written (receiver_of k) c i v r e h)) (λ h. stop_leading r.sound why.BadStore))
     (λ f. stop_leading r.sound why.BadField)
 
-store_field_leading : {k : Kept} (i : ℕ) (v : Ref) (o : Option Obj) → Ready k → object_of k (receiver_of k) ≡ o → Leading Runs k (store_field k i v o)
-store_field_leading i v None r e = stop_leading r.sound why.BadField
-store_field_leading {k} i v (Some (Ptr class format hash slots)) r e = if_leading (nat_lt i (length slots)) (λ f. done_goes (store_goes (receiver_of k) i v r)) (λ f. stop_leading r.sound why.BadField)
-store_field_leading i v (Some (Raw class format hash bytes)) r e = stop_leading r.sound why.BadField
-store_field_leading i v (Some (Method class format hash header literals bytecodes)) r e = stop_leading r.sound why.BadField
-store_field_leading i v (Some (Ctx c)) r e = store_in_context_leading i v c r e
+store_field_leading : {k bare : Kept} (i : ℕ) (v : Ref) (o : Option Obj) → Ready k → Goes k bare → object_of k (receiver_of k) ≡ o → Leading Runs k (store_field k bare i v o)
+store_field_leading i v None r g e = stop_leading r.sound why.BadField
+store_field_leading {k} i v (Some (Ptr head slots)) r g e = if_leading (nat_lt i (length slots)) (λ f. store_slot_leading (receiver_of k) i v r g) (λ f. stop_leading r.sound why.BadField)
+store_field_leading i v (Some (Raw head bytes)) r g e = stop_leading r.sound why.BadField
+store_field_leading i v (Some (Method head header literals bytecodes)) r g e = stop_leading r.sound why.BadField
+store_field_leading i v (Some (Ctx c)) r g e = store_in_context_leading i v c r e
 
-pub store_receiver_leading : {k : Kept} (i : ℕ) (v : Ref) → Ready k → Leading Runs k (store_receiver_out k i v)
+pub store_receiver_leading : {k bare : Kept} (i : ℕ) (v : Ref) → Ready k → Goes k bare → Leading Runs k (store_receiver_out k bare i v)
 unfolding store_receiver_out
-store_receiver_leading {k} i v r = store_field_leading i v (object_of k (receiver_of k)) r refl
+store_receiver_leading {k} i v r g = store_field_leading i v (object_of k (receiver_of k)) r g refl
 
 -- ---- temporaries, literals and literal variables
 
@@ -106,11 +130,11 @@ pub push_variable_leading : {k : Kept} (i : ℕ) → Ready k → Leading Runs k 
 unfolding push_variable_out
 push_variable_leading {k} i r = given_leading (variable_value k i) (λ x. push_out k x) (stop_leading r.sound why.BadLiteral) (λ x e. push_leading x r)
 
-pub store_variable_leading : {k : Kept} (i : ℕ) (v : Ref) → Ready k → Leading Runs k (store_variable_out k i v)
+pub store_variable_leading : {k bare : Kept} (i : ℕ) (v : Ref) → Ready k → Goes k bare → Leading Runs k (store_variable_out k bare i v)
 unfolding store_variable_out
-store_variable_leading {k} i v r =
-    given_leading (variable_value k i) (λ old. done (store_of k (unwrap_or (literal_at k i) (nil_of k)) 1 v)) (stop_leading r.sound why.BadLiteral)
-    (λ old e. done_goes (store_goes (unwrap_or (literal_at k i) (nil_of k)) 1 v r))
+store_variable_leading {k} {bare} i v r g =
+    given_leading (variable_value k i) (λ old. store_slot k bare (unwrap_or (literal_at k i) (nil_of k)) 1 v) (stop_leading r.sound why.BadLiteral)
+    (λ old e. store_slot_leading (unwrap_or (literal_at k i) (nil_of k)) 1 v r g)
 
 -- ---- vectors
 
@@ -118,20 +142,26 @@ pub push_vector_leading : {k : Kept} (i j : ℕ) → Ready k → Leading Runs k 
 unfolding push_vector_out
 push_vector_leading {k} i j r = given_leading (vector_slot k i j) (λ x. push_out k x) (stop_leading r.sound why.BadField) (λ x e. push_leading x r)
 
-pub store_vector_leading : {k : Kept} (i j : ℕ) (v : Ref) → Ready k → Leading Runs k (store_vector_out k i j v)
+pub store_vector_leading : {k bare : Kept} (i j : ℕ) (v : Ref) → Ready k → Goes k bare → Leading Runs k (store_vector_out k bare i j v)
 unfolding store_vector_out
-store_vector_leading {k} i j v r =
-    given_leading (vector_slot k i j) (λ old. done (store_of k (vector_at k j) i v)) (stop_leading r.sound why.BadField) (λ old e. done_goes (store_goes (vector_at k j) i v r))
+store_vector_leading {k} {bare} i j v r g =
+    given_leading (vector_slot k i j) (λ old. store_slot k bare (vector_at k j) i v) (stop_leading r.sound why.BadField) (λ old e. store_slot_leading (vector_at k j) i v r g)
 
 -- ---- pop and store forms
 
-pub pop_into_leading : {k : Kept} (f : Kept → Ref → Out) → Ready k → ((t : Kept) (x : Ref) → Ready t → Leading Runs t (f t x)) → Leading Runs k (pop_into k f)
-unfolding pop_into
-pop_into_leading {k} f r next = with_top_leading (λ x. f (pop_of k) x) r (λ x. let d = drop_goes 1 r in behind d.leads (next (pop_of k) x (ready_behind d)))
+-- a store, where the state without the value can be reached
+abbrev pub Stores : (Kept → Kept → Ref → Out) → Type 0
+Stores f = (t bare : Kept) (x : Ref) → Ready t → Goes t bare → Leading Runs t (f t bare x)
 
-pub store_into_leading : {k : Kept} (f : Kept → Ref → Out) → Ready k → ((t : Kept) (x : Ref) → Ready t → Leading Runs t (f t x)) → Leading Runs k (store_into k f)
+pub pop_into_leading : {k : Kept} (f : Kept → Kept → Ref → Out) → Ready k → Stores f → Leading Runs k (pop_into k f)
+unfolding pop_into
+pop_into_leading {k} f r next =
+    with_top_leading (λ x. f (pop_of k) (pop_of k) x) r
+    (λ x. let d = drop_goes 1 r in behind d.leads (next (pop_of k) (pop_of k) x (ready_behind d) (goes_itself (ready_behind d))))
+
+pub store_into_leading : {k : Kept} (f : Kept → Kept → Ref → Out) → Ready k → Stores f → Leading Runs k (store_into k f)
 unfolding store_into
-store_into_leading {k} f r next = with_top_leading (λ x. f k x) r (λ x. next k x r)
+store_into_leading {k} f r next = with_top_leading (λ x. f k (pop_of k) x) r (λ x. next k (pop_of k) x r (drop_goes 1 r))
 
 -- ---- jumps
 
@@ -149,13 +179,6 @@ pc_after-lies k offset pc e = if_lies-lies (method_of k) (pc_of_sum (pos (pc_of 
 pub jump_leading : {k : Kept} (offset : ℤ) → Ready k → Leading Runs k (jump_out k offset)
 unfolding jump_out
 jump_leading {k} offset r = given_leading (pc_after k offset) (λ pc. done (set_pc_of k pc)) (stop_leading r.sound why.BadCode) (λ pc e. done_goes (set_pc_goes pc r (pc_after-lies k offset pc e)))
-
-pub send_leading : {P : Kept → Type 0} {k : Kept} (selector : Ref) (args : ℕ) (above : Option Ref) → Ready k → Leading P k (out (ends.Send selector args above) k)
-send_leading selector args above r = out_leading (ends.Send selector args above) (leads_itself r.sound) r.runs
-
-pub special_send_leading : {P : Kept → Type 0} {k : Kept} (special args : ℕ) → Ready k → Leading P k (special_send_out k special args)
-unfolding special_send_out
-special_send_leading {P} {k} special args r = given_leading (special_at k special) (λ selector. out (ends.Send selector args None) k) (stop_leading r.sound why.BadSpecial) (λ x e. send_leading x args None r)
 
 pub jump_if_leading : {k : Kept} (wanted : Bool) (offset : ℕ) → Ready k → Leading Runs k (jump_if_out k wanted offset)
 unfolding jump_if_out
@@ -232,7 +255,7 @@ pub record Fills (o : Option Obj) (values : List Ref) : Type 0 where
   pub none : slots_in o ≡ Some [] → values ≡ []
 
 with_slots_mild : (values : List Ref) (o : Obj) → Fills (Some o) values → Mild (with_slots values) o
-with_slots_mild values (Ptr class format hash slots) h = record {
+with_slots_mild values (Ptr head slots) h = record {
   like = record {
     becomes = record { held = λ g. refl; plain = λ g e. refl; lies = λ pc g. g; method = λ g. g };
     index = λ g. g;
@@ -241,8 +264,8 @@ with_slots_mild values (Ptr class format hash slots) h = record {
   pc = refl;
   lies = λ k g. no_context_lies refl;
 }
-with_slots_mild values (Raw class format hash bytes) h = mild_itself (with_slots values) (Raw class format hash bytes) refl
-with_slots_mild values (Method class format hash header literals bytecodes) h = mild_itself (with_slots values) (Method class format hash header literals bytecodes) refl
+with_slots_mild values (Raw head bytes) h = mild_itself (with_slots values) (Raw head bytes) refl
+with_slots_mild values (Method head header literals bytecodes) h = mild_itself (with_slots values) (Method head header literals bytecodes) refl
 with_slots_mild values (Ctx c) h = mild_itself (with_slots values) (Ctx c) refl
 
 pub fill_goes : {k : Kept} (x : Ref) (values : List Ref) → Ready k → Fills (object_of k x) values → Goes k (fill_of k x values)
@@ -341,12 +364,12 @@ exec_leading (op.PushRcvr i) r = push_receiver_leading i r
 exec_leading (op.PushTemp i) r = push_temp_leading i r
 exec_leading (op.PushLit i) r = push_literal_leading i r
 exec_leading (op.PushLitVar i) r = push_variable_leading i r
-exec_leading (op.PopRcvr i) r = pop_into_leading _ r (λ t x s. store_receiver_leading i x s)
-exec_leading (op.PopTemp i) r = pop_into_leading _ r (λ t x s. store_temp_leading i x s)
-exec_leading (op.PopLitVar i) r = pop_into_leading _ r (λ t x s. store_variable_leading i x s)
-exec_leading (op.StoreRcvr i) r = store_into_leading _ r (λ t x s. store_receiver_leading i x s)
-exec_leading (op.StoreTemp i) r = store_into_leading _ r (λ t x s. store_temp_leading i x s)
-exec_leading (op.StoreLitVar i) r = store_into_leading _ r (λ t x s. store_variable_leading i x s)
+exec_leading (op.PopRcvr i) r = pop_into_leading _ r (λ t bare x s g. store_receiver_leading i x s g)
+exec_leading (op.PopTemp i) r = pop_into_leading _ r (λ t bare x s g. store_temp_leading i x s)
+exec_leading (op.PopLitVar i) r = pop_into_leading _ r (λ t bare x s g. store_variable_leading i x s g)
+exec_leading (op.StoreRcvr i) r = store_into_leading _ r (λ t bare x s g. store_receiver_leading i x s g)
+exec_leading (op.StoreTemp i) r = store_into_leading _ r (λ t bare x s g. store_temp_leading i x s)
+exec_leading (op.StoreLitVar i) r = store_into_leading _ r (λ t bare x s g. store_variable_leading i x s g)
 exec_leading {k} op.PushSelf r = push_leading (receiver_of k) r
 exec_leading {k} op.PushTrue r = push_leading (boolean k true) r
 exec_leading {k} op.PushFalse r = push_leading (boolean k false) r
@@ -367,8 +390,8 @@ exec_leading (op.NewArray n) r = new_array_leading n r
 exec_leading (op.PopArray n) r = pop_array_leading n r
 exec_leading (op.Prim i j) r = done_goes (goes_itself r)
 exec_leading (op.PushVec i j) r = push_vector_leading i j r
-exec_leading (op.StoreVec i j) r = store_into_leading _ r (λ t x s. store_vector_leading i j x s)
-exec_leading (op.PopVec i j) r = pop_into_leading _ r (λ t x s. store_vector_leading i j x s)
+exec_leading (op.StoreVec i j) r = store_into_leading _ r (λ t bare x s g. store_vector_leading i j x s g)
+exec_leading (op.PopVec i j) r = pop_into_leading _ r (λ t bare x s g. store_vector_leading i j x s g)
 exec_leading (op.Closure copied args size) r = closure_leading copied args size r
 exec_leading (op.Jump offset) r = jump_leading offset r
 exec_leading (op.JumpTrue offset) r = jump_if_leading true offset r

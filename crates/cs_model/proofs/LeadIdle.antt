@@ -101,20 +101,20 @@ as_long (a ∷ xs) zero v = refl
 as_long (a ∷ xs) (suc i) v = ap suc (as_long xs i v)
 
 store_third : (v : Ref) (o : Obj) → third (Some (with_slot 2 v o)) ≡ third (Some o)
-store_third v (Ptr class format hash slots) = past_three slots v
-store_third v (Raw class format hash bytes) = refl
-store_third v (Method class format hash header literals bytecodes) = refl
+store_third v (Ptr head slots) = past_three slots v
+store_third v (Raw head bytes) = refl
+store_third v (Method head header literals bytecodes) = refl
 store_third v (Ctx c) = refl
 
 store_second : (v : Ref) (o : Obj) → second (Some (with_slot 2 v o)) ≡ second (Some o)
-store_second v (Ptr class format hash slots) = chosen (nat_le 2 (length (slice_set slots 2 v))) (nat_le 2 (length slots)) (ap (nat_le 2) (as_long slots 2 v)) where
+store_second v (Ptr head slots) = chosen (nat_le 2 (length (slice_set slots 2 v))) (nat_le 2 (length slots)) (ap (nat_le 2) (as_long slots 2 v)) where
   chosen : (b c : Bool) → b ≡ c → option_and_then (λ s. slice_get s 1) (if b then Some (slice_set slots 2 v) else None) ≡ option_and_then (λ s. slice_get s 1) (if c then Some slots else None)
   chosen true true e = past_one slots v
   chosen true false e = absurd (cc)
   chosen false true e = absurd (cc)
   chosen false false e = refl
-store_second v (Raw class format hash bytes) = refl
-store_second v (Method class format hash header literals bytecodes) = refl
+store_second v (Raw head bytes) = refl
+store_second v (Method head header literals bytecodes) = refl
 store_second v (Ctx c) = refl
 
 -- a store into slot 2 leaves the active process
@@ -133,23 +133,23 @@ record NilStored (k t : Kept) (s : Ref) : Type 0 where
   other : (x : Ref) → x ≢ s → second_of t x ≡ second_of k x
 
 one_third : (v : Ref) (o : Obj) → third (Some (with_slot 1 v o)) ≡ third (Some o)
-one_third v (Ptr class format hash slots) = past slots where
+one_third v (Ptr head slots) = past slots where
   past : (xs : List Ref) → slice_get (slice_set xs 1 v) 3 ≡ slice_get xs 3
   past [] = refl
   past (a ∷ []) = refl
   past (a ∷ b ∷ xs) = refl
-one_third v (Raw class format hash bytes) = refl
-one_third v (Method class format hash header literals bytecodes) = refl
+one_third v (Raw head bytes) = refl
+one_third v (Method head header literals bytecodes) = refl
 one_third v (Ctx c) = refl
 
 one_second : (v : Ref) (o : Obj) → IsSome (at_least 2 (slots_in (Some o))) → second (Some (with_slot 1 v o)) ≡ Some v
-one_second v (Ptr class format hash slots) h = long slots h where
-  long : (xs : List Ref) → IsSome (at_least 2 (Some xs)) → second (Some (Ptr class format hash (slice_set xs 1 v))) ≡ Some v
+one_second v (Ptr head slots) h = long slots h where
+  long : (xs : List Ref) → IsSome (at_least 2 (Some xs)) → second (Some (Ptr head (slice_set xs 1 v))) ≡ Some v
   long [] g = absurd (cc)
   long (a ∷ []) g = absurd (cc)
   long (a ∷ b ∷ xs) g = let e : nat_le 2 (length (a ∷ v ∷ xs)) ≡ true = grind (arith, nat_tests) in ap (λ c. option_and_then (λ s. slice_get s 1) (if c then Some (a ∷ v ∷ xs) else None)) e
-one_second v (Raw class format hash bytes) h = absurd (cc)
-one_second v (Method class format hash header literals bytecodes) h = absurd (cc)
+one_second v (Raw head bytes) h = absurd (cc)
+one_second v (Method head header literals bytecodes) h = absurd (cc)
 one_second v (Ctx c) h = absurd (cc)
 
 suspended_second : (k : Kept) (x : Ref) → second_of (suspend_of k) x ≡ second_of k x

@@ -65,9 +65,9 @@ unfolding slots_of
 plain_slots k n i h = plain_if (object_at k i) refl h where
   plain_if : (o : Option Obj) → object_at k i ≡ o → IsSome (at_least n (slots_in o)) → Plain k i
   plain_if None e g = absurd (cc)
-  plain_if (Some (Ptr class format hash slots)) e g = record { there = ap is_some e; plain = ap context_in e }
-  plain_if (Some (Raw class format hash bytes)) e g = absurd (cc)
-  plain_if (Some (Method class format hash header literals bytecodes)) e g = absurd (cc)
+  plain_if (Some (Ptr head slots)) e g = record { there = ap is_some e; plain = ap context_in e }
+  plain_if (Some (Raw head bytes)) e g = absurd (cc)
+  plain_if (Some (Method head header literals bytecodes)) e g = absurd (cc)
   plain_if (Some (Ctx c)) e g = absurd (cc)
 
 enter_class_goes : {k : Kept} (index birth : ℕ) → Ready k → Plain k birth → index ≢ 16 → Goes k (enter_class k index (Some birth))

@@ -9,17 +9,17 @@ use Rattle.cs_model.specs.State.{Kept, object_at, object_of, slots_of, special_a
 use Rattle.cs_model.specs.Operation.{next_ref}
 use Rattle.cs_model.specs.Context.{context_get, accepts}
 use Rattle.cs_model.specs.Instance.{Made, New, NotInstantiable, TableFull, instantiate, Index, IndexAt, NoIndex, NoneFree, class_index_for, shape_of, Hashed, Hash, NotAClass, NoneLeft, behavior_hash}
-use Rattle.cs_model.specs.Element.{range_of, place_of}
+use Rattle.cs_model.specs.Element.{range_of, element_place, front}
 use Rattle.cs_model.specs.Exec.{is_active, small_operands}
 use Rattle.cs_model.specs.PrimAnswer.{receiver, argument}
-use Rattle.cs_model.specs.PrimObject.{at_prim, at_put_prim, has_size, small_count, size_prim, is_bytes, char_at_prim, byte_code, char_at_put_prim, method_slot, slot_index, object_at_prim, object_at_put_prim, answer_made, new_prim, new_size_prim, point_class, point_slots, point_made, point_prim, answer_field, slot_at, slot_at_prim, context_at_put, slot_put, slot_at_put_prim, hash_prim, some_instance_prim, next_instance_prim, method_of, is_method_index, make_method, is_method_shape, new_method_prim, copy_kinds, copy_fits, count_of, copy_to, replace_prim, identical_prim, class_prim, copied, look_if, copy_object, copy_prim, answer_hashed, behavior_hash_prim, quick_prim}
+use Rattle.cs_model.specs.PrimObject.{at_prim, at_put_prim, has_size, small_count, size_prim, is_bytes, char_at_prim, byte_code, char_at_put_prim, method_slot, slot_index, object_at_prim, object_at_put_prim, answer_made, new_prim, new_size_prim, point_class, point_slots, point_made, point_prim, answer_field, slot_at, slot_at_prim, context_at_put, slot_put, slot_at_put_prim, hash_prim, some_instance_prim, next_instance_prim, blank_method, is_method_index, make_method, is_method_shape, new_method_prim, copy_kinds, copy_fits, count_of, copy_to, replace_prim, identical_prim, class_prim, copied, look_if, copy_object, copy_prim, answer_hashed, behavior_hash_prim, read_only_prim, can_be_fixed, boolean_in, set_read_only_prim, quick_prim}
 use Rattle.cs_model.specs.End.{Out}
 use Rattle.cs_model.proofs.Leading.{Sound, PcsLie}
 use Rattle.cs_model.proofs.LeadCombining.{Ready, goes_trans, ready_behind, Leading, fail_leading, made_leading, looked_leading, given_leading, if_leading}
-use Rattle.cs_model.proofs.LeadOperation.{context_lies, no_context_lies, store_goes, store_byte_goes, add_goes}
+use Rattle.cs_model.proofs.LeadOperation.{context_lies, no_context_lies, store_goes, store_byte_goes, set_fixed_goes, add_goes}
 use Rattle.cs_model.proofs.LeadFields.{context_put_goes}
 use Rattle.cs_model.proofs.LeadExecuting.{Fills, fill_goes}
-use Rattle.cs_model.proofs.LeadAnswer.{answer_leading, answer_behind, with_count_leading, answer_if_leading, answer_in_leading}
+use Rattle.cs_model.proofs.LeadAnswer.{answer_leading, answer_behind, with_count_leading, unless_read_only_leading, answer_if_leading, answer_in_leading}
 use Rattle.cs_model.proofs.LeadInstance.{and_true, shown_index, shape_slots, NotHidden, class_index_for-not_hidden, take_index_goes, MadeGoes, instantiate_goes, HashedGoes, behavior_hash_goes, hash_given_goes}
 use Rattle.cs_model.proofs.LeadElement.{GoesIf, goes_none, if_goes_some, map_goes, and_then_goes_if, with_element_goes, copy_elements_goes}
 
@@ -32,7 +32,8 @@ at_leading args r = with_count_leading 1 args r (answer_if_leading 1 _ r)
 pub at_put_leading : {P : Kept → Type 0} {k : Kept} (args : ℕ) → Ready k → Leading P k (at_put_prim k args)
 unfolding at_put_prim
 at_put_leading {k = k} args r =
-    with_count_leading 2 args r (answer_in_leading _ 2 _ r (and_then_goes_if _ (place_of k (receiver k 2) (argument k 2 0)) (λ place e. with_element_goes (receiver k 2) place (argument k 2 1) r)))
+    with_count_leading 2 args r (unless_read_only_leading (receiver k 2) r (answer_in_leading _ 2 _ r
+    (and_then_goes_if _ (element_place k (receiver k 2) (argument k 2 0)) (λ place e. with_element_goes (receiver k 2) place (argument k 2 1) r))))
 
 pub size_leading : {P : Kept → Type 0} {k : Kept} (args : ℕ) → Ready k → Leading P k (size_prim k args)
 unfolding size_prim
@@ -45,10 +46,10 @@ char_at_leading args r = with_count_leading 1 args r (answer_if_leading 1 _ r)
 pub char_at_put_leading : {P : Kept → Type 0} {k : Kept} (args : ℕ) → Ready k → Leading P k (char_at_put_prim k args)
 unfolding char_at_put_prim
 char_at_put_leading {k = k} args r =
-    with_count_leading 2 args r (if_leading (is_bytes k (receiver k 2))
-    (λ e. answer_in_leading _ 2 _ r (and_then_goes_if _ (place_of k (receiver k 2) (argument k 2 0)) (λ place f.
+    with_count_leading 2 args r (unless_read_only_leading (receiver k 2) r (if_leading (is_bytes k (receiver k 2))
+    (λ e. answer_in_leading _ 2 _ r (and_then_goes_if _ (element_place k (receiver k 2) (argument k 2 0)) (λ place f.
     map_goes _ (byte_code (argument k 2 1)) (λ b. store_byte_goes (receiver k 2) place b r))))
-    (λ e. fail_leading r))
+    (λ e. fail_leading r)))
 
 -- ---- literals
 
@@ -59,8 +60,8 @@ object_at_leading args r = with_count_leading 1 args r (answer_if_leading 1 _ r)
 pub object_at_put_leading : {P : Kept → Type 0} {k : Kept} (args : ℕ) → Ready k → Leading P k (object_at_put_prim k args)
 unfolding object_at_put_prim
 object_at_put_leading {k = k} args r =
-    with_count_leading 2 args r (answer_in_leading _ 2 _ r (and_then_goes_if _ (slot_index (argument k 2 0)) (λ i e.
-    if_goes_some (nat_lt 0 i && is_some (method_slot (object_of k (receiver k 2)) i)) (λ f. store_goes (receiver k 2) i (argument k 2 1) r))))
+    with_count_leading 2 args r (unless_read_only_leading (receiver k 2) r (answer_in_leading _ 2 _ r (and_then_goes_if _ (slot_index (argument k 2 0)) (λ i e.
+    if_goes_some (nat_lt 0 i && is_some (method_slot (object_of k (receiver k 2)) i)) (λ f. store_goes (receiver k 2) i (argument k 2 1) r)))))
 
 -- ---- new instances
 
@@ -108,9 +109,9 @@ answer_field_leading args i value r =
 
 pub slot_at_case : {P : Kept → Type 0} {k : Kept} (args i : ℕ) (o : Option Obj) → Ready k → Leading P k (slot_at k args i o)
 slot_at_case args i None r = fail_leading r
-slot_at_case args i (Some (Ptr class format hash slots)) r = answer_if_leading args (slice_get slots i) r
-slot_at_case args i (Some (Raw class format hash bytes)) r = fail_leading r
-slot_at_case args i (Some (Method class format hash header literals bytecodes)) r = fail_leading r
+slot_at_case args i (Some (Ptr head slots)) r = answer_if_leading args (slice_get slots i) r
+slot_at_case args i (Some (Raw head bytes)) r = fail_leading r
+slot_at_case args i (Some (Method head header literals bytecodes)) r = fail_leading r
 slot_at_case {k = k} args i (Some (Ctx c)) r = answer_field_leading args i (context_get k c i) r
 
 pub slot_at_leading : {P : Kept → Type 0} {k : Kept} (args : ℕ) → Ready k → Leading P k (slot_at_prim k args)
@@ -139,16 +140,16 @@ context_at_put_goes {k} x i v c (Some birth) e f r =
 
 slot_put_goes : {k : Kept} (x : Ref) (i : ℕ) (v : Ref) (o : Option Obj) → object_of k x ≡ o → Ready k → GoesIf k (slot_put k x i v o)
 slot_put_goes {k} x i v None e r = goes_none k
-slot_put_goes x i v (Some (Ptr class format hash slots)) e r = if_goes_some (nat_lt i (length slots)) (λ f. store_goes x i v r)
-slot_put_goes {k} x i v (Some (Raw class format hash bytes)) e r = goes_none k
-slot_put_goes {k} x i v (Some (Method class format hash header literals bytecodes)) e r = goes_none k
+slot_put_goes x i v (Some (Ptr head slots)) e r = if_goes_some (nat_lt i (length slots)) (λ f. store_goes x i v r)
+slot_put_goes {k} x i v (Some (Raw head bytes)) e r = goes_none k
+slot_put_goes {k} x i v (Some (Method head header literals bytecodes)) e r = goes_none k
 slot_put_goes x i v (Some (Ctx c)) e r = context_at_put_goes x i v c (birth_of x) refl e r
 
 pub slot_at_put_leading : {P : Kept → Type 0} {k : Kept} (args : ℕ) → Ready k → Leading P k (slot_at_put_prim k args)
 unfolding slot_at_put_prim
 slot_at_put_leading {k = k} args r =
-    with_count_leading 2 args r (answer_in_leading _ 2 _ r (and_then_goes_if _ (slot_index (argument k 2 0)) (λ i e.
-    slot_put_goes (receiver k 2) i (argument k 2 1) (object_of k (receiver k 2)) refl r)))
+    with_count_leading 2 args r (unless_read_only_leading (receiver k 2) r (answer_in_leading _ 2 _ r (and_then_goes_if _ (slot_index (argument k 2 0)) (λ i e.
+    slot_put_goes (receiver k 2) i (argument k 2 1) (object_of k (receiver k 2)) refl r))))
 
 -- ---- hashes, and the instances of a class
 
@@ -173,7 +174,7 @@ make_method_leading class count header NoneFree r h seen = fail_leading r
 make_method_leading {k = k} class count header (IndexAt index) r h seen =
     if_leading (is_method_index index) (λ e.
     let a = take_index_goes 3 class index r h seen in
-    let o = method_of k index count header in
+    let o = blank_method k index count header in
     made_leading (words_of o) (answer_behind 2 (next_ref k) (goes_trans a (add_goes o (ready_behind a) (shown_index index (and_true (nat_lt 3 index) _ e).0 seen) (no_context_lies refl)))))
     (λ e. fail_leading r)
 
@@ -198,16 +199,16 @@ copy_to_leading : {P : Kept → Type 0} {k : Kept} (x other : Ref) (start stop f
 copy_to_leading {k = k} x other start stop from r =
     given_leading (count_of (range_of k x)) _ (fail_leading r) (λ mine e.
     given_leading (count_of (range_of k other)) _ (fail_leading r) (λ its f.
-    if_leading (copy_fits start stop from mine its) (λ g. answer_behind 4 x (copy_elements_goes (stop + 1 - start) x (start - 1) other (from - 1) r)) (λ g. fail_leading r)))
+    if_leading (copy_fits start stop from mine its) (λ g. answer_behind 4 x (copy_elements_goes (stop + 1 - start) x (front k x + (start - 1)) other (front k other + (from - 1)) r)) (λ g. fail_leading r)))
 
 pub replace_leading : {P : Kept → Type 0} {k : Kept} (args : ℕ) → Ready k → Leading P k (replace_prim k args)
 unfolding replace_prim
 replace_leading {k = k} args r =
-    with_count_leading 4 args r (given_leading (index_of (argument k 4 0)) _ (fail_leading r) (λ start e.
+    with_count_leading 4 args r (unless_read_only_leading (receiver k 4) r (given_leading (index_of (argument k 4 0)) _ (fail_leading r) (λ start e.
     given_leading (index_of (argument k 4 1)) _ (fail_leading r) (λ stop f.
     given_leading (index_of (argument k 4 3)) _ (fail_leading r) (λ from g.
     if_leading (copy_kinds (object_of k (receiver k 4)) (object_of k (argument k 4 2)))
-    (λ h. copy_to_leading (receiver k 4) (argument k 4 2) start stop from r) (λ h. fail_leading r)))))
+    (λ h. copy_to_leading (receiver k 4) (argument k 4 2) start stop from r) (λ h. fail_leading r))))))
 
 -- ---- identity, class, copy and hash
 
@@ -220,16 +221,16 @@ unfolding class_prim
 class_leading args r = with_count_leading 0 args r (answer_leading 0 _ r)
 
 copied_index : (o : Obj) → class_index_in (copied o) ≡ class_index_in o
-copied_index (Ptr class format hash slots) = refl
-copied_index (Raw class format hash bytes) = refl
-copied_index (Method class format hash header literals bytecodes) = refl
+copied_index (Ptr head slots) = refl
+copied_index (Raw head bytes) = refl
+copied_index (Method head header literals bytecodes) = refl
 copied_index (Ctx c) = refl
 
 -- the pc of a copy of a context lies where that of the context does
 copied_lies : {k : Kept} → Sound k → (i : ℕ) (o : Obj) → object_at k i ≡ Some o → PcsLie k (copied o)
-copied_lies s i (Ptr class format hash slots) e = no_context_lies refl
-copied_lies s i (Raw class format hash bytes) e = no_context_lies refl
-copied_lies s i (Method class format hash header literals bytecodes) e = no_context_lies refl
+copied_lies s i (Ptr head slots) e = no_context_lies refl
+copied_lies s i (Raw head bytes) e = no_context_lies refl
+copied_lies s i (Method head header literals bytecodes) e = no_context_lies refl
 copied_lies s i (Ctx c) e = context_lies (record c { hash = 0 }) (s.pcs i c e)
 
 look_if_leading : {P : Kept → Type 0} {k : Kept} {o : Out} (b : Bool) → Leading P k o → Leading P k (look_if b o)
@@ -257,6 +258,19 @@ answer_hashed_leading (Hash t index) r h = answer_behind 0 (small_count index) h
 pub behavior_hash_leading : {P : Kept → Type 0} {k : Kept} (args : ℕ) → Ready k → Leading P k (behavior_hash_prim k args)
 unfolding behavior_hash_prim
 behavior_hash_leading {k = k} args r = with_count_leading 0 args r (answer_hashed_leading (behavior_hash k (receiver k 0)) r (behavior_hash_goes (receiver k 0) r))
+
+-- ---- objects that may not be stored into
+
+pub read_only_leading : {P : Kept → Type 0} {k : Kept} (args : ℕ) → Ready k → Leading P k (read_only_prim k args)
+unfolding read_only_prim
+read_only_leading args r = with_count_leading 0 args r (answer_leading 0 _ r)
+
+pub set_read_only_leading : {P : Kept → Type 0} {k : Kept} (args : ℕ) → Ready k → Leading P k (set_read_only_prim k args)
+unfolding set_read_only_prim
+set_read_only_leading {k = k} args r =
+    with_count_leading 1 args r (if_leading (can_be_fixed (object_of k (receiver k 1)))
+    (λ e. given_leading (boolean_in k (argument k 1 0)) _ (fail_leading r) (λ on f. answer_behind 1 _ (set_fixed_goes (receiver k 1) on r)))
+    (λ e. fail_leading r))
 
 -- ---- quick answers
 

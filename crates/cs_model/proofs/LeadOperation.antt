@@ -1,5 +1,5 @@
 -- What becomes of a state by each operation.
-use Rattle.std.proofs.Common.{◌≡◌, ℕ, zero, suc, ◌+◌, ◌-◌, ◌*◌, ◌<◌, true, false, refl, sym, ap, subst, ◌∙◌, Option, Some, None, IsSome, is_some, List, [], ◌∷◌, length, inl, inr, arith, unwrap_or}
+use Rattle.std.proofs.Common.{◌≡◌, ℕ, zero, suc, ◌+◌, ◌-◌, ◌*◌, ◌<◌, Bool, true, false, refl, sym, ap, subst, ◌∙◌, Option, Some, None, IsSome, is_some, List, [], ◌∷◌, length, inl, inr, arith, unwrap_or}
 use Rattle.std.specs.Prelude.{slice_set}
 use Rattle.std.proofs.lemmas.Bool.Decides.{eqb_tells}
 use Rattle.cs_model.specs.Ref.{Ref, Small, Char, birth_of}
@@ -7,7 +7,7 @@ use Rattle.cs_model.specs.Ref as ref
 use Rattle.cs_model.specs.Obj.{Obj, Context, Ptr, Raw, Method, Ctx, is_context, class_index_in, lies_in, lies_between, first_pc, slots_in, context_in, with_pc, pushed, popped, stored, edit_context}
 use Rattle.cs_model.specs.State.{Kept, object_at, object_of, put, PcLies, is_class_index, IsLive}
 use Rattle.cs_model.specs.Read.{blank, active_birth, active_context, method_of}
-use Rattle.cs_model.specs.Operation.{put_active, edit_active, set_pc_of, push_of, drop_of, set_stack_of, edit_found, edit_object, with_slot, with_byte, with_hash, store_of, store_byte_of, add_of, activate, resume_of, suspend_of}
+use Rattle.cs_model.specs.Operation.{put_active, edit_active, set_pc_of, push_of, drop_of, set_stack_of, edit_found, edit_object, with_slot, with_byte, with_hash, with_fixed, store_of, store_byte_of, set_fixed_of, add_of, activate, resume_of, suspend_of}
 use Rattle.cs_model.proofs.Objects.{object_at-put_same, object_at-put_other, at_put, rest-put}
 use Rattle.cs_model.proofs.Leading.{Sound, Becomes, becomes_by, becomes_new, Like, like_itself, like_context, Stays, Leads, leads_itself, pc_lies_on, plain_on, PcsLie, pc_in, put_leads, rest_leads}
 use Rattle.cs_model.proofs.LeadCombining.{Ready, Goes, goes_by, active_found, active_live}
@@ -88,7 +88,7 @@ some_inj : {A : Type 0} (x y : A) → Some x ≡ Some y → x ≡ y
 some_inj x y e = ap (λ o. unwrap_or o x) e
 
 pub with_slot_mild : (i : ℕ) (x : Ref) (o : Obj) → Mild (with_slot i x) o
-with_slot_mild i x (Ptr class format hash slots) = record {
+with_slot_mild i x (Ptr head slots) = record {
   like = record {
     becomes = record { held = λ h. refl; plain = λ h e. refl; lies = λ pc h. h; method = λ h. h };
     index = λ h. h;
@@ -97,8 +97,8 @@ with_slot_mild i x (Ptr class format hash slots) = record {
   pc = refl;
   lies = λ k h. no_context_lies refl;
 }
-with_slot_mild i x (Raw class format hash bytes) = mild_itself (with_slot i x) (Raw class format hash bytes) refl
-with_slot_mild i x (Method class format hash header literals bytecodes) = record {
+with_slot_mild i x (Raw head bytes) = mild_itself (with_slot i x) (Raw head bytes) refl
+with_slot_mild i x (Method head header literals bytecodes) = record {
   like = record {
     becomes = record { held = λ h. refl; plain = λ h e. refl; lies = λ pc h. ap (λ n. lies_between (4 * (n + 1) + 1) (length bytecodes) pc) (length-slice_set literals (i - 1) x) ∙ h; method = λ h. h };
     index = λ h. h;
@@ -110,8 +110,8 @@ with_slot_mild i x (Method class format hash header literals bytecodes) = record
 with_slot_mild i x (Ctx c) = mild_itself (with_slot i x) (Ctx c) refl
 
 pub with_byte_mild : (i b : ℕ) (o : Obj) → Mild (with_byte i b) o
-with_byte_mild i b (Ptr class format hash slots) = mild_itself (with_byte i b) (Ptr class format hash slots) refl
-with_byte_mild i b (Raw class format hash bytes) = record {
+with_byte_mild i b (Ptr head slots) = mild_itself (with_byte i b) (Ptr head slots) refl
+with_byte_mild i b (Raw head bytes) = record {
   like = record {
     becomes = record { held = λ h. refl; plain = λ h e. refl; lies = λ pc h. h; method = λ h. h };
     index = λ h. h;
@@ -120,7 +120,7 @@ with_byte_mild i b (Raw class format hash bytes) = record {
   pc = refl;
   lies = λ k h. no_context_lies refl;
 }
-with_byte_mild i b (Method class format hash header literals bytecodes) = record {
+with_byte_mild i b (Method head header literals bytecodes) = record {
   like = record {
     becomes = record { held = λ h. refl; plain = λ h e. refl; lies = λ pc h. ap (λ n. lies_between (first_pc literals) n pc) (length-slice_set bytecodes i b) ∙ h; method = λ h. h };
     index = λ h. h;
@@ -132,17 +132,17 @@ with_byte_mild i b (Method class format hash header literals bytecodes) = record
 with_byte_mild i b (Ctx c) = mild_itself (with_byte i b) (Ctx c) refl
 
 pub with_hash_mild : (n : ℕ) (o : Obj) → Mild (with_hash n) o
-with_hash_mild n (Ptr class format hash slots) = record {
+with_hash_mild n (Ptr head slots) = record {
   like = record { becomes = record { held = λ h. refl; plain = λ h e. refl; lies = λ pc h. h; method = λ h. h }; index = λ h. h; bare = λ h. h };
   pc = refl;
   lies = λ k h. no_context_lies refl;
 }
-with_hash_mild n (Raw class format hash bytes) = record {
+with_hash_mild n (Raw head bytes) = record {
   like = record { becomes = record { held = λ h. refl; plain = λ h e. refl; lies = λ pc h. h; method = λ h. h }; index = λ h. h; bare = λ h. h };
   pc = refl;
   lies = λ k h. no_context_lies refl;
 }
-with_hash_mild n (Method class format hash header literals bytecodes) = record {
+with_hash_mild n (Method head header literals bytecodes) = record {
   like = record { becomes = record { held = λ h. refl; plain = λ h e. refl; lies = λ pc h. h; method = λ h. h }; index = λ h. h; bare = λ h. h };
   pc = refl;
   lies = λ k h. no_context_lies refl;
@@ -153,10 +153,28 @@ with_hash_mild n (Ctx c) = record {
   lies = λ k h. context_lies (record c { hash = n }) (h.lies c refl);
 }
 
+pub with_fixed_mild : (on : Bool) (o : Obj) → Mild (with_fixed on) o
+with_fixed_mild on (Ptr head slots) = record {
+  like = record { becomes = record { held = λ h. refl; plain = λ h e. refl; lies = λ pc h. h; method = λ h. h }; index = λ h. h; bare = λ h. h };
+  pc = refl;
+  lies = λ k h. no_context_lies refl;
+}
+with_fixed_mild on (Raw head bytes) = record {
+  like = record { becomes = record { held = λ h. refl; plain = λ h e. refl; lies = λ pc h. h; method = λ h. h }; index = λ h. h; bare = λ h. h };
+  pc = refl;
+  lies = λ k h. no_context_lies refl;
+}
+with_fixed_mild on (Method head header literals bytecodes) = record {
+  like = record { becomes = record { held = λ h. refl; plain = λ h e. refl; lies = λ pc h. h; method = λ h. h }; index = λ h. h; bare = λ h. h };
+  pc = refl;
+  lies = λ k h. no_context_lies refl;
+}
+with_fixed_mild on (Ctx c) = mild_itself (with_fixed on) (Ctx c) refl
+
 pub edit_context_mild : (f : Context → Context) → KeepsPlace f → (o : Obj) → Mild (edit_context f) o
-edit_context_mild f p (Ptr class format hash slots) = mild_itself (edit_context f) (Ptr class format hash slots) refl
-edit_context_mild f p (Raw class format hash bytes) = mild_itself (edit_context f) (Raw class format hash bytes) refl
-edit_context_mild f p (Method class format hash header literals bytecodes) = mild_itself (edit_context f) (Method class format hash header literals bytecodes) refl
+edit_context_mild f p (Ptr head slots) = mild_itself (edit_context f) (Ptr head slots) refl
+edit_context_mild f p (Raw head bytes) = mild_itself (edit_context f) (Raw head bytes) refl
+edit_context_mild f p (Method head header literals bytecodes) = mild_itself (edit_context f) (Method head header literals bytecodes) refl
 edit_context_mild f p (Ctx c) = record {
   like = like_context c (f c);
   pc = p.pc c;
@@ -229,6 +247,17 @@ store_byte-rest k x i b = edit_object-rest k x (with_byte i b)
 
 pub store_byte_goes : {k : Kept} (x : Ref) (i b : ℕ) → Ready k → Goes k (store_byte_of k x i b)
 store_byte_goes {k} x i b r = goes_by (store_byte_leads x i b r.sound) r.runs (ap (λ s. s.active) (store_byte-rest k x i b))
+
+pub set_fixed_leads : {k : Kept} (x : Ref) (on : Bool) → Sound k → Leads k (set_fixed_of k x on)
+unfolding set_fixed_of
+set_fixed_leads x on s = edit_object_leads x (with_fixed on) s (λ p e. with_fixed_mild on p)
+
+pub set_fixed-rest : (k : Kept) (x : Ref) (on : Bool) → (set_fixed_of k x on).rest ≡ k.rest
+unfolding set_fixed_of
+set_fixed-rest k x on = edit_object-rest k x (with_fixed on)
+
+pub set_fixed_goes : {k : Kept} (x : Ref) (on : Bool) → Ready k → Goes k (set_fixed_of k x on)
+set_fixed_goes {k} x on r = goes_by (set_fixed_leads x on r.sound) r.runs (ap (λ s. s.active) (set_fixed-rest k x on))
 
 -- ---- a new object
 

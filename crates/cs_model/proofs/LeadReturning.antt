@@ -6,18 +6,13 @@ use Rattle.cs_model.specs.Ref as ref
 use Rattle.cs_model.specs.Obj.{context_in}
 use Rattle.cs_model.specs.State.{Kept, object_at}
 use Rattle.cs_model.specs.Read.{active_birth}
-use Rattle.cs_model.specs.Return.{Search, Met, Ended, TooLong, sender_birth, senders_to, Home, HomeAt, NoHome, HomeTooFar, home, first_marked, unwind_mark, cannot_return, about_to_return, is_live, push_all, call_with, cannot_return_out, unwind_out, is_among, has_room, arrive, local_out, past_marks, from_home, to_home, nonlocal_out, back}
-use Rattle.cs_model.specs.End.{Out, out, stop, done, looked}
+use Rattle.cs_model.specs.Return.{Search, Met, Ended, TooLong, sender_birth, senders_to, Home, HomeAt, NoHome, HomeTooFar, home, first_marked, unwind_mark, cannot_return, about_to_return, is_live, call_with, cannot_return_out, unwind_out, is_among, has_room, arrive, local_out, past_marks, from_home, to_home, nonlocal_out, back}
+use Rattle.cs_model.specs.End.{out, looked}
 use Rattle.cs_model.specs.End as ends
 use Rattle.cs_model.proofs.Leading.{leads_itself}
-use Rattle.cs_model.proofs.LeadCombining.{Runs, Ready, goes_itself, Leading, out_leading, done_goes, stop_leading, looked_leading, given_leading, if_leading, and_then_goes}
+use Rattle.cs_model.proofs.LeadCombining.{Runs, Ready, Leading, out_leading, done_goes, stop_leading, looked_leading, given_leading, if_leading, and_then_goes}
 use Rattle.cs_model.proofs.LeadEntering.{and_left, and_right, cut_to_goes}
-use Rattle.cs_model.proofs.LeadExecuting.{push_leading}
-
-pub push_all_leading : (xs : List Ref) {k : Kept} → Ready k → Leading Runs k (push_all xs k)
-unfolding push_all
-push_all_leading [] r = done_goes (goes_itself r)
-push_all_leading (x ∷ xs) r = and_then_goes (λ t. push_all xs t) (push_leading x r) (λ t s l. push_all_leading xs s)
+use Rattle.cs_model.proofs.LeadExecuting.{push_all_leading}
 
 pub call_with_leading : {P : Kept → Type 0} {k : Kept} (special args : ℕ) (values : List Ref) → Ready k → Leading P k (call_with k special args values)
 call_with_leading {P} {k} special args values r =

@@ -1,16 +1,16 @@
 -- What operations on processes, semaphores and their lists lead to.
-use Rattle.std.proofs.Common.{◌≡◌, ℕ, ◌==◌, arith, ℤ, pos, ◌+ℤ◌, ◌-ℤ◌, int_lt, Bool, true, false, refl, sym, ap, ◌∙◌, Option, Some, None, IsSome, is_some, List, option_and_then, unwrap_or, if◌then◌else◌}
-use Rattle.std.specs.Prelude.{slice_get}
+use Rattle.std.proofs.Common.{◌≡◌, ℕ, ◌==◌, arith, ℤ, pos, ◌+ℤ◌, ◌-ℤ◌, int_lt, Bool, true, false, refl, sym, ap, subst, ◌∙◌, Option, Some, None, IsSome, is_some, option_and_then, unwrap_or, if◌then◌else◌}
 use Rattle.std.proofs.lemmas.Bool.Decides.{nat_tests}
 use Rattle.cs_model.specs.declared.stop.Stop.TheVariants as why
 use Rattle.cs_model.specs.Ref.{Ref, Small, Char, same_ref, small_of}
 use Rattle.cs_model.specs.Ref as ref
-use Rattle.cs_model.specs.Obj.{slots_in, at_least}
-use Rattle.cs_model.specs.State.{Kept, object_of, slots_of, scheduler_of, active_process, is_nil, IsLive}
+use Rattle.cs_model.specs.Obj.{at_least}
+use Rattle.cs_model.specs.State.{Kept, slots_of, scheduler_of, active_process, is_nil, IsLive}
+use Rattle.cs_model.specs.Profile.{puts_in_front}
 use Rattle.cs_model.specs.Operation.{store_of, suspend_of, nil_of}
 use Rattle.cs_model.specs.Return.{context_birth, is_live}
 use Rattle.cs_model.specs.Due.{is_idle, is_idle_at}
-use Rattle.cs_model.specs.Process.{next_link, suspended_context, my_list, first_link, last_link, excess_signals, process_slots, semaphore_slots, list_slots, slot_or_none, with_slot_of, lists_of, list_of_process, with_list_of, link_last, add_last, link_past, take_out, with_first, give_context, start_at, start, stop_running, Highest, Waiting, AllEmpty, NoList, highest_of, none_active, start_highest, start_next, priority_of, preempt, resume_beside, resume, one_more, signal, wait_behind, wait, suspend_active, Place, At, NotThere, NoProcess, TooFar, leave_list, suspend_other, give_way_to, give_way}
+use Rattle.cs_model.specs.Process.{next_link, suspended_context, my_list, first_link, last_link, excess_signals, process_slots, semaphore_slots, list_slots, slot_or_none, with_slot_of, if_scheduler, shaped_scheduler, lists_of, list_of_process, with_list_of, link_last, add_last, last_if_alone, add_first, add_preempted, link_past, take_out, with_first, give_context, start_at, start, stop_running, Highest, Waiting, AllEmpty, NoList, highest_of, none_active, start_highest, start_next, priority_of, preempt, resume_beside, resume, one_more_excess, signal, wait_behind, wait, suspend_active, ListPlace, At, NotThere, NoProcess, TooFar, leave_list, suspend_other, give_way_to, give_way}
 use Rattle.cs_model.specs.End.{Out, stop, done, and_then}
 use Rattle.cs_model.proofs.Leading.{Sound, Leads, leads_itself, leads_trans}
 use Rattle.cs_model.proofs.LeadCombining.{Runs, Ready, Settled, runs_settled, Leading, done_leading, stop_leading, fail_leading, behind, looked_leading, given_leading, if_leading, and_then_leading, weaker, settled_leading}
@@ -66,6 +66,23 @@ add_last_leading {k} s list p =
     let b = stored a (store_stored a.leads.sound p my_list list) in
     stored_behind b (and_then_leading _ (link_last_leading b.leads.sound list p) (λ t l c. let d = store_stored l.sound list last_link p in done_leading d.leads (stored c d)))
 
+last_if_alone_stored : {k : Kept} → Sound k → (list p first : Ref) → Stored k (last_if_alone k list p first)
+last_if_alone_stored {k} s list p first = if_stored (is_nil k first) (store_stored s list last_link p) (stored_itself s)
+
+add_first_leading : {k : Kept} → Sound k → (list p : Ref) → Leading (Stored k) k (add_first k list p)
+unfolding add_first
+add_first_leading {k} s list p =
+    given_leading (slot_or_none k list_slots first_link list) _ (stop_leading s why.BadProcess) (λ first e.
+    let a = store_stored s p next_link first in
+    let b = stored a (store_stored a.leads.sound p my_list list) in
+    let c = stored b (store_stored b.leads.sound list first_link p) in
+    let d = stored c (last_if_alone_stored c.leads.sound list p first) in
+    done_leading d.leads d)
+
+add_preempted_leading : {k : Kept} → Sound k → (list p : Ref) → Leading (Stored k) k (add_preempted k list p)
+unfolding add_preempted
+add_preempted_leading {k} s list p = if_leading (puts_in_front k.rest.header) (λ e. add_first_leading s list p) (λ e. add_last_leading s list p)
+
 link_past_stored : {k : Kept} → Sound k → (list : Ref) (before : Option Ref) (next : Ref) → Stored k (link_past k list before next)
 link_past_stored s list None next = store_stored s list first_link next
 link_past_stored s list (Some before) next = store_stored s before next_link next
@@ -85,14 +102,14 @@ with_first_leading {P} {k} s list f next =
 
 with_list_leading : {P : Kept → Type 0} {k : Kept} → Sound k → (p : Ref) (f : Ref → Out) → ((list : Ref) → Leading P k (f list)) → Leading P k (with_list_of k p f)
 with_list_leading {k = k} s p f next =
-    given_leading (scheduler_of k) _ (stop_leading s why.BadSpecial) (λ scheduler e.
+    given_leading (shaped_scheduler k) _ (stop_leading s why.BadSpecial) (λ scheduler e.
     given_leading (list_of_process k scheduler p) f (stop_leading s why.BadProcess) (λ list g. next list))
 
 -- ---- starting and stopping
 
 give_context_leading : {k : Kept} → Sound k → (p : Ref) (i : ℕ) → IsLive k i → Leading Runs k (give_context k p i)
 give_context_leading {k} s p i live =
-    given_leading (scheduler_of k) _ (stop_leading s why.BadSpecial) (λ scheduler e.
+    given_leading (shaped_scheduler k) _ (stop_leading s why.BadSpecial) (λ scheduler e.
     let a = store_stored s scheduler 1 p in
     let g = resume_goes i a.leads.sound (a.live i live) in
     done_leading (leads_trans a.leads g.leads) g.runs)
@@ -133,18 +150,28 @@ start_highest_leading s scheduler e wide (Waiting list) = settled_leading (with_
 start_highest_leading s scheduler e wide AllEmpty = none_active_leading s scheduler e wide
 start_highest_leading s scheduler e wide NoList = stop_leading s why.BadProcess
 
-lists_slots : (k : Kept) (scheduler : Ref) (lists : List Ref) → lists_of k scheduler ≡ Some lists → IsSome (slots_of k 2 scheduler)
-lists_slots k scheduler lists e = go (slots_of k 2 scheduler) e where
-  go : (o : Option (List Ref)) → option_and_then (λ x. slots_in (object_of k x)) (option_and_then (λ slots. slice_get slots 0) o) ≡ Some lists → IsSome o
-  go None f = absurd (cc)
-  go (Some slots) f = refl
+-- a scheduler that has its shape
+record ShapedAt (k : Kept) (scheduler : Ref) : Type 0 where
+  is : scheduler_of k ≡ Some scheduler
+  wide : IsSome (slots_of k 2 scheduler)
+
+shaped_at : (k : Kept) (scheduler : Ref) → shaped_scheduler k ≡ Some scheduler → ShapedAt k scheduler
+unfolding shaped_scheduler
+shaped_at k scheduler e = go (scheduler_of k) refl e where
+  wide_one : (x : Ref) (b : Bool) → scheduler_of k ≡ Some x → is_some (slots_of k 2 x) ≡ b → (if b then Some x else None) ≡ Some scheduler → ShapedAt k scheduler
+  wide_one x true f h g = subst (λ y. ShapedAt k y) (ap (λ o. unwrap_or o x) g) (record { is = f; wide = h })
+  wide_one x false f h g = absurd (cc)
+
+  go : (o : Option Ref) → scheduler_of k ≡ o → option_and_then (λ x. if_scheduler k x) o ≡ Some scheduler → ShapedAt k scheduler
+  go None f g = absurd (cc)
+  go (Some x) f g = wide_one x (is_some (slots_of k 2 x)) f refl g
 
 pub start_next_leading : {k : Kept} → Sound k → Leading Settled k (start_next k)
 unfolding start_next
 start_next_leading {k} s =
-    given_leading (scheduler_of k) _ (stop_leading s why.BadSpecial) (λ scheduler e.
+    given_leading (shaped_scheduler k) _ (stop_leading s why.BadSpecial) (λ scheduler e.
     given_leading (lists_of k scheduler) _ (stop_leading s why.BadProcess) (λ lists f.
-    start_highest_leading s scheduler e (lists_slots k scheduler lists f) (highest_of k lists)))
+    let h = shaped_at k scheduler e in start_highest_leading s scheduler h.is h.wide (highest_of k lists)))
 
 -- ---- resume
 
@@ -155,7 +182,7 @@ start_behind h p = and_then_leading _ h (λ t l a. start_leading l.sound p)
 preempt_leading : {k : Kept} → Sound k → (running p : Ref) → Leading Runs k (preempt k running p)
 preempt_leading s running p =
     let a = stop_running_leads s running in
-    looked_leading (behind a (with_list_leading a.sound running _ (λ list. start_behind (add_last_leading a.sound list running) p)))
+    looked_leading (behind a (with_list_leading a.sound running _ (λ list. start_behind (add_preempted_leading a.sound list running) p)))
 
 -- where a process is running, a context is active
 resume_beside_leading : {k : Kept} → Sound k → (running p : Ref) → (is_nil k running ≡ false → Runs k) → Leading Runs k (resume_beside k running p)
@@ -199,7 +226,7 @@ running_runs k a running e apart = go k.rest.active refl where
   go None f = absurd (both (sym (a.idle f) ∙ ap (λ o. is_idle_at k o) e ∙ apart))
   go (Some i) f = record { active = ap is_some f }
 
-one_more_leading : {k : Kept} → Sound k → Awake k → (semaphore : Ref) (o : Option ℤ) → Leading Awake k (one_more k semaphore o)
+one_more_leading : {k : Kept} → Sound k → Awake k → (semaphore : Ref) (o : Option ℤ) → Leading Awake k (one_more_excess k semaphore o)
 unfolding is_idle
 one_more_leading s a semaphore None = stop_leading s why.BadProcess
 one_more_leading {k} s a semaphore (Some n) =
@@ -232,8 +259,8 @@ wait_behind_leading : {k : Kept} → Ready k → (semaphore : Ref) → Leading S
 wait_behind_leading {k} r semaphore =
     given_leading (active_process k) _ (stop_leading r.sound why.BadSpecial) (λ running e.
     if_leading (is_some (slots_of k process_slots running))
-    (λ f. let a = stop_running_leads r.sound running in
-    looked_leading (behind a (and_then_leading _ (add_last_leading a.sound semaphore running) (λ t l b. start_next_leading l.sound))))
+    (λ f. and_then_leading _ (add_last_leading r.sound semaphore running) (λ t l b.
+    let a = stop_running_leads l.sound running in looked_leading (behind a (start_next_leading a.sound))))
     (λ f. stop_leading r.sound why.BadProcess))
 
 pub wait_leading : {k : Kept} → Ready k → (semaphore : Ref) → Leading Settled k (wait k semaphore)
@@ -251,7 +278,7 @@ suspend_active_leading {k} r running =
     (λ e. let a = stop_running_leads r.sound running in looked_leading (behind a (start_next_leading a.sound)))
     (λ e. stop_leading r.sound why.BadProcess)
 
-leave_list_leading : {k : Kept} → Ready k → (p list : Ref) (place : Place) → Leading Runs k (leave_list k p list place)
+leave_list_leading : {k : Kept} → Ready k → (p list : Ref) (place : ListPlace) → Leading Runs k (leave_list k p list place)
 leave_list_leading r p list (At before) = let a = take_out_stored r.sound list p before in done_leading a.leads (stored_runs a r.runs)
 leave_list_leading r p list NotThere = fail_leading r
 leave_list_leading r p list NoProcess = stop_leading r.sound why.BadProcess
@@ -265,8 +292,8 @@ suspend_other_leading {k} r p =
 
 give_way_to_leading : {k : Kept} → Ready k → (running list : Ref) → Leading Runs k (give_way_to k running list)
 give_way_to_leading r running list =
-    let a = stop_running_leads r.sound running in
-    looked_leading (behind a (with_first_leading a.sound list _ (λ t p b. start_behind (add_last_leading b.leads.sound list running) p)))
+    with_first_leading r.sound list _ (λ t p b.
+    let a = stop_running_leads b.leads.sound running in looked_leading (behind a (start_behind (add_last_leading a.sound list running) p)))
 
 pub give_way_leading : {k : Kept} → Ready k → Leading Runs k (give_way k)
 unfolding give_way

@@ -6,7 +6,7 @@ use Rattle.cs_model.specs.Keeps.{Keeps}
 use Rattle.cs_model.proofs.LeadCombining.{Ready, Leading, fail_leading, if_leading}
 use Rattle.cs_model.proofs.LeadSending.{perform_leading, perform_with_arguments_leading, execute_method_leading}
 use Rattle.cs_model.proofs.LeadAnswer.{with_count_leading, number_leading}
-use Rattle.cs_model.proofs.LeadObject.{at_leading, at_put_leading, size_leading, char_at_leading, char_at_put_leading, object_at_leading, object_at_put_leading, new_leading, new_size_leading, point_leading, slot_at_leading, slot_at_put_leading, hash_leading, some_instance_leading, next_instance_leading, new_method_leading, replace_leading, identical_leading, class_leading, copy_leading, behavior_hash_leading, quick_leading}
+use Rattle.cs_model.proofs.LeadObject.{at_leading, at_put_leading, size_leading, char_at_leading, char_at_put_leading, object_at_leading, object_at_put_leading, new_leading, new_size_leading, point_leading, slot_at_leading, slot_at_put_leading, hash_leading, some_instance_leading, next_instance_leading, new_method_leading, replace_leading, identical_leading, class_leading, copy_leading, behavior_hash_leading, read_only_leading, set_read_only_leading, quick_leading}
 use Rattle.cs_model.proofs.LeadProcess.{signal_prim_leading, wait_prim_leading, resume_prim_leading, suspend_prim_leading, yield_leading}
 use Rattle.cs_model.proofs.LeadUnwinding.{evaluate_leading, evaluate_array_leading, unwind_mark_leading, handler_mark_leading, end_between_leading, stack_at_leading, stack_at_put_leading, stackp_leading}
 use Rattle.cs_model.proofs.LeadRun.{Led, result_led, if_led, snapshot_led, quit_led, clock_led, timer_led, write_led, read_led}
@@ -33,9 +33,11 @@ object_prim_leading number args r =
     if_leading (number == 110) (λ e. identical_leading args r) (λ e.
     if_leading (number == 111) (λ e. class_leading args r) (λ e.
     if_leading (number == 148) (λ e. copy_leading args r) (λ e.
+    if_leading (number == 163) (λ e. read_only_leading args r) (λ e.
+    if_leading (number == 164) (λ e. set_read_only_leading args r) (λ e.
     if_leading (number == 175) (λ e. behavior_hash_leading args r) (λ e.
     if_leading (nat_le 256 number && nat_lt number 520) (λ e. quick_leading number args r) (λ e.
-    fail_leading r))))))))))))))))))))))
+    fail_leading r))))))))))))))))))))))))
 
 process_prim_leading : {P : Kept → Type 0} {k : Kept} (number args : ℕ) → Ready k → Leading P k (process_prim number args k)
 process_prim_leading number args r =

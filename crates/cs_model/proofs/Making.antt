@@ -4,7 +4,7 @@ use Rattle.std.specs.FinMap.{gets}
 use Rattle.std.proofs.lemmas.Bool.Decides.{eqb_tells}
 use Rattle.cs_model.specs.Ref.{Ref, Small, Char, birth_of, index_of}
 use Rattle.cs_model.specs.Ref as ref
-use Rattle.cs_model.specs.Obj.{Obj, Ptr, Ctx, hash_in, context_class, words_of}
+use Rattle.cs_model.specs.Obj.{Obj, Ptr, Ctx, new_head, hash_in, context_class, words_of}
 use Rattle.cs_model.specs.State.{Kept, object_at, with_rest, IsHeld, NamesHeld, RestHeld}
 use Rattle.cs_model.proofs.Objects.{rest-put}
 use Rattle.cs_model.specs.Operation.{edit_found, add_of, next_ref, nil_of, edit_object, with_hash}
@@ -69,7 +69,7 @@ new_instance_same {v} k index format fields size =
     choose_object (index == context_class)
     (of (NamesHeld v) (λ nil. Ctx (new_context nil size)) (nil_same k) (λ nil h. record { sender = h; method = h; closure = h; receiver = h; stack = tt }))
     (choose_object (nat_lt format 6)
-    (of (NamesHeld v) (λ nil. Ptr index (pointer_format format) 0 (replicate (fields + size) nil)) (nil_same k) (λ nil h. all-replicate (IsHeld v) (fields + size) nil h))
+    (of (NamesHeld v) (λ nil. Ptr (new_head index (pointer_format format)) (replicate (fields + size) nil)) (nil_same k) (λ nil h. all-replicate (IsHeld v) (fields + size) nil h))
     (same (new_raw index format (size * unit_bytes format)) tt))
 
 -- a new object behind a move

@@ -17,7 +17,7 @@ use Rattle.cs_model.proofs.Making.{SameMade, makes, refused, full, instantiate_s
 use Rattle.cs_model.proofs.Combining.{fail_alike, behind, made_alike, looked_alike, given_alike, if_alike}
 use Rattle.cs_model.proofs.Executing.{is_active_same, small_operands_same, fill_moved}
 use Rattle.cs_model.proofs.Searching.{birth_of_same}
-use Rattle.cs_model.proofs.Answering.{answer_alike, prim_receiver_same, argument_same, answer_if_alike, with_count_alike, MovedOption, nothing, gives, and_then_moved, map_moved, if_moved, answer_in_alike}
+use Rattle.cs_model.proofs.Answering.{answer_alike, prim_receiver_same, argument_same, answer_if_alike, with_count_alike, MovedOption, nothing, gives, and_then_moved, map_moved, if_moved, answer_in_alike, unless_read_only_alike}
 use Rattle.cs_model.proofs.Elements.{range_of_same, place_of_same, element_at_same, with_element_moved}
 
 -- ---- elements
@@ -30,8 +30,8 @@ at_alike k args =
 pub at_put_alike : {v m : Kept} → Keeps v m → (args : ℕ) → Alike v (at_put_prim v args) (at_put_prim m args)
 unfolding at_put_prim
 at_put_alike k args =
-    with_count_alike k 2 args (answer_in_alike (and_then_moved _ _ (place_of_same k (prim_receiver_same k 2) (argument_same k 2 0))
-    (λ place a. with_element_moved k (prim_receiver_same k 2) place (argument_same k 2 1))) k 2 (argument_same k 2 1))
+    with_count_alike k 2 args (unless_read_only_alike k (prim_receiver_same k 2) (answer_in_alike (and_then_moved _ _ (place_of_same k (prim_receiver_same k 2) (argument_same k 2 0))
+    (λ place a. with_element_moved k (prim_receiver_same k 2) place (argument_same k 2 1))) k 2 (argument_same k 2 1)))
 
 pub size_alike : {v m : Kept} → Keeps v m → (args : ℕ) → Alike v (size_prim v args) (size_prim m args)
 unfolding size_prim
@@ -50,18 +50,18 @@ char_at_alike {v} k args = with_count_alike k 1 args (answer_if_alike k 1 (map_s
 pub char_at_put_alike : {v m : Kept} → Keeps v m → (args : ℕ) → Alike v (char_at_put_prim v args) (char_at_put_prim m args)
 unfolding char_at_put_prim
 char_at_put_alike k args =
-    with_count_alike k 2 args (if_alike (of_option (λ o. is_some (byte_string o)) (object_of_same k (prim_receiver_same k 2)))
+    with_count_alike k 2 args (unless_read_only_alike k (prim_receiver_same k 2) (if_alike (of_option (λ o. is_some (byte_string o)) (object_of_same k (prim_receiver_same k 2)))
     (answer_in_alike (and_then_moved _ _ (place_of_same k (prim_receiver_same k 2) (argument_same k 2 0)) (λ place a.
     map_moved _ _ (plain (value byte_code (argument_same k 2 1))) (λ b c. store_byte_moved k (prim_receiver_same k 2) place b))) k 2 (argument_same k 2 1))
-    (fail_alike k))
+    (fail_alike k)))
 
 -- ---- literals
 
 method_slot_same : {v : Kept} {o p : Option Obj} → SameOption (NamesHeld v) o p → (i : ℕ) → SameOption (IsHeld v) (method_slot o i) (method_slot p i)
 method_slot_same none i = none
-method_slot_same (some (Ptr class format hash slots) h) i = none
-method_slot_same (some (Raw class format hash bytes) h) i = none
-method_slot_same {v} (some (Method class format hash header literals bytecodes) h) i = slice_same i (listed v (Small (pos header) ∷ literals) (tt, h))
+method_slot_same (some (Ptr head slots) h) i = none
+method_slot_same (some (Raw head bytes) h) i = none
+method_slot_same {v} (some (Method head header literals bytecodes) h) i = slice_same i (listed v (Small (pos header) ∷ literals) (tt, h))
 method_slot_same (some (Ctx c) h) i = none
 
 pub slot_index_same : {P : Ref → Type 0} {x y : Ref} → Same P x y → SameOption Any (slot_index x) (slot_index y)
@@ -78,7 +78,8 @@ put_literal_moved k s i t = if_moved (of_option (λ o. nat_lt 0 i && is_some (me
 pub object_at_put_alike : {v m : Kept} → Keeps v m → (args : ℕ) → Alike v (object_at_put_prim v args) (object_at_put_prim m args)
 unfolding object_at_put_prim
 object_at_put_alike k args =
-    with_count_alike k 2 args (answer_in_alike (and_then_moved _ _ (slot_index_same (argument_same k 2 0)) (λ i a. put_literal_moved k (prim_receiver_same k 2) i (argument_same k 2 1))) k 2 (argument_same k 2 1))
+    with_count_alike k 2 args (unless_read_only_alike k (prim_receiver_same k 2) (answer_in_alike (and_then_moved _ _ (slot_index_same (argument_same k 2 0))
+    (λ i a. put_literal_moved k (prim_receiver_same k 2) i (argument_same k 2 1))) k 2 (argument_same k 2 1)))
 
 -- ---- new instances
 
@@ -122,9 +123,9 @@ answer_field_alike k args i s = given_alike _ _ s (fail_alike k) (λ x h. if_ali
 
 pub slot_at_case : {v m : Kept} {o p : Option Obj} → Keeps v m → (args i : ℕ) → SameOption (NamesHeld v) o p → Alike v (slot_at v args i o) (slot_at m args i p)
 slot_at_case k args i none = fail_alike k
-slot_at_case {v} k args i (some (Ptr class format hash slots) h) = answer_if_alike k args (slice_same i (listed v slots h))
-slot_at_case k args i (some (Raw class format hash bytes) h) = fail_alike k
-slot_at_case k args i (some (Method class format hash header literals bytecodes) h) = fail_alike k
+slot_at_case {v} k args i (some (Ptr head slots) h) = answer_if_alike k args (slice_same i (listed v slots h))
+slot_at_case k args i (some (Raw head bytes) h) = fail_alike k
+slot_at_case k args i (some (Method head header literals bytecodes) h) = fail_alike k
 slot_at_case k args i (some (Ctx c) h) = answer_field_alike k args i (context_get_same k (same c h) i)
 
 pub slot_at_alike : {v m : Kept} → Keeps v m → (args : ℕ) → Alike v (slot_at_prim v args) (slot_at_prim m args)
@@ -138,13 +139,13 @@ context_at_put_moved k s i t c (some birth h) = if_moved (accepts_same k (is_act
 
 slot_put_moved : {v m : Kept} {x y z w : Ref} {o p : Option Obj} → Keeps v m → Same (IsHeld v) x y → (i : ℕ) → Same (IsHeld v) z w → SameOption (NamesHeld v) o p → MovedOption v (slot_put v x i z o) (slot_put m y i w p)
 slot_put_moved k s i t none = nothing
-slot_put_moved k s i t (some (Ptr class format hash slots) h) = if_moved (is (nat_lt i (length slots))) (gives (store_moved k s i t)) nothing
-slot_put_moved k s i t (some (Raw class format hash bytes) h) = nothing
-slot_put_moved k s i t (some (Method class format hash header literals bytecodes) h) = nothing
+slot_put_moved k s i t (some (Ptr head slots) h) = if_moved (is (nat_lt i (length slots))) (gives (store_moved k s i t)) nothing
+slot_put_moved k s i t (some (Raw head bytes) h) = nothing
+slot_put_moved k s i t (some (Method head header literals bytecodes) h) = nothing
 slot_put_moved k s i t (some (Ctx c) h) = context_at_put_moved k s i t (same c h) (birth_of_same k s)
 
 pub slot_at_put_alike : {v m : Kept} → Keeps v m → (args : ℕ) → Alike v (slot_at_put_prim v args) (slot_at_put_prim m args)
 unfolding slot_at_put_prim
 slot_at_put_alike k args =
-    with_count_alike k 2 args (answer_in_alike (and_then_moved _ _ (slot_index_same (argument_same k 2 0))
-    (λ i a. slot_put_moved k (prim_receiver_same k 2) i (argument_same k 2 1) (object_of_same k (prim_receiver_same k 2)))) k 2 (argument_same k 2 1))
+    with_count_alike k 2 args (unless_read_only_alike k (prim_receiver_same k 2) (answer_in_alike (and_then_moved _ _ (slot_index_same (argument_same k 2 0))
+    (λ i a. slot_put_moved k (prim_receiver_same k 2) i (argument_same k 2 1) (object_of_same k (prim_receiver_same k 2)))) k 2 (argument_same k 2 1)))

@@ -4,10 +4,10 @@ use Rattle.std.specs.List.{AllByRecursion}
 use Rattle.std.specs.FinMap.{get}
 use Rattle.cs_model.specs.Ref.{Ref, Small, Char, birth_of}
 use Rattle.cs_model.specs.Ref as ref
-use Rattle.cs_model.specs.Obj.{Obj, Context, Ptr, Raw, Method, Ctx, is_context, with_pc, with_stack, pushed, popped, stored, header_in, temporary_count, context_size}
+use Rattle.cs_model.specs.Obj.{Obj, Context, Ptr, Raw, Method, Ctx, new_head, is_context, with_pc, with_stack, pushed, popped, stored, header_in, temporary_count, context_size}
 use Rattle.cs_model.specs.State.{Kept, Rest, put, with_rest, IsHeld, ContextHeld, NamesHeld, RestHeld}
 use Rattle.cs_model.specs.Read.{active_context}
-use Rattle.cs_model.specs.Operation.{put_active, set_pc_of, push_of, drop_of, set_stack_of, edit_object, with_slot, with_byte, with_hash, store_of, store_byte_of, with_next, add_of, next_ref, activate, enter_with, last_values, receiver_below, entry_pc, method_context, enter_of, dead_object, kill_of, resume_of, suspend_of, leave_of, kill_all, cut_to_of, new_pointers}
+use Rattle.cs_model.specs.Operation.{put_active, set_pc_of, push_of, drop_of, set_stack_of, edit_object, with_slot, with_byte, with_hash, with_fixed, store_of, store_byte_of, set_fixed_of, with_next, add_of, next_ref, activate, enter_with, last_values, receiver_below, entry_pc, method_context, enter_of, dead_object, kill_of, resume_of, suspend_of, leave_of, kill_all, cut_to_of, new_pointers}
 use Rattle.cs_model.specs.Keeps.{Keeps, Grows}
 use Rattle.cs_model.proofs.Objects.{object_at-put_same}
 use Rattle.cs_model.proofs.Same.{Same, same, Any, is, of, value, of_option, or_same, all-append, all-take, all-drop, all-replicate, all-slice_set}
@@ -55,49 +55,64 @@ edit_object_moved k (same (Char c) h) e = unmoved k
 edit_object_moved k (same (ref.Obj i) h) e = edit_found_moved k e (same i tt)
 
 with_slot_held : (v : Kept) (i : ℕ) (x : Ref) → IsHeld v x → (o : Obj) → NamesHeld v o → NamesHeld v (with_slot i x o)
-with_slot_held v i x g (Ptr class format hash slots) h = all-slice_set (IsHeld v) slots i x h g
-with_slot_held v i x g (Raw class format hash bytes) h = tt
-with_slot_held v i x g (Method class format hash header literals bytecodes) h = all-slice_set (IsHeld v) literals (i - 1) x h g
+with_slot_held v i x g (Ptr head slots) h = all-slice_set (IsHeld v) slots i x h g
+with_slot_held v i x g (Raw head bytes) h = tt
+with_slot_held v i x g (Method head header literals bytecodes) h = all-slice_set (IsHeld v) literals (i - 1) x h g
 with_slot_held v i x g (Ctx c) h = h
 
 with_slot_context : (i : ℕ) (x : Ref) (o : Obj) → is_context o ≡ true → is_context (with_slot i x o) ≡ true
-with_slot_context i x (Ptr class format hash slots) h = h
-with_slot_context i x (Raw class format hash bytes) h = h
-with_slot_context i x (Method class format hash header literals bytecodes) h = h
+with_slot_context i x (Ptr head slots) h = h
+with_slot_context i x (Raw head bytes) h = h
+with_slot_context i x (Method head header literals bytecodes) h = h
 with_slot_context i x (Ctx c) h = h
 
 pub with_slot_edit : {v : Kept} {x y : Ref} → (i : ℕ) → Same (IsHeld v) x y → Same (IsEdit v) (with_slot i x) (with_slot i y)
 with_slot_edit {v} i (same x g) = same (with_slot i x) (record { context = with_slot_context i x; held = with_slot_held v i x g })
 
 with_byte_held : (v : Kept) (i b : ℕ) (o : Obj) → NamesHeld v o → NamesHeld v (with_byte i b o)
-with_byte_held v i b (Ptr class format hash slots) h = h
-with_byte_held v i b (Raw class format hash bytes) h = tt
-with_byte_held v i b (Method class format hash header literals bytecodes) h = h
+with_byte_held v i b (Ptr head slots) h = h
+with_byte_held v i b (Raw head bytes) h = tt
+with_byte_held v i b (Method head header literals bytecodes) h = h
 with_byte_held v i b (Ctx c) h = h
 
 with_byte_context : (i b : ℕ) (o : Obj) → is_context o ≡ true → is_context (with_byte i b o) ≡ true
-with_byte_context i b (Ptr class format hash slots) h = h
-with_byte_context i b (Raw class format hash bytes) h = h
-with_byte_context i b (Method class format hash header literals bytecodes) h = h
+with_byte_context i b (Ptr head slots) h = h
+with_byte_context i b (Raw head bytes) h = h
+with_byte_context i b (Method head header literals bytecodes) h = h
 with_byte_context i b (Ctx c) h = h
 
 pub with_byte_edit : (v : Kept) (i b : ℕ) → Same (IsEdit v) (with_byte i b) (with_byte i b)
 with_byte_edit v i b = same (with_byte i b) (record { context = with_byte_context i b; held = with_byte_held v i b })
 
 with_hash_held : (v : Kept) (n : ℕ) (o : Obj) → NamesHeld v o → NamesHeld v (with_hash n o)
-with_hash_held v n (Ptr class format hash slots) h = h
-with_hash_held v n (Raw class format hash bytes) h = tt
-with_hash_held v n (Method class format hash header literals bytecodes) h = h
+with_hash_held v n (Ptr head slots) h = h
+with_hash_held v n (Raw head bytes) h = tt
+with_hash_held v n (Method head header literals bytecodes) h = h
 with_hash_held v n (Ctx c) h = record { sender = h.sender; method = h.method; closure = h.closure; receiver = h.receiver; stack = h.stack }
 
 with_hash_context : (n : ℕ) (o : Obj) → is_context o ≡ true → is_context (with_hash n o) ≡ true
-with_hash_context n (Ptr class format hash slots) h = h
-with_hash_context n (Raw class format hash bytes) h = h
-with_hash_context n (Method class format hash header literals bytecodes) h = h
+with_hash_context n (Ptr head slots) h = h
+with_hash_context n (Raw head bytes) h = h
+with_hash_context n (Method head header literals bytecodes) h = h
 with_hash_context n (Ctx c) h = h
 
 pub with_hash_edit : {i j : ℕ} (v : Kept) → Same Any i j → Same (IsEdit v) (with_hash i) (with_hash j)
 with_hash_edit v (same n a) = same (with_hash n) (record { context = with_hash_context n; held = with_hash_held v n })
+
+with_fixed_held : (v : Kept) (on : Bool) (o : Obj) → NamesHeld v o → NamesHeld v (with_fixed on o)
+with_fixed_held v on (Ptr head slots) h = h
+with_fixed_held v on (Raw head bytes) h = tt
+with_fixed_held v on (Method head header literals bytecodes) h = h
+with_fixed_held v on (Ctx c) h = h
+
+with_fixed_context : (on : Bool) (o : Obj) → is_context o ≡ true → is_context (with_fixed on o) ≡ true
+with_fixed_context on (Ptr head slots) h = h
+with_fixed_context on (Raw head bytes) h = h
+with_fixed_context on (Method head header literals bytecodes) h = h
+with_fixed_context on (Ctx c) h = h
+
+pub with_fixed_edit : (v : Kept) (on : Bool) → Same (IsEdit v) (with_fixed on) (with_fixed on)
+with_fixed_edit v on = same (with_fixed on) (record { context = with_fixed_context on; held = with_fixed_held v on })
 
 pub store_moved : {v m : Kept} {P : Ref → Type 0} {o p x y : Ref} → Keeps v m → Same P o p → (i : ℕ) → Same (IsHeld v) x y → Moved v (store_of v o i x) (store_of m p i y)
 unfolding store_of
@@ -106,6 +121,10 @@ store_moved k s i t = edit_object_moved k s (with_slot_edit i t)
 pub store_byte_moved : {v m : Kept} {P : Ref → Type 0} {o p : Ref} → Keeps v m → Same P o p → (i b : ℕ) → Moved v (store_byte_of v o i b) (store_byte_of m p i b)
 unfolding store_byte_of
 store_byte_moved {v} k s i b = edit_object_moved k s (with_byte_edit v i b)
+
+pub set_fixed_moved : {v m : Kept} {P : Ref → Type 0} {o p : Ref} → Keeps v m → Same P o p → (on : Bool) → Moved v (set_fixed_of v o on) (set_fixed_of m p on)
+unfolding set_fixed_of
+set_fixed_moved {v} k s on = edit_object_moved k s (with_fixed_edit v on)
 
 -- what the rest names is there in a state that has more
 pub roots_with : {v t : Kept} (r : Rest) → Grows v t → RestHeld v → r.nil ≡ v.rest.nil → r.false_ ≡ v.rest.false_ → r.true_ ≡ v.rest.true_ → r.special ≡ v.rest.special → r.classes ≡ v.rest.classes → ((i : ℕ) → r.active ≡ Some i → Has t i) → RestHeld (with_rest r t)
@@ -194,15 +213,15 @@ enter_moved {v} {m} {x} {y} k s args skip = enter_with_moved (method_context v x
 -- ---- leaving
 
 dead_object_held : (v : Kept) (nil : ℕ) → Has v nil → (o : Obj) → NamesHeld v o → NamesHeld v (dead_object nil o)
-dead_object_held v nil g (Ptr class format hash slots) h = h
-dead_object_held v nil g (Raw class format hash bytes) h = tt
-dead_object_held v nil g (Method class format hash header literals bytecodes) h = h
+dead_object_held v nil g (Ptr head slots) h = h
+dead_object_held v nil g (Raw head bytes) h = tt
+dead_object_held v nil g (Method head header literals bytecodes) h = h
 dead_object_held v nil g (Ctx c) h = record { sender = g; method = h.method; closure = h.closure; receiver = h.receiver; stack = tt }
 
 dead_object_context : (nil : ℕ) (o : Obj) → is_context o ≡ true → is_context (dead_object nil o) ≡ true
-dead_object_context nil (Ptr class format hash slots) h = h
-dead_object_context nil (Raw class format hash bytes) h = h
-dead_object_context nil (Method class format hash header literals bytecodes) h = h
+dead_object_context nil (Ptr head slots) h = h
+dead_object_context nil (Raw head bytes) h = h
+dead_object_context nil (Method head header literals bytecodes) h = h
 dead_object_context nil (Ctx c) h = h
 
 dead_object_edit : {v m : Kept} → Keeps v m → Same (IsEdit v) (dead_object v.rest.nil) (dead_object m.rest.nil)
@@ -246,4 +265,4 @@ leave_moved k s =
     moved b (push_moved b.keeps (up b.grows s))
 
 pub new_pointers_same : {v m : Kept} → Keeps v m → (class format slots : ℕ) → Same (NamesHeld v) (new_pointers v class format slots) (new_pointers m class format slots)
-new_pointers_same {v} k class format slots = of (NamesHeld v) (λ nil. Ptr class format 0 (replicate slots nil)) (nil_same k) (λ nil h. all-replicate (IsHeld v) slots nil h)
+new_pointers_same {v} k class format slots = of (NamesHeld v) (λ nil. Ptr (new_head class format) (replicate slots nil)) (nil_same k) (λ nil h. all-replicate (IsHeld v) slots nil h)

@@ -5,8 +5,8 @@ use Rattle.std.specs.List.{AllByRecursion}
 use Rattle.std.specs.FinMap.{get}
 use Rattle.cs_model.specs.Ref.{Ref, Small, Char, birth_of, same_ref}
 use Rattle.cs_model.specs.Ref as ref
-use Rattle.cs_model.specs.Obj.{Obj, Context, Ptr, Raw, Method, Ctx, slots_in, context_in, literals_in, bytecodes_in, at_least}
-use Rattle.cs_model.specs.State.{Kept, object_at, object_of, slots_of, special_at, scheduler_of, active_process, is_nil, IsHeld, ContextHeld, NamesHeld}
+use Rattle.cs_model.specs.Obj.{Obj, Context, Ptr, Raw, Method, Ctx, is_fixed_at, slots_in, context_in, literals_in, bytecodes_in, at_least}
+use Rattle.cs_model.specs.State.{Kept, object_at, object_of, is_read_only, slots_of, special_at, scheduler_of, active_process, is_nil, IsHeld, ContextHeld, NamesHeld}
 use Rattle.cs_model.specs.Read.{index_of_class, class_index_of, class_of, blank, active_birth, active_context, stack_of, depth_of, size_of, pc_of, receiver_of, method_of, literals_of, bytecodes_of, from_top}
 use Rattle.cs_model.specs.Operation.{nil_of}
 use Rattle.cs_model.specs.Number.{boolean}
@@ -83,25 +83,28 @@ object_of_same k (same (Small a) h) = none
 object_of_same k (same (Char c) h) = none
 object_of_same k (same (ref.Obj i) h) = object_at_same k (same i h)
 
+pub is_read_only_same : {v m : Kept} {x y : Ref} → Keeps v m → Same (IsHeld v) x y → Same Any (is_read_only v x) (is_read_only m y)
+is_read_only_same k s = of_option is_fixed_at (object_of_same k s)
+
 pub slots_in_same : {v : Kept} {o p : Option Obj} → SameOption (NamesHeld v) o p → SameOption (AllHeld v) (slots_in o) (slots_in p)
 slots_in_same none = none
-slots_in_same (some (Ptr class format hash slots) h) = some slots (record { all = h })
-slots_in_same (some (Raw class format hash bytes) h) = none
-slots_in_same (some (Method class format hash header literals bytecodes) h) = none
+slots_in_same (some (Ptr head slots) h) = some slots (record { all = h })
+slots_in_same (some (Raw head bytes) h) = none
+slots_in_same (some (Method head header literals bytecodes) h) = none
 slots_in_same (some (Ctx c) h) = none
 
 pub context_in_same : {v : Kept} {o p : Option Obj} → SameOption (NamesHeld v) o p → SameOption (ContextHeld v) (context_in o) (context_in p)
 context_in_same none = none
-context_in_same (some (Ptr class format hash slots) h) = none
-context_in_same (some (Raw class format hash bytes) h) = none
-context_in_same (some (Method class format hash header literals bytecodes) h) = none
+context_in_same (some (Ptr head slots) h) = none
+context_in_same (some (Raw head bytes) h) = none
+context_in_same (some (Method head header literals bytecodes) h) = none
 context_in_same (some (Ctx c) h) = some c h
 
 pub literals_in_same : {v : Kept} {o p : Option Obj} → SameOption (NamesHeld v) o p → Same (AllHeld v) (literals_in o) (literals_in p)
 literals_in_same none = same [] (record { all = tt })
-literals_in_same (some (Ptr class format hash slots) h) = same [] (record { all = tt })
-literals_in_same (some (Raw class format hash bytes) h) = same [] (record { all = tt })
-literals_in_same (some (Method class format hash header literals bytecodes) h) = same literals (record { all = h })
+literals_in_same (some (Ptr head slots) h) = same [] (record { all = tt })
+literals_in_same (some (Raw head bytes) h) = same [] (record { all = tt })
+literals_in_same (some (Method head header literals bytecodes) h) = same literals (record { all = h })
 literals_in_same (some (Ctx c) h) = same [] (record { all = tt })
 
 pub slice_same : {v : Kept} {xs ys : List Ref} → (i : ℕ) → Same (AllHeld v) xs ys → SameOption (IsHeld v) (slice_get xs i) (slice_get ys i)

@@ -4,26 +4,17 @@ use Rattle.std.specs.List.{AllByRecursion}
 use Rattle.cs_model.specs.Ref.{Ref}
 use Rattle.cs_model.specs.Ref as ref
 use Rattle.cs_model.specs.State.{Kept, IsHeld}
-use Rattle.cs_model.specs.Return.{Search, Met, Ended, TooLong, Home, HomeAt, NoHome, HomeTooFar, home, unwind_mark, cannot_return, about_to_return, push_all, call_with, cannot_return_out, unwind_out, is_among, has_room, arrive, local_out, past_marks, from_home, to_home, nonlocal_out, back}
+use Rattle.cs_model.specs.Return.{Search, Met, Ended, TooLong, Home, HomeAt, NoHome, HomeTooFar, home, unwind_mark, cannot_return, about_to_return, call_with, cannot_return_out, unwind_out, is_among, has_room, arrive, local_out, past_marks, from_home, to_home, nonlocal_out, back}
 use Rattle.cs_model.specs.End.{Out}
 use Rattle.cs_model.specs.End as ends
 use Rattle.cs_model.specs.Keeps.{Keeps}
 use Rattle.cs_model.specs.Alike.{Alike}
 use Rattle.cs_model.proofs.Same.{Same, same, SameOption, none, some, Any, is, value, of_option}
-use Rattle.cs_model.proofs.Keeping.{all-grows}
 use Rattle.cs_model.proofs.Reading.{AllHeld, Has, listed, object_at_same, context_in_same, active_birth_same, active_ref_same}
 use Rattle.cs_model.proofs.Operating.{cons_same, empty_same, cut_to_moved}
 use Rattle.cs_model.proofs.Combining.{out_alike, done_alike, stop_alike, looked_alike, given_alike, if_alike, and_then_alike}
-use Rattle.cs_model.proofs.Executing.{push_alike}
+use Rattle.cs_model.proofs.Executing.{push_all_alike}
 use Rattle.cs_model.proofs.Searching.{SearchHeld, HomeHeld, senders_to_same, home_same, sender_birth_same, first_marked_same, is_live_same}
-
-push_each_alike : (xs : List Ref) {v m : Kept} → Keeps v m → AllByRecursion (IsHeld v) xs → Alike v (push_all xs v) (push_all xs m)
-unfolding push_all
-push_each_alike [] k h = out_alike k (same ends.Done tt)
-push_each_alike (x ∷ xs) k h = and_then_alike _ _ (push_alike k (same x h.0)) (λ t u s. push_each_alike xs s.keeps (all-grows s.grows xs h.1))
-
-pub push_all_alike : {v m : Kept} {xs ys : List Ref} → Keeps v m → Same (AllHeld v) xs ys → Alike v (push_all xs v) (push_all ys m)
-push_all_alike k (same xs h) = push_each_alike xs k h.all
 
 pub call_with_alike : {v m : Kept} {xs ys : List Ref} → Keeps v m → (special args : ℕ) → Same (AllHeld v) xs ys → Alike v (call_with v special args xs) (call_with m special args ys)
 call_with_alike k special args s = and_then_alike _ _ (push_all_alike k (cons_same (active_ref_same k) s)) (λ t u s. looked_alike (out_alike s.keeps (same (ends.Call special args) tt)))

@@ -7,13 +7,14 @@ use Rattle.cs_model.specs.Ref as ref
 use Rattle.cs_model.specs.Ref.{Ref, Small, Char, same_ref, small_of, index_of}
 use Rattle.cs_model.specs.Obj.{Obj, Ptr, Raw, Method, Ctx, is_context, slots_in, at_least}
 use Rattle.cs_model.specs.State.{Kept, object_at, slots_of, IsHeld}
-use Rattle.cs_model.specs.Process.{next_link, suspended_context, priority, my_list, first_link, last_link, excess_signals, process_slots, semaphore_slots, list_slots, slot_or_none, with_slot_of, with_scheduler, with_active_process, lists_of, list_at, if_list, list_of_process, with_list_of, link_last, add_last, link_past, is_same, end_at, unlinked, take_out, with_first, give_context, start_at, start, stop_running, Highest, Waiting, AllEmpty, NoList, if_waiting, or_lower, highest_of, none_active, start_highest, start_next, with_priority, preempt, resume_beside, resume, one_more, signal, wait_behind, wait, suspend_active, list_links, Place, At, NotThere, NoProcess, TooFar, find_link, leave_list, suspend_other, suspend, give_way_to, give_way}
+use Rattle.cs_model.specs.Profile.{puts_in_front}
+use Rattle.cs_model.specs.Process.{next_link, suspended_context, priority, my_list, first_link, last_link, excess_signals, process_slots, semaphore_slots, list_slots, slot_or_none, with_slot_of, if_scheduler, shaped_scheduler, with_scheduler, with_active_process, lists_of, list_at, if_list, list_of_process, with_list_of, link_last, add_last, last_if_alone, add_first, add_preempted, link_past, is_same, last_past, unlinked, take_out, with_first, give_context, start_at, start, stop_running, Highest, Waiting, AllEmpty, NoList, if_waiting, or_lower, highest_of, none_active, start_highest, start_next, with_priority, preempt, resume_beside, resume, one_more_excess, signal, wait_behind, wait, suspend_active, list_links, ListPlace, At, NotThere, NoProcess, TooFar, find_link, leave_list, suspend_other, suspend, give_way_to, give_way}
 use Rattle.cs_model.specs.End.{Out}
 use Rattle.cs_model.specs.Keeps.{Keeps}
 use Rattle.cs_model.specs.Alike.{Alike, IsHeldIf}
-use Rattle.cs_model.proofs.Same.{Same, same, SameOption, none, some, Any, is, of_option, two, and_then_same, or_same, if_same, if_option, option_is, any_option, some_same}
+use Rattle.cs_model.proofs.Same.{Same, same, SameOption, none, some, Any, is, value, of_option, two, and_then_same, or_same, if_same, if_option, option_is, any_option, some_same}
 use Rattle.cs_model.proofs.Keeping.{kept_context, Moved, moved, unmoved, choose_moved}
-use Rattle.cs_model.proofs.Reading.{held_if, AllHeld, Has, up, nil_same, is_nil_same, object_of_same, slots_in_same, slots_of_same, slice_same, scheduler_same, active_process_same, active_ref_same}
+use Rattle.cs_model.proofs.Reading.{held_if, AllHeld, Has, up, rest_same, nil_same, is_nil_same, object_of_same, slots_in_same, slots_of_same, slice_same, scheduler_same, active_process_same, active_ref_same}
 use Rattle.cs_model.proofs.Operating.{store_moved, resume_moved, suspend_moved}
 use Rattle.cs_model.proofs.Combining.{fail_alike, done_alike, stop_alike, behind, looked_alike, given_alike, if_alike, and_then_alike}
 use Rattle.cs_model.proofs.Searching.{context_birth_same, is_live_same}
@@ -26,8 +27,15 @@ slot_same k n i s = and_then_same (slots_of_same k n s) (λ slots h. slice_same 
 with_slot_alike : {v m : Kept} {x y : Ref} (f g : Ref → Out) → Keeps v m → (n i : ℕ) → Same (IsHeld v) x y → ((z : Ref) → IsHeld v z → Alike v (f z) (g z)) → Alike v (with_slot_of v n i x f) (with_slot_of m n i y g)
 with_slot_alike f g k n i s next = given_alike f g (slot_same k n i s) (stop_alike k why.BadProcess) next
 
+if_scheduler_same : {v m : Kept} {x y : Ref} → Keeps v m → Same (IsHeld v) x y → SameOption (IsHeld v) (if_scheduler v x) (if_scheduler m y)
+if_scheduler_same k s = if_option (of_option is_some (slots_of_same k 2 s)) (some_same s) none
+
+pub shaped_scheduler_same : {v m : Kept} → Keeps v m → SameOption (IsHeld v) (shaped_scheduler v) (shaped_scheduler m)
+unfolding shaped_scheduler
+shaped_scheduler_same k = and_then_same (scheduler_same k) (λ x h. if_scheduler_same k (same x h))
+
 with_scheduler_alike : {v m : Kept} (f g : Ref → Out) → Keeps v m → ((z : Ref) → IsHeld v z → Alike v (f z) (g z)) → Alike v (with_scheduler v f) (with_scheduler m g)
-with_scheduler_alike f g k next = given_alike f g (scheduler_same k) (stop_alike k why.BadSpecial) next
+with_scheduler_alike f g k next = given_alike f g (shaped_scheduler_same k) (stop_alike k why.BadSpecial) next
 
 pub with_active_alike : {v m : Kept} (f g : Ref → Out) → Keeps v m → ((z : Ref) → IsHeld v z → Alike v (f z) (g z)) → Alike v (with_active_process v f) (with_active_process m g)
 with_active_alike f g k next = given_alike f g (active_process_same k) (stop_alike k why.BadSpecial) next
@@ -73,11 +81,27 @@ add_last_alike k list p =
     let b = moved a (store_moved a.keeps p my_list (up a.grows list)) in
     and_then_alike _ _ (behind b (link_last_alike b.keeps (up b.grows list) (up b.grows p))) (λ t u s. done_alike (store_moved s.keeps list last_link (up s.grows p)))
 
+last_if_alone_moved : {v m : Kept} {x y p q f g : Ref} → Keeps v m → Same (IsHeld v) x y → Same (IsHeld v) p q → Same (IsHeld v) f g → Moved v (last_if_alone v x p f) (last_if_alone m y q g)
+last_if_alone_moved k list p first = choose_moved (is_nil_same k first) (store_moved k list last_link p) (unmoved k)
+
+pub add_first_alike : {v m : Kept} {x y p q : Ref} → Keeps v m → Same (IsHeld v) x y → Same (IsHeld v) p q → Alike v (add_first v x p) (add_first m y q)
+unfolding add_first
+add_first_alike k list p =
+    with_slot_alike _ _ k list_slots first_link list (λ first h.
+    let a = store_moved k p next_link (same first h) in
+    let b = moved a (store_moved a.keeps p my_list (up a.grows list)) in
+    let c = moved b (store_moved b.keeps list first_link (up b.grows p)) in
+    done_alike (moved c (last_if_alone_moved c.keeps (up c.grows list) (up c.grows p) (up c.grows (same first h)))))
+
+pub add_preempted_alike : {v m : Kept} {x y p q : Ref} → Keeps v m → Same (IsHeld v) x y → Same (IsHeld v) p q → Alike v (add_preempted v x p) (add_preempted m y q)
+unfolding add_preempted
+add_preempted_alike k list p = if_alike (value (λ r. puts_in_front r.header) (rest_same k)) (add_first_alike k list p) (add_last_alike k list p)
+
 link_past_moved : {v m : Kept} {x y n l : Ref} {o p : Option Ref} → Keeps v m → Same (IsHeld v) x y → SameOption (IsHeld v) o p → Same (IsHeld v) n l → Moved v (link_past v x o n) (link_past m y p l)
 link_past_moved k list none next = store_moved k list first_link next
 link_past_moved k list (some before h) next = store_moved k (is before) next_link next
 
-end_at_moved : {v m : Kept} {x y p q b c : Ref} → Keeps v m → Same (IsHeld v) x y → Same (IsHeld v) p q → Same (IsHeld v) b c → Moved v (end_at v x p b) (end_at m y q c)
+end_at_moved : {v m : Kept} {x y p q b c : Ref} → Keeps v m → Same (IsHeld v) x y → Same (IsHeld v) p q → Same (IsHeld v) b c → Moved v (last_past v x p b) (last_past m y q c)
 end_at_moved k list p before = choose_moved (two is_same (option_is (slot_same k list_slots last_link list)) p) (store_moved k list last_link before) (unmoved k)
 
 unlinked_moved : {v m : Kept} {p q : Ref} → Keeps v m → Same (IsHeld v) p q → Moved v (unlinked v p) (unlinked m q)
@@ -160,7 +184,7 @@ preempt_alike : {v m : Kept} {r s p q : Ref} → Keeps v m → Same (IsHeld v) r
 preempt_alike k running p =
     let s = stop_running_moved k running in
     looked_alike (behind s (with_list_alike _ _ s.keeps (up s.grows running) (λ list h.
-    and_then_alike _ _ (add_last_alike s.keeps (same list h) (up s.grows running)) (λ t u r. start_alike r.keeps (up r.grows (up s.grows p))))))
+    and_then_alike _ _ (add_preempted_alike s.keeps (same list h) (up s.grows running)) (λ t u r. start_alike r.keeps (up r.grows (up s.grows p))))))
 
 resume_beside_alike : {v m : Kept} {r s p q : Ref} → Keeps v m → Same (IsHeld v) r s → Same (IsHeld v) p q → Alike v (resume_beside v r p) (resume_beside m s q)
 resume_beside_alike k running p =
@@ -176,7 +200,7 @@ resume_alike k p =
     (with_active_alike _ _ k (λ running h. resume_beside_alike k (same running h) p))
     (stop_alike k _)
 
-one_more_alike : {v m : Kept} {x y : Ref} {o p : Option ℤ} → Keeps v m → Same (IsHeld v) x y → Same Any o p → Alike v (one_more v x o) (one_more m y p)
+one_more_alike : {v m : Kept} {x y : Ref} {o p : Option ℤ} → Keeps v m → Same (IsHeld v) x y → Same Any o p → Alike v (one_more_excess v x o) (one_more_excess m y p)
 one_more_alike k s (same None a) = stop_alike k _
 one_more_alike k s (same (Some n) a) = if_alike (is (int_lt n (pos 1073741823))) (done_alike (store_moved k s excess_signals (same (Small (n +ℤ pos 1)) tt))) (stop_alike k _)
 
@@ -193,9 +217,9 @@ none_both P o p e f = subst (λ q. SameOption P q p) (sym e) (subst (λ q. SameO
 
 no_slots : (n : ℕ) (o : Option Obj) → ((p : Obj) → o ≡ Some p → is_context p ≡ true) → at_least n (slots_in o) ≡ None
 no_slots n None h = refl
-no_slots n (Some (Ptr class format hash slots)) h = let e : false ≡ true = h (Ptr class format hash slots) refl in absurd (cc)
-no_slots n (Some (Raw class format hash bytes)) h = refl
-no_slots n (Some (Method class format hash header literals bytecodes)) h = refl
+no_slots n (Some (Ptr head slots)) h = let e : false ≡ true = h (Ptr head slots) refl in absurd (cc)
+no_slots n (Some (Raw head bytes)) h = refl
+no_slots n (Some (Method head header literals bytecodes)) h = refl
 no_slots n (Some (Ctx c)) h = refl
 
 signal_absent : {v m : Kept} → Keeps v m → (i : ℕ) → object_at v i ≡ None → Alike v (signal v (ref.Obj i)) (signal m (ref.Obj i))
@@ -220,8 +244,8 @@ wait_behind_alike : {v m : Kept} {x y : Ref} → Keeps v m → Same (IsHeld v) x
 wait_behind_alike k s =
     with_active_alike _ _ k (λ running h.
     if_alike (is_process_same k (same running h))
-    (let a = stop_running_moved k (is running) in
-    looked_alike (and_then_alike _ _ (behind a (add_last_alike a.keeps (up a.grows s) (up a.grows (same running h)))) (λ t u r. start_next_alike r.keeps)))
+    (and_then_alike _ _ (add_last_alike k s (same running h)) (λ t u r.
+    let a = stop_running_moved r.keeps (is running) in looked_alike (behind a (start_next_alike a.keeps))))
     (stop_alike k _))
 
 pub wait_alike : {v m : Kept} {x y : Ref} → Keeps v m → Same (IsHeld v) x y → Alike v (wait v x) (wait m y)
@@ -235,7 +259,7 @@ unfolding suspend_active
 suspend_active_alike k p = if_alike (is_process_same k p) (let s = stop_running_moved k p in looked_alike (behind s (start_next_alike s.keeps))) (stop_alike k _)
 
 -- the process behind which another one stands is there
-abbrev PlaceHeld : Kept → Place → Type 0
+abbrev PlaceHeld : Kept → ListPlace → Type 0
 PlaceHeld v (At before) = IsHeldIf v before
 PlaceHeld v NotThere = Unit {0}
 PlaceHeld v NoProcess = Unit {0}
@@ -256,7 +280,7 @@ find_link_same k p (suc n) before (some link h) =
     (if_same (is (same_ref link p)) (at_same k before) (find_link_same k p n (some link h) (slot_same k process_slots next_link (same link h))))
     (same NoProcess tt))
 
-leave_list_alike : {v m : Kept} {x y p q : Ref} {a b : Place} → Keeps v m → Same (IsHeld v) p q → Same (IsHeld v) x y → Same (PlaceHeld v) a b → Alike v (leave_list v p x a) (leave_list m q y b)
+leave_list_alike : {v m : Kept} {x y p q : Ref} {a b : ListPlace} → Keeps v m → Same (IsHeld v) p q → Same (IsHeld v) x y → Same (PlaceHeld v) a b → Alike v (leave_list v p x a) (leave_list m q y b)
 leave_list_alike k p list (same (At before) h) = done_alike (take_out_moved k list p (held_if k before h))
 leave_list_alike k p list (same NotThere h) = fail_alike k
 leave_list_alike k p list (same NoProcess h) = stop_alike k _
@@ -278,9 +302,10 @@ suspend_alike k p = with_active_alike _ _ k (λ running h. if_alike (two same_re
 
 give_way_to_alike : {v m : Kept} {r s x y : Ref} → Keeps v m → Same (IsHeld v) r s → Same (IsHeld v) x y → Alike v (give_way_to v r x) (give_way_to m s y)
 give_way_to_alike k running list =
-    let s = stop_running_moved k running in
-    looked_alike (behind s (with_first_alike _ _ s.keeps (up s.grows list) (λ t u p r g.
-    and_then_alike _ _ (add_last_alike r.keeps (up r.grows (up s.grows list)) (up r.grows (up s.grows running))) (λ w z e. start_alike e.keeps (up e.grows g)))))
+    with_first_alike _ _ k list (λ t u p r g.
+    let s = stop_running_moved r.keeps (up r.grows running) in
+    looked_alike (behind s (and_then_alike _ _ (add_last_alike s.keeps (up s.grows (up r.grows list)) (up s.grows (up r.grows running))) (λ w z e.
+    start_alike e.keeps (up e.grows (up s.grows g))))))
 
 pub give_way_alike : {v m : Kept} → Keeps v m → Alike v (give_way v) (give_way m)
 unfolding give_way

@@ -122,9 +122,9 @@ elements_if false slots h = none
 
 array_elements_same : {v : Kept} {o p : Option Obj} → SameOption (NamesHeld v) o p → SameOption (AllHeld v) (array_elements o) (array_elements p)
 array_elements_same none = none
-array_elements_same (some (Ptr class format hash slots) h) = elements_if (format == 2) slots h
-array_elements_same (some (Raw class format hash bytes) h) = none
-array_elements_same (some (Method class format hash header literals bytecodes) h) = none
+array_elements_same (some (Ptr head slots) h) = elements_if (head.format == 2) slots h
+array_elements_same (some (Raw head bytes) h) = none
+array_elements_same (some (Method head header literals bytecodes) h) = none
 array_elements_same (some (Ctx c) h) = none
 
 pub spread_moved : {v m : Kept} {xs ys : List Ref} → Keeps v m → (args : ℕ) → Same (AllHeld v) xs ys → Moved v (spread_of v args xs) (spread_of m args ys)

@@ -4,7 +4,7 @@ use Rattle.std.specs.Prelude.{slice_get, slice_set}
 use Rattle.std.proofs.lemmas.Bool.Decides.{eqb_tells}
 use Rattle.cs_model.specs.Ref.{Ref, Small, Char, birth_of}
 use Rattle.cs_model.specs.Ref as ref
-use Rattle.cs_model.specs.Obj.{Obj, Ptr, Raw, Method, Ctx, slots_in, at_least}
+use Rattle.cs_model.specs.Obj.{Obj, Head, Ptr, Raw, Method, Ctx, slots_in, at_least}
 use Rattle.cs_model.specs.State.{Kept, Rest, State, object_at, object_of, put, with_rest, slots_of, special_at, scheduler_of, active_process, is_nil, IsValid, IsProcess}
 use Rattle.cs_model.specs.Read.{active_birth}
 use Rattle.cs_model.specs.Operation.{edit_found, with_slot, store_of, resume_of, suspend_of, nil_of, activate}
@@ -40,21 +40,19 @@ slice_set-twice (a ∷ b ∷ xs) x y = refl
 
 -- the pointer object of four slots or more that stands at a birth
 record Stands (k : Kept) (j : ℕ) : Type 0 where
-  class : ℕ
-  format : ℕ
-  hash : ℕ
+  head : Head
   slots : List Ref
-  there : object_at k j ≡ Some (Ptr class format hash slots)
+  there : object_at k j ≡ Some (Ptr head slots)
   wide : nat_le 4 (length slots) ≡ true
 
 stands_at : (k : Kept) (j : ℕ) (o : Option Obj) → object_at k j ≡ o → IsSome (at_least 4 (slots_in o)) → Stands k j
 stands_at k j None e h = absurd (cc)
-stands_at k j (Some (Ptr class format hash slots)) e h = record { class = class; format = format; hash = hash; slots = slots; there = e; wide = wide_if (nat_le 4 (length slots)) h } where
+stands_at k j (Some (Ptr head slots)) e h = record { head = head; slots = slots; there = e; wide = wide_if (nat_le 4 (length slots)) h } where
   wide_if : (b : Bool) → IsSome (if b then Some slots else None) → b ≡ true
   wide_if true g = refl
   wide_if false g = absurd (cc)
-stands_at k j (Some (Raw class format hash bytes)) e h = absurd (cc)
-stands_at k j (Some (Method class format hash header literals bytecodes)) e h = absurd (cc)
+stands_at k j (Some (Raw head bytes)) e h = absurd (cc)
+stands_at k j (Some (Method head header literals bytecodes)) e h = absurd (cc)
 stands_at k j (Some (Ctx c)) e h = absurd (cc)
 
 stands : (k : Kept) (p : Ref) → IsSome (slots_of k 4 p) → (j : ℕ) × (p ≡ ref.Obj j) × Stands k j
@@ -65,7 +63,7 @@ stands k (ref.Obj j) h = (j, refl, stands_at k j (object_at k j) refl h)
 
 -- that object with another value in its slot 1
 with_one : {k : Kept} {j : ℕ} → Stands k j → Ref → Obj
-with_one a x = Ptr a.class a.format a.hash (slice_set a.slots 1 x)
+with_one a x = Ptr a.head (slice_set a.slots 1 x)
 
 stored-is : {k : Kept} {j : ℕ} (a : Stands k j) (x : Ref) → store_of k (ref.Obj j) 1 x ≡ put k j (with_one a x)
 unfolding store_of with_one
@@ -132,7 +130,7 @@ unfolding changed store_of with_one
 stored_again {k} {j} a x =
     let t = changed a x None in
     ap (λ o. edit_found (with_slot 1 (nil_of k)) j o t) (object_at-put_same k j (with_one a x))
-    ∙ ap (λ slots. put t j (Ptr a.class a.format a.hash slots)) (slice_set-twice a.slots x (nil_of k))
+    ∙ ap (λ slots. put t j (Ptr a.head slots)) (slice_set-twice a.slots x (nil_of k))
 
 -- what stands where behind both stores
 twice : {k : Kept} {j : ℕ} (a : Stands k j) (x : Ref) (q : ℕ) → object_at (put (changed a x None) j (with_one a (nil_of k))) q ≡ object_at (put k j (with_one a (nil_of k))) q

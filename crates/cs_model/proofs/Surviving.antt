@@ -6,14 +6,14 @@ use Rattle.cs_model.specs.declared.instruction.Op.{Op}
 use Rattle.cs_model.specs.Ref.{Ref}
 use Rattle.cs_model.specs.Obj.{Obj, Context}
 use Rattle.cs_model.specs.State.{Kept, put, IsHeld, ContextHeld, NamesHeld}
-use Rattle.cs_model.specs.Operation.{put_active, set_pc_of, push_of, drop_of, set_stack_of, store_of, store_byte_of, add_of, enter_of, kill_of, kill_all, resume_of, suspend_of, leave_of, cut_to_of}
+use Rattle.cs_model.specs.Operation.{put_active, set_pc_of, push_of, drop_of, set_stack_of, store_of, store_byte_of, set_fixed_of, add_of, enter_of, kill_of, kill_all, resume_of, suspend_of, leave_of, cut_to_of}
 use Rattle.cs_model.specs.Context.{context_put}
 use Rattle.cs_model.specs.Enter.{enter_block_of, enter_block_out}
 use Rattle.cs_model.specs.Instance.{instantiate, behavior_hash, take_index, hash_given, Made, Hashed}
-use Rattle.cs_model.specs.Exec.{push_out, fill_of, jump_out, send_selector_out, special_send_out, exec}
+use Rattle.cs_model.specs.Exec.{push_out, push_all, refuse_store, fill_of, jump_out, send_selector_out, special_send_out, exec}
 use Rattle.cs_model.specs.Send.{enter_out, invoke, not_understood, send, perform, perform_with_arguments, execute_method, spread_of}
 use Rattle.cs_model.specs.Return.{call_with, cannot_return_out, unwind_out, local_out, nonlocal_out, back}
-use Rattle.cs_model.specs.Process.{add_last, take_out, start, stop_running, start_next, resume, signal, wait, suspend_active, suspend_other, suspend, give_way}
+use Rattle.cs_model.specs.Process.{add_last, add_first, add_preempted, take_out, start, stop_running, start_next, resume, signal, wait, suspend_active, suspend_other, suspend, give_way}
 use Rattle.cs_model.specs.PrimAnswer.{answer}
 use Rattle.cs_model.specs.PrimUnwind.{end_between_of}
 use Rattle.cs_model.specs.Settle.{settle_kept, open_kept}
@@ -25,15 +25,15 @@ use Rattle.cs_model.specs.Alike.{Alike, IsHeldIf, AlikeMade, AlikeHashed}
 use Rattle.cs_model.proofs.Same.{same, is}
 use Rattle.cs_model.proofs.Keeping.{put_moved}
 use Rattle.cs_model.proofs.Reading.{held_if, Has, listed}
-use Rattle.cs_model.proofs.Operating.{put_active_moved, set_pc_moved, push_moved, drop_moved, set_stack_moved, store_moved, store_byte_moved, add_moved, enter_moved, kill_moved, kill_all_moved, resume_moved, suspend_moved, leave_moved, cut_to_moved}
+use Rattle.cs_model.proofs.Operating.{put_active_moved, set_pc_moved, push_moved, drop_moved, set_stack_moved, store_moved, store_byte_moved, set_fixed_moved, add_moved, enter_moved, kill_moved, kill_all_moved, resume_moved, suspend_moved, leave_moved, cut_to_moved}
 use Rattle.cs_model.proofs.Fields.{context_put_moved}
 use Rattle.cs_model.proofs.Unwinding.{end_between_moved}
 use Rattle.cs_model.proofs.Making.{SameMade, makes, refused, full, SameHashed, hashes, no_class, none_left, instantiate_same, behavior_hash_same, take_index_moved, hash_given_moved}
 use Rattle.cs_model.proofs.Entering.{enter_block_moved, enter_block_alike}
-use Rattle.cs_model.proofs.Executing.{push_alike, fill_moved, jump_alike, send_selector_alike, special_send_alike, exec_alike}
+use Rattle.cs_model.proofs.Executing.{push_alike, push_all_alike, refuse_store_alike, fill_moved, jump_alike, send_selector_alike, special_send_alike, exec_alike}
 use Rattle.cs_model.proofs.Sending.{enter_alike, invoke_alike, not_understood_alike, send_alike, perform_alike, perform_with_arguments_alike, execute_method_alike, spread_moved}
 use Rattle.cs_model.proofs.Returning.{call_with_alike, cannot_return_alike, unwind_alike, local_alike, nonlocal_alike, back_alike}
-use Rattle.cs_model.proofs.Scheduling.{add_last_alike, take_out_moved, start_alike, stop_running_moved, start_next_alike, resume_alike, signal_any, wait_alike, suspend_active_alike, suspend_other_alike, suspend_alike, give_way_alike}
+use Rattle.cs_model.proofs.Scheduling.{add_last_alike, add_first_alike, add_preempted_alike, take_out_moved, start_alike, stop_running_moved, start_next_alike, resume_alike, signal_any, wait_alike, suspend_active_alike, suspend_other_alike, suspend_alike, give_way_alike}
 use Rattle.cs_model.proofs.Answering.{answer_alike}
 use Rattle.cs_model.proofs.Running.{settle_moved, open_moved, forgotten_moved}
 use Rattle.cs_model.proofs.Tables.{kept_prim_alike}
@@ -88,6 +88,12 @@ Keeps-store_byte v m o i b k = (store_byte_moved k (is o) i b).keeps
 
 pub grows-store_byte : (v : Kept) (o : Ref) (i b : ℕ) → Keeps v v → Grows v (store_byte_of v o i b)
 grows-store_byte v o i b k = (store_byte_moved k (is o) i b).grows
+
+pub Keeps-set_fixed : (v m : Kept) (o : Ref) (on : Bool) → Keeps v m → Keeps (set_fixed_of v o on) (set_fixed_of m o on)
+Keeps-set_fixed v m o on k = (set_fixed_moved k (is o) on).keeps
+
+pub grows-set_fixed : (v : Kept) (o : Ref) (on : Bool) → Keeps v v → Grows v (set_fixed_of v o on)
+grows-set_fixed v o on k = (set_fixed_moved k (is o) on).grows
 
 pub Keeps-add : (v m : Kept) (o : Obj) → Keeps v m → NamesHeld v o → Keeps (add_of v o) (add_of m o)
 Keeps-add v m o k h = (add_moved k (same o h)).keeps
@@ -210,10 +216,10 @@ pub grows-forgotten : (v : Kept) → Keeps v v → Grows v (forgotten v)
 grows-forgotten v k = (forgotten_moved k).grows
 
 -- keeping survives each operation
-pub ruleset keeps = (Keeps-put, Keeps-put_active, Keeps-set_pc, Keeps-push, Keeps-drop, Keeps-set_stack, Keeps-store, Keeps-store_byte, Keeps-add, Keeps-enter, Keeps-enter_block, Keeps-kill, Keeps-kill_all, Keeps-resume_at, Keeps-suspend_all, Keeps-leave, Keeps-cut_to, Keeps-context_put, Keeps-take_index, Keeps-hash_given, Keeps-fill, Keeps-spread, Keeps-stop_running, Keeps-take_out, Keeps-settle, Keeps-open, Keeps-forgotten)
+pub ruleset keeps = (Keeps-put, Keeps-put_active, Keeps-set_pc, Keeps-push, Keeps-drop, Keeps-set_stack, Keeps-store, Keeps-store_byte, Keeps-set_fixed, Keeps-add, Keeps-enter, Keeps-enter_block, Keeps-kill, Keeps-kill_all, Keeps-resume_at, Keeps-suspend_all, Keeps-leave, Keeps-cut_to, Keeps-context_put, Keeps-take_index, Keeps-hash_given, Keeps-fill, Keeps-spread, Keeps-stop_running, Keeps-take_out, Keeps-settle, Keeps-open, Keeps-forgotten)
 
 -- what was held still is
-pub ruleset grows = (grows-put, grows-put_active, grows-set_pc, grows-push, grows-drop, grows-set_stack, grows-store, grows-store_byte, grows-add, grows-enter, grows-enter_block, grows-kill, grows-kill_all, grows-resume_at, grows-suspend_all, grows-leave, grows-cut_to, grows-context_put, grows-take_index, grows-hash_given, grows-fill, grows-spread, grows-stop_running, grows-take_out, grows-settle, grows-open, grows-forgotten)
+pub ruleset grows = (grows-put, grows-put_active, grows-set_pc, grows-push, grows-drop, grows-set_stack, grows-store, grows-store_byte, grows-set_fixed, grows-add, grows-enter, grows-enter_block, grows-kill, grows-kill_all, grows-resume_at, grows-suspend_all, grows-leave, grows-cut_to, grows-context_put, grows-take_index, grows-hash_given, grows-fill, grows-spread, grows-stop_running, grows-take_out, grows-settle, grows-open, grows-forgotten)
 
 -- ---- making
 
@@ -237,6 +243,12 @@ behavior_hash-alike v m x k h = alike_hashed (behavior_hash_same k (same x h))
 
 pub push_out-alike : (v m : Kept) (x : Ref) → Keeps v m → IsHeld v x → Alike v (push_out v x) (push_out m x)
 push_out-alike v m x k h = push_alike k (same x h)
+
+pub push_all-alike : (v m : Kept) (values : List Ref) → Keeps v m → AllByRecursion (IsHeld v) values → Alike v (push_all values v) (push_all values m)
+push_all-alike v m values k h = push_all_alike k (listed v values h)
+
+pub refuse_store-alike : (v m : Kept) (o : Ref) (i : ℕ) (x : Ref) → Keeps v m → IsHeld v o → IsHeld v x → Alike v (refuse_store v o i x) (refuse_store m o i x)
+refuse_store-alike v m o i x k g h = refuse_store_alike k (same o g) i (same x h)
 
 pub jump_out-alike : (v m : Kept) (offset : ℤ) → Keeps v m → Alike v (jump_out v offset) (jump_out m offset)
 jump_out-alike v m offset k = jump_alike k offset
@@ -295,6 +307,12 @@ back-alike v m x local k h = back_alike k (same x h) local
 pub add_last-alike : (v m : Kept) (list p : Ref) → Keeps v m → IsHeld v list → IsHeld v p → Alike v (add_last v list p) (add_last m list p)
 add_last-alike v m list p k g h = add_last_alike k (same list g) (same p h)
 
+pub add_first-alike : (v m : Kept) (list p : Ref) → Keeps v m → IsHeld v list → IsHeld v p → Alike v (add_first v list p) (add_first m list p)
+add_first-alike v m list p k g h = add_first_alike k (same list g) (same p h)
+
+pub add_preempted-alike : (v m : Kept) (list p : Ref) → Keeps v m → IsHeld v list → IsHeld v p → Alike v (add_preempted v list p) (add_preempted m list p)
+add_preempted-alike v m list p k g h = add_preempted_alike k (same list g) (same p h)
+
 pub start-alike : (v m : Kept) (p : Ref) → Keeps v m → IsHeld v p → Alike v (start v p) (start m p)
 start-alike v m p k h = start_alike k (same p h)
 
@@ -332,4 +350,4 @@ pub signal_external-alike : (v m : Kept) (n : ℕ) → Keeps v m → Alike v (si
 signal_external-alike v m n k = signal_external_alike k n
 
 -- keeping survives each of these
-pub ruleset alikes = (instantiate-alike, behavior_hash-alike, push_out-alike, jump_out-alike, special_send_out-alike, send_selector_out-alike, exec-alike, enter_out-alike, enter_block_out-alike, invoke-alike, not_understood-alike, send-alike, perform-alike, perform_with_arguments-alike, execute_method-alike, call_with-alike, cannot_return_out-alike, unwind_out-alike, local_out-alike, nonlocal_out-alike, back-alike, add_last-alike, start-alike, start_next-alike, resume-alike, signal-alike, wait-alike, suspend_active-alike, suspend_other-alike, suspend-alike, give_way-alike, answer-alike, kept_prim-alike, signal_external-alike)
+pub ruleset alikes = (instantiate-alike, behavior_hash-alike, push_out-alike, push_all-alike, refuse_store-alike, jump_out-alike, special_send_out-alike, send_selector_out-alike, exec-alike, enter_out-alike, enter_block_out-alike, invoke-alike, not_understood-alike, send-alike, perform-alike, perform_with_arguments-alike, execute_method-alike, call_with-alike, cannot_return_out-alike, unwind_out-alike, local_out-alike, nonlocal_out-alike, back-alike, add_last-alike, add_first-alike, add_preempted-alike, start-alike, start_next-alike, resume-alike, signal-alike, wait-alike, suspend_active-alike, suspend_other-alike, suspend-alike, give_way-alike, answer-alike, kept_prim-alike, signal_external-alike)

@@ -9,7 +9,7 @@ use Rattle.cs_model.proofs.Combining.{fail_alike, if_alike}
 use Rattle.cs_model.proofs.Sending.{perform_alike, perform_with_arguments_alike, execute_method_alike}
 use Rattle.cs_model.proofs.Answering.{with_count_alike, number_prim_alike}
 use Rattle.cs_model.proofs.Objecting.{at_alike, at_put_alike, size_alike, char_at_alike, char_at_put_alike, object_at_alike, object_at_put_alike, new_alike, new_size_alike, point_alike, slot_at_alike, slot_at_put_alike}
-use Rattle.cs_model.proofs.Instancing.{hash_alike, some_instance_alike, next_instance_alike, new_method_alike, replace_alike, identical_alike, class_prim_alike, copy_alike, behavior_hash_alike, quick_alike, stack_at_alike, stack_at_put_alike, stackp_alike}
+use Rattle.cs_model.proofs.Instancing.{hash_alike, some_instance_alike, next_instance_alike, new_method_alike, replace_alike, identical_alike, class_prim_alike, copy_alike, behavior_hash_alike, read_only_alike, set_read_only_alike, quick_alike, stack_at_alike, stack_at_put_alike, stackp_alike}
 use Rattle.cs_model.proofs.Unwinding.{evaluate_alike, evaluate_array_alike, unwind_mark_alike, handler_mark_alike, end_between_alike}
 use Rattle.cs_model.proofs.Processing.{signal_prim_alike, wait_prim_alike, resume_prim_alike, suspend_prim_alike, yield_alike}
 use Rattle.cs_model.proofs.Running.{result_alike, if_result, snapshot_alike, quit_alike, clock_alike, timer_alike, write_alike, read_alike}
@@ -36,9 +36,11 @@ object_prim_alike k number args =
     (if_alike (is (number == 110)) (identical_alike k args)
     (if_alike (is (number == 111)) (class_prim_alike k args)
     (if_alike (is (number == 148)) (copy_alike k args)
+    (if_alike (is (number == 163)) (read_only_alike k args)
+    (if_alike (is (number == 164)) (set_read_only_alike k args)
     (if_alike (is (number == 175)) (behavior_hash_alike k args)
     (if_alike (is (nat_le 256 number && nat_lt number 520)) (quick_alike k number args)
-    (fail_alike k))))))))))))))))))))))
+    (fail_alike k))))))))))))))))))))))))
 
 context_prim_alike : {v m : Kept} → Keeps v m → (number args : ℕ) → Alike v (context_prim number args v) (context_prim number args m)
 context_prim_alike k number args =

@@ -80,16 +80,7 @@ given (Some x) none some = some x
 
 abbrev pub is_done : End → Bool
 is_done Done = true
-is_done (Send selector args above) = false
-is_done (Return value local) = false
-is_done Entered = false
-is_done (Primitive method number) = false
-is_done (Call special args) = false
-is_done Answer = false
-is_done Fail = false
-is_done Quit = false
-is_done Snapshot = false
-is_done (Stopped reason) = false
+is_done end = false
 
 -- what comes behind an operation that is done
 unfoldable pub and_then : Out → (Kept → Out) → Out

@@ -14,9 +14,9 @@ use Rattle.cs_model.specs.End as ends
 -- the slots of a closure: an object of the closures' class index and format 3
 abbrev pub closure_slots : Option Obj → List Ref
 closure_slots None = []
-closure_slots (Some (Ptr class format hash slots)) = if class == closure_class && format == 3 then slots else []
-closure_slots (Some (Raw class format hash bytes)) = []
-closure_slots (Some (Method class format hash header literals bytecodes)) = []
+closure_slots (Some (Ptr head slots)) = if head.class == closure_class && head.format == 3 then slots else []
+closure_slots (Some (Raw head bytes)) = []
+closure_slots (Some (Method head header literals bytecodes)) = []
 closure_slots (Some (Ctx c)) = []
 
 -- a slot of a closure: 0 outerContext, 1 startpc, 2 numArgs, and then the copied values

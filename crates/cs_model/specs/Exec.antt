@@ -1,12 +1,12 @@
 -- What each instruction does (V3PlusClosures; Blue Book, part four). The pc has been moved past it.
-use Rattle.std.specs.Prelude.{ℕ, ◌+◌, ◌-◌, ◌*◌, ℤ, pos, negsuc, ◌+ℤ◌, ◌==◌, Bool, true, false, nat_lt, nat_le, if◌then◌else◌, List, ◌∷◌, length, Option, Some, None, option_and_then, slice_get, unwrap_or}
+use Rattle.std.specs.Prelude.{ℕ, ◌+◌, ◌-◌, ◌*◌, ℤ, pos, negsuc, ◌+ℤ◌, ◌==◌, Bool, true, false, nat_lt, nat_le, if◌then◌else◌, List, [], ◌∷◌, length, Option, Some, None, option_and_then, slice_get, unwrap_or}
 use Rattle.cs_model.specs.declared.stop.Stop.TheVariants as why
 use Rattle.cs_model.specs.declared.instruction.Op.{Op}
 use Rattle.cs_model.specs.declared.instruction.Op.TheVariants as op
 use Rattle.cs_model.specs.Ref.{Ref, Small, same_ref, small_of, index_of}
 use Rattle.cs_model.specs.Ref as ref
-use Rattle.cs_model.specs.Obj.{Obj, Context, Ptr, Raw, Method, Ctx, slots_in, lies_in, words_of_slots}
-use Rattle.cs_model.specs.State.{Kept, object_of, slots_of, special_at, is_nil}
+use Rattle.cs_model.specs.Obj.{Obj, Context, Ptr, Raw, Method, Ctx, new_head, slots_in, lies_in, words_of_slots}
+use Rattle.cs_model.specs.State.{Kept, object_of, is_read_only, slots_of, special_at, is_nil}
 use Rattle.cs_model.specs.Read.{active_birth, active_context, stack_of, depth_of, size_of, pc_of, receiver_of, method_of, literals_of, from_top, class_of}
 use Rattle.cs_model.specs.Operation.{set_pc_of, push_of, drop_of, pop_of, set_stack_of, store_of, add_of, next_ref, nil_of, last_values, edit_object}
 use Rattle.cs_model.specs.Context.{context_get, accepts, context_put, closure_class}
@@ -33,13 +33,34 @@ pop_out k = with_top k (λ x. done (pop_of k))
 unfoldable pub dup_out : Kept → Out
 dup_out k = with_top k (λ x. push_out k x)
 
+unfoldable pub push_all : List Ref → Kept → Out
+push_all [] k = done k
+push_all (x ∷ xs) k = and_then (push_out k x) (λ t. push_all xs t)
+
+-- the special selector is sent to the receiver below so many arguments
+unfoldable pub special_send_out : Kept → ℕ → ℕ → Out
+special_send_out k special args = given (special_at k special) (stop why.BadSpecial k) (λ selector. out (ends.Send selector args None) k)
+
+-- ---- stores into slots: nothing is stored into a read-only object; the message attemptToAssign:withIndex: tells it of the value
+-- and of the slot, counted from 1, and the value is off the stack then
+
+abbrev pub attempt_to_assign : ℕ
+attempt_to_assign = 50
+
+unfoldable pub refuse_store : Kept → Ref → ℕ → Ref → Out
+refuse_store bare target i v =
+    and_then (push_all (target ∷ v ∷ Small (pos (i + 1)) ∷ []) bare) (λ t. special_send_out t attempt_to_assign 2)
+
+unfoldable pub store_slot : Kept → Kept → Ref → ℕ → Ref → Out
+store_slot k bare target i v = if is_read_only k target then refuse_store bare target i v else done (store_of k target i v)
+
 -- ---- receiver fields: slots of a pointer object, fields of a context, and none of anything else
 
 abbrev pub push_field : Kept → ℕ → Option Obj → Out
 push_field k i None = stop why.BadField k
-push_field k i (Some (Ptr class format hash slots)) = given (slice_get slots i) (stop why.BadField k) (λ x. push_out k x)
-push_field k i (Some (Raw class format hash bytes)) = stop why.BadField k
-push_field k i (Some (Method class format hash header literals bytecodes)) = stop why.BadField k
+push_field k i (Some (Ptr head slots)) = given (slice_get slots i) (stop why.BadField k) (λ x. push_out k x)
+push_field k i (Some (Raw head bytes)) = stop why.BadField k
+push_field k i (Some (Method head header literals bytecodes)) = stop why.BadField k
 push_field k i (Some (Ctx c)) = given (context_get k c i) (stop why.BadField k) (λ x. if i == 0 then looked (push_out k x) else push_out k x)
 
 unfoldable pub push_receiver_out : Kept → ℕ → Out
@@ -60,15 +81,15 @@ store_in_context k i v c =
     (if accepts k (is_active k (receiver_of k)) c i v then done (context_put k (birth_or_zero (receiver_of k)) i v) else stop why.BadStore k)
     else stop why.BadField k
 
-abbrev pub store_field : Kept → ℕ → Ref → Option Obj → Out
-store_field k i v None = stop why.BadField k
-store_field k i v (Some (Ptr class format hash slots)) = if nat_lt i (length slots) then done (store_of k (receiver_of k) i v) else stop why.BadField k
-store_field k i v (Some (Raw class format hash bytes)) = stop why.BadField k
-store_field k i v (Some (Method class format hash header literals bytecodes)) = stop why.BadField k
-store_field k i v (Some (Ctx c)) = store_in_context k i v c
+abbrev pub store_field : Kept → Kept → ℕ → Ref → Option Obj → Out
+store_field k bare i v None = stop why.BadField k
+store_field k bare i v (Some (Ptr head slots)) = if nat_lt i (length slots) then store_slot k bare (receiver_of k) i v else stop why.BadField k
+store_field k bare i v (Some (Raw head bytes)) = stop why.BadField k
+store_field k bare i v (Some (Method head header literals bytecodes)) = stop why.BadField k
+store_field k bare i v (Some (Ctx c)) = store_in_context k i v c
 
-unfoldable pub store_receiver_out : Kept → ℕ → Ref → Out
-store_receiver_out k i v = store_field k i v (object_of k (receiver_of k))
+unfoldable pub store_receiver_out : Kept → Kept → ℕ → Ref → Out
+store_receiver_out k bare i v = store_field k bare i v (object_of k (receiver_of k))
 
 -- ---- temporaries, literals and literal variables
 
@@ -94,9 +115,9 @@ variable_value k i = option_and_then (λ slots. slice_get slots 1) (variable_at 
 unfoldable pub push_variable_out : Kept → ℕ → Out
 push_variable_out k i = given (variable_value k i) (stop why.BadLiteral k) (λ x. push_out k x)
 
-unfoldable pub store_variable_out : Kept → ℕ → Ref → Out
-store_variable_out k i v =
-    given (variable_value k i) (stop why.BadLiteral k) (λ old. done (store_of k (unwrap_or (literal_at k i) (nil_of k)) 1 v))
+unfoldable pub store_variable_out : Kept → Kept → ℕ → Ref → Out
+store_variable_out k bare i v =
+    given (variable_value k i) (stop why.BadLiteral k) (λ old. store_slot k bare (unwrap_or (literal_at k i) (nil_of k)) 1 v)
 
 -- ---- vectors: slot i of the pointer object that is stack value j
 
@@ -109,16 +130,17 @@ vector_slot k i j = option_and_then (λ slots. slice_get slots i) (slots_in (obj
 unfoldable pub push_vector_out : Kept → ℕ → ℕ → Out
 push_vector_out k i j = given (vector_slot k i j) (stop why.BadField k) (λ x. push_out k x)
 
-unfoldable pub store_vector_out : Kept → ℕ → ℕ → Ref → Out
-store_vector_out k i j v = given (vector_slot k i j) (stop why.BadField k) (λ old. done (store_of k (vector_at k j) i v))
+unfoldable pub store_vector_out : Kept → Kept → ℕ → ℕ → Ref → Out
+store_vector_out k bare i j v = given (vector_slot k i j) (stop why.BadField k) (λ old. store_slot k bare (vector_at k j) i v)
 
--- ---- a pop form takes the value first, and what is there is judged on the stack without it
+-- ---- A pop form takes the value first, and what is there is judged on the stack without it. A store form judges it on the stack
+-- with the value; `bare` is the state without it.
 
-unfoldable pub pop_into : Kept → (Kept → Ref → Out) → Out
-pop_into k store = with_top k (λ x. store (pop_of k) x)
+unfoldable pub pop_into : Kept → (Kept → Kept → Ref → Out) → Out
+pop_into k store = with_top k (λ x. store (pop_of k) (pop_of k) x)
 
-unfoldable pub store_into : Kept → (Kept → Ref → Out) → Out
-store_into k store = with_top k (λ x. store k x)
+unfoldable pub store_into : Kept → (Kept → Kept → Ref → Out) → Out
+store_into k store = with_top k (λ x. store k (pop_of k) x)
 
 -- ---- jumps
 
@@ -140,9 +162,6 @@ jump_out k offset = given (pc_after k offset) (stop why.BadCode k) (λ pc. done 
 -- a condition that is neither true nor false stays, as the receiver of mustBeBoolean
 abbrev pub must_be_boolean : ℕ
 must_be_boolean = 25
-
-unfoldable pub special_send_out : Kept → ℕ → ℕ → Out
-special_send_out k special args = given (special_at k special) (stop why.BadSpecial k) (λ selector. out (ends.Send selector args None) k)
 
 unfoldable pub jump_if_out : Kept → Bool → ℕ → Out
 jump_if_out k wanted offset = with_top k (λ x.
@@ -234,9 +253,9 @@ unfoldable pub with_array : Kept → ℕ → (Kept → Ref → Out) → Out
 with_array k n next = given (special_at k array_class) (stop why.BadSpecial k) (λ class. array_made k n next (instantiate k class n))
 
 abbrev pub with_slots : List Ref → Obj → Obj
-with_slots slots (Ptr class format hash old) = Ptr class format hash slots
-with_slots slots (Raw class format hash bytes) = Raw class format hash bytes
-with_slots slots (Method class format hash header literals bytecodes) = Method class format hash header literals bytecodes
+with_slots slots (Ptr head old) = Ptr head slots
+with_slots slots (Raw head bytes) = Raw head bytes
+with_slots slots (Method head header literals bytecodes) = Method head header literals bytecodes
 with_slots slots (Ctx c) = Ctx c
 
 -- all slots of an object are written
@@ -257,7 +276,7 @@ pop_array_out k n =
 -- a closure over the active context: outerContext, startpc, numArgs and the copied values
 abbrev pub new_closure : Kept → ℕ → ℕ → Obj
 new_closure k copied args =
-    Ptr closure_class 3 0 (ref.Obj (active_birth k) ∷ Small (pos (pc_of k)) ∷ Small (pos args) ∷ last_values copied (stack_of k))
+    Ptr (new_head closure_class 3) (ref.Obj (active_birth k) ∷ Small (pos (pc_of k)) ∷ Small (pos args) ∷ last_values copied (stack_of k))
 
 unfoldable pub closure_out : Kept → ℕ → ℕ → ℕ → Out
 closure_out k copied args size =
@@ -278,12 +297,12 @@ exec (op.PushRcvr i) k = push_receiver_out k i
 exec (op.PushTemp i) k = push_temp_out k i
 exec (op.PushLit i) k = push_literal_out k i
 exec (op.PushLitVar i) k = push_variable_out k i
-exec (op.PopRcvr i) k = pop_into k (λ t x. store_receiver_out t i x)
-exec (op.PopTemp i) k = pop_into k (λ t x. store_temp_out t i x)
-exec (op.PopLitVar i) k = pop_into k (λ t x. store_variable_out t i x)
-exec (op.StoreRcvr i) k = store_into k (λ t x. store_receiver_out t i x)
-exec (op.StoreTemp i) k = store_into k (λ t x. store_temp_out t i x)
-exec (op.StoreLitVar i) k = store_into k (λ t x. store_variable_out t i x)
+exec (op.PopRcvr i) k = pop_into k (λ t bare x. store_receiver_out t bare i x)
+exec (op.PopTemp i) k = pop_into k (λ t bare x. store_temp_out t i x)
+exec (op.PopLitVar i) k = pop_into k (λ t bare x. store_variable_out t bare i x)
+exec (op.StoreRcvr i) k = store_into k (λ t bare x. store_receiver_out t bare i x)
+exec (op.StoreTemp i) k = store_into k (λ t bare x. store_temp_out t i x)
+exec (op.StoreLitVar i) k = store_into k (λ t bare x. store_variable_out t bare i x)
 exec op.PushSelf k = push_out k (receiver_of k)
 exec op.PushTrue k = push_out k (boolean k true)
 exec op.PushFalse k = push_out k (boolean k false)
@@ -304,8 +323,8 @@ exec (op.NewArray n) k = new_array_out k n
 exec (op.PopArray n) k = pop_array_out k n
 exec (op.Prim i j) k = done k
 exec (op.PushVec i j) k = push_vector_out k i j
-exec (op.StoreVec i j) k = store_into k (λ t x. store_vector_out t i j x)
-exec (op.PopVec i j) k = pop_into k (λ t x. store_vector_out t i j x)
+exec (op.StoreVec i j) k = store_into k (λ t bare x. store_vector_out t bare i j x)
+exec (op.PopVec i j) k = pop_into k (λ t bare x. store_vector_out t bare i j x)
 exec (op.Closure copied args size) k = closure_out k copied args size
 exec (op.Jump offset) k = jump_out k offset
 exec (op.JumpTrue offset) k = jump_if_out k true offset

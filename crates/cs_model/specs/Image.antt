@@ -5,11 +5,11 @@ use Rattle.std.specs.Ordering.{nat_cmp}
 use Rattle.std.specs.FinMap.{FinMap, empty, insert, from_entries}
 use Rattle.cs_model.specs.Ref.{Ref}
 use Rattle.cs_model.specs.Ref as ref
-use Rattle.cs_model.specs.Obj.{Obj}
+use Rattle.cs_model.specs.Obj.{Obj, Head}
 use Rattle.cs_model.specs.State.{Kept, Rest}
 use Rattle.cs_model.specs.Words.{obj_by}
 use Rattle.cs_model.specs.ImageFile.{special_address, last_hash_in, header_in, words_in, births_in, next_birth_in, FileObject, cut_of, File, file_of, visible, address_in}
-use Rattle.cs_model.specs.ImageFault.{ImageFault, is_too_long, is_short, is_bad_format, is_bad_header_size, is_bad_length, bad_object, is_over, is_bad_table, bad_ref, bad_class, bad_context, is_bad_roots, is_bad_births, has_entry, entry_in, table_size}
+use Rattle.cs_model.specs.ImageFault.{ImageFault, is_too_long, is_short, is_bad_format, is_bad_header_size, is_bad_profile, is_bad_length, bad_object, is_over, is_bad_table, bad_ref, bad_class, bad_context, is_bad_roots, is_bad_births, has_entry, entry_in, table_size}
 use Rattle.cs_model.specs.ImageFault as fault
 
 -- ---- the state
@@ -18,8 +18,11 @@ use Rattle.cs_model.specs.ImageFault as fault
 abbrev pub birth_in : File → List ℕ → ℕ → ℕ
 birth_in f births word = option_map_or (λ e. e.0) (find (λ e. address_in f e.1 == word) (zip births (visible f))) 0
 
+abbrev pub head_in : FileObject → Head
+head_in o = record { class = o.class; format = o.format; hash = o.hash; fixed = o.fixed }
+
 abbrev pub object_in : File → List ℕ → FileObject → Obj
-object_in f births o = obj_by (λ word. ref.Obj (birth_in f births word)) o.class o.format o.hash o.words
+object_in f births o = obj_by (λ word. ref.Obj (birth_in f births word)) (head_in o) o.words
 
 -- the classes of the indices below n, by birth
 abbrev pub classes_in : File → List ℕ → ℕ → FinMap nat_cmp ℕ
@@ -69,6 +72,7 @@ fault_of bytes limit = let f = file_of bytes in first_of (
     ∷ when (is_short bytes) fault.Short
     ∷ when (is_bad_format bytes) fault.BadFormat
     ∷ when (is_bad_header_size bytes) fault.BadHeaderSize
+    ∷ when (is_bad_profile bytes) fault.BadProfile
     ∷ when (is_bad_length bytes) fault.BadLength
     ∷ at_word fault.BadObject (bad_object (cut_of (words_in bytes)))
     ∷ when (is_over f limit) fault.OverLimit

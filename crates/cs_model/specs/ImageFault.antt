@@ -5,6 +5,7 @@ use Rattle.std.specs.Option.{option_map_or, option_or}
 use Rattle.std.specs.List.{list_any, list_all, enumerate_from}
 use Rattle.cs_model.specs.Obj.{context_class, context_fields, words_of_slots, literal_count, is_header, lies_between}
 use Rattle.cs_model.specs.Words.{natural_in_word, is_pointer_format, is_method_format, has_shape, unused_bytes, header_in_words, literals_in_words, bytecode_count}
+use Rattle.cs_model.specs.Profile.{is_second_profile, pages_in, is_page_count}
 use Rattle.cs_model.specs.ImageFile.{u32_at, heap_size, old_base, has_births, birth_count, births_in, next_birth_in, FileObject, Cut, stands, is_hidden, is_visible, File, visible, named, names, nil_in, is_nil}
 
 pub data ImageFault : Type 0 where
@@ -12,6 +13,7 @@ pub data ImageFault : Type 0 where
   Short : ImageFault
   BadFormat : ImageFault
   BadHeaderSize : ImageFault
+  BadProfile : ImageFault
   BadLength : ImageFault
   BadObject : (at : ℕ) → ImageFault
   OverLimit : ImageFault
@@ -35,6 +37,10 @@ is_bad_format bytes = not (u32_at bytes 0 == 6521)
 
 abbrev pub is_bad_header_size : List ℕ → Bool
 is_bad_header_size bytes = not (u32_at bytes 4 == 64)
+
+-- in profile 2 the page count is that of a machine, or 0
+abbrev pub is_bad_profile : List ℕ → Bool
+is_bad_profile bytes = is_second_profile bytes && not (is_page_count (pages_in bytes))
 
 -- the heap and the base are of whole units, the addresses fit a word, and the file ends behind the heap or behind a birth
 -- section of so many births as it says

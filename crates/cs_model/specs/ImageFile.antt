@@ -69,14 +69,15 @@ next_birth_in bytes n = if has_births bytes then u64_at bytes (64 + heap_size by
 
 -- ---- the objects of the heap, in which all places count words
 
--- An object where it lies: the places of its first word and of its header; class index, format and identity hash; and its
--- slots.
+-- An object where it lies: the places of its first word and of its header; class index, format, identity hash and whether it is
+-- fixed; and its slots.
 pub record FileObject : Type 0 where
   pub first : ℕ
   pub place : ℕ
   pub class : ℕ
   pub format : ℕ
   pub hash : ℕ
+  pub fixed : Bool
   pub words : List ℕ
 
 -- the 64 bits that stand in two words
@@ -102,6 +103,7 @@ object_with heap first place header slots = record {
   class = header % 2 ^ 22;
   format = header / 2 ^ 24 % 2 ^ 5;
   hash = header / 2 ^ 32 % 2 ^ 22;
+  fixed = header / 2 ^ 23 % 2 == 1;
   words = take slots (drop (place + 2) heap);
 }
 

@@ -5,7 +5,7 @@ use Rattle.std.specs.FinMap.{FinMap, get, insert}
 use Rattle.std.specs.Ordering.{nat_cmp}
 use Rattle.cs_model.specs.Ref.{Ref, Small, Char, birth_of, index_of}
 use Rattle.cs_model.specs.Ref as ref
-use Rattle.cs_model.specs.Obj.{Obj, Context, Ptr, Raw, Ctx, hash_in, context_class, words_of}
+use Rattle.cs_model.specs.Obj.{Obj, Context, Ptr, Raw, Ctx, new_head, hash_in, context_class, words_of}
 use Rattle.cs_model.specs.State.{Kept, Rest, with_rest, object_at, object_of, slots_of}
 use Rattle.cs_model.specs.Operation.{add_of, next_ref, nil_of, edit_object, with_hash}
 
@@ -99,12 +99,12 @@ abbrev pub raw_format : ℕ → ℕ → ℕ
 raw_format format bytes = format + (3 - (bytes + 3) % 4) / unit_bytes format
 
 abbrev pub new_raw : ℕ → ℕ → ℕ → Obj
-new_raw index format bytes = Raw index (raw_format format bytes) 0 (replicate bytes 0)
+new_raw index format bytes = Raw (new_head index (raw_format format bytes)) (replicate bytes 0)
 
 unfoldable pub new_instance : Ref → ℕ → ℕ → ℕ → ℕ → Obj
 new_instance nil index format fields size =
     if index == context_class then Ctx (new_context nil size) else
-    if nat_lt format 6 then Ptr index (pointer_format format) 0 (replicate (fields + size) nil) else
+    if nat_lt format 6 then Ptr (new_head index (pointer_format format)) (replicate (fields + size) nil) else
     new_raw index format (size * unit_bytes format)
 
 abbrev pub make_with : Kept → Ref → ℕ → ℕ → Index → Made

@@ -17,6 +17,7 @@ pub mod Enter
 pub mod Exec
 pub mod Return
 pub mod Process
+pub mod Profile
 pub mod Lookup
 pub mod Send
 pub mod PrimAnswer

@@ -14,34 +14,63 @@ pub record Context : Type 0 where
   pub stack : List Ref
   pub size : ℕ
 
--- An object with its class index, Spur format and identity hash. Pointer slots; raw bytes without the unused ones at
--- their end; a method's header, literals and bytecodes; a context, whose class index is 36.
+-- What the head of an object says of it: its class index, its Spur format, its identity hash, 0 where it has none yet, and
+-- whether it is fixed. Image code can't store into a fixed object, which is read-only.
+pub record Head : Type 0 where
+  pub class : ℕ
+  pub format : ℕ
+  pub hash : ℕ
+  pub fixed : Bool
+
+-- Pointer slots; raw bytes without the unused ones at their end; a method's header, literals and bytecodes; a context, whose
+-- class index is 36, and which is never fixed.
 pub data Obj : Type 0 where
-  Ptr : (class format hash : ℕ) (slots : List Ref) → Obj
-  Raw : (class format hash : ℕ) (bytes : List ℕ) → Obj
-  Method : (class format hash header : ℕ) (literals : List Ref) (bytecodes : List ℕ) → Obj
+  Ptr : (head : Head) (slots : List Ref) → Obj
+  Raw : (head : Head) (bytes : List ℕ) → Obj
+  Method : (head : Head) (header : ℕ) (literals : List Ref) (bytecodes : List ℕ) → Obj
   Ctx : (context : Context) → Obj
+
+-- a new object has no hash, and may be stored into
+abbrev pub new_head : ℕ → ℕ → Head
+new_head class format = record { class = class; format = format; hash = 0; fixed = false }
+
+abbrev pub given_hash : ℕ → Head → Head
+given_hash hash head = record head { hash = hash }
+
+abbrev pub fixed_to : Bool → Head → Head
+fixed_to on head = record head { fixed = on }
 
 -- the class index of contexts
 abbrev pub context_class : ℕ
 context_class = 36
 
 abbrev pub class_index_in : Obj → ℕ
-class_index_in (Ptr class format hash slots) = class
-class_index_in (Raw class format hash bytes) = class
-class_index_in (Method class format hash header literals bytecodes) = class
+class_index_in (Ptr head slots) = head.class
+class_index_in (Raw head bytes) = head.class
+class_index_in (Method head header literals bytecodes) = head.class
 class_index_in (Ctx c) = context_class
 
 abbrev pub hash_in : Obj → ℕ
-hash_in (Ptr class format hash slots) = hash
-hash_in (Raw class format hash bytes) = hash
-hash_in (Method class format hash header literals bytecodes) = hash
+hash_in (Ptr head slots) = head.hash
+hash_in (Raw head bytes) = head.hash
+hash_in (Method head header literals bytecodes) = head.hash
 hash_in (Ctx c) = c.hash
 
+-- whether image code may not store into it
+abbrev pub is_fixed : Obj → Bool
+is_fixed (Ptr head slots) = head.fixed
+is_fixed (Raw head bytes) = head.fixed
+is_fixed (Method head header literals bytecodes) = head.fixed
+is_fixed (Ctx c) = false
+
+abbrev pub is_fixed_at : Option Obj → Bool
+is_fixed_at None = false
+is_fixed_at (Some o) = is_fixed o
+
 abbrev pub is_context : Obj → Bool
-is_context (Ptr class format hash slots) = false
-is_context (Raw class format hash bytes) = false
-is_context (Method class format hash header literals bytecodes) = false
+is_context (Ptr head slots) = false
+is_context (Raw head bytes) = false
+is_context (Method head header literals bytecodes) = false
 is_context (Ctx c) = true
 
 abbrev pub is_context_at : Option Obj → Bool
@@ -54,9 +83,9 @@ context_fields = 6
 
 -- how many slots an object takes, four bytes each
 abbrev pub slot_count : Obj → ℕ
-slot_count (Ptr class format hash slots) = length slots
-slot_count (Raw class format hash bytes) = (length bytes + 3) / 4
-slot_count (Method class format hash header literals bytecodes) = 1 + length literals + (length bytecodes + 3) / 4
+slot_count (Ptr head slots) = length slots
+slot_count (Raw head bytes) = (length bytes + 3) / 4
+slot_count (Method head header literals bytecodes) = 1 + length literals + (length bytecodes + 3) / 4
 slot_count (Ctx c) = context_fields + c.size
 
 -- the words of so many slots: a header of two, two more from 255 slots on, and a body of at least two, rounded up to even
@@ -99,9 +128,9 @@ lies_between first count pc = nat_le first pc && nat_le pc (first + count)
 
 abbrev pub lies_in : Option Obj → ℕ → Bool
 lies_in None pc = false
-lies_in (Some (Ptr class format hash slots)) pc = false
-lies_in (Some (Raw class format hash bytes)) pc = false
-lies_in (Some (Method class format hash header literals bytecodes)) pc = lies_between (first_pc literals) (length bytecodes) pc
+lies_in (Some (Ptr head slots)) pc = false
+lies_in (Some (Raw head bytes)) pc = false
+lies_in (Some (Method head header literals bytecodes)) pc = lies_between (first_pc literals) (length bytecodes) pc
 lies_in (Some (Ctx c)) pc = false
 
 -- the primitive of bytecodes that begin with 139 i j: i + 256 * j
@@ -134,9 +163,9 @@ stored i x c = with_stack (slice_set c.stack i x) c
 
 -- the context that an object is, changed
 abbrev pub edit_context : (Context → Context) → Obj → Obj
-edit_context f (Ptr class format hash slots) = Ptr class format hash slots
-edit_context f (Raw class format hash bytes) = Raw class format hash bytes
-edit_context f (Method class format hash header literals bytecodes) = Method class format hash header literals bytecodes
+edit_context f (Ptr head slots) = Ptr head slots
+edit_context f (Raw head bytes) = Raw head bytes
+edit_context f (Method head header literals bytecodes) = Method head header literals bytecodes
 edit_context f (Ctx c) = Ctx (f c)
 
 -- A returned activation is dead: sender nil, pc nil, an empty stack. Its receiver, method, closure, size and hash stay.
@@ -148,44 +177,44 @@ dead nil c = record c { sender = ref.Obj nil; pc = None; stack = [] }
 -- the slots of a pointer object; a context is none here
 abbrev pub slots_in : Option Obj → Option (List Ref)
 slots_in None = None
-slots_in (Some (Ptr class format hash slots)) = Some slots
-slots_in (Some (Raw class format hash bytes)) = None
-slots_in (Some (Method class format hash header literals bytecodes)) = None
+slots_in (Some (Ptr head slots)) = Some slots
+slots_in (Some (Raw head bytes)) = None
+slots_in (Some (Method head header literals bytecodes)) = None
 slots_in (Some (Ctx c)) = None
 
 abbrev pub context_in : Option Obj → Option Context
 context_in None = None
-context_in (Some (Ptr class format hash slots)) = None
-context_in (Some (Raw class format hash bytes)) = None
-context_in (Some (Method class format hash header literals bytecodes)) = None
+context_in (Some (Ptr head slots)) = None
+context_in (Some (Raw head bytes)) = None
+context_in (Some (Method head header literals bytecodes)) = None
 context_in (Some (Ctx c)) = Some c
 
 abbrev pub is_method : Option Obj → Bool
 is_method None = false
-is_method (Some (Ptr class format hash slots)) = false
-is_method (Some (Raw class format hash bytes)) = false
-is_method (Some (Method class format hash header literals bytecodes)) = true
+is_method (Some (Ptr head slots)) = false
+is_method (Some (Raw head bytes)) = false
+is_method (Some (Method head header literals bytecodes)) = true
 is_method (Some (Ctx c)) = false
 
 abbrev pub literals_in : Option Obj → List Ref
 literals_in None = []
-literals_in (Some (Ptr class format hash slots)) = []
-literals_in (Some (Raw class format hash bytes)) = []
-literals_in (Some (Method class format hash header literals bytecodes)) = literals
+literals_in (Some (Ptr head slots)) = []
+literals_in (Some (Raw head bytes)) = []
+literals_in (Some (Method head header literals bytecodes)) = literals
 literals_in (Some (Ctx c)) = []
 
 abbrev pub bytecodes_in : Option Obj → List ℕ
 bytecodes_in None = []
-bytecodes_in (Some (Ptr class format hash slots)) = []
-bytecodes_in (Some (Raw class format hash bytes)) = []
-bytecodes_in (Some (Method class format hash header literals bytecodes)) = bytecodes
+bytecodes_in (Some (Ptr head slots)) = []
+bytecodes_in (Some (Raw head bytes)) = []
+bytecodes_in (Some (Method head header literals bytecodes)) = bytecodes
 bytecodes_in (Some (Ctx c)) = []
 
 abbrev pub header_in : Option Obj → ℕ
 header_in None = 0
-header_in (Some (Ptr class format hash slots)) = 0
-header_in (Some (Raw class format hash bytes)) = 0
-header_in (Some (Method class format hash header literals bytecodes)) = header
+header_in (Some (Ptr head slots)) = 0
+header_in (Some (Raw head bytes)) = 0
+header_in (Some (Method head header literals bytecodes)) = header
 header_in (Some (Ctx c)) = 0
 
 -- the slots of a pointer object that has at least n

@@ -3,7 +3,7 @@
 use Rattle.std.specs.Prelude.{ℕ, ◌+◌, ◌-◌, Bool, List, [], ◌∷◌, ◌++◌, length, drop, replicate, Option, Some, None, slice_get, slice_set, unwrap_or, if◌then◌else◌}
 use Rattle.cs_model.specs.Ref.{Ref, birth_of}
 use Rattle.cs_model.specs.Ref as ref
-use Rattle.cs_model.specs.Obj.{Obj, Context, Ptr, Raw, Method, Ctx, first_pc, temporary_count, context_size, literals_in, header_in, dead, with_pc, pushed, popped, stored}
+use Rattle.cs_model.specs.Obj.{Obj, Context, Ptr, Raw, Method, Ctx, new_head, given_hash, fixed_to, first_pc, temporary_count, context_size, literals_in, header_in, dead, with_pc, pushed, popped, stored}
 use Rattle.cs_model.specs.State.{Kept, Rest, put, with_rest, object_at, object_of}
 use Rattle.cs_model.specs.Read.{active_birth, active_context}
 
@@ -47,29 +47,39 @@ edit_object k x f = edit_at f (birth_of x) k
 
 -- slot i of a pointer object, or a literal of a method, where the header is slot 0
 abbrev pub with_slot : ℕ → Ref → Obj → Obj
-with_slot i v (Ptr class format hash slots) = Ptr class format hash (slice_set slots i v)
-with_slot i v (Raw class format hash bytes) = Raw class format hash bytes
-with_slot i v (Method class format hash header literals bytecodes) = Method class format hash header (slice_set literals (i - 1) v) bytecodes
+with_slot i v (Ptr head slots) = Ptr head (slice_set slots i v)
+with_slot i v (Raw head bytes) = Raw head bytes
+with_slot i v (Method head header literals bytecodes) = Method head header (slice_set literals (i - 1) v) bytecodes
 with_slot i v (Ctx c) = Ctx c
 
 -- byte i of raw bytes or of a method's bytecodes
 abbrev pub with_byte : ℕ → ℕ → Obj → Obj
-with_byte i b (Ptr class format hash slots) = Ptr class format hash slots
-with_byte i b (Raw class format hash bytes) = Raw class format hash (slice_set bytes i b)
-with_byte i b (Method class format hash header literals bytecodes) = Method class format hash header literals (slice_set bytecodes i b)
+with_byte i b (Ptr head slots) = Ptr head slots
+with_byte i b (Raw head bytes) = Raw head (slice_set bytes i b)
+with_byte i b (Method head header literals bytecodes) = Method head header literals (slice_set bytecodes i b)
 with_byte i b (Ctx c) = Ctx c
 
 abbrev pub with_hash : ℕ → Obj → Obj
-with_hash hash (Ptr class format old slots) = Ptr class format hash slots
-with_hash hash (Raw class format old bytes) = Raw class format hash bytes
-with_hash hash (Method class format old header literals bytecodes) = Method class format hash header literals bytecodes
+with_hash hash (Ptr head slots) = Ptr (given_hash hash head) slots
+with_hash hash (Raw head bytes) = Raw (given_hash hash head) bytes
+with_hash hash (Method head header literals bytecodes) = Method (given_hash hash head) header literals bytecodes
 with_hash hash (Ctx c) = Ctx (record c { hash = hash })
+
+-- an object that may be stored into from now on, or not; a context always may
+abbrev pub with_fixed : Bool → Obj → Obj
+with_fixed on (Ptr head slots) = Ptr (fixed_to on head) slots
+with_fixed on (Raw head bytes) = Raw (fixed_to on head) bytes
+with_fixed on (Method head header literals bytecodes) = Method (fixed_to on head) header literals bytecodes
+with_fixed on (Ctx c) = Ctx c
 
 unfoldable pub store_of : Kept → Ref → ℕ → Ref → Kept
 store_of k o i v = edit_object k o (with_slot i v)
 
 unfoldable pub store_byte_of : Kept → Ref → ℕ → ℕ → Kept
 store_byte_of k o i b = edit_object k o (with_byte i b)
+
+unfoldable pub set_fixed_of : Kept → Ref → Bool → Kept
+set_fixed_of k o on = edit_object k o (with_fixed on)
 
 -- a new object takes the next birth
 abbrev pub with_next : ℕ → Rest → Rest
@@ -87,7 +97,7 @@ nil_of k = ref.Obj k.rest.nil
 
 -- a pointer object of so many slots of nil
 abbrev pub new_pointers : Kept → ℕ → ℕ → ℕ → Obj
-new_pointers k class format slots = Ptr class format 0 (replicate slots (nil_of k))
+new_pointers k class format slots = Ptr (new_head class format) (replicate slots (nil_of k))
 
 -- ---- entering and leaving
 
@@ -128,9 +138,9 @@ enter_of k method args skip = enter_with k args (method_context k method args sk
 
 -- the context of a birth dies
 abbrev pub dead_object : ℕ → Obj → Obj
-dead_object nil (Ptr class format hash slots) = Ptr class format hash slots
-dead_object nil (Raw class format hash bytes) = Raw class format hash bytes
-dead_object nil (Method class format hash header literals bytecodes) = Method class format hash header literals bytecodes
+dead_object nil (Ptr head slots) = Ptr head slots
+dead_object nil (Raw head bytes) = Raw head bytes
+dead_object nil (Method head header literals bytecodes) = Method head header literals bytecodes
 dead_object nil (Ctx c) = Ctx (dead nil c)
 
 unfoldable pub kill_of : Kept → ℕ → Kept

@@ -3,14 +3,14 @@ use Rattle.std.specs.Prelude.{ℕ, zero, suc, pos, negsuc, ◌+◌, ◌-◌, ◌
 use Rattle.std.specs.FinMap.{get}
 use Rattle.cs_model.specs.Ref.{Ref, Small, Char, birth_of, index_of, same_ref}
 use Rattle.cs_model.specs.Ref as ref
-use Rattle.cs_model.specs.Obj.{Obj, Context, Ptr, Raw, Method, Ctx, class_index_in, context_class, hash_in, is_context, is_header, literal_count, words_of}
-use Rattle.cs_model.specs.State.{Kept, object_at, object_of, slots_of, special_at}
+use Rattle.cs_model.specs.Obj.{Obj, Context, Ptr, Raw, Method, Ctx, new_head, class_index_in, context_class, hash_in, is_fixed, is_context, is_header, literal_count, words_of}
+use Rattle.cs_model.specs.State.{Kept, object_at, object_of, is_read_only, slots_of, special_at}
 use Rattle.cs_model.specs.Read.{class_of}
-use Rattle.cs_model.specs.Operation.{store_of, store_byte_of, add_of, next_ref, nil_of}
+use Rattle.cs_model.specs.Operation.{store_of, store_byte_of, set_fixed_of, add_of, next_ref, nil_of}
 use Rattle.cs_model.specs.Context.{context_get, accepts, context_put}
 use Rattle.cs_model.specs.Number.{boolean}
 use Rattle.cs_model.specs.Instance.{Made, New, NotInstantiable, TableFull, instantiate, shape_of, Index, IndexAt, NoIndex, NoneFree, class_index_for, take_index, behavior_hash, Hashed, Hash, NotAClass, NoneLeft, hash_of, hash_given}
-use Rattle.cs_model.specs.Element.{Range, range_of, place_of, element_at, with_element, copy_elements}
+use Rattle.cs_model.specs.Element.{Range, range_of, element_place, element_at, with_element, front, copy_elements}
 use Rattle.cs_model.specs.Exec.{fill_of, is_active, small_operands}
 use Rattle.cs_model.specs.PrimAnswer.{fail, answer, answer_if, receiver, argument, with_count}
 use Rattle.cs_model.specs.End.{Out, stop, given, made, looked}
@@ -18,22 +18,26 @@ use Rattle.cs_model.specs.End.{Out, stop, given, made, looked}
 -- ---- 60 to 64: elements
 
 unfoldable pub at_prim : Kept → ℕ → Out
-at_prim k args = with_count k 1 args (answer_if k 1 (option_and_then (λ place. element_at k (receiver k 1) place) (place_of k (receiver k 1) (argument k 1 0))))
+at_prim k args = with_count k 1 args (answer_if k 1 (option_and_then (λ place. element_at k (receiver k 1) place) (element_place k (receiver k 1) (argument k 1 0))))
 
 abbrev pub answer_in : Option Kept → Kept → ℕ → Ref → Out
 answer_in None k args x = fail k
 answer_in (Some t) k args x = answer t args x
 
+-- nothing is stored into a read-only object
+abbrev pub unless_read_only : Kept → Ref → Out → Out
+unless_read_only k x o = if is_read_only k x then fail k else o
+
 unfoldable pub at_put_prim : Kept → ℕ → Out
-at_put_prim k args = with_count k 2 args
-    (answer_in (option_and_then (λ place. with_element k (receiver k 2) place (argument k 2 1)) (place_of k (receiver k 2) (argument k 2 0))) k 2 (argument k 2 1))
+at_put_prim k args = with_count k 2 args (unless_read_only k (receiver k 2)
+    (answer_in (option_and_then (λ place. with_element k (receiver k 2) place (argument k 2 1)) (element_place k (receiver k 2) (argument k 2 0))) k 2 (argument k 2 1)))
 
 -- formats 2 and 3 have a size, and so have raw objects and methods; a context has none
 abbrev pub has_size : Option Obj → Bool
 has_size None = false
-has_size (Some (Ptr class format hash slots)) = format == 2 || format == 3
-has_size (Some (Raw class format hash bytes)) = true
-has_size (Some (Method class format hash header literals bytecodes)) = true
+has_size (Some (Ptr head slots)) = head.format == 2 || head.format == 3
+has_size (Some (Raw head bytes)) = true
+has_size (Some (Method head header literals bytecodes)) = true
 has_size (Some (Ctx c)) = false
 
 abbrev pub small_count : ℕ → Ref
@@ -46,16 +50,16 @@ size_prim k args = with_count k 0 args
 -- the bytes of an object of formats 16 to 19
 abbrev pub byte_string : Option Obj → Option (List ℕ)
 byte_string None = None
-byte_string (Some (Ptr class format hash slots)) = None
-byte_string (Some (Raw class format hash bytes)) = if nat_le 16 format then Some bytes else None
-byte_string (Some (Method class format hash header literals bytecodes)) = None
+byte_string (Some (Ptr head slots)) = None
+byte_string (Some (Raw head bytes)) = if nat_le 16 head.format then Some bytes else None
+byte_string (Some (Method head header literals bytecodes)) = None
 byte_string (Some (Ctx c)) = None
 
 abbrev pub is_bytes : Kept → Ref → Bool
 is_bytes k x = is_some (byte_string (object_of k x))
 
 abbrev pub byte_at : Kept → Ref → Ref → Option ℕ
-byte_at k x index = option_and_then (λ place. option_and_then (λ bytes. slice_get bytes place) (byte_string (object_of k x))) (place_of k x index)
+byte_at k x index = option_and_then (λ place. option_and_then (λ bytes. slice_get bytes place) (byte_string (object_of k x))) (element_place k x index)
 
 unfoldable pub char_at_prim : Kept → ℕ → Out
 char_at_prim k args = with_count k 1 args (answer_if k 1 (option_map (λ b. Char b) (byte_at k (receiver k 1) (argument k 1 0))))
@@ -67,19 +71,19 @@ byte_code (Char c) = if nat_lt c 256 then Some c else None
 byte_code (ref.Obj i) = None
 
 unfoldable pub char_at_put_prim : Kept → ℕ → Out
-char_at_put_prim k args = with_count k 2 args
+char_at_put_prim k args = with_count k 2 args (unless_read_only k (receiver k 2)
     (if is_bytes k (receiver k 2) then
-    answer_in (option_and_then (λ place. option_map (λ b. store_byte_of k (receiver k 2) place b) (byte_code (argument k 2 1))) (place_of k (receiver k 2) (argument k 2 0)))
+    answer_in (option_and_then (λ place. option_map (λ b. store_byte_of k (receiver k 2) place b) (byte_code (argument k 2 1))) (element_place k (receiver k 2) (argument k 2 0)))
     k 2 (argument k 2 1)
-    else fail k)
+    else fail k))
 
 -- ---- 68, 69: literals of a method; 1 is the header
 
 abbrev pub method_slot : Option Obj → ℕ → Option Ref
 method_slot None i = None
-method_slot (Some (Ptr class format hash slots)) i = None
-method_slot (Some (Raw class format hash bytes)) i = None
-method_slot (Some (Method class format hash header literals bytecodes)) i = slice_get (Small (pos header) ∷ literals) i
+method_slot (Some (Ptr head slots)) i = None
+method_slot (Some (Raw head bytes)) i = None
+method_slot (Some (Method head header literals bytecodes)) i = slice_get (Small (pos header) ∷ literals) i
 method_slot (Some (Ctx c)) i = None
 
 abbrev pub slot_index : Ref → Option ℕ
@@ -93,8 +97,8 @@ abbrev pub put_literal : Kept → Ref → ℕ → Ref → Option Kept
 put_literal k x i v = if nat_lt 0 i && is_some (method_slot (object_of k x) i) then Some (store_of k x i v) else None
 
 unfoldable pub object_at_put_prim : Kept → ℕ → Out
-object_at_put_prim k args = with_count k 2 args
-    (answer_in (option_and_then (λ i. put_literal k (receiver k 2) i (argument k 2 1)) (slot_index (argument k 2 0))) k 2 (argument k 2 1))
+object_at_put_prim k args = with_count k 2 args (unless_read_only k (receiver k 2)
+    (answer_in (option_and_then (λ i. put_literal k (receiver k 2) i (argument k 2 1)) (slot_index (argument k 2 0))) k 2 (argument k 2 1)))
 
 -- ---- 70, 71: new instances
 
@@ -136,9 +140,9 @@ answer_field k args i value = given value (fail k) (λ x. if i == 0 then looked 
 
 abbrev pub slot_at : Kept → ℕ → ℕ → Option Obj → Out
 slot_at k args i None = fail k
-slot_at k args i (Some (Ptr class format hash slots)) = answer_if k args (slice_get slots i)
-slot_at k args i (Some (Raw class format hash bytes)) = fail k
-slot_at k args i (Some (Method class format hash header literals bytecodes)) = fail k
+slot_at k args i (Some (Ptr head slots)) = answer_if k args (slice_get slots i)
+slot_at k args i (Some (Raw head bytes)) = fail k
+slot_at k args i (Some (Method head header literals bytecodes)) = fail k
 slot_at k args i (Some (Ctx c)) = answer_field k args i (context_get k c i)
 
 unfoldable pub slot_at_prim : Kept → ℕ → Out
@@ -151,14 +155,14 @@ context_at_put k x i v c (Some birth) = if accepts k (is_active k x) c i v then 
 
 abbrev pub slot_put : Kept → Ref → ℕ → Ref → Option Obj → Option Kept
 slot_put k x i v None = None
-slot_put k x i v (Some (Ptr class format hash slots)) = if nat_lt i (length slots) then Some (store_of k x i v) else None
-slot_put k x i v (Some (Raw class format hash bytes)) = None
-slot_put k x i v (Some (Method class format hash header literals bytecodes)) = None
+slot_put k x i v (Some (Ptr head slots)) = if nat_lt i (length slots) then Some (store_of k x i v) else None
+slot_put k x i v (Some (Raw head bytes)) = None
+slot_put k x i v (Some (Method head header literals bytecodes)) = None
 slot_put k x i v (Some (Ctx c)) = context_at_put k x i v c (birth_of x)
 
 unfoldable pub slot_at_put_prim : Kept → ℕ → Out
-slot_at_put_prim k args = with_count k 2 args
-    (answer_in (option_and_then (λ i. slot_put k (receiver k 2) i (argument k 2 1) (object_of k (receiver k 2))) (slot_index (argument k 2 0))) k 2 (argument k 2 1))
+slot_at_put_prim k args = with_count k 2 args (unless_read_only k (receiver k 2)
+    (answer_in (option_and_then (λ i. slot_put k (receiver k 2) i (argument k 2 1) (object_of k (receiver k 2))) (slot_index (argument k 2 0))) k 2 (argument k 2 1)))
 
 -- ---- 75: the identity hash
 
@@ -204,9 +208,9 @@ next_instance_prim k args = with_count k 0 args
 
 -- ---- 79: a new method
 
-abbrev pub method_of : Kept → ℕ → ℕ → ℕ → Obj
-method_of k index count header =
-    Method index (24 + (3 - (count + 3) % 4)) 0 header (replicate (literal_count header) (nil_of k)) (replicate count 0)
+abbrev pub blank_method : Kept → ℕ → ℕ → ℕ → Obj
+blank_method k index count header =
+    Method (new_head index (24 + (3 - (count + 3) % 4))) header (replicate (literal_count header) (nil_of k)) (replicate count 0)
 
 abbrev pub is_method_index : ℕ → Bool
 is_method_index index = nat_lt 3 index && not (index == context_class)
@@ -216,7 +220,7 @@ make_method k class count header NoIndex = fail k
 make_method k class count header NoneFree = fail k
 make_method k class count header (IndexAt index) =
     if is_method_index index then
-    made (words_of (method_of k index count header)) (answer (add_of (take_index k class index) (method_of k index count header)) 2 (next_ref k))
+    made (words_of (blank_method k index count header)) (answer (add_of (take_index k class index) (blank_method k index count header)) 2 (next_ref k))
     else fail k
 
 abbrev pub is_method_shape : Option ℕ → Bool
@@ -234,8 +238,8 @@ new_method_prim k args = with_count k 2 args
 -- ---- 105: copying elements
 
 abbrev pub copy_kinds : Option Obj → Option Obj → Bool
-copy_kinds (Some (Ptr class format hash slots)) (Some (Ptr class' format' hash' slots')) = nat_le 2 format && nat_le format 3 && nat_le 2 format' && nat_le format' 3
-copy_kinds (Some (Raw class format hash bytes)) (Some (Raw class' format' hash' bytes')) = (nat_le 16 format && nat_le 16 format') || (format == 10 && format' == 10)
+copy_kinds (Some (Ptr head slots)) (Some (Ptr head' slots')) = nat_le 2 head.format && nat_le head.format 3 && nat_le 2 head'.format && nat_le head'.format 3
+copy_kinds (Some (Raw head bytes)) (Some (Raw head' bytes')) = (nat_le 16 head.format && nat_le 16 head'.format) || (head.format == 10 && head'.format == 10)
 copy_kinds x y = false
 
 -- from start to stop, which lie in the receiver, and from on, which lie in the other; stop may be start - 1
@@ -251,14 +255,15 @@ abbrev pub copy_to : Kept → Ref → Ref → ℕ → ℕ → ℕ → Out
 copy_to k x other start stop from =
     given (count_of (range_of k x)) (fail k) (λ mine.
     given (count_of (range_of k other)) (fail k) (λ its.
-    if copy_fits start stop from mine its then answer (copy_elements (stop + 1 - start) k x (start - 1) other (from - 1)) 4 x else fail k))
+    if copy_fits start stop from mine its then
+    answer (copy_elements (stop + 1 - start) k x (front k x + (start - 1)) other (front k other + (from - 1))) 4 x else fail k))
 
 unfoldable pub replace_prim : Kept → ℕ → Out
-replace_prim k args = with_count k 4 args
+replace_prim k args = with_count k 4 args (unless_read_only k (receiver k 4)
     (given (index_of (argument k 4 0)) (fail k) (λ start.
     given (index_of (argument k 4 1)) (fail k) (λ stop.
     given (index_of (argument k 4 3)) (fail k) (λ from.
-    if copy_kinds (object_of k (receiver k 4)) (object_of k (argument k 4 2)) then copy_to k (receiver k 4) (argument k 4 2) start stop from else fail k))))
+    if copy_kinds (object_of k (receiver k 4)) (object_of k (argument k 4 2)) then copy_to k (receiver k 4) (argument k 4 2) start stop from else fail k)))))
 
 -- ---- 110, 111, 148, 175
 
@@ -270,9 +275,9 @@ class_prim k args = with_count k 0 args (answer k 0 (unwrap_or (class_of k (rece
 
 -- a copy has no hash
 abbrev pub copied : Obj → Obj
-copied (Ptr class format hash slots) = Ptr class format 0 slots
-copied (Raw class format hash bytes) = Raw class format 0 bytes
-copied (Method class format hash header literals bytecodes) = Method class format 0 header literals bytecodes
+copied (Ptr head slots) = Ptr (new_head head.class head.format) slots
+copied (Raw head bytes) = Raw (new_head head.class head.format) bytes
+copied (Method head header literals bytecodes) = Method (new_head head.class head.format) header literals bytecodes
 copied (Ctx c) = Ctx (record c { hash = 0 })
 
 abbrev pub look_if : Bool → Out → Out
@@ -291,6 +296,31 @@ answer_hashed k (Hash t index) = answer t 0 (small_count index)
 
 unfoldable pub behavior_hash_prim : Kept → ℕ → Out
 behavior_hash_prim k args = with_count k 0 args (answer_hashed k (behavior_hash k (receiver k 0)))
+
+-- ---- 163, 164: objects that may not be stored into
+
+-- an immediate can't be stored into either
+abbrev pub is_unwritable : Option Obj → Bool
+is_unwritable None = true
+is_unwritable (Some o) = is_fixed o
+
+unfoldable pub read_only_prim : Kept → ℕ → Out
+read_only_prim k args = with_count k 0 args (answer k 0 (boolean k (is_unwritable (object_of k (receiver k 0)))))
+
+abbrev pub can_be_fixed : Option Obj → Bool
+can_be_fixed None = false
+can_be_fixed (Some o) = not (is_context o)
+
+-- what a reference says where it is true or false
+abbrev pub boolean_in : Kept → Ref → Option Bool
+boolean_in k x = if same_ref x (boolean k true) then Some true else if same_ref x (boolean k false) then Some false else None
+
+unfoldable pub set_read_only_prim : Kept → ℕ → Out
+set_read_only_prim k args = with_count k 1 args
+    (if can_be_fixed (object_of k (receiver k 1)) then
+    given (boolean_in k (argument k 1 0)) (fail k) (λ on.
+    answer (set_fixed_of k (receiver k 1) on) 1 (boolean k (is_read_only k (receiver k 1))))
+    else fail k)
 
 -- ---- 256 to 519: quick answers, with any number of arguments
 

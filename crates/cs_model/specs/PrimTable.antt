@@ -4,7 +4,7 @@ use Rattle.cs_model.specs.State.{Kept, State}
 use Rattle.cs_model.specs.Send.{perform, perform_with_arguments, execute_method}
 use Rattle.cs_model.specs.PrimAnswer.{fail, with_count}
 use Rattle.cs_model.specs.PrimNumber.{number_prim}
-use Rattle.cs_model.specs.PrimObject.{at_prim, at_put_prim, size_prim, char_at_prim, char_at_put_prim, object_at_prim, object_at_put_prim, new_prim, new_size_prim, point_prim, slot_at_prim, slot_at_put_prim, hash_prim, some_instance_prim, next_instance_prim, new_method_prim, replace_prim, identical_prim, class_prim, copy_prim, behavior_hash_prim, quick_prim}
+use Rattle.cs_model.specs.PrimObject.{at_prim, at_put_prim, size_prim, char_at_prim, char_at_put_prim, object_at_prim, object_at_put_prim, new_prim, new_size_prim, point_prim, slot_at_prim, slot_at_put_prim, hash_prim, some_instance_prim, next_instance_prim, new_method_prim, replace_prim, identical_prim, class_prim, copy_prim, read_only_prim, set_read_only_prim, behavior_hash_prim, quick_prim}
 use Rattle.cs_model.specs.PrimContext.{stack_at_prim, stack_at_put_prim, stackp_prim}
 use Rattle.cs_model.specs.PrimUnwind.{evaluate_prim, evaluate_array_prim, unwind_mark_prim, end_between_prim, handler_mark_prim}
 use Rattle.cs_model.specs.PrimProcess.{signal_prim, wait_prim, resume_prim, suspend_prim, yield_prim}
@@ -33,6 +33,8 @@ object_prim number args k =
     if number == 110 then identical_prim k args else
     if number == 111 then class_prim k args else
     if number == 148 then copy_prim k args else
+    if number == 163 then read_only_prim k args else
+    if number == 164 then set_read_only_prim k args else
     if number == 175 then behavior_hash_prim k args else
     if nat_le 256 number && nat_lt number 520 then quick_prim k number args else
     fail k

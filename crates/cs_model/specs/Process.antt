@@ -4,8 +4,8 @@
 -- A Process has nextLink, suspendedContext, priority and myList; a list has firstLink and lastLink, and a Semaphore has
 -- excessSignals beside them; the scheduler has the array of lists by priority and the active process. Shapes are looked at
 -- where they are needed. Nothing keeps apart what these names stand for: a list may be the scheduler itself. So each
--- definition reads the active process once, before anything is written; it keeps its context, then the links change, and then
--- the other process starts.
+-- definition reads the active process once, before anything is written, and says in which order the links change, the active
+-- process keeps its context, and the other process starts.
 use Rattle.std.specs.Prelude.{ℕ, zero, suc, ℤ, pos, ◌+ℤ◌, ◌-ℤ◌, Bool, false, int_lt, if◌then◌else◌, List, [], ◌∷◌, Option, Some, None, is_some, option_and_then, slice_get, unwrap_or}
 use Rattle.cs_model.specs.declared.stop.Stop.TheVariants as why
 use Rattle.cs_model.specs.Ref.{Ref, Small, Char, birth_of, same_ref, small_of, index_of}
@@ -13,6 +13,7 @@ use Rattle.cs_model.specs.Ref as ref
 use Rattle.cs_model.specs.Obj.{slots_in}
 use Rattle.cs_model.specs.State.{Kept, object_of, slots_of, is_nil, scheduler_of, active_process}
 use Rattle.cs_model.specs.Read.{active_birth}
+use Rattle.cs_model.specs.Profile.{puts_in_front}
 use Rattle.cs_model.specs.Operation.{store_of, resume_of, suspend_of, nil_of}
 use Rattle.cs_model.specs.Return.{context_birth, is_live}
 use Rattle.cs_model.specs.End.{Out, out, stop, done, given, looked, and_then}
@@ -57,9 +58,16 @@ slot_or_none k n i x = option_and_then (λ slots. slice_get slots i) (slots_of k
 abbrev pub with_slot_of : Kept → ℕ → ℕ → Ref → (Ref → Out) → Out
 with_slot_of k n i x next = given (slot_or_none k n i x) (stop why.BadProcess k) next
 
+-- the scheduler, which has two slots
+abbrev pub if_scheduler : Kept → Ref → Option Ref
+if_scheduler k x = if is_some (slots_of k 2 x) then Some x else None
+
+unfoldable pub shaped_scheduler : Kept → Option Ref
+shaped_scheduler k = option_and_then (λ x. if_scheduler k x) (scheduler_of k)
+
 -- the scheduler and the active process have their shape
 abbrev pub with_scheduler : Kept → (Ref → Out) → Out
-with_scheduler k next = given (scheduler_of k) (stop why.BadSpecial k) next
+with_scheduler k next = given (shaped_scheduler k) (stop why.BadSpecial k) next
 
 abbrev pub with_active_process : Kept → (Ref → Out) → Out
 with_active_process k next = given (active_process k) (stop why.BadSpecial k) next
@@ -102,6 +110,20 @@ unfoldable pub add_last : Kept → Ref → Ref → Out
 add_last k list p =
     and_then (link_last (store_of (store_of k p next_link (nil_of k)) p my_list list) list p) (λ t. done (store_of t list last_link p))
 
+-- where the list was empty, the process is the last one too
+abbrev pub last_if_alone : Kept → Ref → Ref → Ref → Kept
+last_if_alone k list p first = if is_nil k first then store_of k list last_link p else k
+
+-- the process goes to the front of the list: its nextLink is the first one, its myList the list, and it is the first
+unfoldable pub add_first : Kept → Ref → Ref → Out
+add_first k list p =
+    with_slot_of k list_slots first_link list (λ first.
+    done (last_if_alone (store_of (store_of (store_of k p next_link first) p my_list list) list first_link p) list p first))
+
+-- a process that is preempted goes to the back of its list, or to the front where the image's header has it so
+unfoldable pub add_preempted : Kept → Ref → Ref → Out
+add_preempted k list p = if puts_in_front k.rest.header then add_first k list p else add_last k list p
+
 -- the link to a process gets what the process links to: the list's first link, or that of the process before
 abbrev pub link_past : Kept → Ref → Option Ref → Ref → Kept
 link_past k list None next = store_of k list first_link next
@@ -112,8 +134,8 @@ is_same None y = false
 is_same (Some x) y = same_ref x y
 
 -- where the process was the last, the one before is the last
-abbrev pub end_at : Kept → Ref → Ref → Ref → Kept
-end_at k list p before = if is_same (slot_or_none k list_slots last_link list) p then store_of k list last_link before else k
+abbrev pub last_past : Kept → Ref → Ref → Ref → Kept
+last_past k list p before = if is_same (slot_or_none k list_slots last_link list) p then store_of k list last_link before else k
 
 -- out of a list nextLink and myList are nil
 abbrev pub unlinked : Kept → Ref → Kept
@@ -121,7 +143,7 @@ unlinked k p = store_of (store_of k p next_link (nil_of k)) p my_list (nil_of k)
 
 unfoldable pub take_out : Kept → Ref → Ref → Option Ref → Kept
 take_out k list p before =
-    unlinked (end_at (link_past k list before (unwrap_or (slot_or_none k process_slots next_link p) (nil_of k))) list p (unwrap_or before (nil_of k))) p
+    unlinked (last_past (link_past k list before (unwrap_or (slot_or_none k process_slots next_link p) (nil_of k))) list p (unwrap_or before (nil_of k))) p
 
 -- the first of a list that isn't empty leaves it
 abbrev pub with_first : Kept → Ref → (Kept → Ref → Out) → Out
@@ -187,11 +209,11 @@ priority_of k p = option_and_then (λ x. small_of x) (slot_or_none k process_slo
 abbrev pub with_priority : Kept → Ref → (ℤ → Out) → Out
 with_priority k p next = given (priority_of k p) (stop why.BadProcess k) next
 
--- the active process goes to the back of its list, and p starts
+-- the active process goes into its list, and p starts
 abbrev pub preempt : Kept → Ref → Ref → Out
 preempt k running p =
     looked (with_list_of (stop_running k running) running (λ list.
-    and_then (add_last (stop_running k running) list running) (λ t. start t p)))
+    and_then (add_preempted (stop_running k running) list running) (λ t. start t p)))
 
 -- p is active where its priority is above that of the running process, or none is running; else it waits in its own list
 abbrev pub resume_beside : Kept → Ref → Ref → Out
@@ -207,9 +229,9 @@ resume k p =
     else stop why.BadProcess k
 
 -- one more excess signal, if that is still a SmallInteger
-abbrev pub one_more : Kept → Ref → Option ℤ → Out
-one_more k semaphore None = stop why.BadProcess k
-one_more k semaphore (Some n) =
+abbrev pub one_more_excess : Kept → Ref → Option ℤ → Out
+one_more_excess k semaphore None = stop why.BadProcess k
+one_more_excess k semaphore (Some n) =
     if int_lt n (pos 1073741823) then done (store_of k semaphore excess_signals (Small (n +ℤ pos 1))) else stop why.BadProcess k
 
 -- The first waiter is resumed; without one the signal is kept. The active process is read before the waiter leaves the list,
@@ -217,7 +239,7 @@ one_more k semaphore (Some n) =
 unfoldable pub signal : Kept → Ref → Out
 signal k semaphore =
     with_slot_of k semaphore_slots first_link semaphore (λ first.
-    if is_nil k first then one_more k semaphore (option_and_then (λ x. small_of x) (slot_or_none k semaphore_slots excess_signals semaphore))
+    if is_nil k first then one_more_excess k semaphore (option_and_then (λ x. small_of x) (slot_or_none k semaphore_slots excess_signals semaphore))
     else with_active_process k (λ running. with_first k semaphore (λ t p. resume_beside t running p)))
 
 -- the active process waits in the semaphore's list, and the next one runs
@@ -225,7 +247,7 @@ abbrev pub wait_behind : Kept → Ref → Out
 wait_behind k semaphore =
     with_active_process k (λ running.
     if is_some (slots_of k process_slots running) then
-    looked (and_then (add_last (stop_running k running) semaphore running) (λ t. start_next t))
+    and_then (add_last k semaphore running) (λ t. looked (start_next (stop_running t running)))
     else stop why.BadProcess k)
 
 -- an excess signal is taken, or the process waits
@@ -244,13 +266,13 @@ unfoldable pub list_links : ℕ
 list_links = 65536
 
 -- where a process stands in a list: behind which one, if it isn't the first
-pub data Place : Type 0 where
-  At : (before : Option Ref) → Place
-  NotThere : Place
-  NoProcess : Place
-  TooFar : Place
+pub data ListPlace : Type 0 where
+  At : (before : Option Ref) → ListPlace
+  NotThere : ListPlace
+  NoProcess : ListPlace
+  TooFar : ListPlace
 
-unfoldable pub find_link : ℕ → Kept → Ref → Option Ref → Option Ref → Place
+unfoldable pub find_link : ℕ → Kept → Ref → Option Ref → Option Ref → ListPlace
 find_link n k p before None = NoProcess
 find_link zero k p before (Some link) = if is_nil k link then NotThere else TooFar
 find_link (suc n) k p before (Some link) =
@@ -260,7 +282,7 @@ find_link (suc n) k p before (Some link) =
     else NoProcess
 
 -- a process that isn't active leaves its list
-abbrev pub leave_list : Kept → Ref → Ref → Place → Out
+abbrev pub leave_list : Kept → Ref → Ref → ListPlace → Out
 leave_list k p list (At before) = done (take_out k list p before)
 leave_list k p list NotThere = out ends.Fail k
 leave_list k p list NoProcess = stop why.BadProcess k
@@ -278,8 +300,8 @@ suspend k p = with_active_process k (λ running. if same_ref running p then susp
 -- yield: the first process of the active one's list runs, and the active one goes to the back of that list
 abbrev pub give_way_to : Kept → Ref → Ref → Out
 give_way_to k running list =
-    looked (with_first (stop_running k running) list (λ t p.
-    and_then (add_last t list running) (λ u. start u p)))
+    with_first k list (λ t p.
+    looked (and_then (add_last (stop_running t running) list running) (λ u. start u p)))
 
 unfoldable pub give_way : Kept → Out
 give_way k =

@@ -9,7 +9,7 @@ use Rattle.cs_model.specs.Obj.{Obj, Context, slots_in, context_in, bytecodes_in,
 use Rattle.cs_model.specs.State.{Kept, object_at, object_of, is_nil}
 use Rattle.cs_model.specs.Read.{active_birth}
 use Rattle.cs_model.specs.Operation.{cut_to_of}
-use Rattle.cs_model.specs.Exec.{push_out}
+use Rattle.cs_model.specs.Exec.{push_all}
 use Rattle.cs_model.specs.End.{Out, out, stop, done, given, looked, and_then}
 use Rattle.cs_model.specs.End as ends
 
@@ -117,10 +117,6 @@ about_to_return = 48
 -- a context is live where its pc isn't nil
 abbrev pub is_live : Kept → ℕ → Bool
 is_live k i = is_some (option_and_then (λ c. c.pc) (context_in (object_at k i)))
-
-unfoldable pub push_all : List Ref → Kept → Out
-push_all [] k = done k
-push_all (x ∷ xs) k = and_then (push_out k x) (λ t. push_all xs t)
 
 -- the active context and the values are pushed, and the special selector is to be sent
 abbrev pub call_with : Kept → ℕ → ℕ → List Ref → Out

@@ -115,9 +115,9 @@ send k selector args above =
 -- an Array has format 2
 abbrev pub array_elements : Option Obj → Option (List Ref)
 array_elements None = None
-array_elements (Some (Ptr class format hash slots)) = if format == 2 then Some slots else None
-array_elements (Some (Raw class format hash bytes)) = None
-array_elements (Some (Method class format hash header literals bytecodes)) = None
+array_elements (Some (Ptr head slots)) = if head.format == 2 then Some slots else None
+array_elements (Some (Raw head bytes)) = None
+array_elements (Some (Method head header literals bytecodes)) = None
 array_elements (Some (Ctx c)) = None
 
 -- the elements in the place of so many arguments

@@ -6,7 +6,7 @@ use Rattle.cs_model.specs.declared.event.Event.{Event}
 use Rattle.std.specs.List.{AllByRecursion}
 use Rattle.cs_model.specs.Ref.{Ref, Small, Char, same_ref}
 use Rattle.cs_model.specs.Ref as ref
-use Rattle.cs_model.specs.Obj.{Obj, Context, Ptr, Raw, Method, Ctx, class_index_in, lies_in, slots_in, context_in, at_least}
+use Rattle.cs_model.specs.Obj.{Obj, Context, Ptr, Raw, Method, Ctx, is_fixed_at, class_index_in, lies_in, slots_in, context_in, at_least}
 
 -- What an image keeps beside its objects: the births of nil, false, true and the special-object array; the 64 bytes of the
 -- image header, in which those at places 8 to 23 count as 0; the class table, from class indices to births of classes; the
@@ -62,6 +62,10 @@ object_of k (Small a) = None
 object_of k (Char c) = None
 object_of k (ref.Obj i) = object_at k i
 
+-- whether image code may not store into what a reference names
+abbrev pub is_read_only : Kept → Ref → Bool
+is_read_only k x = is_fixed_at (object_of k x)
+
 unfoldable pub slots_of : Kept → ℕ → Ref → Option (List Ref)
 slots_of k n x = at_least n (slots_in (object_of k x))
 
@@ -84,9 +88,9 @@ pub record ContextHeld (k : Kept) (c : Context) : Type 0 where
 
 -- all that an object names is there
 abbrev pub NamesHeld : Kept → Obj → Type 0
-NamesHeld k (Ptr class format hash slots) = AllByRecursion (IsHeld k) slots
-NamesHeld k (Raw class format hash bytes) = Unit {0}
-NamesHeld k (Method class format hash header literals bytecodes) = AllByRecursion (IsHeld k) literals
+NamesHeld k (Ptr head slots) = AllByRecursion (IsHeld k) slots
+NamesHeld k (Raw head bytes) = Unit {0}
+NamesHeld k (Method head header literals bytecodes) = AllByRecursion (IsHeld k) literals
 NamesHeld k (Ctx c) = ContextHeld k c
 
 -- all that the rest names is there

@@ -26,69 +26,24 @@ pub record Message : Type 0 where
   pub above : Option Ref
 
 abbrev pub message_in : End → Option Message
-message_in ends.Done = None
 message_in (ends.Send selector args above) = Some (record { selector = selector; args = args; above = above })
-message_in (ends.Return value local) = None
-message_in ends.Entered = None
-message_in (ends.Primitive method number) = None
-message_in (ends.Call special args) = None
-message_in ends.Answer = None
-message_in ends.Fail = None
-message_in ends.Quit = None
-message_in ends.Snapshot = None
-message_in (ends.Stopped reason) = None
+message_in end = None
 
 abbrev pub return_in : End → Option (Ref × Bool)
-return_in ends.Done = None
-return_in (ends.Send selector args above) = None
 return_in (ends.Return value local) = Some (value, local)
-return_in ends.Entered = None
-return_in (ends.Primitive method number) = None
-return_in (ends.Call special args) = None
-return_in ends.Answer = None
-return_in ends.Fail = None
-return_in ends.Quit = None
-return_in ends.Snapshot = None
-return_in (ends.Stopped reason) = None
+return_in end = None
 
 abbrev pub primitive_in : End → Option (Ref × ℕ)
-primitive_in ends.Done = None
-primitive_in (ends.Send selector args above) = None
-primitive_in (ends.Return value local) = None
-primitive_in ends.Entered = None
 primitive_in (ends.Primitive method number) = Some (method, number)
-primitive_in (ends.Call special args) = None
-primitive_in ends.Answer = None
-primitive_in ends.Fail = None
-primitive_in ends.Quit = None
-primitive_in ends.Snapshot = None
-primitive_in (ends.Stopped reason) = None
+primitive_in end = None
 
 abbrev pub call_in : End → Option (ℕ × ℕ)
-call_in ends.Done = None
-call_in (ends.Send selector args above) = None
-call_in (ends.Return value local) = None
-call_in ends.Entered = None
-call_in (ends.Primitive method number) = None
 call_in (ends.Call special args) = Some (special, args)
-call_in ends.Answer = None
-call_in ends.Fail = None
-call_in ends.Quit = None
-call_in ends.Snapshot = None
-call_in (ends.Stopped reason) = None
+call_in end = None
 
 abbrev pub is_fail : End → Bool
-is_fail ends.Done = false
-is_fail (ends.Send selector args above) = false
-is_fail (ends.Return value local) = false
-is_fail ends.Entered = false
-is_fail (ends.Primitive method number) = false
-is_fail (ends.Call special args) = false
-is_fail ends.Answer = false
 is_fail ends.Fail = true
-is_fail ends.Quit = false
-is_fail ends.Snapshot = false
-is_fail (ends.Stopped reason) = false
+is_fail end = false
 
 -- ---- the primitive of a method that was found
 
@@ -150,8 +105,11 @@ unfoldable pub instruction_at : Kept → Option Instr
 instruction_at k = decode_at (bytecodes_of k) (pc_of k - first_pc (literals_of k))
 
 -- the pc is moved past it, and then it has its effect
+abbrev pub moved_past : Kept → Instr → Kept
+moved_past k i = set_pc_of k (pc_of k + i.len)
+
 abbrev pub obey : State → Instr → Result
-obey s i = followed s.run (exec i.op (set_pc_of s.kept (pc_of s.kept + i.len)))
+obey s i = followed s.run (exec i.op (moved_past s.kept i))
 
 unfoldable pub bytecode : State → Result
 bytecode s = given (instruction_at s.kept) (result (stop why.BadCode s.kept) s.run) (λ i. obey s i)
@@ -214,17 +172,10 @@ abbrev pub saved_fault : Option Kept → Option Stop
 saved_fault saved = option_and_then (λ k. shape_fault k) saved
 
 abbrev pub finish : State → Result → End → Step
-finish s r ends.Done = completed s Steps r
-finish s r (ends.Send selector args above) = completed s Steps r
-finish s r (ends.Return value local) = completed s Steps r
-finish s r ends.Entered = completed s Steps r
-finish s r (ends.Primitive method number) = completed s Steps r
-finish s r (ends.Call special args) = completed s Steps r
-finish s r ends.Answer = completed s Steps r
-finish s r ends.Fail = completed s Steps r
 finish s r ends.Quit = completed s Quit r
 finish s r ends.Snapshot = given (saved_fault r.snapshot) (completed s Steps r) (λ reason. stops s r.out.count reason)
 finish s r (ends.Stopped reason) = stops s r.out.count reason
+finish s r end = completed s Steps r
 
 -- ---- a step
 
@@ -246,17 +197,8 @@ ready s h = if is_idle h.state.kept then idle h else add_count h.count (finish_o
 
 -- an event is done, or the signal that it makes stops
 abbrev pub stop_in : End → Option Stop
-stop_in ends.Done = None
-stop_in (ends.Send selector args above) = None
-stop_in (ends.Return value local) = None
-stop_in ends.Entered = None
-stop_in (ends.Primitive method number) = None
-stop_in (ends.Call special args) = None
-stop_in ends.Answer = None
-stop_in ends.Fail = None
-stop_in ends.Quit = None
-stop_in ends.Snapshot = None
 stop_in (ends.Stopped reason) = Some reason
+stop_in end = None
 
 abbrev pub after_due : State → Happened → Step
 after_due s h = given (stop_in h.end) (ready s h) (λ reason. stops s h.count reason)

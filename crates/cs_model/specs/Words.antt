@@ -2,7 +2,7 @@
 -- word names is left open here, for a file and a memory have addresses of their own.
 use Rattle.std.specs.Prelude.{ℕ, ℤ, pos, ◌+◌, ◌-◌, ◌*◌, ◌/◌, ◌%◌, ◌^◌, ◌-ℤ◌, ◌==◌, ◌&&◌, ◌||◌, Bool, nat_le, nat_lt, if◌then◌else◌, List, [], ◌∷◌, map, length, take, drop, slice_index, Option, None, unwrap_or}
 use Rattle.cs_model.specs.Ref.{Ref, Small, Char, natural_of}
-use Rattle.cs_model.specs.Obj.{Obj, Ptr, Raw, Method, Ctx, Context, context_class, context_fields, literal_count}
+use Rattle.cs_model.specs.Obj.{Obj, Head, Ptr, Raw, Method, Ctx, Context, context_class, context_fields, literal_count}
 
 -- ---- words
 
@@ -99,11 +99,14 @@ context_by named hash words = record {
   size = length words - context_fields;
 }
 
--- the object of this class index, format and hash with these words
-unfoldable pub obj_by : (ℕ → Ref) → ℕ → ℕ → ℕ → List ℕ → Obj
-obj_by named class format hash words =
-    if class == context_class then Ctx (context_by named hash words)
-    else (if is_pointer_format format then Ptr class (plain_format format) hash (map (ref_by named) words)
-    else (if is_method_format format
-    then Method class format hash (header_in_words words) (map (ref_by named) (literals_in_words words)) (bytecodes_in_words format words)
-    else Raw class format hash (bytes_in_words format words)))
+abbrev pub plain : Head → Head
+plain head = record head { format = plain_format head.format }
+
+-- the object of this head with these words
+unfoldable pub obj_by : (ℕ → Ref) → Head → List ℕ → Obj
+obj_by named head words =
+    if head.class == context_class then Ctx (context_by named head.hash words)
+    else (if is_pointer_format head.format then Ptr (plain head) (map (ref_by named) words)
+    else (if is_method_format head.format
+    then Method head (header_in_words words) (map (ref_by named) (literals_in_words words)) (bytecodes_in_words head.format words)
+    else Raw head (bytes_in_words head.format words)))

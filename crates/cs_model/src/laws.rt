@@ -7,34 +7,40 @@
 //!
 //! The definitions stand in `specs/Keeps.antt` and `specs/Alike.antt`. Each law is a function with an empty body: what it ensures
 //! is the law. A state is closed where it keeps itself, which is where all that it names is there.
-ghost use Rattle.std.specs.Prelude.{◌≡◌, ◌<◌, ◌≤◌, ℕ, ℤ, Bool, Option, Some, None, List, IsSome};
-ghost use Rattle.std.specs.List.{AllByRecursion};
+ghost use Rattle.std.specs.Prelude.{◌≡◌, ◌≢◌, ◌<◌, ◌≤◌, ◌+◌, ℕ, ℤ, Bool, true, false, nat_lt, if◌then◌else◌, Option, Some, None, List, [], ◌∷◌, length, slice_get, IsSome};
+ghost use Rattle.std.specs.List.{AllByRecursion, Contains};
 ghost use Rattle.cs_model.specs.declared.event.Event.{Event};
 ghost use Rattle.cs_model.specs.declared.instruction.Op.{Op};
 ghost use Rattle.cs_model.specs.Ref.{Ref};
+ghost use Rattle.cs_model.specs.Ref as ref;
 ghost use Rattle.cs_model.specs.Obj.{Obj, Context};
-ghost use Rattle.cs_model.specs.State.{Kept, Run, State, IsHeld, IsValid, ContextHeld, NamesHeld, object_at, object_of, put, slots_of, special_at, scheduler_of, active_process};
-ghost use Rattle.cs_model.specs.Read.{IsRunning, class_of, active_context, method_of, literals_of, bytecodes_of};
+ghost use Rattle.cs_model.specs.State.{Kept, Run, State, IsHeld, IsValid, ContextHeld, NamesHeld, object_at, object_of, is_read_only, put, slots_of, special_at, scheduler_of, active_process};
+ghost use Rattle.cs_model.specs.Read.{IsRunning, class_of, depth_of, active_context, method_of, literals_of, bytecodes_of};
 ghost use Rattle.cs_model.specs.Keeps.{Keeps, SameKept, Grows, KeepsState};
-ghost use Rattle.cs_model.specs.Alike.{Alike, AlikeResult, AlikeHappened, AlikeStep, AlikeRan, AlikeMade, AlikeHashed, IsHeldIf, KeepsIf, AllKeep, SoughtHeld};
-ghost use Rattle.cs_model.specs.Operation.{set_pc_of, push_of, drop_of, set_stack_of, store_of, store_byte_of, add_of, enter_of, kill_of, resume_of, suspend_of, leave_of, cut_to_of};
+ghost use Rattle.cs_model.specs.Alike.{Alike, AlikeResult, SameButCount, AlikeHappened, AlikeStep, AlikeRan, AlikeMade, AlikeHashed, IsHeldIf, KeepsIf, AllKeep, SoughtHeld};
+ghost use Rattle.cs_model.specs.Operation.{set_pc_of, push_of, drop_of, set_stack_of, store_of, store_byte_of, set_fixed_of, add_of, enter_of, kill_of, resume_of, suspend_of, leave_of, cut_to_of};
 ghost use Rattle.cs_model.specs.Context.{context_get, accepts, context_put};
 ghost use Rattle.cs_model.specs.Enter.{can_evaluate, enter_block_of, enter_block_out};
 ghost use Rattle.cs_model.specs.Instance.{instantiate, behavior_hash, take_index, hash_of, hash_given};
-ghost use Rattle.cs_model.specs.Exec.{push_out, jump_out, special_send_out, send_selector_out, fill_of, exec};
+ghost use Rattle.cs_model.specs.Exec.{push_out, push_all, refuse_store, jump_out, special_send_out, send_selector_out, fill_of, exec};
 ghost use Rattle.cs_model.specs.Lookup.{lookup};
-ghost use Rattle.cs_model.specs.Send.{enter_out, invoke, not_understood, send, perform, perform_with_arguments, execute_method};
-ghost use Rattle.cs_model.specs.Return.{senders_to, home, back, local_out, nonlocal_out, cannot_return_out, unwind_out};
-ghost use Rattle.cs_model.specs.Process.{add_last, start, start_next, resume, signal, wait, suspend, give_way};
-ghost use Rattle.cs_model.specs.PrimAnswer.{answer};
-ghost use Rattle.cs_model.specs.PrimUnwind.{end_between_of};
+ghost use Rattle.cs_model.specs.Lookup as sought;
+ghost use Rattle.cs_model.specs.Send.{begins_at, look_from, enter_out, invoke, not_understood, send, perform, perform_with_arguments, execute_method};
+ghost use Rattle.cs_model.specs.Return.{context_birth, senders_to, home, back, local_out, nonlocal_out, cannot_return_out, unwind_out};
+ghost use Rattle.cs_model.specs.Process.{shaped_scheduler, add_last, add_first, add_preempted, start, start_next, resume, signal, wait, suspend, give_way};
+ghost use Rattle.cs_model.specs.PrimAnswer.{answer, receiver, argument};
+ghost use Rattle.cs_model.specs.PrimObject.{slot_index, slot_at_put_prim};
+ghost use Rattle.cs_model.specs.PrimUnwind.{end_between_of, end_between_prim};
 ghost use Rattle.cs_model.specs.PrimRun.{forgotten};
 ghost use Rattle.cs_model.specs.PrimTable.{kept_prim, prim};
 ghost use Rattle.cs_model.specs.Settle.{settle_kept, open_kept, opened, settled, new_run};
 ghost use Rattle.cs_model.specs.Due.{signal_external, is_idle, due};
-ghost use Rattle.cs_model.specs.Step.{Ending, instruction_at, try_primitive, do_send, do_return, bytecode, step, run};
+ghost use Rattle.cs_model.specs.End.{Out, is_done, given};
+ghost use Rattle.cs_model.specs.Step.{Message, primitive_in, or_enter, try_performed, try_primitive, sent, do_send, do_return, followed, instruction_at, bytecode, Ending, Steps, Quit, birth_limit, add_count, finish_of, step, run};
+ghost use Rattle.cs_model.specs.Demand.{before_bytecode, last_state, first_events, states_of};
+ghost use Rattle.cs_model.specs.Shallow.{ended_between, is_answer, Trial, result_of, Sending, sending_from, sent_out, trials, bytecode_state};
 ghost use Rattle.cs_model.specs.Report.{place_of, report_of};
-ghost use Rattle.cs_model.specs.Built.{built_step, built_run};
+ghost use Rattle.cs_model.specs.Built.{is_built_number, is_built_send, is_built_out, built_step, built_run};
 
 /// An object that is put at a birth is there, and nothing else changes.
 pub fn a_write_stands()
@@ -61,6 +67,7 @@ pub fn a_valid_state_is_closed()
 pub fn keeping_agrees_in_reads()
     ensures object_at { (v m : Kept) (i : ℕ) → Keeps v m → IsSome (object_at v i) → object_at m i ≡ object_at v i }
     ensures object_of { (v m : Kept) (x : Ref) → Keeps v m → IsHeld v x → object_of m x ≡ object_of v x }
+    ensures is_read_only { (v m : Kept) (x : Ref) → Keeps v m → IsHeld v x → is_read_only m x ≡ is_read_only v x }
     ensures slots_of { (v m : Kept) (n : ℕ) (x : Ref) → Keeps v m → IsHeld v x → slots_of m n x ≡ slots_of v n x }
     ensures special_at { (v m : Kept) (i : ℕ) → Keeps v m → special_at m i ≡ special_at v i }
     ensures class_of { (v m : Kept) (x : Ref) → Keeps v m → IsHeld v x → class_of m x ≡ class_of v x }
@@ -69,6 +76,7 @@ pub fn keeping_agrees_in_reads()
     ensures literals_of { (v m : Kept) → Keeps v m → literals_of m ≡ literals_of v }
     ensures bytecodes_of { (v m : Kept) → Keeps v m → bytecodes_of m ≡ bytecodes_of v }
     ensures scheduler_of { (v m : Kept) → Keeps v m → scheduler_of m ≡ scheduler_of v }
+    ensures shaped_scheduler { (v m : Kept) → Keeps v m → shaped_scheduler m ≡ shaped_scheduler v }
     ensures active_process { (v m : Kept) → Keeps v m → active_process m ≡ active_process v }
     ensures context_get { (v m : Kept) (c : Context) (i : ℕ) → Keeps v m → ContextHeld v c → context_get m c i ≡ context_get v c i }
     ensures accepts { (v m : Kept) (active : Bool) (c : Context) (i : ℕ) (x : Ref) → Keeps v m → ContextHeld v c → IsHeld v x → accepts m active c i x ≡ accepts v active c i x }
@@ -109,6 +117,7 @@ pub fn keeping_survives_an_operation()
     ensures set_stack { (v m : Kept) (i : ℕ) (x : Ref) → Keeps v m → IsHeld v x → Keeps (set_stack_of v i x) (set_stack_of m i x) }
     ensures store { (v m : Kept) (o : Ref) (i : ℕ) (x : Ref) → Keeps v m → IsHeld v x → Keeps (store_of v o i x) (store_of m o i x) }
     ensures store_byte { (v m : Kept) (o : Ref) (i b : ℕ) → Keeps v m → Keeps (store_byte_of v o i b) (store_byte_of m o i b) }
+    ensures set_fixed { (v m : Kept) (o : Ref) (on : Bool) → Keeps v m → Keeps (set_fixed_of v o on) (set_fixed_of m o on) }
     ensures add { (v m : Kept) (o : Obj) → Keeps v m → NamesHeld v o → Keeps (add_of v o) (add_of m o) }
     ensures fill { (v m : Kept) (o : Ref) (values : List Ref) → Keeps v m → AllByRecursion (IsHeld v) values → Keeps (fill_of v o values) (fill_of m o values) }
     ensures enter { (v m : Kept) (x : Ref) (args : ℕ) (skip : Bool) → Keeps v m → IsHeld v x → Keeps (enter_of v x args skip) (enter_of m x args skip) }
@@ -135,6 +144,7 @@ pub fn what_was_held_still_is()
     ensures set_stack { (v : Kept) (i : ℕ) (x : Ref) → Keeps v v → IsHeld v x → Grows v (set_stack_of v i x) }
     ensures store { (v : Kept) (o : Ref) (i : ℕ) (x : Ref) → Keeps v v → IsHeld v x → Grows v (store_of v o i x) }
     ensures store_byte { (v : Kept) (o : Ref) (i b : ℕ) → Keeps v v → Grows v (store_byte_of v o i b) }
+    ensures set_fixed { (v : Kept) (o : Ref) (on : Bool) → Keeps v v → Grows v (set_fixed_of v o on) }
     ensures add { (v : Kept) (o : Obj) → Keeps v v → NamesHeld v o → Grows v (add_of v o) }
     ensures fill { (v : Kept) (o : Ref) (values : List Ref) → Keeps v v → AllByRecursion (IsHeld v) values → Grows v (fill_of v o values) }
     ensures enter { (v : Kept) (x : Ref) (args : ℕ) (skip : Bool) → Keeps v v → IsHeld v x → Grows v (enter_of v x args skip) }
@@ -174,6 +184,8 @@ pub fn keeping_survives_a_making()
 pub fn keeping_survives_an_instruction()
     ensures any { (v m : Kept) (i : Op) → Keeps v m → Alike v (exec i v) (exec i m) }
     ensures push { (v m : Kept) (x : Ref) → Keeps v m → IsHeld v x → Alike v (push_out v x) (push_out m x) }
+    ensures push_all { (v m : Kept) (values : List Ref) → Keeps v m → AllByRecursion (IsHeld v) values → Alike v (push_all values v) (push_all values m) }
+    ensures refuse_store { (v m : Kept) (o : Ref) (i : ℕ) (x : Ref) → Keeps v m → IsHeld v o → IsHeld v x → Alike v (refuse_store v o i x) (refuse_store m o i x) }
     ensures jump { (v m : Kept) (offset : ℤ) → Keeps v m → Alike v (jump_out v offset) (jump_out m offset) }
     ensures special_send { (v m : Kept) (special args : ℕ) → Keeps v m → Alike v (special_send_out v special args) (special_send_out m special args) }
     ensures selector_send { (v m : Kept) (i : ℕ) → Keeps v m → Alike v (send_selector_out v i) (send_selector_out m i) }
@@ -205,6 +217,8 @@ pub fn keeping_survives_a_return()
 /// Each operation on processes, semaphores and their lists ends alike.
 pub fn keeping_survives_a_switch()
     ensures added { (v m : Kept) (list p : Ref) → Keeps v m → IsHeld v list → IsHeld v p → Alike v (add_last v list p) (add_last m list p) }
+    ensures added_first { (v m : Kept) (list p : Ref) → Keeps v m → IsHeld v list → IsHeld v p → Alike v (add_first v list p) (add_first m list p) }
+    ensures added_preempted { (v m : Kept) (list p : Ref) → Keeps v m → IsHeld v list → IsHeld v p → Alike v (add_preempted v list p) (add_preempted m list p) }
     ensures started { (v m : Kept) (p : Ref) → Keeps v m → IsHeld v p → Alike v (start v p) (start m p) }
     ensures next { (v m : Kept) → Keeps v m → Alike v (start_next v) (start_next m) }
     ensures resumed { (v m : Kept) (p : Ref) → Keeps v m → IsHeld v p → Alike v (resume v p) (resume m p) }
@@ -292,4 +306,47 @@ pub fn no_birth_is_given_again()
 pub fn no_object_leaves()
     ensures step { (s : State) (i : ℕ) → IsValid s → IsSome (object_at s.kept i) → IsSome (object_at (step s).state.kept i) }
     ensures run { (n : ℕ) (s : State) (i : ℕ) → IsValid s → IsSome (object_at s.kept i) → IsSome (object_at (run n s).state.kept i) }
+{}
+
+/// The states that a run is said to pass are those behind each event that is due, one for each event that is done, and behind each
+/// step: entry n is what is left where the first n + 1 events alone are there.
+pub fn a_run_passes_what_its_steps_leave()
+    ensures event { (s : State) (n : ℕ) (k : Kept) → slice_get (before_bytecode s) n ≡ Some k → (due (first_events (n + 1) s)).state.kept ≡ k }
+    ensures count { (s : State) → nat_lt birth_limit s.kept.rest.next ≡ false → length (before_bytecode s) + ((if is_done (due s).end then 0 else 1) + length (due s).state.run.events) ≡ length s.run.events }
+    ensures last { (s : State) → nat_lt birth_limit s.kept.rest.next ≡ false → is_done (due s).end ≡ true → last_state s.kept (before_bytecode s) ≡ (due s).state.kept }
+    ensures none { (s : State) → nat_lt birth_limit s.kept.rest.next ≡ true → before_bytecode s ≡ [] }
+    ensures step { (n : ℕ) (s : State) → last_state s.kept (states_of n s) ≡ (run n s).state.kept }
+{}
+
+/// The state in which a step does its bytecode is the one that is said; where none is, the step completes no bytecode.
+pub fn a_step_does_its_bytecode_there()
+    ensures done { (s b : State) → bytecode_state s ≡ Some b → step s ≡ add_count (due s).count (finish_of s (bytecode b)) }
+    ensures undone { (s : State) → bytecode_state s ≡ None → ((step s).ending ≢ Steps) × ((step s).ending ≢ Quit) }
+{}
+
+/// What an instruction leads to is what the send gives that it leads to, and that is what the primitives give that it tries: without
+/// one nothing becomes of the run, and else it is what the last of them gives, the method of which is entered where it fails, or at
+/// once where it is a perform that a perform found. So where it answers, one of them gives that very answer.
+pub fn a_bytecode_gives_what_its_last_primitive_gives()
+    ensures sent { (r : Run) (o : Out) (a : Sending) → sending_from o ≡ Some a → SameButCount (followed r o) (sent r (sent_out a)) }
+    ensures none { (r : Run) (o : Out) → trials r o ≡ [] → ((followed r o).run ≡ r) × ((followed r o).snapshot ≡ None) }
+    ensures one { (r : Run) (o : Out) (t : Trial) → trials r o ≡ t ∷ [] → SameButCount (followed r o) (or_enter t.state t.method (result_of t)) }
+    ensures two { (r : Run) (o : Out) (t u : Trial) → trials r o ≡ t ∷ u ∷ [] → SameButCount (followed r o) (try_performed u.state u.method u.number) }
+    ensures few { (r : Run) (o : Out) → length (trials r o) ≤ 2 }
+    ensures answered { (r : Run) (i : Op) (k : Kept) → is_answer (followed r (exec i k)).out.end ≡ true → (t : Trial) × Contains (trials r (exec i k)) t × SameButCount (followed r (exec i k)) (result_of t) }
+{}
+
+/// Where 196 answers, the contexts that are said to end are those that die, and the receiver gets the argument as its sender; where 74
+/// answers for a context, the field of its index is what is written.
+pub fn the_contexts_changed_are_those_of_the_primitives()
+    ensures ended { (k : Kept) (i : ℕ) → context_birth k (receiver k 1) ≡ Some i → is_answer (end_between_prim k 1).end ≡ true → end_between_prim k 1 ≡ answer (end_between_of k (ended_between k i (argument k 1 0)) i (argument k 1 0)) 1 (ref.Obj i) }
+    ensures slot { (k : Kept) (i f : ℕ) → context_birth k (receiver k 2) ≡ Some i → slot_index (argument k 2 0) ≡ Some f → is_answer (slot_at_put_prim k 2).end ≡ true → slot_at_put_prim k 2 ≡ answer (context_put k i f (argument k 2 1)) 2 (argument k 2 1) }
+{}
+
+/// What is built is said of the send that an instruction leads to, and by the primitive that this send offers; where nothing is
+/// found it isn't built.
+pub fn what_is_built_is_what_a_send_finds()
+    ensures out { (o : Out) → is_built_out o ≡ given (sending_from o) true (λ a. is_built_send a.state a.message) }
+    ensures found { (k : Kept) (m : Message) → look_from k m.selector (begins_at k m.args m.above) ≢ sought.Missing → is_built_send k m ≡ given (primitive_in (send k m.selector m.args m.above).end) true (λ p. is_built_number k m.args (Some p.1)) }
+    ensures missing { (k : Kept) (m : Message) → nat_lt m.args (depth_of k) ≡ true → look_from k m.selector (begins_at k m.args m.above) ≡ sought.Missing → is_built_send k m ≡ false }
 {}

@@ -129,9 +129,9 @@ context_named w v sound named = go (kind_of v.0) refl named
     no_object k e none (Nowhere said is) = gone (index_of w.heap.objects v.0) is
 
     none_in : (o : Obj) → obj.is_context o ≡ false → context_in (Some o) ≡ None
-    none_in (obj.Ptr class format hash slots) e = refl
-    none_in (obj.Raw class format hash bytes) e = refl
-    none_in (obj.Method class format hash header literals bytecodes) e = refl
+    none_in (obj.Ptr head slots) e = refl
+    none_in (obj.Raw head bytes) e = refl
+    none_in (obj.Method head header literals bytecodes) e = refl
     none_in (Ctx c) e = absurd (cc)
 
     by_class : (x : Object) (c : Bool) → is_context x ≡ c → birth_in (Some x) ≡ option_and_then (λ d. Some x.birth) (context_in (Some (obj_of (ref_of w.heap.objects) x)))

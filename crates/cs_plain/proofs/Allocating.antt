@@ -15,7 +15,7 @@ use Rattle.cs_classes.proofs.Objects.{get-objects_of-fresh}
 use Rattle.cs_classes.proofs.Refs.{is_reference-object, is_reference-push, ref_of-object, ref_of-push}
 use Rattle.cs_classes.proofs.Wholes.{after_birth, get-classes_of, next_is_fresh}
 use Rattle.cs_model.specs.Ref as ref
-use Rattle.cs_model.specs.Obj.{Context, Ctx, Obj, Raw, lies_in}
+use Rattle.cs_model.specs.Obj.{Context, Ctx, Obj, Raw, lies_in, new_head}
 use Rattle.cs_model.specs.State as state
 use Rattle.cs_model.specs.State.{Kept, NamesHeld, PcLies, put}
 use Rattle.cs_model.specs.Keeps.{Keeps}
@@ -90,7 +90,7 @@ module _ (w : PlainWorld) (class format slots : ℕ) (sound : IsSound (stored_of
   no_method = last_otherwise (format == 4) (format == 5) (is_method format) fits.plain
 
   abbrev blank_by : Bool → Kept → Obj
-  blank_by b m = if b then new_pointers m class format slots else Raw class format 0 (replicate (4 * slots - unused_bytes format) 0)
+  blank_by b m = if b then new_pointers m class format slots else Raw (new_head class format) (replicate (4 * slots - unused_bytes format) 0)
 
   makes : Makes os new w.classes w.roots (λ m. blank_of m class format slots)
   makes = go (is_pointers format) refl

@@ -20,7 +20,7 @@ use Rattle.cs_classes.proofs.Sorts.{IsContextOf, IsPointersOf, context_is, point
 use Rattle.cs_classes.proofs.Sounds.{IsWholeContext, sound_at, whole_context}
 use Rattle.cs_model.specs.Ref.{Ref, index_of}
 use Rattle.cs_model.specs.Ref as ref
-use Rattle.cs_model.specs.Obj.{Context, Ctx, Method, Obj, Ptr, Raw, context_in, context_size, lies_in}
+use Rattle.cs_model.specs.Obj.{Context, Ctx, Method, Obj, Ptr, Raw, context_in, context_size, lies_in, Head}
 use Rattle.cs_model.specs.Obj as obj
 use Rattle.cs_model.specs.State.{Kept, object_of}
 use Rattle.cs_model.specs.Read.{active_birth, stack_of}
@@ -80,25 +80,21 @@ five false b c d e h = absurd (cc)
 
 -- the pointer object that a closure is
 record Slots (o : Option Obj) : Type 0 where
-  class : ℕ
-  format : ℕ
-  hash : ℕ
+  head : Head
   slots : List Ref
-  is : o ≡ Some (Ptr class format hash slots)
+  is : o ≡ Some (Ptr head slots)
   are : closure_slots o ≡ slots
 
 slots_there : (o : Option Obj) → nat_le 3 (length (closure_slots o)) ≡ true → Slots o
 slots_there None h = absurd (cc)
-slots_there (Some (Raw class format hash bytes)) h = absurd (cc)
-slots_there (Some (Method class format hash header literals bytecodes)) h = absurd (cc)
+slots_there (Some (Raw head bytes)) h = absurd (cc)
+slots_there (Some (Method head header literals bytecodes)) h = absurd (cc)
 slots_there (Some (Ctx c)) h = absurd (cc)
-slots_there (Some (Ptr class format hash slots)) h = record {
-  class = class;
-  format = format;
-  hash = hash;
+slots_there (Some (Ptr head slots)) h = record {
+  head = head;
   slots = slots;
   is = refl;
-  are = go (class == 37 && format == 3) h;
+  are = go (head.class == 37 && head.format == 3) h;
 }
   where
     go : (b : Bool) → nat_le 3 (length (if b then slots else [])) ≡ true → (if b then slots else []) ≡ slots
@@ -111,9 +107,9 @@ record AContext (o : Option Obj) : Type 0 where
 
 context_there : (o : Option Obj) → is_some (context_in o) ≡ true → AContext o
 context_there None h = absurd (cc)
-context_there (Some (Ptr class format hash slots)) h = absurd (cc)
-context_there (Some (Raw class format hash bytes)) h = absurd (cc)
-context_there (Some (Method class format hash header literals bytecodes)) h = absurd (cc)
+context_there (Some (Ptr head slots)) h = absurd (cc)
+context_there (Some (Raw head bytes)) h = absurd (cc)
+context_there (Some (Method head header literals bytecodes)) h = absurd (cc)
 context_there (Some (Ctx c)) h = record { context = c; is = refl }
 
 record Entry (o : Option Obj) (i : Option ℕ) : Type 0 where
@@ -143,11 +139,11 @@ module _ (w : PlainWorld) (v : Oop) (args : ℕ) (ready : IsReady (stored_of w) 
   shape : Slots (object_of k x)
   shape = slots_there (object_of k x) can.0
 
-  at : Found w v (Ptr shape.class shape.format shape.hash shape.slots)
+  at : Found w v (Ptr shape.head shape.slots)
   at = found w v _ ready.sound named shape.is
 
-  pointers : IsPointersOf (ref_of os) at.object shape.class shape.format shape.hash shape.slots
-  pointers = pointers_of (ref_of os) at.object _ _ _ _ at.is
+  pointers : IsPointersOf (ref_of os) at.object shape.head shape.slots
+  pointers = pointers_of (ref_of os) at.object _ _ at.is
 
   abbrev words : List ℕ
   words = at.object.words

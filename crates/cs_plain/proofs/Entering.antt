@@ -103,9 +103,9 @@ entry_lies literals codes header skip marked = go skip marked
 
 method_lies : (o : Option Obj) (skip : Bool) → obj.is_method o ≡ true → (skip ≡ true → primitive_number (obj.header_in o) (bytecodes_in o) ≢ None) → lies_in o (entry_pc o skip) ≡ true
 method_lies None skip h marked = absurd (cc)
-method_lies (Some (Ptr class f hash slots)) skip h marked = absurd (cc)
-method_lies (Some (Raw class f hash bytes)) skip h marked = absurd (cc)
-method_lies (Some (Method class f hash header literals bytecodes)) skip h marked = entry_lies literals bytecodes header skip marked
+method_lies (Some (Ptr head slots)) skip h marked = absurd (cc)
+method_lies (Some (Raw head bytes)) skip h marked = absurd (cc)
+method_lies (Some (Method head header literals bytecodes)) skip h marked = entry_lies literals bytecodes header skip marked
 method_lies (Some (Ctx c)) skip h marked = absurd (cc)
 
 -- what is read of the header

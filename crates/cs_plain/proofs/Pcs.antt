@@ -53,15 +53,15 @@ pcs-edit_active k f running pcs new = pcs-put k (active_birth k) (Ctx (f (active
 -- ---- a store
 
 stored_lies : (i : ℕ) (v : Ref) (o : Obj) (pc : ℕ) → lies_in (Some o) pc ≡ true → lies_in (Some (with_slot i v o)) pc ≡ true
-stored_lies i v (Ptr class format hash slots) pc lies = lies
-stored_lies i v (Raw class format hash bytes) pc lies = lies
-stored_lies i v (Method class format hash header literals bytecodes) pc lies = ap (λ n. lies_between (4 * (n + 1) + 1) (length bytecodes) pc) (length-set literals (i - 1) v) ∙ lies
+stored_lies i v (Ptr head slots) pc lies = lies
+stored_lies i v (Raw head bytes) pc lies = lies
+stored_lies i v (Method head header literals bytecodes) pc lies = ap (λ n. lies_between (4 * (n + 1) + 1) (length bytecodes) pc) (length-set literals (i - 1) v) ∙ lies
 stored_lies i v (Ctx c) pc lies = lies
 
 stored_context : (i : ℕ) (v : Ref) (o : Obj) (c : Context) → with_slot i v o ≡ Ctx c → o ≡ Ctx c
-stored_context i v (Ptr class format hash slots) c e = absurd (cc)
-stored_context i v (Raw class format hash bytes) c e = absurd (cc)
-stored_context i v (Method class format hash header literals bytecodes) c e = absurd (cc)
+stored_context i v (Ptr head slots) c e = absurd (cc)
+stored_context i v (Raw head bytes) c e = absurd (cc)
+stored_context i v (Method head header literals bytecodes) c e = absurd (cc)
 stored_context i v (Ctx d) c e = e
 
 pub pcs-store : (k : Kept) (o : Ref) (i : ℕ) (v : Ref) → KeepsPcs k → KeepsPcs (store_of k o i v)

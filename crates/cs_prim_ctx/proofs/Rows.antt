@@ -74,9 +74,9 @@ slot_at-no_index k args x one is e = ap (slot_at_prim k) one ∙ slot_at-none k 
 
 context_slot : (k : Kept) (i : ℕ) (o : Option Obj) → is_some (context_in o) ≡ true → slot_at k 1 i o ≡ answer_field k 1 i (field_in k (context_in o) i)
 context_slot k i None e = absurd (cc)
-context_slot k i (Some (Ptr class format hash slots)) e = absurd (cc)
-context_slot k i (Some (Raw class format hash bytes)) e = absurd (cc)
-context_slot k i (Some (Method class format hash header literals bytecodes)) e = absurd (cc)
+context_slot k i (Some (Ptr head slots)) e = absurd (cc)
+context_slot k i (Some (Raw head bytes)) e = absurd (cc)
+context_slot k i (Some (Method head header literals bytecodes)) e = absurd (cc)
 context_slot k i (Some (Ctx c)) e = refl
 
 slot_at-some : (k : Kept) (x : Ref) (i : ℕ) → argument k 1 0 ≡ x → slot_index x ≡ Some i → is_context_ref k (receiver k 1) ≡ true → slot_at_prim k 1 ≡ answer_field k 1 i (field_of k (receiver k 1) i)

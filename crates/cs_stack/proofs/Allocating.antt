@@ -18,7 +18,7 @@ use Rattle.cs_classes.proofs.Wholes.{after_birth, get-classes_of}
 use Rattle.cs_frame.specs.Page.{frames_of}
 use Rattle.cs_marriage.proofs.Laws.{agree_grown}
 use Rattle.cs_model.specs.Ref as ref
-use Rattle.cs_model.specs.Obj.{Obj, Raw, words_of}
+use Rattle.cs_model.specs.Obj.{Obj, Raw, words_of, new_head}
 use Rattle.cs_model.specs.State.{Kept, NamesHeld, object_at, put}
 use Rattle.cs_model.specs.Demand.{words_at, words_below, words_in}
 use Rattle.cs_model.specs.Keeps.{Keeps}
@@ -124,7 +124,7 @@ module _ (w : Parts) (good : IsGood w) (class format slots : ℕ) (fits : CanAll
   no_method = last_otherwise (format == 4) (format == 5) (is_method format) fits.plain
 
   abbrev blank_by : Bool → Kept → Obj
-  blank_by b m = if b then new_pointers m class format slots else Raw class format 0 (replicate (4 * slots - unused_bytes format) 0)
+  blank_by b m = if b then new_pointers m class format slots else Raw (new_head class format) (replicate (4 * slots - unused_bytes format) 0)
 
   -- the object is made in the heap, and in the heap without its frames
   makes : (xs : List Object) → IsWhole xs w.classes w.roots → Makes xs new w.classes w.roots (λ m. blank_of m class format slots)
@@ -217,7 +217,7 @@ blank_same : (k m : Kept) (class format slots : ℕ) → Keeps k m → Same (Nam
 blank_same k m class format slots keeps = go (is_pointers format)
   where
     blank_by : Bool → Kept → Obj
-    blank_by b j = if b then new_pointers j class format slots else Raw class format 0 (replicate (4 * slots - unused_bytes format) 0)
+    blank_by b j = if b then new_pointers j class format slots else Raw (new_head class format) (replicate (4 * slots - unused_bytes format) 0)
 
     go : (b : Bool) → Same (NamesHeld k) (blank_by b k) (blank_by b m)
     go true = new_pointers_same keeps class format slots

@@ -56,9 +56,9 @@ pub record HasSlots (os : List Object) (slots : List Ref) (a : ℕ) : Type 0 whe
 
 no_slots : (o : Option Obj) → is_context_at o ≡ true → closure_slots o ≡ []
 no_slots None h = refl
-no_slots (Some (Ptr class format hash slots)) h = absurd (cc)
-no_slots (Some (Raw class format hash bytes)) h = refl
-no_slots (Some (Method class format hash header literals bytecodes)) h = refl
+no_slots (Some (Ptr head slots)) h = absurd (cc)
+no_slots (Some (Raw head bytes)) h = refl
+no_slots (Some (Method head header literals bytecodes)) h = refl
 no_slots (Some (Ctx c)) h = refl
 
 -- a reference to a closure of the state is the address of one

@@ -7,10 +7,10 @@ use Rattle.cs_word.specs.declared.Oop.{Oop}
 use Rattle.std.specs.Option.{option_map_or}
 use Rattle.cs_heap.specs.Format.{is_method}
 use Rattle.cs_heap.specs.Object.{Object, object_at}
-use Rattle.cs_classes.specs.Meaning.{code_in, header_in, literals_in, meaning_at, obj_of, ref_of, used_bytes}
+use Rattle.cs_classes.specs.Meaning.{code_in, header_in, literals_in, meaning_at, obj_of, ref_of, used_bytes, head_of}
 use Rattle.cs_classes.proofs.Sorts.{AContext, AMethod, Bytes, Pointers, Sort, obj_of-bytes, obj_of-method, not_pointers, obj_of-pointers, sort_of}
 use Rattle.cs_classes.proofs.Sounds.{method_other, sound_at}
-use Rattle.cs_model.specs.Obj.{Ctx, Method, Obj, Ptr, Raw, argument_count, bytecodes_in, context_size, has_primitive, is_context_at, lies_in, literal_count, number_in, primitive_number, temporary_count}
+use Rattle.cs_model.specs.Obj.{Ctx, Method, Obj, Ptr, Raw, argument_count, bytecodes_in, context_size, has_primitive, is_context_at, lies_in, literal_count, number_in, primitive_number, temporary_count, Head}
 use Rattle.cs_model.specs.Obj as obj
 use Rattle.cs_model.specs.State.{Kept, object_of}
 use Rattle.cs_model.specs.Operation.{entry_pc}
@@ -26,9 +26,9 @@ use Rattle.cs_stack.specs.Moved.{entry_of}
 
 context_no_method : (o : Option Obj) → is_context_at o ≡ true → obj.is_method o ≡ true → ⊥
 context_no_method None h m = absurd (cc)
-context_no_method (Some (Ptr class format hash slots)) h m = absurd (cc)
-context_no_method (Some (Raw class format hash bytes)) h m = absurd (cc)
-context_no_method (Some (Method class format hash header literals bytecodes)) h m = absurd (cc)
+context_no_method (Some (Ptr head slots)) h m = absurd (cc)
+context_no_method (Some (Raw head bytes)) h m = absurd (cc)
+context_no_method (Some (Method head header literals bytecodes)) h m = absurd (cc)
 context_no_method (Some (Ctx c)) h m = absurd (cc)
 
 -- a reference to a method of the state is the address of a method
@@ -41,16 +41,16 @@ method_named s k o holds named is = go (object_named s.memory.objects o.0) refl 
     found : Option Obj
     found = object_of k (name_of s o)
 
-    no_pointers : (class format hash : ℕ) (slots : List _) → found ≡ Some (Ptr class format hash slots) → ⊥
-    no_pointers class format hash slots e = let no : false ≡ true = sym (ap obj.is_method e) ∙ is in absurd (cc)
+    no_pointers : (head : Head) (slots : List _) → found ≡ Some (Ptr head slots) → ⊥
+    no_pointers head slots e = let no : false ≡ true = sym (ap obj.is_method e) ∙ is in absurd (cc)
 
-    no_bytes : (class format hash : ℕ) (bytes : List ℕ) → found ≡ Some (Raw class format hash bytes) → ⊥
-    no_bytes class format hash bytes e = let no : false ≡ true = sym (ap obj.is_method e) ∙ is in absurd (cc)
+    no_bytes : (head : Head) (bytes : List ℕ) → found ≡ Some (Raw head bytes) → ⊥
+    no_bytes head bytes e = let no : false ≡ true = sym (ap obj.is_method e) ∙ is in absurd (cc)
 
     by_sort : (x : Object) → object_at os o.0 ≡ Some x → Says (ref_of os) (Some x) found → Sort x → IsMethodAt os found o.0
     by_sort x there said (AContext c) = absurd (context_no_method found (said.1 c) is)
-    by_sort x there said (Pointers other p) = absurd (no_pointers x.class x.format x.hash (map (ref_of os) x.words) (said.0 other ∙ ap (λ y. Some y) (obj_of-pointers (ref_of os) x other p)))
-    by_sort x there said (Bytes other b m) = absurd (no_bytes x.class x.format x.hash (used_bytes x.format x.words) (said.0 other ∙ ap (λ y. Some y) (obj_of-bytes (ref_of os) x other b m)))
+    by_sort x there said (Pointers other p) = absurd (no_pointers (head_of x) (map (ref_of os) x.words) (said.0 other ∙ ap (λ y. Some y) (obj_of-pointers (ref_of os) x other p)))
+    by_sort x there said (Bytes other b m) = absurd (no_bytes (head_of x) (used_bytes x.format x.words) (said.0 other ∙ ap (λ y. Some y) (obj_of-bytes (ref_of os) x other b m)))
     by_sort x there said (AMethod other b m) = record {
       object = x;
       there = there;

@@ -26,9 +26,9 @@ pub record Sends (k : Kept) (s : Ref) (t : ℕ) (c : Context) : Type 0 where
 
 context_found : (o : Option Obj) (t u : ℕ) → option_and_then (λ c. Some u) (context_in o) ≡ Some t → (c : Context) × (o ≡ Some (Ctx c)) × (u ≡ t)
 context_found None t u e = absurd (cc)
-context_found (Some (Ptr class format hash slots)) t u e = absurd (cc)
-context_found (Some (Raw class format hash bytes)) t u e = absurd (cc)
-context_found (Some (Method class format hash header literals bytecodes)) t u e = absurd (cc)
+context_found (Some (Ptr head slots)) t u e = absurd (cc)
+context_found (Some (Raw head bytes)) t u e = absurd (cc)
+context_found (Some (Method head header literals bytecodes)) t u e = absurd (cc)
 context_found (Some (Ctx c)) t u e = (c, refl, cc)
 
 pub sends : (k : Kept) (s : Ref) (t : ℕ) → context_birth k s ≡ Some t → (c : Context) × Sends k s t c

@@ -4,7 +4,7 @@ use Rattle.std.specs.Prelude.{◌&&◌, not, nat_le, slice_get, slice_set, if◌
 use Rattle.std.proofs.lemmas.Bool.Decides.{eqb_tells, nat_tests}
 use Rattle.cs_model.specs.Ref.{Ref, Small, Char, birth_of}
 use Rattle.cs_model.specs.Ref as ref
-use Rattle.cs_model.specs.Obj.{Ctx, Method, Obj, Ptr, Raw, at_least, slots_in}
+use Rattle.cs_model.specs.Obj.{Ctx, Method, Obj, Ptr, Raw, at_least, slots_in, Head}
 use Rattle.cs_model.specs.State.{Kept, active_process, is_nil, object_at, put, scheduler_of, slots_of, special_at}
 use Rattle.cs_model.specs.Read.{IsRunning, active_context}
 use Rattle.cs_model.specs.Operation as operation
@@ -18,24 +18,22 @@ use Rattle.cs_stack.specs.Moved.{taken_of}
 -- ---- the process and the context that it keeps
 
 record Suspended (k : Kept) (j i : ℕ) : Type 0 where
-  class : ℕ
-  format : ℕ
-  hash : ℕ
+  head : Head
   slots : List Ref
-  there : object_at k j ≡ Some (Ptr class format hash slots)
+  there : object_at k j ≡ Some (Ptr head slots)
   wide : nat_le 4 (length slots) ≡ true
   keeps : slice_get slots 1 ≡ Some (ref.Obj i)
 
 suspended_at : (k : Kept) (j i : ℕ) (o : Option Obj) → object_at k j ≡ o → option_and_then (λ s. slice_get s 1) (at_least 4 (slots_in o)) ≡ Some (ref.Obj i) → Suspended k j i
 suspended_at k j i None e h = absurd (cc)
-suspended_at k j i (Some (Raw class format hash bytes)) e h = absurd (cc)
-suspended_at k j i (Some (Method class format hash header literals bytecodes)) e h = absurd (cc)
+suspended_at k j i (Some (Raw head bytes)) e h = absurd (cc)
+suspended_at k j i (Some (Method head header literals bytecodes)) e h = absurd (cc)
 suspended_at k j i (Some (Ctx c)) e h = absurd (cc)
-suspended_at k j i (Some (Ptr class format hash slots)) e h = by_width (nat_le 4 (length slots)) refl h
+suspended_at k j i (Some (Ptr head slots)) e h = by_width (nat_le 4 (length slots)) refl h
   where
     by_width : (b : Bool) → nat_le 4 (length slots) ≡ b → option_and_then (λ s. slice_get s 1) (if b then Some slots else None) ≡ Some (ref.Obj i) → Suspended k j i
     by_width false w g = absurd (cc)
-    by_width true w g = record { class = class; format = format; hash = hash; slots = slots; there = e; wide = w; keeps = g }
+    by_width true w g = record { head = head; slots = slots; there = e; wide = w; keeps = g }
 
 suspended : (k : Kept) (p : Ref) (i : ℕ) → context_kept k p ≡ Some (ref.Obj i) → (j : ℕ) × (p ≡ ref.Obj j) × Suspended k j i
 unfolding slots_of
@@ -82,7 +80,7 @@ one_behind k t j (Some y) apart stay = stay y (λ e. apart (ap (λ z. Some z) e)
 
 module _ {k : Kept} {j i : ℕ} (p : Suspended k j i) where
   emptied : Obj
-  emptied = Ptr p.class p.format p.hash (slice_set p.slots 1 (nil_of k))
+  emptied = Ptr p.head (slice_set p.slots 1 (nil_of k))
 
   after : Kept
   after = resume_of (put k j emptied) i

@@ -43,9 +43,9 @@ process_stores k p c kept = go (object_of k p) kept
 
     go : (o : Option Obj) → Some c ≡ option_and_then (λ s. slice_get s 1) (at_least 4 (slots_in o)) → is_storable o 1 ≡ true
     go None h = absurd (cc)
-    go (Some (Ptr class format hash slots)) h = by_width slots (nat_le 4 (length slots)) refl h
-    go (Some (Raw class format hash bytes)) h = absurd (cc)
-    go (Some (Method class format hash header literals bytecodes)) h = absurd (cc)
+    go (Some (Ptr head slots)) h = by_width slots (nat_le 4 (length slots)) refl h
+    go (Some (Raw head bytes)) h = absurd (cc)
+    go (Some (Method head header literals bytecodes)) h = absurd (cc)
     go (Some (Ctx d)) h = absurd (cc)
 
 -- ---- the context

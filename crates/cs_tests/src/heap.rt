@@ -53,6 +53,24 @@ fn exchange(heap: &mut Heap, o: Oop, i: u32, b: u8) -> Option<u8> {
     }
 }
 
+/// The hash that an object's header says, and whether it is read-only and watched, before and after it
+/// is made so, whether a store into it then makes the heap dirty, and whether it is so once cleaned.
+fn watched(heap: &mut Heap, o: Oop) -> Option<(u32, [bool; 6])> {
+    if !heap.is_object(o) || heap.slot_count(o) == 0 {
+        return None;
+    }
+    let before = (heap.is_fixed(o), heap.is_watched(o));
+    heap.set_fixed(o, true);
+    heap.watch(o);
+    let after = (heap.is_fixed(o), heap.is_watched(o));
+    heap.set_slot(o, 0, Oop(1));
+    let dirty = heap.dirty();
+    heap.clean();
+    let hash = heap.header(o).hash;
+    let told = [before.0, before.1, after.0, after.1, dirty, heap.dirty()];
+    Some((hash, told))
+}
+
 #[test]
 fn objects_lie_one_behind_another(rt: HostRuntime) {
     let mut heap = Heap::new(rt.alloc(), 4096).expect(&rt, "memory");
@@ -103,5 +121,9 @@ fn objects_lie_one_behind_another(rt: HostRuntime) {
     assert_eq!(rt;
         head(&heap, Oop(65600)),
         Some((53, 10, 255, 4194303, 123, Some(Oop(66632))))
+    );
+    assert_eq!(rt;
+        watched(&mut heap, Oop(65600)),
+        Some((4194303, [false, false, true, true, true, false]))
     );
 }

@@ -1,7 +1,10 @@
 //! Each public call once on its way to success, and the failures that the calls list.
 
+ghost use Rattle.std.specs.Prelude.{◌≤◌, length};
+
 use cs_shelf::{
-    FileShelf, MemShelf, MemSink, OutSink, ReadError, Shelf, Sink, read_whole, write_whole,
+    Failed, FileShelf, MemShelf, MemSink, OutSink, ReadError, Shelf, Sink, append_whole,
+    read_whole, write_whole,
 };
 use std::alloc::AllocError;
 use std::{env, fs, io};
@@ -52,6 +55,44 @@ fn memory_gives(rt: HostRuntime) -> Result<(), AllocError> {
     Ok(())
 }
 
+/// Saves a content in one piece.
+fn save<S: Shelf>(shelf: &mut S, name: &str, bytes: &[u8]) -> Result<(), Failed>
+    requires name { length name.now ≤ 4096 }
+{
+    shelf.start(name)?;
+    append_whole(shelf, bytes)?;
+    shelf.finish()
+}
+
+#[test]
+fn memory_keeps(rt: HostRuntime) -> Result<(), AllocError> {
+    let alloc = rt.alloc();
+    let mut names = Vec::new(alloc);
+    names.push(String::from_str(alloc, "a")?)?;
+    names.push(String::from_str(alloc, "b")?)?;
+    let mut shelf = MemShelf::new(alloc, names, 8, &[9])?;
+    let rows: [(&str, &[u8], bool, Option<&[u8]>); 5] = [
+        ("b", b"hello", true, Some(b"hello")),
+        ("c", b"unknown", false, None),
+        ("a", b"listed", false, None),
+        ("b", b"too long", true, Some(b"too long")),
+        ("b", b"too long!", false, Some(b"too long")),
+    ];
+    for (name, bytes, is_ok, holds) in rows {
+        assert_eq!(rt; save(&mut shelf, name, bytes).is_ok(), is_ok);
+        if !is_ok {
+            assert_eq!(rt; (shelf.last(), shelf.last_read()), (name, false));
+        }
+        let read = read_whole(alloc, &mut shelf, name, 8);
+        match holds {
+            Some(bytes) => assert!(rt; matches!(&read, Ok(v) if v.as_slice() == bytes)),
+            None => assert!(rt; matches!(&read, Err(ReadError::Failed))),
+        }
+    }
+    assert_eq!(rt; shelf.faults(), 5);
+    Ok(())
+}
+
 #[test]
 fn standard_output_takes(rt: HostRuntime) {
     let mut out = OutSink::new(&rt);
@@ -70,5 +111,26 @@ fn a_file_gives(rt: HostRuntime) -> io::Result<()> {
     fs::remove_file(&rt, name)?;
     assert!(rt; matches!(&read, Ok(v) if v.as_slice() == b"hello file".as_slice()));
     assert_eq!(rt; files.faults(), 0);
+    Ok(())
+}
+
+#[test]
+fn a_file_keeps(rt: HostRuntime) -> io::Result<()> {
+    let path = env::temp_dir(&rt)?.join(rt.alloc(), "cs_shelf_a_file_keeps")?;
+    let below = path.join(rt.alloc(), "none")?;
+    let (name, missing) = (path.as_str(), below.as_str());
+    assert!(rt; name.len() <= 4096);
+    assert!(rt; missing.len() <= 4096);
+    fs::write(&rt, name, "an older and longer content")?;
+    let mut files = FileShelf::new(&rt);
+    assert!(rt; save(&mut files, name, b"kept").is_ok());
+    let kept = fs::read_to_string(&rt, name)?;
+    assert!(rt; save(&mut files, missing, b"lost").is_err());
+    fs::remove_file(&rt, name)?;
+    assert_eq!(rt; kept.as_str(), "kept");
+    assert_eq!(rt;
+        (files.faults(), files.last(), files.last_read()),
+        (1, missing, false)
+    );
     Ok(())
 }

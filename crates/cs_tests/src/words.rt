@@ -24,6 +24,8 @@ fn words(rt: HostRuntime) {
     assert_eq!(rt; Oop::character(97).map(Oop::bits), Some(390));
     assert_eq!(rt; Oop::character(1 << 30), None);
     assert_eq!(rt; Oop(390).kind(), Kind::Character(97));
+    assert_eq!(rt; Oop(7).natural(), Some(3));
+    assert_eq!(rt; Oop(0xffff_ffff).natural(), None);
     assert_eq!(rt; Oop(65_536).kind(), Kind::Object(65_536));
     assert_eq!(rt; Oop(65_540).kind(), Kind::Link(65_540));
 }
@@ -95,4 +97,22 @@ fn headers(rt: HostRuntime) {
     let flags = Flags::IS_IMMUTABLE | Flags::PINNED | Flags::MARKED;
     assert_eq!(rt; Header { flags, ..context }.write(), 0x1680_0000_4380_0024);
     assert_eq!(rt; Header::read(0x1680_0000_4380_0024).flags, flags);
+}
+
+/// The header of a method of 3 literals, 2 temporaries and 1 argument with a primitive, whose contexts
+/// are large.
+#[test]
+fn method_headers(rt: HostRuntime) {
+    let header = MethodHeader((1 << 24) + (2 << 18) + (1 << 17) + (1 << 16) + 3);
+    assert_eq!(rt; MethodHeader::read(Oop(2 * header.0 + 1)), Some(header));
+    assert_eq!(rt; header.literals(), 3);
+    assert_eq!(rt; (header.temporaries(), header.arguments()), (2, 1));
+    assert_eq!(rt;
+        (
+            header.context_size(),
+            header.has_primitive(),
+            header.is_valid()
+        ),
+        (56, true, true)
+    );
 }

@@ -22,9 +22,9 @@ context_named k (ref.Obj j) i e = go (object_at k j) refl e
   where
     go : (o : Option Obj) → object_at k j ≡ o → option_and_then (λ (c : Context). birth_of (ref.Obj j)) (context_in o) ≡ Some i → is_context_at (object_at k i) ≡ true
     go None f e = absurd (cc)
-    go (Some (Ptr class format hash slots)) f e = absurd (cc)
-    go (Some (Raw class format hash bytes)) f e = absurd (cc)
-    go (Some (Method class format hash header literals bytecodes)) f e = absurd (cc)
+    go (Some (Ptr head slots)) f e = absurd (cc)
+    go (Some (Raw head bytes)) f e = absurd (cc)
+    go (Some (Method head header literals bytecodes)) f e = absurd (cc)
     go (Some (Ctx c)) f e = let same : j ≡ i = cc in ap (λ n. is_context_at (object_at k n)) (sym same) ∙ ap is_context_at f
 
 -- and so is a sender
@@ -48,9 +48,9 @@ if_context k (Some i) h = h i refl
 marked_by : (k : Kept) (number : ℕ) (o : Option Obj) (closed found : Bool) → is_context_at o ≡ true → closed ≡ is_nil k (closure_in (nil_of k) (context_in o))
     → found ≡ is_number number (method_primitive (object_of k (method_in (nil_of k) (context_in o)))) → (closed && found) ≡ is_marked_context k number (context_in o)
 marked_by k number None closed found is c f = absurd (cc)
-marked_by k number (Some (Ptr class format hash slots)) closed found is c f = absurd (cc)
-marked_by k number (Some (Raw class format hash bytes)) closed found is c f = absurd (cc)
-marked_by k number (Some (Method class format hash header literals bytecodes)) closed found is c f = absurd (cc)
+marked_by k number (Some (Ptr head slots)) closed found is c f = absurd (cc)
+marked_by k number (Some (Raw head bytes)) closed found is c f = absurd (cc)
+marked_by k number (Some (Method head header literals bytecodes)) closed found is c f = absurd (cc)
 marked_by k number (Some (Ctx x)) closed found is c f = rw (c, f) refl
 
 -- closed tells whether the closure that was read is nil, and found whether the method has the primitive
@@ -74,7 +74,7 @@ unmarked k s number (Some i) closure closed context a c other =
 -- what is no method has no primitive
 pub without_primitive : (number : ℕ) (o : Option Obj) → is_method o ≡ false → false ≡ is_number number (method_primitive o)
 without_primitive number None e = refl
-without_primitive number (Some (Ptr class format hash slots)) e = refl
-without_primitive number (Some (Raw class format hash bytes)) e = refl
-without_primitive number (Some (Method class format hash header literals bytecodes)) e = absurd (cc)
+without_primitive number (Some (Ptr head slots)) e = refl
+without_primitive number (Some (Raw head bytes)) e = refl
+without_primitive number (Some (Method head header literals bytecodes)) e = absurd (cc)
 without_primitive number (Some (Ctx c)) e = refl

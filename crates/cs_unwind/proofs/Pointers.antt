@@ -6,10 +6,10 @@ use Rattle.std.proofs.lemmas.Bool.Decides.{nat_tests}
 use Rattle.std.proofs.lemmas.List.{length-map}
 use Rattle.cs_word.specs.declared.Oop.{Oop}
 use Rattle.cs_heap.specs.Object.{Memory, Object, class_of, format_of, is_object, object_at, slot_count_of}
-use Rattle.cs_classes.specs.Meaning.{ref_of}
+use Rattle.cs_classes.specs.Meaning.{head_of, ref_of}
 use Rattle.cs_classes.proofs.Sorts.{AContext, AMethod, Bytes, Pointers, Sort, sort_of, obj_of-bytes, obj_of-method, obj_of-pointers}
 use Rattle.cs_model.specs.Ref.{Ref}
-use Rattle.cs_model.specs.Obj.{Obj, Ptr, Raw, Method, Ctx, at_least, is_context_at, slots_in}
+use Rattle.cs_model.specs.Obj.{Obj, Ptr, Raw, Method, Ctx, at_least, is_context_at, slots_in, Head}
 use Rattle.cs_model.specs.State.{Kept, object_of, slots_of}
 use Rattle.cs_model.specs.Enter.{closure_slot, closure_slots}
 use Rattle.cs_model.specs.Operation.{nil_of}
@@ -25,21 +25,19 @@ use Rattle.cs_unwind.specs.Blocks.{is_closure}
 
 -- the pointer object that a word names, as the heap tells of it
 pub record IsPointer (s : Store) (k : Kept) (m : Memory) (o : Oop) : Type 0 where
-  pub class : ℕ
-  pub format : ℕ
-  pub hash : ℕ
+  pub head : Head
   pub slots : List Ref
-  pub means : object_of k (name_of s o) ≡ Some (Ptr class format hash slots)
+  pub means : object_of k (name_of s o) ≡ Some (Ptr head slots)
   pub there : is_object m.objects o.0 ≡ true
-  pub class_is : class_of m.objects o.0 ≡ class
-  pub format_is : format_of m.objects o.0 ≡ format
+  pub class_is : class_of m.objects o.0 ≡ head.class
+  pub format_is : format_of m.objects o.0 ≡ head.format
   pub count : slot_count_of m.objects o.0 ≡ length slots
 
 no_slots : (o : Option Obj) → is_context_at o ≡ true → is_some (slots_in o) ≡ true → ⊥
 no_slots None c e = absurd (cc)
-no_slots (Some (Ptr class format hash slots)) c e = absurd (cc)
-no_slots (Some (Raw class format hash bytes)) c e = absurd (cc)
-no_slots (Some (Method class format hash header literals bytecodes)) c e = absurd (cc)
+no_slots (Some (Ptr head slots)) c e = absurd (cc)
+no_slots (Some (Raw head bytes)) c e = absurd (cc)
+no_slots (Some (Method head header literals bytecodes)) c e = absurd (cc)
 no_slots (Some (Ctx c')) c e = absurd (cc)
 
 pub pointer : (s : Store) (k : Kept) (m : Memory) (o : Oop) → m ≡ s.memory → Holds s k → IsNamed s o → is_some (slots_in (object_of k (name_of s o))) ≡ true → IsPointer s k m o
@@ -54,9 +52,7 @@ pointer s k m o e holds named has = subst (λ (n : Memory). IsPointer s k n o) (
     by : (x : Object) → object_at s.memory.objects o.0 ≡ Some x → is_object s.memory.objects o.0 ≡ true → Says (ref_of s.memory.objects) (Some x) (object_of k (name_of s o)) → Sort x → IsPointer s k s.memory o
     by x at is says (AContext c) = absurd (no_slots (object_of k (name_of s o)) (says.1 c) has)
     by x at is says (Pointers other pointers) = record {
-      class = x.class;
-      format = x.format;
-      hash = x.hash;
+      head = head_of x;
       slots = map (ref_of s.memory.objects) x.words;
       means = says.0 other ∙ ap Some (obj_of-pointers (ref_of s.memory.objects) x other pointers);
       there = is;
@@ -102,8 +98,8 @@ is_37 n e = ap (λ m. m == 37) e
 pub isnt_37 : (n : ℕ) → (n ≡ 37 → ⊥) → (n == 37) ≡ false
 isnt_37 n h = grind (arith, nat_tests, h)
 
-closure_of : (class format hash : ℕ) (slots : List Ref) → nat_le 3 (length slots) ≡ true → nat_le 3 (length (closure_slots (Some (Ptr class format hash slots)))) ≡ (class == 37 && format == 3)
-closure_of class format hash slots e = go (class == 37 && format == 3)
+closure_of : (head : Head) (slots : List Ref) → nat_le 3 (length slots) ≡ true → nat_le 3 (length (closure_slots (Some (Ptr head slots)))) ≡ (head.class == 37 && head.format == 3)
+closure_of head slots e = go (head.class == 37 && head.format == 3)
   where
     go : (b : Bool) → nat_le 3 (length (if b then slots else [])) ≡ b
     go true = e
@@ -112,13 +108,13 @@ closure_of class format hash slots e = go (class == 37 && format == 3)
 -- a closure has its slots
 pub closure_at_least : (o : Option Obj) → nat_le 3 (length (closure_slots o)) ≡ true → at_least 3 (slots_in o) ≡ Some (closure_slots o)
 closure_at_least None e = absurd (cc)
-closure_at_least (Some (Ptr class format hash slots)) e = go (class == 37 && format == 3) e
+closure_at_least (Some (Ptr head slots)) e = go (head.class == 37 && head.format == 3) e
   where
     go : (b : Bool) → nat_le 3 (length (if b then slots else [])) ≡ true → at_least 3 (Some slots) ≡ Some (if b then slots else [])
     go true e = ap (λ (b : Bool). if b then Some slots else None) e
     go false e = absurd (cc)
-closure_at_least (Some (Raw class format hash bytes)) e = absurd (cc)
-closure_at_least (Some (Method class format hash header literals bytecodes)) e = absurd (cc)
+closure_at_least (Some (Raw head bytes)) e = absurd (cc)
+closure_at_least (Some (Method head header literals bytecodes)) e = absurd (cc)
 closure_at_least (Some (Ctx c)) e = absurd (cc)
 
 pub no_closure : (k : Kept) (x : Ref) → is_some (slots_of k 3 x) ≡ false → false ≡ is_closure k x
@@ -132,8 +128,8 @@ no_closure k x e = go (is_closure k x) refl
 pub closure_read : (s : Store) (k : Kept) (m : Memory) (o : Oop) → IsPointer s k m o → is_some (slots_of k 3 (name_of s o)) ≡ true → (class_of m.objects o.0 == 37 && format_of m.objects o.0 == 3) ≡ is_closure k (name_of s o)
 unfolding slots_of
 closure_read s k m o p e =
-    ap (λ c. c == 37 && format_of m.objects o.0 == 3) p.class_is ∙ ap (λ f. p.class == 37 && f == 3) p.format_is
-    ∙ sym (closure_of p.class p.format p.hash p.slots (sym (enough 3 p.slots) ∙ ap (λ q. is_some (at_least 3 (slots_in q))) (sym p.means) ∙ e))
+    ap (λ c. c == 37 && format_of m.objects o.0 == 3) p.class_is ∙ ap (λ f. p.head.class == 37 && f == 3) p.format_is
+    ∙ sym (closure_of p.head p.slots (sym (enough 3 p.slots) ∙ ap (λ q. is_some (at_least 3 (slots_in q))) (sym p.means) ∙ e))
     ∙ ap (λ q. nat_le 3 (length (closure_slots q))) (sym p.means)
 
 get_below : (xs : List Ref) (i : ℕ) (d : Ref) → i < length xs → slice_get xs i ≡ Some (unwrap_or (slice_get xs i) d)
@@ -160,7 +156,7 @@ slot_named s k x i value e less names = let some = names.is ∙ slot_there k x i
 
 pub array_read : (s : Store) (k : Kept) (m : Memory) (o : Oop) → IsPointer s k m o → (format_of m.objects o.0 == 2) ≡ is_some (array_elements (object_of k (name_of s o)))
 array_read s k m o p =
-    ap (λ f. f == 2) p.format_is ∙ go (p.format == 2) ∙ ap (λ q. is_some (array_elements q)) (sym p.means)
+    ap (λ f. f == 2) p.format_is ∙ go (p.head.format == 2) ∙ ap (λ q. is_some (array_elements q)) (sym p.means)
   where
     go : (b : Bool) → b ≡ is_some (if b then Some p.slots else None)
     go true = refl
@@ -168,20 +164,20 @@ array_read s k m o p =
 
 pub array_slots : (o : Option Obj) (values : List Ref) → array_elements o ≡ Some values → slots_in o ≡ Some values
 array_slots None values e = absurd (cc)
-array_slots (Some (Ptr class format hash slots)) values e = go (format == 2) e
+array_slots (Some (Ptr head slots)) values e = go (head.format == 2) e
   where
     go : (b : Bool) → (if b then Some slots else None) ≡ Some values → Some slots ≡ Some values
     go true e = e
     go false e = absurd (cc)
-array_slots (Some (Raw class format hash bytes)) values e = absurd (cc)
-array_slots (Some (Method class format hash header literals bytecodes)) values e = absurd (cc)
+array_slots (Some (Raw head bytes)) values e = absurd (cc)
+array_slots (Some (Method head header literals bytecodes)) values e = absurd (cc)
 array_slots (Some (Ctx c)) values e = absurd (cc)
 
 some_slots : (o : Option Obj) → is_some (array_elements o) ≡ true → is_some (slots_in o) ≡ true
 some_slots None e = absurd (cc)
-some_slots (Some (Ptr class format hash slots)) e = refl
-some_slots (Some (Raw class format hash bytes)) e = absurd (cc)
-some_slots (Some (Method class format hash header literals bytecodes)) e = absurd (cc)
+some_slots (Some (Ptr head slots)) e = refl
+some_slots (Some (Raw head bytes)) e = absurd (cc)
+some_slots (Some (Method head header literals bytecodes)) e = absurd (cc)
 some_slots (Some (Ctx c)) e = absurd (cc)
 
 pub array_has_slots : (k : Kept) (x : Ref) → is_some (array_elements (object_of k x)) ≡ true → is_some (slots_in (object_of k x)) ≡ true

@@ -14,10 +14,10 @@ use Rattle.cs_model.specs.Keeps.{Keeps, SameKept}
 use Rattle.cs_model.specs.Demand.{words_at, words_below, words_in}
 use Rattle.cs_model.specs.Read.{IsRunning, active_birth, active_context, depth_of, pc_of, size_of, stack_of}
 use Rattle.cs_model.specs.Operation.{push_of}
-use Rattle.cs_model.specs.Exec.{push_out}
+use Rattle.cs_model.specs.Exec.{push_all, push_out}
 use Rattle.cs_model.specs.End.{End, Out, and_then, counting, done, looked, out, stop}
 use Rattle.cs_model.specs.End as ends
-use Rattle.cs_model.specs.Return.{call_with, push_all}
+use Rattle.cs_model.specs.Return.{call_with}
 use Rattle.cs_model.proofs.Objects.{object_at-put_other, object_at-put_same}
 use Rattle.cs_model.proofs.Reading.{depth_same, size_same}
 use Rattle.cs_model.proofs.Same.{equal}

@@ -5,7 +5,7 @@ use Rattle.std.proofs.lemmas.Bool.Decides.{nat_tests}
 use Rattle.cs_word.specs.declared.Oop.{Oop}
 use Rattle.cs_model.specs.Ref.{Ref, Small, Char}
 use Rattle.cs_model.specs.Ref as ref
-use Rattle.cs_model.specs.Obj.{Obj, Context, Ptr, Raw, Method, Ctx, pushed, slots_in, with_stack}
+use Rattle.cs_model.specs.Obj.{Obj, Context, Ptr, Raw, Method, Ctx, pushed, slots_in, with_stack, Head}
 use Rattle.cs_model.specs.State.{Kept, object_at, object_of}
 use Rattle.cs_model.specs.Keeps.{Keeps, SameKept}
 use Rattle.cs_model.specs.Operation.{drop_of, push_of, put_active}
@@ -61,18 +61,18 @@ room_for k x n h = subst (λ m. depth_of k - 1 + m ≤ size_of k) h.count (fitti
 
 -- ---- an Array stays where the stack changes
 
-apart : (k : Kept) (j class format hash : ℕ) (slots : List Ref) → IsRunning k → object_at k j ≡ Some (Ptr class format hash slots) → j ≢ active_birth k
-apart k j class format hash slots running there = λ e.
-    let is : Some (Ptr class format hash slots) ≡ Some (Ctx (active_context k)) = sym there ∙ ap (object_at k) e ∙ running.found in
+apart : (k : Kept) (j : ℕ) (head : Head) (slots : List Ref) → IsRunning k → object_at k j ≡ Some (Ptr head slots) → j ≢ active_birth k
+apart k j head slots running there = λ e.
+    let is : Some (Ptr head slots) ≡ Some (Ctx (active_context k)) = sym there ∙ ap (object_at k) e ∙ running.found in
     absurd (cc)
 
 array_stays : (k v : Kept) (j : ℕ) (xs values : List Ref) → IsRunning k → Keeps v (spread_of k 1 xs) → (o : Option Obj) → object_at k j ≡ o → array_elements o ≡ Some values → slots_in (object_at v j) ≡ Some values
 array_stays k v j xs values running keeps None f e = absurd (cc)
-array_stays k v j xs values running keeps (Some (Ptr class format hash slots)) f e =
-    let there : object_at (spread_of k 1 xs) j ≡ Some (Ptr class format hash slots) = object_at-put_other k (active_birth k) j _ (apart k j class format hash slots running f) ∙ f in
-    ap slots_in (keeps.whole j (Ptr class format hash slots) there refl) ∙ array_slots (Some (Ptr class format hash slots)) values e
-array_stays k v j xs values running keeps (Some (Raw class format hash bytes)) f e = absurd (cc)
-array_stays k v j xs values running keeps (Some (Method class format hash header literals bytecodes)) f e = absurd (cc)
+array_stays k v j xs values running keeps (Some (Ptr head slots)) f e =
+    let there : object_at (spread_of k 1 xs) j ≡ Some (Ptr head slots) = object_at-put_other k (active_birth k) j _ (apart k j head slots running f) ∙ f in
+    ap slots_in (keeps.whole j (Ptr head slots) there refl) ∙ array_slots (Some (Ptr head slots)) values e
+array_stays k v j xs values running keeps (Some (Raw head bytes)) f e = absurd (cc)
+array_stays k v j xs values running keeps (Some (Method head header literals bytecodes)) f e = absurd (cc)
 array_stays k v j xs values running keeps (Some (Ctx c)) f e = absurd (cc)
 
 pub array_kept : (k v : Kept) (x : Ref) (xs : List Ref) (n : ℕ) → IsRunning k → Keeps v (spread_of k 1 xs) → HasElements k x n → slots_in (object_of v x) ≡ Some (elements k x)

@@ -1,11 +1,18 @@
 -- The 64 bits of an object header of 32-bit Spur.
-use Rattle.std.specs.Prelude.{ℕ, ◌+◌, ◌*◌, ◌/◌, ◌%◌, ◌^◌, ◌<◌}
+use Rattle.std.specs.Prelude.{ℕ, ◌+◌, ◌*◌, ◌/◌, ◌%◌, ◌^◌, ◌<◌, ◌==◌, Bool, if◌then◌else◌}
 use Rattle.cs_word.specs.declared.header.Flags.{Flags}
 use Rattle.cs_word.specs.declared.header.Header.{Header}
 
 -- the flags as a number: bit 0 isImmutable, 1 remembered, 2 pinned, 3 grey, 4 marked
 abbrev pub flag_bits : Flags → ℕ
 flag_bits flags = flags.0
+
+-- the flags say that an object is read-only, or are made to say so or not
+abbrev pub is_immutable : Flags → Bool
+is_immutable flags = flag_bits flags % 2 == 1
+
+abbrev pub with_immutable : Bool → Flags → Flags
+with_immutable on flags = record { 0 = flag_bits flags / 2 * 2 + (if on then 1 else 0) }
 
 -- bit i of a number, 0 or 1
 abbrev pub bit : ℕ → ℕ → ℕ

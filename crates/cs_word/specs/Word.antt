@@ -1,5 +1,6 @@
 -- Object words of 32-bit Spur: the low bits say what a word is.
-use Rattle.std.specs.Prelude.{ℕ, ℤ, pos, negsuc, neg_ℤ, ◌-ℤ◌, ◌≤ℤ◌, ◌<ℤ◌, ◌+◌, ◌-◌, ◌*◌, ◌/◌, ◌%◌, ◌^◌, ◌==◌, nat_lt, if◌then◌else◌}
+use Rattle.std.specs.Prelude.{ℕ, ℤ, pos, negsuc, neg_ℤ, ◌-ℤ◌, ◌≤ℤ◌, ◌<ℤ◌, ◌+◌, ◌-◌, ◌*◌, ◌/◌, ◌%◌, ◌^◌, ◌==◌, nat_lt, if◌then◌else◌, Option, None}
+use Rattle.cs_model.specs.Ref.{natural_of}
 use Rattle.cs_word.specs.declared.Kind.{Kind}
 use Rattle.cs_word.specs.declared.Kind.TheVariants.{Small, Character, Object, Link}
 
@@ -32,3 +33,14 @@ word_of (Small z) = small_word z
 word_of (Character code) = character_word code
 word_of (Object word) = word
 word_of (Link word) = word
+
+-- the number that such a word is, where it is a SmallInteger that isn't negative
+abbrev pub natural_by_kind : Kind → Option ℕ
+natural_by_kind (Small z) = natural_of z
+natural_by_kind (Character code) = None
+natural_by_kind (Object word) = None
+natural_by_kind (Link word) = None
+
+-- the number that a word is, where it is a SmallInteger that isn't negative
+unfoldable pub natural_of_word : ℕ → Option ℕ
+natural_of_word word = natural_by_kind (kind_of word)

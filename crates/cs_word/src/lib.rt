@@ -1,14 +1,16 @@
 //! Object words, SmallInteger arithmetic and object headers of 32-bit Spur.
 #![tactic(auto)]
 
-ghost use Rattle.std.specs.Prelude.{◌≡◌, ◌<◌, ◌^◌, ◌↔◌, IsSome, IfSome};
-ghost use Rattle.cs_word.specs.Word.{kind_of, word_of, small_word, character_word, IsSmall};
+ghost use Rattle.std.specs.Prelude.{◌≡◌, ◌+◌, ◌*◌, ◌<◌, ◌^◌, ◌↔◌, IsSome, IfSome};
+ghost use Rattle.cs_word.specs.Word.{kind_of, word_of, small_word, character_word, natural_of_word, IsSmall};
 
 mod arithmetic;
 mod header;
+mod method_header;
 
 pub use arithmetic::{add, div, mul, quo, rem, shift, sub};
 pub use header::{Flags, Header};
+pub use method_header::MethodHeader;
 
 /// A word of 32 bits as object slots, stack values and literals hold it. Every `u32` is one.
 #[derive(Clone, Copy, PartialEq, Eq, Debug)]
@@ -50,6 +52,20 @@ impl Oop {
             Kind::Object(word)
         } else {
             Kind::Link(word)
+        }
+    }
+
+    /// The number that the word is, from 0 to 2^30 - 1, or `None` exactly where it is no SmallInteger or
+    /// a negative one.
+    pub fn natural(self) -> Option<u32>
+        ensures value { result ≡ natural_of_word self.0 }
+        ensures word { IfSome result (λ n. self.0 ≡ 2 * n + 1) }
+        ensures below { IfSome result (λ n. n < 2 ^ 30) }
+    {
+        if self.0 % 2 == 1 && self.0 < 1 << 31 {
+            Some(self.0 / 2)
+        } else {
+            None
         }
     }
 

@@ -4,7 +4,7 @@ use Rattle.cs_heap.specs.Object.{base}
 use Rattle.std.proofs.lemmas.Bool.Decides.{nat_tests}
 use Rattle.cs_heap.specs.Object.{index_of, is_object}
 use Rattle.cs_heap.specs.Layout.{unit_in}
-use Rattle.cs_heap.proofs.Marks.{marked_found, nonzero, one_is_marked, same_test, unit_in_is, unit_in_of}
+use Rattle.cs_heap.proofs.Marks.{marked_found, nonzero, is_marked, same_test, unit_in_is, unit_in_of}
 use Rattle.cs_heap.proofs.Seen.{read_is, seen}
 use Rattle.cs_heap.proofs.Standing.{laid_seen, unit_of}
 use Rattle.cs_heap.proofs.Heap.is_object.Goals as goal
@@ -21,7 +21,7 @@ returns-then-unit-len c =
     ∙ marked_found c.self.inside c.args.self.now.objects (laid_seen c.self.inside c.args.self.now c.self.invariant c.self.view_is) u (λ z. nonzero c.index.result.now t (read ∙ z)))
     (λ t. let s = seen c.self.inside c.args.self.now c.self.invariant c.self.view_is c.args.o.0 t in
     let same : u ≡ unit_of address = omega (arith, at) in
-    one_is_marked c.index.result.now (read ∙ ap (λ (v : ℕ). get_or c.self.inside.marks.items v 0) same ∙ s.known_there.there.mark_is))
+    is_marked c.index.result.now (omega (arith, read, ap (λ (v : ℕ). get_or c.self.inside.marks.items v 0) same, s.known_there.there.mark_is)))
 
 pub returns-else-unit-len : goal.returns-else-unit-len
 returns-else-unit-len c =

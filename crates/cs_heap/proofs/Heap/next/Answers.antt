@@ -6,7 +6,7 @@ use Rattle.cs_word.specs.declared.header.Header.{Header}
 use Rattle.cs_heap.proofs.Marks.{walk}
 use Rattle.cs_heap.proofs.Places.{next_of-found, object_above, used-push}
 use Rattle.cs_heap.proofs.Seen.{seen}
-use Rattle.cs_heap.proofs.Standing.{laid_seen, length-all_marks, length-all_words}
+use Rattle.cs_heap.proofs.Standing.{laid_seen, length-marks, length-all_words}
 use Rattle.cs_heap.proofs.Heap.next.Goals as goal
 
 pub unit_of-unit-requires : goal.unit_of-unit-requires
@@ -26,7 +26,7 @@ slot_count_at-slots-requires-clause-before c =
 pub object_from-requires : goal.object_from-requires
 object_from-requires c =
     let laid = laid_seen c.self.inside c.args.self.now c.self.invariant c.self.view_is in
-    omega (arith, ap length c.deref-2.ensures.value, ap length laid.marks, ap length laid.words, length-all_marks c.args.self.now.objects, length-all_words c.args.self.now.objects, c.self.invariant.within, c.self.invariant.most)
+    omega (arith, ap length c.deref-2.ensures.value, length-marks c.self.inside c.args.self.now.objects laid, ap length laid.words, length-all_words c.args.self.now.objects, c.self.invariant.within, c.self.invariant.most)
 
 pub returns : goal.returns
 returns c =

@@ -2,7 +2,7 @@ use Rattle.std.proofs.Common.{ℕ, refl, ap, arith}
 use Rattle.cs_heap.specs.declared.Heap.TheInside.{Inside}
 use Rattle.cs_word.specs.Header.{header_bits}
 use Rattle.cs_word.specs.declared.header.Header.{Header}
-use Rattle.cs_heap.proofs.Seen.{hash_stored, seen}
+use Rattle.cs_heap.proofs.Seen.{hash_is_stored, seen}
 use Rattle.cs_heap.proofs.Heap.set_hash.Goals as goal
 
 pub unit_of-requires : goal.unit_of-requires
@@ -14,16 +14,16 @@ set_header-requires-clause-unit c = let s = seen c.self.inside c.args.self.now c
 
 pub invariant_of-self : goal.invariant_of-self
 invariant_of-self c =
-    let new : Inside = record { words = c.set_header.new.words; births = c.self.inside.births; marks = c.self.inside.marks; limit = c.self.inside.limit } in
+    let new : Inside = record { words = c.set_header.new.words; births = c.self.inside.births; marks = c.self.inside.marks; limit = c.self.inside.limit; dirty = c.self.inside.dirty } in
     let bits : ℕ = header_bits (record c.header.result { hash = c.args.h }) in
-    (hash_stored c.self.inside new c.args.self.now c.args.o.0 c.unit_of.result c.args.h bits c.self.invariant c.self.view_is c.requires.object c.requires.below c.unit_of.ensures
+    (hash_is_stored c.self.inside new c.args.self.now c.args.o.0 c.unit_of.result c.args.h bits c.self.invariant c.self.view_is c.requires.object c.requires.below c.unit_of.ensures
     (ap (λ (a : Header). header_bits (record a { hash = c.args.h })) c.header.ensures.value) c.set_header.ensures.items refl refl
-    (record { limit = refl; words = c.set_header.ensures.capacity; births = omega arith; marks = omega arith })).sound
+    (record { limit = refl; words = c.set_header.ensures.capacity; births = omega arith; marks = omega arith }) refl).sound
 
 pub returns : goal.returns
 returns c =
-    let new : Inside = record { words = c.set_header.new.words; births = c.self.inside.births; marks = c.self.inside.marks; limit = c.self.inside.limit } in
+    let new : Inside = record { words = c.set_header.new.words; births = c.self.inside.births; marks = c.self.inside.marks; limit = c.self.inside.limit; dirty = c.self.inside.dirty } in
     let bits : ℕ = header_bits (record c.header.result { hash = c.args.h }) in
-    (hash_stored c.self.inside new c.args.self.now c.args.o.0 c.unit_of.result c.args.h bits c.self.invariant c.self.view_is c.requires.object c.requires.below c.unit_of.ensures
+    (hash_is_stored c.self.inside new c.args.self.now c.args.o.0 c.unit_of.result c.args.h bits c.self.invariant c.self.view_is c.requires.object c.requires.below c.unit_of.ensures
     (ap (λ (a : Header). header_bits (record a { hash = c.args.h })) c.header.ensures.value) c.set_header.ensures.items refl refl
-    (record { limit = refl; words = c.set_header.ensures.capacity; births = omega arith; marks = omega arith })).view_is
+    (record { limit = refl; words = c.set_header.ensures.capacity; births = omega arith; marks = omega arith }) refl).view_is

@@ -1,10 +1,13 @@
-use Rattle.std.proofs.Common.{◌<◌, length, refl, arith}
-use Rattle.cs_heap.specs.Object.{Object}
+use Rattle.std.proofs.Common.{◌<◌, ◌||◌, ap₂, length, refl, arith}
+use Rattle.cs_heap.specs.Object.{Memory, Object, is_watched}
 use Rattle.std.specs.Vec.{with_item}
 use Rattle.cs_heap.specs.declared.Heap.TheInside.{Inside}
-use Rattle.cs_heap.proofs.Seen.{field_is, seen_slot, slot_stored}
+use Rattle.cs_heap.proofs.Seen.{dirty_seen, field_is, has_slot, seen_slot, word_stored}
 use Rattle.cs_heap.proofs.OneObject.{fits_body}
 use Rattle.cs_heap.proofs.Heap.set_slot.Goals as goal
+
+pub is_watched-requires : goal.is_watched-requires
+is_watched-requires c = has_slot c.args.self.now.objects c.args.o.0 c.args.i c.requires
 
 pub slot_place-requires : goal.slot_place-requires
 slot_place-requires c = (seen_slot c.self.inside c.args.self.now c.self.invariant c.self.view_is c.args.o.0 c.args.i c.requires).known_there.above
@@ -17,12 +20,16 @@ index_mut-requires c =
 
 pub invariant_of-self : goal.invariant_of-self
 invariant_of-self c =
-    let new : Inside = record { words = with_item c.self.inside.words c.slot_place.result c.args.v.0; births = c.self.inside.births; marks = c.self.inside.marks; limit = c.self.inside.limit } in
-    (slot_stored c.self.inside new c.args.self.now c.args.o.0 c.slot_place.result c.args.i c.args.v.0 c.self.invariant c.self.view_is c.requires c.slot_place.ensures refl refl refl
-    (record { limit = refl; words = omega arith; births = omega arith; marks = omega arith })).sound
+    let m : Memory = c.args.self.now in
+    let new : Inside = record { words = with_item c.self.inside.words c.slot_place.result c.args.v.0; births = c.self.inside.births; marks = c.self.inside.marks; limit = c.self.inside.limit; dirty = c.self.inside.dirty || c.is_watched.result } in
+    (word_stored c.self.inside new m c.args.o.0 c.slot_place.result c.args.i c.args.v.0 (m.dirty || is_watched m c.args.o.0) c.self.invariant c.self.view_is c.requires c.slot_place.ensures refl refl refl
+    (record { limit = refl; words = omega arith; births = omega arith; marks = omega arith })
+    (ap₂ (λ a b. a || b) (dirty_seen c.self.inside m c.self.view_is) c.is_watched.ensures)).sound
 
 pub returns : goal.returns
 returns c =
-    let new : Inside = record { words = with_item c.self.inside.words c.slot_place.result c.args.v.0; births = c.self.inside.births; marks = c.self.inside.marks; limit = c.self.inside.limit } in
-    (slot_stored c.self.inside new c.args.self.now c.args.o.0 c.slot_place.result c.args.i c.args.v.0 c.self.invariant c.self.view_is c.requires c.slot_place.ensures refl refl refl
-    (record { limit = refl; words = omega arith; births = omega arith; marks = omega arith })).view_is
+    let m : Memory = c.args.self.now in
+    let new : Inside = record { words = with_item c.self.inside.words c.slot_place.result c.args.v.0; births = c.self.inside.births; marks = c.self.inside.marks; limit = c.self.inside.limit; dirty = c.self.inside.dirty || c.is_watched.result } in
+    (word_stored c.self.inside new m c.args.o.0 c.slot_place.result c.args.i c.args.v.0 (m.dirty || is_watched m c.args.o.0) c.self.invariant c.self.view_is c.requires c.slot_place.ensures refl refl refl
+    (record { limit = refl; words = omega arith; births = omega arith; marks = omega arith })
+    (ap₂ (λ a b. a || b) (dirty_seen c.self.inside m c.self.view_is) c.is_watched.ensures)).view_is

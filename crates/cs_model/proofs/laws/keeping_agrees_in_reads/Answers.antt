@@ -1,5 +1,5 @@
 -- The law keeping agrees in reads.
-use Rattle.cs_model.proofs.Agreeing.{IsRunning-kept, object_at-kept, object_of-kept, slots_of-kept, special_at-kept, class_of-kept, active_context-kept, method_of-kept, literals_of-kept, bytecodes_of-kept, scheduler_of-kept, active_process-kept, context_get-kept, accepts-kept, can_evaluate-kept, hash_of-kept, lookup-kept, senders_to-kept, home-kept, is_idle-kept, instruction_at-kept}
+use Rattle.cs_model.proofs.Agreeing.{IsRunning-kept, object_at-kept, object_of-kept, is_read_only-kept, slots_of-kept, special_at-kept, class_of-kept, active_context-kept, method_of-kept, literals_of-kept, bytecodes_of-kept, scheduler_of-kept, shaped_scheduler-kept, active_process-kept, context_get-kept, accepts-kept, can_evaluate-kept, hash_of-kept, lookup-kept, senders_to-kept, home-kept, is_idle-kept, instruction_at-kept}
 use Rattle.cs_model.proofs.laws.keeping_agrees_in_reads.Goals as goal
 
 pub returns-clause-object_at : goal.returns-clause-object_at
@@ -7,6 +7,9 @@ returns-clause-object_at c = object_at-kept
 
 pub returns-clause-object_of : goal.returns-clause-object_of
 returns-clause-object_of c = object_of-kept
+
+pub returns-clause-is_read_only : goal.returns-clause-is_read_only
+returns-clause-is_read_only c = is_read_only-kept
 
 pub returns-clause-slots_of : goal.returns-clause-slots_of
 returns-clause-slots_of c = slots_of-kept
@@ -31,6 +34,9 @@ returns-clause-bytecodes_of c = bytecodes_of-kept
 
 pub returns-clause-scheduler_of : goal.returns-clause-scheduler_of
 returns-clause-scheduler_of c = scheduler_of-kept
+
+pub returns-clause-shaped_scheduler : goal.returns-clause-shaped_scheduler
+returns-clause-shaped_scheduler c = shaped_scheduler-kept
 
 pub returns-clause-active_process : goal.returns-clause-active_process
 returns-clause-active_process c = active_process-kept

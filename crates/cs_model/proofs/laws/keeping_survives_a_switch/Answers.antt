@@ -1,9 +1,15 @@
 -- The law keeping survives a switch.
-use Rattle.cs_model.proofs.Surviving.{add_last-alike, start-alike, start_next-alike, resume-alike, signal-alike, wait-alike, suspend-alike, give_way-alike}
+use Rattle.cs_model.proofs.Surviving.{add_last-alike, add_first-alike, add_preempted-alike, start-alike, start_next-alike, resume-alike, signal-alike, wait-alike, suspend-alike, give_way-alike}
 use Rattle.cs_model.proofs.laws.keeping_survives_a_switch.Goals as goal
 
 pub returns-clause-added : goal.returns-clause-added
 returns-clause-added c = add_last-alike
+
+pub returns-clause-added_first : goal.returns-clause-added_first
+returns-clause-added_first c = add_first-alike
+
+pub returns-clause-added_preempted : goal.returns-clause-added_preempted
+returns-clause-added_preempted c = add_preempted-alike
 
 pub returns-clause-started : goal.returns-clause-started
 returns-clause-started c = start-alike

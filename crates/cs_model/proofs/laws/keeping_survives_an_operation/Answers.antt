@@ -1,5 +1,5 @@
 -- The law keeping survives an operation.
-use Rattle.cs_model.proofs.Surviving.{Keeps-put, Keeps-set_pc, Keeps-push, Keeps-drop, Keeps-set_stack, Keeps-store, Keeps-store_byte, Keeps-add, Keeps-fill, Keeps-enter, Keeps-enter_block, Keeps-kill, Keeps-resume_at, Keeps-suspend_all, Keeps-leave, Keeps-cut_to, Keeps-context_put, Keeps-end_between, Keeps-take_index, Keeps-hash_given, Keeps-settle, Keeps-open}
+use Rattle.cs_model.proofs.Surviving.{Keeps-put, Keeps-set_pc, Keeps-push, Keeps-drop, Keeps-set_stack, Keeps-store, Keeps-store_byte, Keeps-set_fixed, Keeps-add, Keeps-fill, Keeps-enter, Keeps-enter_block, Keeps-kill, Keeps-resume_at, Keeps-suspend_all, Keeps-leave, Keeps-cut_to, Keeps-context_put, Keeps-end_between, Keeps-take_index, Keeps-hash_given, Keeps-settle, Keeps-open}
 use Rattle.cs_model.proofs.laws.keeping_survives_an_operation.Goals as goal
 
 pub returns-clause-put : goal.returns-clause-put
@@ -22,6 +22,9 @@ returns-clause-store c = Keeps-store
 
 pub returns-clause-store_byte : goal.returns-clause-store_byte
 returns-clause-store_byte c = Keeps-store_byte
+
+pub returns-clause-set_fixed : goal.returns-clause-set_fixed
+returns-clause-set_fixed c = Keeps-set_fixed
 
 pub returns-clause-add : goal.returns-clause-add
 returns-clause-add c = Keeps-add

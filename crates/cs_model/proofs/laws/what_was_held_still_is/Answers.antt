@@ -1,5 +1,5 @@
 -- The law what was held still is.
-use Rattle.cs_model.proofs.Surviving.{grows-put, grows-set_pc, grows-push, grows-drop, grows-set_stack, grows-store, grows-store_byte, grows-add, grows-fill, grows-enter, grows-enter_block, grows-kill, grows-resume_at, grows-suspend_all, grows-leave, grows-cut_to, grows-context_put, grows-end_between, grows-take_index, grows-hash_given, grows-settle, grows-open}
+use Rattle.cs_model.proofs.Surviving.{grows-put, grows-set_pc, grows-push, grows-drop, grows-set_stack, grows-store, grows-store_byte, grows-set_fixed, grows-add, grows-fill, grows-enter, grows-enter_block, grows-kill, grows-resume_at, grows-suspend_all, grows-leave, grows-cut_to, grows-context_put, grows-end_between, grows-take_index, grows-hash_given, grows-settle, grows-open}
 use Rattle.cs_model.proofs.laws.what_was_held_still_is.Goals as goal
 
 pub returns-clause-put : goal.returns-clause-put
@@ -22,6 +22,9 @@ returns-clause-store c = grows-store
 
 pub returns-clause-store_byte : goal.returns-clause-store_byte
 returns-clause-store_byte c = grows-store_byte
+
+pub returns-clause-set_fixed : goal.returns-clause-set_fixed
+returns-clause-set_fixed c = grows-set_fixed
 
 pub returns-clause-add : goal.returns-clause-add
 returns-clause-add c = grows-add
