@@ -11,5 +11,3 @@ pub use cs_model::{Instr, Op};
 pub use decoder::{BadCode, decode};
 pub use forms::is_instr;
 
-#[cfg(test)]
-mod tests;

@@ -26,8 +26,6 @@ use cs_zone::Zone;
 use std::alloc::{AllocError as NoMemory, Global};
 use std::marker::Model;
 
-#[cfg(test)]
-mod tests;
 
 /// The words of a page.
 const PAGE_WORDS: u32 = 4096;

@@ -352,5 +352,3 @@ impl Heap {
     }
 }
 
-#[cfg(test)]
-mod tests;

@@ -125,5 +125,3 @@ pub fn load(alloc: Global, bytes: &[u8], limit_words: u32) -> Result<Loaded, Ima
     Ok(loaded)
 }
 
-#[cfg(test)]
-mod tests;

@@ -192,5 +192,3 @@ fn self_links(alloc: Global, pages: u32) -> Result<Vec<u32>, AllocError>
     Ok(links)
 }
 
-#[cfg(test)]
-mod tests;

@@ -213,5 +213,3 @@ fn resolve_method<W: World>(w: &W, method: Oop, args: u32) -> Found
     }
 }
 
-#[cfg(test)]
-mod tests;

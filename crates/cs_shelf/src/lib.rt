@@ -16,8 +16,6 @@ mod mem_shelf;
 mod mem_sink;
 mod out_sink;
 mod taken;
-#[cfg(test)]
-mod tests;
 mod whole;
 
 pub use file_shelf::FileShelf;

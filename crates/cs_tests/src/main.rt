@@ -1,8 +1,31 @@
 //! The rows of the file `rows`: each is run by the call that the program makes, and printed with what that call answers.
+//! The tests beside it call what the other crates offer.
 #![tactic(auto)]
 
+#[cfg(test)]
+mod classes;
+#[cfg(test)]
+mod frames;
+#[cfg(test)]
+mod heap;
+#[cfg(test)]
+mod image;
+#[cfg(test)]
+mod instructions;
 mod long_shelf;
+#[cfg(test)]
+mod marriage;
+#[cfg(test)]
+mod pages;
 mod row;
+#[cfg(test)]
+mod sends;
+#[cfg(test)]
+mod shelf;
+#[cfg(test)]
+mod words;
+#[cfg(test)]
+mod zone;
 
 use anyhow::Result;
 use row::take;

@@ -2,6 +2,7 @@
 
 use crate::long_shelf::LongShelf;
 use anyhow::Result;
+use arrayvec::ArrayString;
 use cs_cli::cogstack;
 use cs_shelf::{MemShelf, MemSink, Shelf, Sink};
 use std::alloc::{AllocError, Global};
@@ -45,10 +46,12 @@ pub fn take(rt: &(impl Files + Print + Alloc<A = Global>), given: &str, words: &
             front: given.image.as_slice(),
             len: given.zeros.saturating_add(given.image.len() as u64),
             end: 0,
+            faults: 0,
+            last: ArrayString::new(),
         };
         let status = cogstack(alloc, words.as_slice(), &mut shelf, &mut out);
         println!(rt; "read to {}", shelf.end)?;
-        tell(rt, status, 0, &out)
+        tell(rt, status, shelf.faults(), &out)
     }
 }
 

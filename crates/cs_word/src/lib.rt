@@ -96,5 +96,3 @@ impl Oop {
     }
 }
 
-#[cfg(test)]
-mod tests;

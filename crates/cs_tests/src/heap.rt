@@ -1,7 +1,6 @@
 //! The calls on a small heap, with addresses, words and bytes that are counted by hand.
-#![tactic(auto)]
 
-use super::{Heap, HeapFull, format_allows, size};
+use cs_heap::{Heap, HeapFull, format_allows, size};
 use cs_word::Oop;
 
 /// A new object's address, or None where its condition fails.

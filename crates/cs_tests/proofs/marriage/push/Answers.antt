@@ -3,7 +3,7 @@ use Rattle.cs_frame.specs.Frame.{pushed}
 use Rattle.cs_frame.specs.Page.{frames_of, on_page, on_top, top}
 use Rattle.cs_marriage.specs.Agree.{Agree}
 use Rattle.cs_marriage.proofs.Laws.{agree_pushed, size_fits, top_fits}
-use Rattle.cs_marriage.proofs.tests.push.Goals as goal
+use Rattle.cs_tests.proofs.marriage.push.Goals as goal
 
 pub returns-clause-agree : goal.returns-clause-agree
 returns-clause-agree g c =

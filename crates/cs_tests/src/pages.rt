@@ -1,4 +1,6 @@
-use super::*;
+//! The order of pages.
+
+use cs_pages::Pages;
 use std::test::Fail;
 
 // A call that changes the order.

@@ -2,7 +2,7 @@ use Rattle.std.proofs.Common.{sym, subst, arith}
 use Rattle.cs_frame.specs.declared.NewFrame.{NewFrame}
 use Rattle.cs_marriage.specs.Agree.{Agree, header_at}
 use Rattle.cs_marriage.proofs.Laws.{agree_called, method_value, size_least}
-use Rattle.cs_marriage.proofs.tests.call.Goals as goal
+use Rattle.cs_tests.proofs.marriage.call.Goals as goal
 
 pub build-requires-clause-values : goal.build-requires-clause-values
 build-requires-clause-values g c = record {

@@ -1,21 +1,34 @@
 //! The three states of a context, on a small heap and two pages.
-#![tactic(auto)]
 
-ghost use Rattle.std.specs.Prelude.{◌≡◌, ◌≢◌, ℕ, ◌+◌, ◌<◌, ◌≤◌, is_some, true, length};
+ghost use Rattle.std.specs.Prelude.{◌≡◌, ◌≢◌, ℕ, ◌+◌, ◌<◌, ◌≤◌, true, length};
 ghost use Rattle.cs_heap.specs.Object.{class_of, is_object, slot_count_of, slot_of};
 ghost use Rattle.cs_frame.specs.Frame.{IsValue};
 ghost use Rattle.cs_frame.specs.Page.{CanCall, IsFrame, IsStacked, IsTop, frames_of, top, used};
 ghost use Rattle.cs_classes.specs.Meaning.{count_of};
 ghost use Rattle.cs_model.specs.Ref.{natural_of};
+ghost use Rattle.cs_marriage.specs.Place.{names_place};
 ghost use Rattle.cs_marriage.specs.Marriage.{CanBase};
 ghost use Rattle.cs_marriage.specs.Agree.{Agree, IsContextAt, IsMethodAt, IsWidowed};
 
-use super::{METHOD, NIL, PC, SENDER, STACK, STACKP, Spouse, base, bury, marry, spouse};
-use crate::words::{count, names_place};
 use cs_frame::{FrameRef, Frames, NewFrame};
 use cs_heap::Heap;
+use cs_marriage::{Spouse, base, bury, marry, spouse};
 use cs_word::{Kind, Oop};
 use std::process::Abort;
+
+/// The word of nil.
+const NIL: Oop = Oop(65536);
+
+/// The slots of a context.
+const SENDER: u32 = 0;
+
+const PC: u32 = 1;
+
+const STACKP: u32 = 2;
+
+const METHOD: u32 = 3;
+
+const STACK: u32 = 6;
 
 /// Nil, and a method without literals.
 fn begin(rt: &impl Abort, heap: &mut Heap) -> Oop
@@ -148,19 +161,28 @@ fn no_links(rt: &impl Abort, heap: &Heap, context: Oop)
     }
 }
 
-fn is_natural(value: i32) -> bool
-    ensures { result ≡ is_some (natural_of value) }
+/// Whether a word of a sender slot names a place.
+fn names_place(word: Oop) -> bool
+    ensures { result ≡ names_place word.0 }
 {
-    value >= 0
+    word.0 % 2 == 1
 }
 
+/// The number itself, where it isn't negative.
+fn natural(value: i32) -> Option<u32>
+    ensures { result ≡ natural_of value }
+{
+    if value < 0 { None } else { Some(value as u32) }
+}
+
+/// The number that a word is.
 #[tactic(auto, unfolding(cs_classes::specs::Meaning::count_of))]
-fn is_count(word: Oop) -> bool
-    ensures { result ≡ is_some (count_of word.0) }
+fn count(word: Oop) -> Option<u32>
+    ensures { result ≡ count_of word.0 }
 {
     match word.kind() {
-        Kind::Small(value) => is_natural(value),
-        _ => false,
+        Kind::Small(value) => natural(value),
+        _ => None,
     }
 }
 
@@ -170,12 +192,12 @@ fn can_base(rt: &impl Abort, heap: &Heap, context: Oop)
 {
     context_stands(rt, heap, context);
     assert!(rt; !names_place(heap.slot(context, SENDER)));
-    assert!(rt; is_count(heap.slot(context, PC)));
+    assert!(rt; count(heap.slot(context, PC)).is_some());
     assert!(rt; heap.is_object(context));
     assert!(rt; heap.birth(context) < 1 << 62);
     method_stands(rt, heap, heap.slot(context, METHOD));
     no_links(rt, heap, context);
-    assert!(rt; count(heap.slot(context, STACKP)) <= 16);
+    assert!(rt; count(heap.slot(context, STACKP)).unwrap_or(0) <= 16);
 }
 
 fn store(rt: &impl Abort, heap: &mut Heap, o: Oop, i: u32, v: u32) {

@@ -1,4 +1,6 @@
-use super::*;
+//! What a new sender has looked up.
+
+use cs_send::Sender;
 use std::test::Fail;
 
 #[test]

@@ -2,7 +2,7 @@ use Rattle.std.proofs.Common.{◌≡◌, List, ◌∙◌, ap}
 use Rattle.cs_frame.specs.Frame.{Frame, popped}
 use Rattle.cs_frame.specs.Page.{on_page, on_top}
 use Rattle.cs_frame.proofs.PageLaws.{popped-pushed_page, page_in}
-use Rattle.cs_frame.proofs.tests.push_and_pop.Goals as goal
+use Rattle.cs_tests.proofs.frames.push_and_pop.Goals as goal
 
 pub returns-clause-same : goal.returns-clause-same
 returns-clause-same c =

@@ -2,7 +2,7 @@
 
 ghost use Rattle.std.specs.Prelude.{◌≤◌, length};
 
-use crate::{
+use cs_shelf::{
     Failed, FileShelf, MemShelf, MemSink, OutSink, ReadError, Shelf, Sink, append_whole,
     read_whole, write_whole,
 };

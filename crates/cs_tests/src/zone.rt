@@ -1,4 +1,6 @@
-use super::*;
+//! Copies between the words of a zone.
+
+use cs_zone::Zone;
 use std::test::Fail;
 
 // Words 1 to 6, after a copy of three words: (from, to, the words then).

@@ -1,8 +1,11 @@
+//! Frames on a page, and their parts.
+
 ghost use Rattle.std.specs.Prelude.{◌≡◌, ◌≢◌, ℕ, ◌<◌, ◌≤◌, ◌+◌, ◌%◌, ◌^◌, length};
 ghost use Rattle.cs_frame.specs.Frame.{IsValue};
 ghost use Rattle.cs_frame.specs.Page.{used, frames_of, IsFrame, IsTop, CanCall};
 
-use super::*;
+use cs_frame::{FrameRef, Frames, NewFrame};
+use cs_word::Oop;
 use std::process::Abort;
 use std::test::Fail;
 

@@ -1,5 +1,7 @@
-use super::*;
+//! Words, arithmetic and headers.
+
 use bitflags::Flags as _;
+use cs_word::{Flags, Header, Kind, MethodHeader, Oop, add, div, mul, quo, rem, shift, sub};
 
 const MIN: i32 = -1_073_741_824;
 

@@ -1,7 +1,7 @@
 use Rattle.std.proofs.Common.{sym, subst}
 use Rattle.cs_marriage.specs.Agree.{Agree}
 use Rattle.cs_marriage.proofs.Laws.{agree_dropped}
-use Rattle.cs_marriage.proofs.tests.leave.Goals as goal
+use Rattle.cs_tests.proofs.marriage.leave.Goals as goal
 
 pub returns-clause-agree : goal.returns-clause-agree
 returns-clause-agree g c =

@@ -1,4 +1,6 @@
-use super::*;
+//! Instructions and their bytes.
+
+use cs_decode::{BadCode, assemble, decode, is_instr, name};
 use cs_model::{Instr, Op};
 
 /// Whether these bytes are the instruction, all of it, and what it assembles to.

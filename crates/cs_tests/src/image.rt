@@ -1,7 +1,7 @@
 //! Loading a small image, whole and damaged.
 
-use crate::{ImageError, load};
 use byteorder::{ByteOrder, LittleEndian};
+use cs_image::{ImageError, load};
 use cs_word::Oop;
 use std::alloc::{AllocError, Global};
 
