@@ -10,4 +10,3 @@ pub use assembler::{assemble, name};
 pub use cs_model::{Instr, Op};
 pub use decoder::{BadCode, decode};
 pub use forms::is_instr;
-

@@ -1,12 +1,14 @@
 //! The births of a file's objects.
 
-ghost use Rattle.std.specs.Prelude.{◌≡◌, ◌≤◌, ◌<◌, ◌+◌, ◌*◌, ◌^◌, ◌||◌, ◌==◌, not, nat_lt, nat_le, None, true, IfOk, length};
+ghost use Rattle.std.specs.Prelude.{◌≡◌, ◌≤◌, ◌<◌, ◌+◌, ◌*◌, ◌^◌, ◌||◌, ◌==◌, not, nat_lt, nat_le, None, true, IfOk};
+ghost use Rattle.std.specs.Prelude.{length};
 ghost use Rattle.std.specs.List.{list_any, range_with_len};
 ghost use Rattle.std.specs.List.Sorted.{IsNonDecreasing};
 ghost use Rattle.cs_model.specs.Image.{when};
 ghost use Rattle.cs_model.specs.ImageFault as fault;
 ghost use Rattle.cs_model.specs.ImageFault.{has_repeats as has_repeats_in, is_bad_births};
-ghost use Rattle.cs_model.specs.ImageFile.{birth_count, births_in, has_births, heap_size, next_birth_in, u64s_at, visible};
+ghost use Rattle.cs_model.specs.ImageFile.{birth_count, births_in, has_births, heap_size, next_birth_in, u64s_at};
+ghost use Rattle.cs_model.specs.ImageFile.{visible};
 ghost use Rattle.cs_image.specs.Answer.{Tells, header_fault};
 
 use crate::error::ImageError;

@@ -3,7 +3,9 @@
 ghost use Rattle.std.specs.Prelude.{◌≡◌, ◌≤◌, length, ⊤};
 ghost use Rattle.cs_model.specs.Image.{at_word, when};
 ghost use Rattle.cs_model.specs.ImageFault as fault;
-ghost use Rattle.cs_model.specs.ImageFault.{bad_class, bad_context, bad_ref, is_bad_format, is_bad_header_size, is_bad_length, is_bad_profile, is_bad_roots, is_bad_table, is_short, is_too_long};
+ghost use Rattle.cs_model.specs.ImageFault.{bad_class, bad_context, bad_ref, is_bad_format, is_bad_header_size};
+ghost use Rattle.cs_model.specs.ImageFault.{is_bad_length, is_bad_profile, is_bad_roots, is_bad_table, is_short};
+ghost use Rattle.cs_model.specs.ImageFault.{is_too_long};
 ghost use Rattle.cs_image.specs.Answer.{Tells, header_fault, objects_fault};
 
 use crate::context::bad_context_place;

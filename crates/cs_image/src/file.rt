@@ -1,6 +1,7 @@
 //! The objects of a file, found by the words that name them.
 
-ghost use Rattle.std.specs.Prelude.{◌≡◌, ◌<◌, ◌≤◌, ◌+◌, ◌*◌, ◌^◌, ◌==◌, true, IfSome, length, option_map, slice_get, take, drop};
+ghost use Rattle.std.specs.Prelude.{◌≡◌, ◌<◌, ◌≤◌, ◌+◌, ◌*◌, ◌^◌, ◌==◌, true, IfSome, length, option_map, slice_get};
+ghost use Rattle.std.specs.Prelude.{take, drop};
 ghost use Rattle.cs_model.specs.ImageFile.{address_in, is_nil, named, nil_in};
 ghost use Rattle.cs_model.specs.ImageFault.{is_body, unless_nil};
 

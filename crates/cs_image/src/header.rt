@@ -1,7 +1,8 @@
 //! The header of the file, and its heap as words.
 
 ghost use Rattle.std.specs.Prelude.{◌≡◌, ℕ, ◌==◌, ◌%◌, ◌+◌, ◌*◌, ◌/◌, ◌<◌, ◌≤◌, ◌^◌, IfOk, length};
-ghost use Rattle.cs_model.specs.ImageFile.{u32_at as u32_of, u64_at as u64_of, words_in, birth_count, heap_size, has_births};
+ghost use Rattle.cs_model.specs.ImageFile.{u32_at as u32_of, u64_at as u64_of, words_in, birth_count, heap_size};
+ghost use Rattle.cs_model.specs.ImageFile.{has_births};
 ghost use Rattle.cs_model.specs.ImageFault.{is_bad_length, is_bad_profile};
 
 use byteorder::{ByteOrder, LittleEndian};

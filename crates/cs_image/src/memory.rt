@@ -1,6 +1,7 @@
 //! The objects of a file in memory.
 
-ghost use Rattle.std.specs.Prelude.{◌≡◌, ◌<◌, ◌≤◌, ◌+◌, ◌*◌, ◌^◌, ◌==◌, ◌&&◌, not, [], ◌∷◌, ◌++◌, true, false, IfOk, length, take};
+ghost use Rattle.std.specs.Prelude.{◌≡◌, ◌<◌, ◌≤◌, ◌+◌, ◌*◌, ◌^◌, ◌==◌, ◌&&◌, not, [], ◌∷◌, ◌++◌, true, false, IfOk};
+ghost use Rattle.std.specs.Prelude.{length, take};
 ghost use Rattle.cs_model.specs.ImageFile.{last_hash_in, special_address, visible};
 ghost use Rattle.cs_model.specs.ImageFault as fault;
 ghost use Rattle.cs_model.specs.ImageFault.{is_body, is_over, table_size};
@@ -10,7 +11,8 @@ ghost use Rattle.cs_model.specs.Words.{plain_format as plain_format_of};
 ghost use Rattle.cs_heap.specs.Object.{base, header_address, size, used};
 ghost use Rattle.cs_image.specs.Answer.{Tells};
 ghost use Rattle.cs_image.specs.Heap.{seen};
-ghost use Rattle.cs_image.specs.Loading.{address_named, addresses_of, classes_at, loaded, loaded_from, loaded_word as loaded_word_of, refers, translated as translated_of};
+ghost use Rattle.cs_image.specs.Loading.{address_named, addresses_of, classes_at, loaded, loaded_from};
+ghost use Rattle.cs_image.specs.Loading.{loaded_word as loaded_word_of, refers, translated as translated_of};
 
 use crate::context::CONTEXT;
 use crate::cut::word_at;
