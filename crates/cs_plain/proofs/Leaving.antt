@@ -1,5 +1,5 @@
 -- A context dies, and its sender is active.
-use Rattle.std.proofs.Common.{◌≡◌, ℕ, pos, ◌<◌, ◌≤◌, ◌^◌, true, refl, sym, ap, subst, ◌∙◌, Option, Some, None, is_some, unwrap_or, List, [], length, set, option_and_then, arith, IsSomeAnd}
+use Rattle.std.proofs.Common.{Bool, ◌≡◌, ℕ, pos, ◌<◌, ◌≤◌, ◌^◌, true, refl, sym, ap, subst, ◌∙◌, Option, Some, None, is_some, unwrap_or, List, [], length, set, option_and_then, arith, IsSomeAnd}
 use Rattle.std.specs.Prelude.{◌==◌, nat_lt}
 use Rattle.std.specs.FinMap.{nat_cmp-IsAntisymmetric, same_map}
 use Rattle.std.specs.Cmp.{nat_cmp_total}
@@ -36,7 +36,9 @@ use Rattle.cs_plain.proofs.Acts.{context_named}
 use Rattle.cs_plain.proofs.Edits.{Edited, edited}
 use Rattle.cs_plain.proofs.Pcs.{KeepsPcs, pcs-rest, running}
 use Rattle.cs_plain.proofs.Writing.{held_by}
-use Rattle.cs_plain.proofs.Written.{keeps_names, with_objects}
+use Rattle.cs_heap.specs.Writes.{slots_stored}
+use Rattle.cs_acts.proofs.Dirty.{names-dirtied, ready-dirtied}
+use Rattle.cs_plain.proofs.Written.{dirtied, keeps_names, with_objects}
 use Rattle.std.specs.Prelude.{IfSome}
 use Rattle.cs_heap.specs.Object.{slot_count_of}
 use Rattle.cs_classes.proofs.Heaps.{birth_of-object_at, is_object-object_at}
@@ -179,6 +181,9 @@ pub record Landed (w v : PlainWorld) (home target : ℕ) : Type 0 where
   pub names : KeepsNames (stored_of w) (stored_of v)
   pub fits : depth_of (view_of v) < size_of (view_of v)
 
+landed-dirtied : {w v : PlainWorld} {home target : ℕ} (d : Bool) → Landed w v home target → Landed w (dirtied v d) home target
+landed-dirtied {w = w} {v = v} d h = record { view = h.view; ready = ready-dirtied d h.ready; names = names-dirtied (stored_of w) (stored_of v) d h.names; fits = h.fits }
+
 module _ {w : PlainWorld} {a : Oop} {x : Object} (sound : IsSound (stored_of w) (view_of w)) (at : ContextAt w a x) (sender : Oop) (read : sender.0 ≡ slot_of w.heap.objects a.0 0) where
   landed_at : (target : ℕ) → sender_birth (view_of w) x.birth ≡ Some target → CanLand (view_of w) x.birth target → Landed w (with_left w a sender) x.birth target
   unfolding resume_of active_context
@@ -236,12 +241,12 @@ some_same m n h = cc
 
 -- the heap that the code has
 pub landing : (w : PlainWorld) (a sender : Oop) (h : Memory) → IsSound (stored_of w) (view_of w) → (t : Target w a) → sender.0 ≡ slot_of w.heap.objects a.0 0
-    → h ≡ record w.heap { objects = buried w.heap.objects a.0 } → Landed w (record w { heap = h; active = Some sender }) t.home t.target
+    → h ≡ slots_stored w.heap a.0 (buried w.heap.objects a.0) → Landed w (record w { heap = h; active = Some sender }) t.home t.target
 landing w a sender h sound t read e =
     let x = acts.context_at w a sound (ap is_some t.birth) in
     let is : x.0.birth ≡ t.home = some_same x.0.birth t.home (sym x.1.birth ∙ t.birth) in
     let done = landed_at sound x.1 sender read t.target (ap (sender_birth (view_of w)) is ∙ t.sender) (subst (λ n. CanLand (view_of w) n t.target) (sym is) t.can) in
-    subst (λ (g : Memory). Landed w (record w { heap = g; active = Some sender }) t.home t.target) (sym e) (subst (λ n. Landed w (with_left w a sender) n t.target) is done)
+    subst (λ (g : Memory). Landed w (record w { heap = g; active = Some sender }) t.home t.target) (sym e) (landed-dirtied (slots_stored w.heap a.0 (buried w.heap.objects a.0)).dirty (subst (λ n. Landed w (with_left w a sender) n t.target) is done))
 
 -- ---- and the value is pushed
 

@@ -26,6 +26,8 @@ use Rattle.cs_acts.specs.Names.{IsNamed, Names, NamesOption, name_of}
 use Rattle.cs_acts.specs.Ready.{IsSound}
 use Rattle.cs_acts.specs.Reading.{has_slots}
 use Rattle.cs_acts.proofs.Named.{field_at, has_slots_read, slots_there}
+use Rattle.cs_acts.proofs.Dirty.{sound-dirtied}
+use Rattle.cs_plain.proofs.Written.{dirtied}
 use Rattle.cs_plain.specs.declared.PlainWorld.{PlainWorld}
 use Rattle.cs_plain.specs.View.{active_in, birth_at, birth_in, stored_of, taken_of, view_of}
 use Rattle.cs_plain.proofs.Active.{meaning_there, sound_world}
@@ -95,6 +97,9 @@ with_taken w p nil c = record w { heap = record w.heap { objects = with_slot w.h
 pub record Taken (w v : PlainWorld) (p : Ref) : Type 0 where
   pub view : view_of v ≡ taken_of (view_of w) p
   pub sound : IsSound (stored_of v) (view_of v)
+
+pub taken-dirtied : {w v : PlainWorld} {p : Ref} (d : Bool) → Taken w v p → Taken w (dirtied v d) p
+taken-dirtied d h = record { view = h.view; sound = sound-dirtied d h.sound }
 
 -- a running context has the birth that the process names
 context_active : (w : PlainWorld) (c : Oop) (os : List Object) (i : ℕ) → IsSound (stored_of w) (view_of w) → os ≡ w.heap.objects → is_object os c.0 ≡ true → birth_of os c.0 ≡ i

@@ -3,6 +3,8 @@ use Rattle.std.proofs.Common.{◌≡◌, ℕ, pos, ◌+◌, ◌-◌, ◌<◌, �
 use Rattle.std.specs.Prelude.{◌==◌, ◌||◌, is_some}
 use Rattle.cs_word.specs.declared.Oop.{Oop}
 use Rattle.cs_word.specs.Word.{small_word}
+use Rattle.cs_heap.specs.Writes.{slot_stored}
+use Rattle.cs_acts.proofs.Dirty.{names-dirtied, ready-dirtied}
 use Rattle.cs_heap.specs.Object.{Memory, Object, set_word, with_slot}
 use Rattle.cs_classes.specs.Meaning.{count_of, depth_in, ref_of}
 use Rattle.cs_classes.specs.Sound.{nil_of}
@@ -24,7 +26,7 @@ use Rattle.cs_plain.specs.View.{stored_of, view_of, active_in}
 use Rattle.cs_plain.proofs.Active.{Active}
 use Rattle.cs_plain.proofs.Edits.{Edited, edited}
 use Rattle.cs_plain.proofs.Slots.{depth_is_read, size_is_read}
-use Rattle.cs_plain.proofs.Written.{with_objects, written}
+use Rattle.cs_plain.proofs.Written.{dirtied, with_objects, written}
 
 -- the operation on every state that is kept; then the world is ready, and words mean what they meant
 pub record Writes (w v : PlainWorld) (op : Kept → Kept) : Type 0 where
@@ -36,16 +38,17 @@ pub record Writes (w v : PlainWorld) (op : Kept → Kept) : Type 0 where
 pub same_kept : (a b : Kept) → a ≡ b → SameKept a b
 same_kept a b e = record { objects = λ i. ap (λ k. object_at k i) e; rest = ap (λ k. k.rest) e }
 
+-- the same where the heap is dirty or not
+writes-dirtied : {w v : PlainWorld} {op : Kept → Kept} (d : Bool) → Writes w v op → Writes w (dirtied v d) op
+writes-dirtied {w = w} {v = v} d done = record { state = done.state; exact = done.exact; ready = ready-dirtied d done.ready; names = names-dirtied (stored_of w) (stored_of v) d done.names }
+
 -- the same where the heap is told by an equation
-pub along : (w : PlainWorld) (h : Memory) (us : List Object) (op : Kept → Kept) → h ≡ record w.heap { objects = us } → Writes w (with_objects w us) op → Writes w (record w { heap = h }) op
-along w h us op e done = subst (λ g. Writes w (record w { heap = g }) op) (sym e) done
+pub along : (w : PlainWorld) (h : Memory) (us : List Object) {d : Bool} (op : Kept → Kept) → h ≡ record w.heap { objects = us; dirty = d } → Writes w (with_objects w us) op → Writes w (record w { heap = h }) op
+along w h us {d = d} op e done = subst (λ g. Writes w (record w { heap = g }) op) (sym e) (writes-dirtied d done)
 
 -- the heap behind two stores into one object
-pub twice : (h g k : Memory) (a i v j w z : ℕ) → g ≡ record h { objects = with_slot h.objects a i v } → k ≡ record g { objects = with_slot g.objects a j w } → w ≡ z
-    → k ≡ record h { objects = with_slot (with_slot h.objects a i v) a j z }
-twice h g k a i v j w z first second word =
-    let store : ℕ → Memory → Memory = λ n m. record m { objects = with_slot m.objects a j n } in
-    second ∙ ap (store w) first ∙ ap (λ n. store n (record h { objects = with_slot h.objects a i v })) word
+pub twice : (h g k : Memory) (a i v j w z : ℕ) → g ≡ slot_stored h a i v → k ≡ slot_stored g a j w → w ≡ z → k ≡ slot_stored (slot_stored h a i v) a j z
+twice h g k a i v j w z first second word = second ∙ ap (λ (m : Memory). slot_stored m a j w) first ∙ ap (slot_stored (slot_stored h a i v) a j) word
 
 pub held_by : (w : PlainWorld) (o : Oop) → IsReady (stored_of w) (view_of w) → IsNamed (stored_of w) o → Same (IsHeld (view_of w)) (name_of (stored_of w) o) (name_of (stored_of w) o)
 held_by w o ready named = same (name_of (stored_of w) o) (ref_of-held w.heap.objects w.classes w.roots (active_in w.heap.objects w.active) o.0 ready.sound.holds.whole.heap named)

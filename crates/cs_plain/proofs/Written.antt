@@ -1,5 +1,5 @@
 -- What a write to the active context, or to another object, does to the state.
-use Rattle.std.proofs.Common.{◌≡◌, ℕ, true, refl, sym, ap, subst, ◌∙◌, Option, Some, None, List}
+use Rattle.std.proofs.Common.{◌≡◌, ℕ, Bool, true, refl, sym, ap, subst, ◌∙◌, Option, Some, None, List}
 use Rattle.std.specs.Prelude.{◌≤◌}
 use Rattle.cs_word.specs.declared.Oop.{Oop}
 use Rattle.cs_heap.specs.Object.{Object}
@@ -25,6 +25,10 @@ use Rattle.cs_plain.proofs.Pcs.{KeepsPcs, pcs-edit_active}
 -- the world with other objects in its heap
 abbrev pub with_objects : PlainWorld → List Object → PlainWorld
 with_objects w us = record w { heap = record w.heap { objects = us } }
+
+-- the world with a heap that is dirty or not
+abbrev pub dirtied : PlainWorld → Bool → PlainWorld
+dirtied v d = record v { heap = record v.heap { dirty = d } }
 
 -- an edit of the active context by its reference
 edit_object-active : (k : Kept) (g : Context → Context) → IsRunning k → edit_object k (ref.Obj (active_birth k)) (edit_context g) ≡ edit_active k g

@@ -4,9 +4,10 @@
 //! stands between.
 #![tactic(auto)]
 
-ghost use Rattle.std.specs.Prelude.{◌≡◌, ◌<◌, ◌≤◌, ◌+◌, ◌*◌, ◌^◌, if◌then◌else◌, is_some, pos, Some, unwrap_or};
+ghost use Rattle.std.specs.Prelude.{◌≡◌, ◌<◌, ◌≤◌, ◌+◌, ◌*◌, ◌^◌, false, if◌then◌else◌, is_some, pos, Some, unwrap_or};
 ghost use Rattle.cs_word.specs.Word.{small_word};
-ghost use Rattle.cs_heap.specs.Object.{slot_count_of};
+ghost use Rattle.cs_heap.specs.Object.{is_watched, slot_count_of};
+ghost use Rattle.cs_heap.specs.Writes.{slots_stored};
 ghost use Rattle.cs_classes.specs.Meaning.{count_of};
 ghost use Rattle.cs_model.specs.Obj.{context_size, literal_count, temporary_count};
 ghost use Rattle.cs_model.specs.Ref.{natural_of};
@@ -147,10 +148,11 @@ struct Fields {
     receiver: Oop,
 }
 
-/// Writes the fields of a context.
+/// Writes the fields of a context that isn't watched.
 #[tactic(auto, using(cs_heap::proofs::Laws::heap_laws))]
 fn write_fields(heap: &mut Heap, context: Oop, fields: Fields)
-    requires { 5 < slot_count_of heap.old.objects context.0 }
+    requires slots { 5 < slot_count_of heap.old.objects context.0 }
+    requires unwatched { is_watched heap.old context.0 ≡ false }
     ensures { heap.new ≡ record heap.old { objects = with_fields heap.old.objects context.0 fields } }
 {
     heap.set_slot(context, SENDER, fields.sender);
@@ -161,12 +163,14 @@ fn write_fields(heap: &mut Heap, context: Oop, fields: Fields)
     heap.set_slot(context, RECEIVER, fields.receiver);
 }
 
-/// Copies so many slots of one object, from slot `at` on, to another object, from slot `start` on.
+/// Copies so many slots of one object, from slot `at` on, to another object that isn't watched,
+/// from slot `start` on.
 fn copy_slots(heap: &mut Heap, from: Oop, at: u32, to: Oop, start: u32, count: u32)
     requires from { 0 < count → at + count ≤ slot_count_of heap.old.objects from.0 }
     requires to { start + count ≤ slot_count_of heap.old.objects to.0 }
     requires few { at + count < 2 ^ 31 }
     requires small { start + count < 2 ^ 31 }
+    requires unwatched { is_watched heap.old to.0 ≡ false }
     ensures { heap.new ≡ record heap.old { objects = copied heap.old.objects from.0 at to.0 start count } }
 {
     for i in 0..count {
@@ -179,7 +183,7 @@ fn copy_slots(heap: &mut Heap, from: Oop, at: u32, to: Oop, start: u32, count: u
 #[tactic(auto, using(cs_heap::proofs::Laws::heap_laws))]
 fn bury(heap: &mut Heap, context: Oop)
     requires { 5 < slot_count_of heap.old.objects context.0 }
-    ensures { heap.new ≡ record heap.old { objects = buried heap.old.objects context.0 } }
+    ensures { heap.new ≡ slots_stored heap.old context.0 (buried heap.old.objects context.0) }
 {
     heap.set_slot(context, SENDER, Oop(BASE));
     heap.set_slot(context, PC, Oop(BASE));
@@ -187,7 +191,7 @@ fn bury(heap: &mut Heap, context: Oop)
 }
 
 impl PlainWorld {
-    ghost use Rattle.std.specs.Prelude.{ℕ, IfErr, IfOk, IfSome, IsSomeAnd, None, OnOk, false, true};
+    ghost use Rattle.std.specs.Prelude.{ℕ, IfErr, IfOk, IfSome, IsSomeAnd, None, OnOk, true};
     ghost use Rattle.std.specs.FinMap.{get};
     ghost use Rattle.cs_classes.specs.Sound.{IsWhole};
     ghost use Rattle.cs_model.specs.Due.{is_idle};

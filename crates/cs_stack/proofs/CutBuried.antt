@@ -6,6 +6,7 @@ use Rattle.std.proofs.lemmas.Bool.{cases_eq, eq-eqb}
 use Rattle.std.proofs.lemmas.Bool.Decides.{eqb_tells}
 use Rattle.cs_word.specs.Word.{small_word}
 use Rattle.cs_word.specs.declared.Oop.{Oop}
+use Rattle.cs_heap.specs.Writes.{slots_stored}
 use Rattle.cs_heap.specs.Object.{Memory, Object, at_index, birth_of, object_at, set_word, with_object, with_slot}
 use Rattle.cs_heap.proofs.Laws.{field_of-with_object_kept, is_object-with_object, object_at-with_object_other, object_at-with_object_same, used-with_object}
 use Rattle.cs_classes.specs.Meaning.{context_of, count_of, is_context, kept_of, meaning_at, obj_of, objects_of, ref_of}
@@ -121,7 +122,7 @@ module _ {u : Parts} (good : IsGood u) (closed : u.pages.recent ≡ []) {a : ℕ
   us = with_object os a entomb
 
   abbrev v : Parts
-  v = record u { heap = record u.heap { objects = with_object u.heap.objects a entomb } }
+  v = record u { heap = slots_stored u.heap a (with_object u.heap.objects a entomb) }
 
   long : 6 ≤ length x.words
   long = c.whole.fields
@@ -317,9 +318,9 @@ module _ {u : Parts} (good : IsGood u) (closed : u.pages.recent ≡ []) {a : ℕ
 
 -- ---- what a call sees
 
-pub bury_fades : (u : Parts) (o : Oop) (heap : Memory) → IsGood u → u.pages.recent ≡ [] → IsSome (act_of u (act.Context o)) → heap ≡ record u.heap { objects = buried u.heap.objects o.0 }
+pub bury_fades : (u : Parts) (o : Oop) (heap : Memory) → IsGood u → u.pages.recent ≡ [] → IsSome (act_of u (act.Context o)) → heap ≡ slots_stored u.heap o.0 (buried u.heap.objects o.0)
     → IfSome (act_of u (act.Context o)) (Fades u (record u { heap = heap }))
 bury_fades u o heap good closed some is =
     let c = context_act u o good some in
     subst (λ b. IfSome b (Fades u (record u { heap = heap }))) (sym (answers c o refl))
-    (subst (λ h. Fades u (record u { heap = h }) c.x.birth) (sym (is ∙ ap (λ us. record u.heap { objects = us }) (buried_one u.heap.objects o.0))) (buried_fades good closed c))
+    (subst (λ h. Fades u (record u { heap = h }) c.x.birth) (sym (is ∙ ap (slots_stored u.heap o.0) (buried_one u.heap.objects o.0))) (buried_fades good closed c))

@@ -11,6 +11,7 @@ use Rattle.cs_word.specs.declared.Kind.{Kind}
 use Rattle.cs_word.specs.declared.Kind.TheVariants as kind
 use Rattle.cs_word.specs.Word.{kind_of, small_value}
 use Rattle.cs_heap.specs.Format.{is_method}
+use Rattle.cs_heap.specs.Writes.{slot_stored, slots_stored}
 use Rattle.cs_heap.specs.Object.{Memory, Object, at_index, birth_of, class_of, format_of, index_of, is_object, object_at, set_word, slot_count_of, with_slot}
 use Rattle.cs_heap.proofs.Laws.{hash_of-with_slot, object_at-with_object_other, object_at-with_object_same, slot_count_of-with_slot, slot_of-with_slot_other_object, slot_of-with_slot_other_slot, used-with_slot}
 use Rattle.cs_classes.specs.Meaning.{code_in, count_of, header_in, is_context, kept_of, literals_in, meaning_at, method_of, obj_of, objects_of, ref_of, ref_of_kind, used_bytes}
@@ -373,7 +374,7 @@ module _ (w : Parts) (good : IsGood w) (o i x : ℕ) (can : Storable (stored_of 
       ∙ pages_insert w.heap.objects ps (objects_of (bare w.heap.objects)) can.x.birth (changed was)
       (plain_lacks w good can.x.birth was (meaning_there w.heap.objects o can.x good.whole.heap can.there) (no_context (ref_of w.heap.objects) can.x can.other))
 
-  pub stored_into : StoredInto w (with_heap w (record w.heap { objects = us })) o i x
+  pub stored_into : StoredInto w (with_heap w (slots_stored w.heap o us)) o i x
   unfolding put
   stored_into =
       let does = can.does value in
@@ -410,7 +411,7 @@ module _ (w : Parts) (good : IsGood w) (o i x : ℕ) (can : Storable (stored_of 
       }
 
 pub stored_by : (w : Parts) (good : IsGood w) (o v : Oop) (i : ℕ) (h : Memory) → IsNamed (stored_of w) o → IsNamed (stored_of w) v → is_storable (object_of (view_of w) (name_of (stored_of w) o)) i ≡ true
-    → h ≡ record w.heap { objects = with_slot w.heap.objects o.0 i v.0 } → StoredInto w (with_heap w h) o.0 i v.0
+    → h ≡ slot_stored w.heap o.0 i v.0 → StoredInto w (with_heap w h) o.0 i v.0
 stored_by w good o v i h object value there e =
     let can = storable (stored_of w) (view_of w) (good_sound w good).holds i v.0 o object there in
     subst (λ g. StoredInto w (with_heap w g) o.0 i v.0) (sym e) (stored_into w good o.0 i v.0 can value)

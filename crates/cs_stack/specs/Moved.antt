@@ -2,6 +2,7 @@
 use Rattle.std.specs.Prelude.{◌≡◌, ◌≢◌, ◌⊎◌, ℕ, ◌+◌, ◌-◌, ◌*◌, ◌<◌, ◌≤◌, Bool, true, if◌then◌else◌, List, [], ◌∷◌, ◌++◌, length, take, drop, replicate, slice_index, Option, Some, None, option_and_then}
 use Rattle.std.specs.Option.{option_map_or}
 use Rattle.cs_word.specs.declared.Oop.{Oop}
+use Rattle.cs_heap.specs.Writes.{slots_stored}
 use Rattle.cs_heap.specs.Object.{Object, object_at, with_object}
 use Rattle.cs_classes.specs.Meaning.{count_of}
 use Rattle.cs_frame.specs.declared.FrameRef.{FrameRef}
@@ -132,7 +133,7 @@ begun_state s k new pc copies = enter_with k new.args (λ _. begun_context s k n
 -- the single context at an address is the base frame of a page that was free
 abbrev pub based_parts : ℕ → ℕ → Parts → Parts
 based_parts page a w = record w {
-  heap = record w.heap { objects = with_object w.heap.objects a (linked (record { page = page; at = 0 })) };
+  heap = slots_stored w.heap a (with_object w.heap.objects a (linked (record { page = page; at = 0 })));
   pages = record w.pages { recent = page ∷ w.pages.recent };
   frames = on_page w.frames page (λ _. base_frame w.heap.objects a ∷ []);
 }

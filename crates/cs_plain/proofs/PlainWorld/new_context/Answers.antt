@@ -1,4 +1,5 @@
-use Rattle.std.proofs.Common.{◌+◌, ◌-◌, arith, refl}
+use Rattle.std.proofs.Common.{◌+◌, ◌-◌, ap, arith, refl, ◌∙◌}
+use Rattle.cs_heap.specs.Object.{Memory, is_watched}
 use Rattle.std.proofs.lemmas.Bool.{false≢true}
 use Rattle.cs_plain.proofs.Called.{args_below, closure_still, copied_slots, depth_few, enters, full, new_fields, new_slots, sender_slots, sender_still, stack_few, stack_holds, written-heap}
 use Rattle.cs_plain.proofs.Copying.{count-in}
@@ -7,8 +8,18 @@ use Rattle.cs_plain.proofs.PlainWorld.new_context.Goals as goal
 pub returns-in_default-clause-full : goal.returns-in_default-clause-full
 returns-in_default-clause-full c = full c.args.self.now c.args.header c.args.args c.args.copied c.depth.result c.args.fields c.requires.ready c.requires.sender c.requires.fits c.depth.ensures.value c.context_slots-slots.result c.context_slots-slots.ensures (c.in_default.ensures.full.0 refl) c.allocate.new.self c.in_default.ensures.unchanged_if_full
 
-pub write_fields-requires : goal.write_fields-requires
-write_fields-requires c = omega (arith, new_slots c.args.self.now c.args.header c.args.args c.args.copied c.depth.result c.args.fields c.requires.ready c.requires.sender c.requires.fits c.depth.ensures.value c.context_slots-slots.result c.context_slots-slots.ensures c.allocate.new.self c.allocate.new.self c.in-Ok.context c.in-Ok.ensures.added c.in-Ok.ensures.address)
+pub write_fields-requires-clause-slots : goal.write_fields-requires-clause-slots
+write_fields-requires-clause-slots c = omega (arith, new_slots c.args.self.now c.args.header c.args.args c.args.copied c.depth.result c.args.fields c.requires.ready c.requires.sender c.requires.fits c.depth.ensures.value c.context_slots-slots.result c.context_slots-slots.ensures c.allocate.new.self c.allocate.new.self c.in-Ok.context c.in-Ok.ensures.added c.in-Ok.ensures.address)
+
+pub write_fields-requires-clause-unwatched : goal.write_fields-requires-clause-unwatched
+write_fields-requires-clause-unwatched c = c.in-Ok.ensures.unwatched
+
+pub copy_slots-requires-clause-unwatched : goal.copy_slots-requires-clause-unwatched
+copy_slots-requires-clause-unwatched c = ap (λ (m : Memory). is_watched m c.in-Ok.context.0) c.write_fields.ensures ∙ c.in-Ok.ensures.unwatched
+
+pub copy_slots-requires-2-clause-unwatched : goal.copy_slots-requires-2-clause-unwatched
+copy_slots-requires-2-clause-unwatched c =
+    ap (λ (m : Memory). is_watched m c.in-Ok.context.0) c.copy_slots.ensures ∙ (ap (λ (m : Memory). is_watched m c.in-Ok.context.0) c.write_fields.ensures ∙ c.in-Ok.ensures.unwatched)
 
 pub overflow_add-left-2 : goal.overflow_add-left-2
 overflow_add-left-2 c = omega (arith, depth_few c.args.self.now c.args.header c.args.args c.args.copied c.depth.result c.args.fields c.requires.ready c.requires.sender c.requires.fits c.depth.ensures.value)
