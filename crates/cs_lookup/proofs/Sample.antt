@@ -44,7 +44,7 @@ sound_one = record { apart = apart; each = each }
     references (suc (suc (suc k))) d l = absurd (omega (arith, l))
 
     sound : IsSoundObject one own
-    sound = record { shape = refl; references = references; context = λ c. absurd (false≢true c); method = λ m. absurd (false≢true m) }
+    sound = record { kind = refl; plain = refl; shape = refl; references = references; context = λ c. absurd (false≢true c); method = λ m. absurd (false≢true m) }
 
     each : (k : ℕ) (x : Object) → slice_get one k ≡ Some x → IsSoundObject one x
     each zero x h = let is : own ≡ x = cc in subst (IsSoundObject one) is sound
@@ -76,10 +76,12 @@ sound_both = record { apart = apart; each = each }
     references (suc (suc (suc k))) d l = absurd (omega (arith, l))
 
     sound_own : IsSoundObject both own_with_method
-    sound_own = record { shape = refl; references = references; context = λ c. absurd (false≢true c); method = λ m. absurd (false≢true m) }
+    sound_own = record { kind = refl; plain = refl; shape = refl; references = references; context = λ c. absurd (false≢true c); method = λ m. absurd (false≢true m) }
 
     sound_method : IsSoundObject both a_method
     sound_method = record {
+      kind = refl;
+      plain = refl;
       shape = refl;
       references = λ k d l. absurd (omega (arith, l));
       context = λ c. absurd (false≢true c);
