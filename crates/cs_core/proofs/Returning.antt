@@ -14,9 +14,9 @@ use Rattle.cs_model.specs.Read.{IsRunning, active_birth, active_context, depth_o
 use Rattle.cs_model.specs.Operation.{cut_to_of, push_of}
 use Rattle.cs_model.specs.End as ends
 use Rattle.cs_model.specs.End.{Out, and_then, done, given, looked, out, stop}
-use Rattle.cs_model.specs.Exec.{push_out}
+use Rattle.cs_model.specs.Exec.{push_all, push_out}
 use Rattle.cs_model.specs.PrimRun.{Result, result}
-use Rattle.cs_model.specs.Return.{Home, HomeAt, NoHome, HomeTooFar, Search, Met, Ended, TooLong, about_to_return, arrive, back, call_with, cannot_return, cannot_return_out, first_marked, from_home, has_room, is_among, is_live, local_out, nonlocal_out, past_marks, push_all, sender_birth, senders_to, to_home, unwind_mark, unwind_out}
+use Rattle.cs_model.specs.Return.{Home, HomeAt, NoHome, HomeTooFar, Search, Met, Ended, TooLong, about_to_return, arrive, back, call_with, cannot_return, cannot_return_out, first_marked, from_home, has_room, is_among, is_live, local_out, nonlocal_out, past_marks, sender_birth, senders_to, to_home, unwind_mark, unwind_out}
 use Rattle.cs_model.specs.Return as model
 use Rattle.cs_model.specs.Step.{call_in, do_return}
 use Rattle.cs_model.specs.Built.{is_built_return}

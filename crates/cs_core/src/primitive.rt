@@ -1,5 +1,6 @@
 //! The primitives that no crate of their own has yet: 1, the sum of two SmallIntegers, and 900, which writes bytes.
-ghost use Rattle.std.specs.Prelude.{◌≡◌, ◌<◌, ◌≤◌, ◌+◌, ◌*◌, ◌-◌, [], ◌∷◌, true, IfSome, OnErr, OnOk, Some, drop, is_some, option_and_then, option_map, take};
+ghost use Rattle.std.specs.Prelude.{◌≡◌, ◌<◌, ◌≤◌, ◌+◌, ◌*◌, ◌-◌, [], ◌∷◌, true, IfSome, OnErr, OnOk, Some, drop};
+ghost use Rattle.std.specs.Prelude.{is_some, option_and_then, option_map, take};
 ghost use Rattle.arrayvec.specs.ArrayVec.{array_vec_len};
 ghost use Rattle.cs_model.specs.Exec.{small_operands};
 ghost use Rattle.cs_model.specs.Number.{number_result};
@@ -24,11 +25,12 @@ use cs_word::{Kind, Oop, add};
 /// The most bytes that are handed to the sink at once.
 const AT_ONCE: u32 = 256;
 
-/// The sum of receiver and argument, as primitive 1 gives it (Blue Book); None exactly where they aren't two SmallIntegers
-/// or the sum doesn't fit.
+/// The sum of receiver and argument, as primitive 1 gives it (Blue Book); None exactly where they aren't two
+/// SmallIntegers or the sum doesn't fit.
 pub fn sum<W: World>(w: &W) -> Option<Oop>
     requires { IsReady (W.stored w.now) (W.view w.now) }
-    ensures { NamesOption (W.stored w.now) result (option_and_then (λ p. number_result (W.view w.now) 1 p.0 p.1) (small_operands (W.view w.now))) }
+    ensures { NamesOption (W.stored w.now) result
+        (option_and_then (λ p. number_result (W.view w.now) 1 p.0 p.1) (small_operands (W.view w.now))) }
 {
     let Some(receiver) = from_top(w, 1) else {
         return None;
@@ -42,7 +44,8 @@ pub fn sum<W: World>(w: &W) -> Option<Oop>
 /// The sum of two words that are SmallIntegers, as a word; None exactly where one isn't, or where the sum doesn't fit.
 fn small_sum(a: Oop, b: Oop) -> Option<Oop>
     ensures some { is_some result ≡ is_some (sum_in (kind_of a.0) (kind_of b.0)) }
-    ensures kind { IfSome result (λ o. option_map (λ z. kind.Small z) (sum_in (kind_of a.0) (kind_of b.0)) ≡ Some (kind_of o.0)) }
+    ensures kind { IfSome result (λ o. option_map (λ z. kind.Small z) (sum_in (kind_of a.0) (kind_of b.0)) ≡ Some
+        (kind_of o.0)) }
 {
     match (a.kind(), b.kind()) {
         (Kind::Small(a), Kind::Small(b)) => match add(a, b) {
@@ -62,12 +65,13 @@ pub enum Piece {
     Bytes(Oop),
 }
 
-/// What the argument is to be written as: a byte object as its bytes, a SmallInteger from 0 to 255 as one byte; None exactly
-/// where it is neither.
+/// What the argument is to be written as: a byte object as its bytes, a SmallInteger from 0 to 255 as one byte; None
+/// exactly where it is neither.
 pub fn piece_of<W: World>(w: &W, argument: Oop) -> Option<Piece>
     requires sound { IsSound (W.stored w.now) (W.view w.now) }
     requires named { IsNamed (W.stored w.now) argument }
-    ensures bytes { option_map (bytes_of_piece (W.stored w.now).memory.objects) result ≡ bytes_to_write (W.view w.now) (name_of (W.stored w.now) argument) }
+    ensures bytes { option_map (bytes_of_piece (W.stored w.now).memory.objects) result ≡ bytes_to_write (W.view w.now)
+        (name_of (W.stored w.now) argument) }
     ensures piece { IfSome result (λ p. is_piece (W.stored w.now).memory.objects p ≡ true) }
     ensures own { IfSome result (λ p. IsPieceOf argument p) }
 {
@@ -118,7 +122,8 @@ pub fn write<K: Sink>(heap: &Heap, piece: Piece, out: &mut K) -> Result<(), Fail
 /// How many bytes a byte object has: the unused ones at its end don't count.
 fn byte_count(heap: &Heap, object: Oop) -> u32
     requires { is_bytes_at heap.now.objects object.0 ≡ true }
-    ensures value { result ≡ 4 * slot_count_of heap.now.objects object.0 - unused_bytes (format_of heap.now.objects object.0) }
+    ensures value { result ≡ 4 * slot_count_of heap.now.objects object.0 - unused_bytes
+        (format_of heap.now.objects object.0) }
     ensures most { result ≤ 268435456 }
 {
     4 * heap.slot_count(object) - (u32::from(heap.format(object)) - 16)

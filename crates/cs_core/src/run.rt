@@ -114,8 +114,8 @@ fn is_idle<W: World>(w: &W) -> bool
 
 /// Runs `n` steps, or fewer where one of them ends the run.
 ///
-/// An error breaks the run off. Where the sink failed, it has taken a first part of what the run writes; where there is no
-/// room for what a bytecode leads to, it has taken all that the steps before wrote.
+/// An error breaks the run off. Where the sink failed, it has taken a first part of what the run writes; where there is
+/// no room for what a bytecode leads to, it has taken all that the steps before wrote.
 pub fn run<W: World, K: Sink>(
     w: &mut W,
     sender: &mut Sender,
@@ -126,7 +126,8 @@ pub fn run<W: World, K: Sink>(
     requires running { is_idle (W.view w.old) ≡ false → IsRunning (W.view w.old) }
     requires fresh { IsFresh (W.view w.old) (W.layout w.old) }
     ensures ran { IfOk result (λ r. RunGives (W.view w.old) (K.taken out.old) (K.taken out.new) n r) }
-    ensures failed { IfErr result (λ e. RunFails (W.view w.old) (W.stored w.new) (W.layout w.old) (K.taken out.old) (K.taken out.new) n e) }
+    ensures failed { IfErr result (λ e. RunFails (W.view w.old) (W.stored w.new) (W.layout w.old) (K.taken out.old)
+        (K.taken out.new) n e) }
     ensures limit { (W.stored w.new).memory.limit ≡ (W.stored w.old).memory.limit }
     ensures never_falls { K.fault_count out.old ≤ K.fault_count out.new }
     ensures cause { IfErr result (λ e. CausedByFault (K.fault_count out.old) (K.fault_count out.new) e) }
@@ -155,8 +156,8 @@ pub fn run<W: World, K: Sink>(
     })
 }
 
-/// A run of `n` steps in which no process is active behind the first ones of them, so that no further bytecode is done. A further
-/// step stops where births are used up, which is looked at before the process is.
+/// A run of `n` steps in which no process is active behind the first ones of them, so that no further bytecode is done.
+/// A further step stops where births are used up, which is looked at before the process is.
 fn at_rest<W: World>(w: &W, steps: u64, n: u64) -> Ran
     requires { IsSound (W.stored w.now) (W.view w.now) }
     ensures steps { result.steps ≡ steps }

@@ -8,7 +8,8 @@ ghost use Rattle.cs_acts.specs.Targets.{CanEnter};
 ghost use Rattle.cs_prim_ctx.specs.Numbers.{reads_context};
 ghost use Rattle.cs_send.specs.Sent.{message_of};
 ghost use Rattle.cs_unwind.specs.Primitive.{unwinds};
-ghost use Rattle.cs_core.specs.Stepped.{CausedByFault, EndsBy, Fails, StepGives, TurnGives, calling, returning, sending, trying};
+ghost use Rattle.cs_core.specs.Stepped.{CausedByFault, EndsBy, Fails, StepGives, TurnGives, calling, returning};
+ghost use Rattle.cs_core.specs.Stepped.{sending, trying};
 
 use crate::primitive::{piece_of, sum, write};
 use cs_acts::answer::answer;
@@ -43,7 +44,8 @@ pub enum StepEnd {
 pub fn step<W: World, K: Sink>(w: &mut W, sender: &mut Sender, out: &mut K) -> StepEnd
     requires ready { IsReady (W.stored w.old) (W.view w.old) }
     requires active { is_idle (W.view w.old) ≡ false }
-    ensures gives { StepGives (W.view w.old) (W.layout w.old) (K.taken out.old) (K.taken out.new) (W.stored w.new) (W.view w.new) (W.layout w.new) result }
+    ensures gives { StepGives (W.view w.old) (W.layout w.old) (K.taken out.old) (K.taken out.new) (W.stored w.new)
+        (W.view w.new) (W.layout w.new) result }
     ensures limit { (W.stored w.new).memory.limit ≡ (W.stored w.old).memory.limit }
     ensures never_falls { K.fault_count out.old ≤ K.fault_count out.new }
     ensures cause { CausedByFault (K.fault_count out.old) (K.fault_count out.new) result }
@@ -81,7 +83,8 @@ fn send<W: World, K: Sink>(
     requires births { (W.view w.old).rest.next ≤ 4611686018427387840 }
     requires selector { IsNamed (W.stored w.old) selector }
     requires above { IfSome above (λ o. IsNamed (W.stored w.old) o) }
-    ensures gives { TurnGives (sending (W.view w.old) (message_of (W.stored w.old) selector args above)) (W.view w.old) (W.layout w.old) (K.taken out.old) (K.taken out.new) (W.stored w.new) (W.view w.new) (W.layout w.new) result }
+    ensures gives { TurnGives (sending (W.view w.old) (message_of (W.stored w.old) selector args above)) (W.view w.old)
+        (W.layout w.old) (K.taken out.old) (K.taken out.new) (W.stored w.new) (W.view w.new) (W.layout w.new) result }
     ensures limit { (W.stored w.new).memory.limit ≡ (W.stored w.old).memory.limit }
     ensures never_falls { K.fault_count out.old ≤ K.fault_count out.new }
     ensures cause { CausedByFault (K.fault_count out.old) (K.fault_count out.new) result }
@@ -105,7 +108,8 @@ fn try_primitive<W: World, K: Sink>(
     requires ready { IsReady (W.stored w.old) (W.view w.old) }
     requires named { IsNamed (W.stored w.old) method }
     requires enters { CanEnter (W.view w.old) (name_of (W.stored w.old) method) args true }
-    ensures gives { TurnGives (trying (W.view w.old) (name_of (W.stored w.old) method) number) (W.view w.old) (W.layout w.old) (K.taken out.old) (K.taken out.new) (W.stored w.new) (W.view w.new) (W.layout w.new) result }
+    ensures gives { TurnGives (trying (W.view w.old) (name_of (W.stored w.old) method) number) (W.view w.old)
+        (W.layout w.old) (K.taken out.old) (K.taken out.new) (W.stored w.new) (W.view w.new) (W.layout w.new) result }
     ensures limit { (W.stored w.new).memory.limit ≡ (W.stored w.old).memory.limit }
     ensures never_falls { K.fault_count out.old ≤ K.fault_count out.new }
     ensures cause { CausedByFault (K.fault_count out.old) (K.fault_count out.new) result }
@@ -124,7 +128,8 @@ fn add_or_enter<W: World>(w: &mut W, method: Oop, args: u32) -> StepEnd
     requires ready { IsReady (W.stored w.old) (W.view w.old) }
     requires named { IsNamed (W.stored w.old) method }
     requires enters { CanEnter (W.view w.old) (name_of (W.stored w.old) method) args true }
-    ensures gives { (told : Option (List ℕ)) → TurnGives (trying (W.view w.old) (name_of (W.stored w.old) method) 1) (W.view w.old) (W.layout w.old) told told (W.stored w.new) (W.view w.new) (W.layout w.new) result }
+    ensures gives { (told : Option (List ℕ)) → TurnGives (trying (W.view w.old) (name_of (W.stored w.old) method) 1)
+        (W.view w.old) (W.layout w.old) told told (W.stored w.new) (W.view w.new) (W.layout w.new) result }
     ensures limit { (W.stored w.new).memory.limit ≡ (W.stored w.old).memory.limit }
     ensures cause { (faults : ℕ) → CausedByFault faults faults result }
 {
@@ -146,7 +151,8 @@ fn write_or_enter<W: World, K: Sink>(w: &mut W, out: &mut K, method: Oop, args: 
     requires ready { IsReady (W.stored w.old) (W.view w.old) }
     requires named { IsNamed (W.stored w.old) method }
     requires enters { CanEnter (W.view w.old) (name_of (W.stored w.old) method) args true }
-    ensures gives { TurnGives (trying (W.view w.old) (name_of (W.stored w.old) method) 900) (W.view w.old) (W.layout w.old) (K.taken out.old) (K.taken out.new) (W.stored w.new) (W.view w.new) (W.layout w.new) result }
+    ensures gives { TurnGives (trying (W.view w.old) (name_of (W.stored w.old) method) 900) (W.view w.old)
+        (W.layout w.old) (K.taken out.old) (K.taken out.new) (W.stored w.new) (W.view w.new) (W.layout w.new) result }
     ensures limit { (W.stored w.new).memory.limit ≡ (W.stored w.old).memory.limit }
     ensures never_falls { K.fault_count out.old ≤ K.fault_count out.new }
     ensures cause { CausedByFault (K.fault_count out.old) (K.fault_count out.new) result }
@@ -177,7 +183,9 @@ fn read_or_enter<W: World>(w: &mut W, method: Oop, args: u32, number: u32) -> St
     requires named { IsNamed (W.stored w.old) method }
     requires enters { CanEnter (W.view w.old) (name_of (W.stored w.old) method) args true }
     requires reads { reads_context (W.view w.old) number args ≡ true }
-    ensures gives { (told : Option (List ℕ)) → TurnGives (trying (W.view w.old) (name_of (W.stored w.old) method) number) (W.view w.old) (W.layout w.old) told told (W.stored w.new) (W.view w.new) (W.layout w.new) result }
+    ensures gives { (told : Option (List ℕ)) → TurnGives
+        (trying (W.view w.old) (name_of (W.stored w.old) method) number) (W.view w.old) (W.layout w.old) told told
+        (W.stored w.new) (W.view w.new) (W.layout w.new) result }
     ensures limit { (W.stored w.new).memory.limit ≡ (W.stored w.old).memory.limit }
     ensures cause { (faults : ℕ) → CausedByFault faults faults result }
 {
@@ -195,7 +203,9 @@ fn unwind_or_enter<W: World>(w: &mut W, method: Oop, args: u32, number: u32) -> 
     requires named { IsNamed (W.stored w.old) method }
     requires enters { CanEnter (W.view w.old) (name_of (W.stored w.old) method) args true }
     requires unwinds { unwinds number ≡ true }
-    ensures gives { (told : Option (List ℕ)) → TurnGives (trying (W.view w.old) (name_of (W.stored w.old) method) number) (W.view w.old) (W.layout w.old) told told (W.stored w.new) (W.view w.new) (W.layout w.new) result }
+    ensures gives { (told : Option (List ℕ)) → TurnGives
+        (trying (W.view w.old) (name_of (W.stored w.old) method) number) (W.view w.old) (W.layout w.old) told told
+        (W.stored w.new) (W.view w.new) (W.layout w.new) result }
     ensures limit { (W.stored w.new).memory.limit ≡ (W.stored w.old).memory.limit }
     ensures cause { (faults : ℕ) → CausedByFault faults faults result }
 {
@@ -207,8 +217,8 @@ fn unwind_or_enter<W: World>(w: &mut W, method: Oop, args: u32, number: u32) -> 
     }
 }
 
-/// Whether the primitive of this number, with so many arguments, is one that reads a context: 210 or 212, or 73 where its
-/// receiver is a context.
+/// Whether the primitive of this number, with so many arguments, is one that reads a context: 210 or 212, or 73 where
+/// its receiver is a context.
 fn reads_context<W: World>(w: &W, number: u32, args: u32) -> bool
     requires ready { IsReady (W.stored w.now) (W.view w.now) }
     requires there { args < depth_of (W.view w.now) }
@@ -226,7 +236,9 @@ fn enter_behind<W: World>(w: &mut W, method: Oop, args: u32) -> StepEnd
     requires ready { IsReady (W.stored w.old) (W.view w.old) }
     requires named { IsNamed (W.stored w.old) method }
     requires enters { CanEnter (W.view w.old) (name_of (W.stored w.old) method) args true }
-    ensures gives { (told : Option (List ℕ)) (number : ℕ) → Fails (W.view w.old) (name_of (W.stored w.old) method) number → TurnGives (trying (W.view w.old) (name_of (W.stored w.old) method) number) (W.view w.old) (W.layout w.old) told told (W.stored w.new) (W.view w.new) (W.layout w.new) result }
+    ensures gives { (told : Option (List ℕ)) (number : ℕ) → Fails (W.view w.old) (name_of (W.stored w.old) method)
+        number → TurnGives (trying (W.view w.old) (name_of (W.stored w.old) method) number) (W.view w.old)
+        (W.layout w.old) told told (W.stored w.new) (W.view w.new) (W.layout w.new) result }
     ensures limit { (W.stored w.new).memory.limit ≡ (W.stored w.old).memory.limit }
     ensures cause { (faults : ℕ) → CausedByFault faults faults result }
 {
@@ -247,7 +259,8 @@ fn give_back<W: World, K: Sink>(
     requires ready { IsReady (W.stored w.old) (W.view w.old) }
     requires births { (W.view w.old).rest.next ≤ 4611686018427387840 }
     requires named { IsNamed (W.stored w.old) value }
-    ensures gives { TurnGives (returning (W.view w.old) (name_of (W.stored w.old) value) local) (W.view w.old) (W.layout w.old) (K.taken out.old) (K.taken out.new) (W.stored w.new) (W.view w.new) (W.layout w.new) result }
+    ensures gives { TurnGives (returning (W.view w.old) (name_of (W.stored w.old) value) local) (W.view w.old)
+        (W.layout w.old) (K.taken out.old) (K.taken out.new) (W.stored w.new) (W.view w.new) (W.layout w.new) result }
     ensures limit { (W.stored w.new).memory.limit ≡ (W.stored w.old).memory.limit }
     ensures never_falls { K.fault_count out.old ≤ K.fault_count out.new }
     ensures cause { CausedByFault (K.fault_count out.old) (K.fault_count out.new) result }
@@ -270,7 +283,8 @@ fn call<W: World, K: Sink>(
 ) -> StepEnd
     requires ready { IsReady (W.stored w.old) (W.view w.old) }
     requires births { (W.view w.old).rest.next ≤ 4611686018427387840 }
-    ensures gives { TurnGives (calling (W.view w.old) number args) (W.view w.old) (W.layout w.old) (K.taken out.old) (K.taken out.new) (W.stored w.new) (W.view w.new) (W.layout w.new) result }
+    ensures gives { TurnGives (calling (W.view w.old) number args) (W.view w.old) (W.layout w.old) (K.taken out.old)
+        (K.taken out.new) (W.stored w.new) (W.view w.new) (W.layout w.new) result }
     ensures limit { (W.stored w.new).memory.limit ≡ (W.stored w.old).memory.limit }
     ensures never_falls { K.fault_count out.old ≤ K.fault_count out.new }
     ensures cause { CausedByFault (K.fault_count out.old) (K.fault_count out.new) result }
