@@ -44,4 +44,7 @@ pub mod Script
 pub mod Print
 pub mod Canon
 pub mod Generator
+pub mod BuilderText
+pub mod BuilderFault
+pub mod Builder
 pub mod Alike
