@@ -47,4 +47,5 @@ pub mod Generator
 pub mod BuilderText
 pub mod BuilderFault
 pub mod Builder
+pub mod CommandLine
 pub mod Alike
