@@ -170,7 +170,13 @@ behind_large (word ∷ words) = if bytes_eq word (codes "large") then words else
 
 abbrev pub method_line : List ℕ → List ℕ → ℤ → ℤ → Bool → Option ℤ → Form
 method_line class selector arguments temporaries large primitive = Method (record {
-  class = class; selector = selector; arguments = arguments; temporaries = temporaries; large = large; primitive = primitive })
+  class = class;
+  selector = selector;
+  arguments = arguments;
+  temporaries = temporaries;
+  large = large;
+  primitive = primitive;
+})
 
 abbrev pub method_form : List (List ℕ) → Option Form
 method_form (class ∷ selector ∷ args ∷ temps ∷ words) = option_and_then (λ a. option_and_then (λ t. option_and_then (λ p.
