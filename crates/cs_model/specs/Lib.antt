@@ -44,4 +44,8 @@ pub mod Script
 pub mod Print
 pub mod Canon
 pub mod Generator
+pub mod BuilderText
+pub mod BuilderFault
+pub mod Builder
+pub mod CommandLine
 pub mod Alike
