@@ -8,7 +8,7 @@ ghost use Rattle.cs_model.specs.PrimTable.{kept_prim};
 ghost use Rattle.cs_model.specs.Read.{depth_of};
 ghost use Rattle.cs_model.specs.Return.{back};
 ghost use Rattle.cs_acts.specs.Names.{IsNamed, name_of};
-ghost use Rattle.cs_acts.specs.Primed.{IfOver, PrimGives, PrimLaid, PrimMakes};
+ghost use Rattle.cs_acts.specs.Primed.{PrimGives, PrimLaid, PrimMakes, UnlessFull};
 ghost use Rattle.cs_acts.specs.Ready.{IsReady};
 ghost use Rattle.cs_unwind.specs.Back.{BackExact, BackGives, BackLaid, BackMakes};
 ghost use Rattle.cs_unwind.specs.Blocks.{wanted_by};
@@ -50,7 +50,7 @@ pub fn give_back<W: World>(w: &mut W, value: Oop, local: bool) -> BackEnd
     requires named { IsNamed (W.stored w.old) value }
     ensures gives { BackGives (W.stored w.old) (W.stored w.new) (W.layout w.old) (W.view w.old) (W.view w.new) result
         (back (W.view w.old) (name_of (W.stored w.old) value) local) }
-    ensures exact { BackExact (W.layout w.old) (W.view w.new) result
+    ensures exact { BackExact (W.layout w.old) (W.view w.old) (W.view w.new) result
         (back (W.view w.old) (name_of (W.stored w.old) value) local) }
     ensures layout { BackLaid (W.view w.old) local result (W.layout w.old) (W.layout w.new) }
     ensures limit { (W.stored w.new).memory.limit ≡ (W.stored w.old).memory.limit }
@@ -87,7 +87,7 @@ pub fn primitive<W: World>(w: &mut W, number: u32, args: u32) -> PrimEnd
     requires births { (W.view w.old).rest.next < 4611686018427387904 }
     ensures gives { PrimGives (W.stored w.old) (W.stored w.new) (W.layout w.old) (W.view w.old)
         (entered_from (W.view w.old) number) (W.view w.new) result (kept_prim number args (W.view w.old)) }
-    ensures exact { IfOver result (W.layout w.old ≡ None → SameKept (W.view w.new)
+    ensures exact { UnlessFull result (W.layout w.old ≡ None → SameKept (W.view w.new)
         (kept_prim number args (W.view w.old)).state) }
     ensures layout { PrimLaid (entered_from (W.view w.old) number) result (W.layout w.old) (W.layout w.new) }
     ensures limit { (W.stored w.new).memory.limit ≡ (W.stored w.old).memory.limit }
