@@ -43,7 +43,7 @@ const EVALUATE_ARRAY: u32 = 206;
 /// from the active context to the home die, and the value is pushed at the target. The causes to stop: ChainTooLong
 /// where a search follows 1,048,576 links and isn't at its end, and StackOver where the target, or for a message the
 /// active context, has no room. `Full` comes only for the heap: where it has no room for the contexts that a message
-/// names, or where the world makes one for the value to arrive.
+/// names, or where the world makes one for the value to arrive. Where it stops, nothing is changed.
 #[tactic(auto, unfolding(cs_model::specs::Return::back))]
 pub fn give_back<W: World>(w: &mut W, value: Oop, local: bool) -> BackEnd
     requires ready { IsReady (W.stored w.old) (W.view w.old) }
@@ -79,7 +79,8 @@ pub fn unwinds(number: u32) -> bool
 /// Array. 195 answers the first context marked with 198 from the receiver's sender on and before the argument, 197 the
 /// first one marked with 199 from the receiver itself on; both answer nil where there is none. 198 and 199 are the
 /// marks, and fail. With another number of arguments all fail. The causes to stop: StackOver where arguments and copied
-/// values don't fit the block's context, and ChainTooLong.
+/// values don't fit the block's context, and ChainTooLong. Nothing is changed then, but that 206 has put the elements
+/// in the place of the Array.
 pub fn primitive<W: World>(w: &mut W, number: u32, args: u32) -> PrimEnd
     requires ready { IsReady (W.stored w.old) (W.view w.old) }
     requires number { unwinds number ≡ true }
