@@ -47,14 +47,6 @@ UnlessFull Fail P = P
 UnlessFull (Stop reason) P = P
 UnlessFull (Full why) P = Unit {0}
 
--- where it went on
-abbrev pub IfOver : PrimEnd → Type 0 → Type 0
-IfOver Answer P = P
-IfOver Entered P = P
-IfOver Fail P = P
-IfOver (Stop reason) P = Unit {0}
-IfOver (Full why) P = Unit {0}
-
 -- where the frames are behind a primitive: one more where a context was entered
 abbrev pub PrimLaid : Kept → PrimEnd → Option Layout → Option Layout → Type 0
 PrimLaid from Answer before after = after ≡ before

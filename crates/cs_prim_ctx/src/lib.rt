@@ -4,8 +4,7 @@
 //! Where one fails, nothing is changed. On success receiver and arguments are popped, and the answer is pushed.
 #![tactic(auto)]
 
-ghost use Rattle.std.specs.Prelude.{◌≡◌, ◌<◌, ◌+◌, ◌^◌, ℕ, Some, IfErr, IfOk, None, OnOk, is_some, length, option_map};
-ghost use Rattle.std.specs.Prelude.{true, unwrap_or};
+ghost use Rattle.std.specs.Prelude.{◌≡◌, ◌<◌, ◌^◌, ℕ, Some, IfErr, IfOk, None, OnOk, is_some, length, option_map, true};
 ghost use Rattle.cs_model.specs.Context.{is_context_ref};
 ghost use Rattle.cs_model.specs.Keeps.{SameKept};
 ghost use Rattle.cs_model.specs.Operation.{drop_of, push_of};
@@ -14,7 +13,6 @@ ghost use Rattle.cs_model.specs.PrimContext.{stack_at_prim, stackp_prim};
 ghost use Rattle.cs_model.specs.PrimObject.{answer_field, slot_at_prim, slot_index};
 ghost use Rattle.cs_model.specs.PrimTable.{kept_prim};
 ghost use Rattle.cs_model.specs.Read.{depth_of};
-ghost use Rattle.cs_model.specs.Ref.{index_of};
 ghost use Rattle.cs_model.specs.Return.{context_at};
 ghost use Rattle.cs_acts.specs.declared.act.Full.TheVariants as full;
 ghost use Rattle.cs_acts.specs.Full.{CausesFull};

@@ -185,7 +185,7 @@ behind a b c l m n k v u w x args found led laid held done = go found done
     go prim.Fail p = absurd (let e : is_block_end ends.Fail ≡ true = ap is_block_end (sym p.gives.0) ∙ block_ends v x args in cc)
     go (prim.Stop reason) p = record {
       gives = end _ p.gives;
-      exact = tt;
+      exact = λ none. subst (λ z. SameKept w (enter_block_out z x args).state) (same-equal v u (led.exact none)) (p.exact (led.layout ∙ none));
       layout = p.layout ∙ led.layout;
       limit = p.limit ∙ led.limit;
       contexts = made-trans l m a b c 0 0 led.layout led.contexts p.contexts;

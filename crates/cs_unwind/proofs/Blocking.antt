@@ -70,12 +70,20 @@ no_room a b l n k v x args why fits limit cause =
       contexts = tt;
     }
 
-stops : (k : Kept) (x : Ref) (args : ℕ) → nat_le (args + length (copied_values k x)) (block_size k x) ≡ false → (enter_block_out k x args).end ≡ ends.Stopped why.StackOver
+stops : (k : Kept) (x : Ref) (args : ℕ) → nat_le (args + length (copied_values k x)) (block_size k x) ≡ false → enter_block_out k x args ≡ stop why.StackOver k
 unfolding enter_block_out
-stops k x args e = ap (λ (b : Bool). (if b then made_context (context_words (block_size k x)) (out ends.Entered (enter_block_of k x args)) else stop why.StackOver k).end) e
+stops k x args e = ap (λ (b : Bool). (if b then made_context (context_words (block_size k x)) (out ends.Entered (enter_block_of k x args)) else stop why.StackOver k)) e
 
 pub over : (s : Store) (l : Option Layout) (k : Kept) (x : Ref) (args : ℕ) → block_size k x < args + length (copied_values k x) → Performs s s l l k k k (prim.Stop why.StackOver) (enter_block_out k x args)
-over s l k x args less = record { gives = stops k x args (grind (arith, nat_tests, less)); exact = tt; layout = refl; limit = refl; contexts = made_none l s }
+over s l k x args less =
+    let e : enter_block_out k x args ≡ stop why.StackOver k = stops k x args (grind (arith, nat_tests, less)) in
+    record {
+      gives = ap (λ (o : Out). o.end) e;
+      exact = λ none. subst (λ (o : Out). SameKept k o.state) (sym e) (record { objects = λ i. refl; rest = refl });
+      layout = refl;
+      limit = refl;
+      contexts = made_none l s;
+    }
 
 pub size_is : (s : Store) (k : Kept) (x : Ref) (args size : ℕ) (m : Oop) → Evaluates s k x args m → size ≡ context_size (header_in (object_of k (name_of s m))) → block_size k x ≡ size
 size_is s k x args size m block is = sym (is ∙ ap (λ r. context_size (header_in (object_of k r))) block.method.is)

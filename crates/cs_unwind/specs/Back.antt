@@ -30,12 +30,13 @@ BackGives old new l k v (Call special args) o = (o.end ≡ ends.Call special arg
 BackGives old new l k v (Stop reason) o = o.end ≡ ends.Stopped reason
 BackGives old new l k v (Full why) o = (why ≡ Heap) × ((o.end ≡ ends.Done) ⊎ Asks o.end) × CausesFull new l k o.count.objects o.state why
 
--- where it went on, and no layout is told, the view is the state of the model
-abbrev pub BackExact : Option Layout → Kept → BackEnd → Out → Type 0
-BackExact l v Done o = l ≡ None → SameKept v o.state
-BackExact l v (Call special args) o = l ≡ None → SameKept v o.state
-BackExact l v (Stop reason) o = Unit {0}
-BackExact l v (Full why) o = Unit {0}
+-- Where it went on, and no layout is told, the view is the state of the model. Where it stops, the view is as it was: of a message
+-- that doesn't fit nothing is pushed.
+abbrev pub BackExact : Option Layout → Kept → Kept → BackEnd → Out → Type 0
+BackExact l k v Done o = l ≡ None → SameKept v o.state
+BackExact l k v (Call special args) o = l ≡ None → SameKept v o.state
+BackExact l k v (Stop reason) o = v ≡ k
+BackExact l k v (Full why) o = Unit {0}
 
 abbrev pub home_birth : Home → Option ℕ
 home_birth (HomeAt i) = Some i

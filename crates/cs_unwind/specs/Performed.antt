@@ -6,14 +6,14 @@ use Rattle.cs_model.specs.End.{Out}
 use Rattle.cs_acts.specs.declared.prim.PrimEnd.{PrimEnd}
 use Rattle.cs_acts.specs.Layout.{Layout}
 use Rattle.cs_acts.specs.Names.{Store}
-use Rattle.cs_acts.specs.Primed.{IfOver, PrimGives, PrimLaid, PrimMakes}
+use Rattle.cs_acts.specs.Primed.{PrimGives, PrimLaid, PrimMakes, UnlessFull}
 
 -- A primitive gives what the model gives, from a world of this store, this layout and the view k to one of the view v; a context is
--- entered from the state `from`. Where it went on, v is the state of the model if no layout is told, and what it made and where its
+-- entered from the state `from`. Where there was room, v is the state of the model if no layout is told, and what it made and where its
 -- frames are is as its end says. The limit is the same.
 pub record Performs (old new : Store) (before after : Option Layout) (k from v : Kept) (found : PrimEnd) (o : Out) : Type 0 where
   pub gives : PrimGives old new before k from v found o
-  pub exact : IfOver found (before ≡ None → SameKept v o.state)
+  pub exact : UnlessFull found (before ≡ None → SameKept v o.state)
   pub layout : PrimLaid from found before after
   pub limit : new.memory.limit ≡ old.memory.limit
   pub contexts : PrimMakes from found o.count.looks before old new

@@ -14,7 +14,7 @@ use Rattle.cs_unwind.specs.declared.returns.Arrival.TheVariants.{Never, NoRoom, 
 -- A return gives what the model gives, from a world of this store, this layout and the view k to one of the view v.
 pub record Returns (old new : Store) (before after : Option Layout) (k v : Kept) (local : Bool) (found : BackEnd) (o : Out) : Type 0 where
   pub gives : BackGives old new before k v found o
-  pub exact : BackExact before v found o
+  pub exact : BackExact before k v found o
   pub layout : BackLaid k local found before after
   pub limit : new.memory.limit ≡ old.memory.limit
   pub contexts : BackMakes found before old new

@@ -8,7 +8,7 @@ ghost use Rattle.cs_model.specs.PrimTable.{kept_prim};
 ghost use Rattle.cs_model.specs.Read.{depth_of};
 ghost use Rattle.cs_model.specs.Return.{back};
 ghost use Rattle.cs_acts.specs.Names.{IsNamed, name_of};
-ghost use Rattle.cs_acts.specs.Primed.{IfOver, PrimGives, PrimLaid, PrimMakes};
+ghost use Rattle.cs_acts.specs.Primed.{PrimGives, PrimLaid, PrimMakes, UnlessFull};
 ghost use Rattle.cs_acts.specs.Ready.{IsReady};
 ghost use Rattle.cs_unwind.specs.Back.{BackExact, BackGives, BackLaid, BackMakes};
 ghost use Rattle.cs_unwind.specs.Blocks.{wanted_by};
@@ -43,14 +43,14 @@ const EVALUATE_ARRAY: u32 = 206;
 /// from the active context to the home die, and the value is pushed at the target. The causes to stop: ChainTooLong
 /// where a search follows 1,048,576 links and isn't at its end, and StackOver where the target, or for a message the
 /// active context, has no room. `Full` comes only for the heap: where it has no room for the contexts that a message
-/// names, or where the world makes one for the value to arrive.
+/// names, or where the world makes one for the value to arrive. Where it stops, nothing is changed.
 #[tactic(auto, unfolding(cs_model::specs::Return::back))]
 pub fn give_back<W: World>(w: &mut W, value: Oop, local: bool) -> BackEnd
     requires ready { IsReady (W.stored w.old) (W.view w.old) }
     requires named { IsNamed (W.stored w.old) value }
     ensures gives { BackGives (W.stored w.old) (W.stored w.new) (W.layout w.old) (W.view w.old) (W.view w.new) result
         (back (W.view w.old) (name_of (W.stored w.old) value) local) }
-    ensures exact { BackExact (W.layout w.old) (W.view w.new) result
+    ensures exact { BackExact (W.layout w.old) (W.view w.old) (W.view w.new) result
         (back (W.view w.old) (name_of (W.stored w.old) value) local) }
     ensures layout { BackLaid (W.view w.old) local result (W.layout w.old) (W.layout w.new) }
     ensures limit { (W.stored w.new).memory.limit ≡ (W.stored w.old).memory.limit }
@@ -79,7 +79,8 @@ pub fn unwinds(number: u32) -> bool
 /// Array. 195 answers the first context marked with 198 from the receiver's sender on and before the argument, 197 the
 /// first one marked with 199 from the receiver itself on; both answer nil where there is none. 198 and 199 are the
 /// marks, and fail. With another number of arguments all fail. The causes to stop: StackOver where arguments and copied
-/// values don't fit the block's context, and ChainTooLong.
+/// values don't fit the block's context, and ChainTooLong. Nothing is changed then, but that 206 has put the elements
+/// in the place of the Array.
 pub fn primitive<W: World>(w: &mut W, number: u32, args: u32) -> PrimEnd
     requires ready { IsReady (W.stored w.old) (W.view w.old) }
     requires number { unwinds number ≡ true }
@@ -87,7 +88,7 @@ pub fn primitive<W: World>(w: &mut W, number: u32, args: u32) -> PrimEnd
     requires births { (W.view w.old).rest.next < 4611686018427387904 }
     ensures gives { PrimGives (W.stored w.old) (W.stored w.new) (W.layout w.old) (W.view w.old)
         (entered_from (W.view w.old) number) (W.view w.new) result (kept_prim number args (W.view w.old)) }
-    ensures exact { IfOver result (W.layout w.old ≡ None → SameKept (W.view w.new)
+    ensures exact { UnlessFull result (W.layout w.old ≡ None → SameKept (W.view w.new)
         (kept_prim number args (W.view w.old)).state) }
     ensures layout { PrimLaid (entered_from (W.view w.old) number) result (W.layout w.old) (W.layout w.new) }
     ensures limit { (W.stored w.new).memory.limit ≡ (W.stored w.old).memory.limit }
