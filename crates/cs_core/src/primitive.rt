@@ -109,7 +109,8 @@ fn byte_of(o: Oop) -> Option<u8>
 pub fn write<K: Sink>(heap: &Heap, piece: Piece, out: &mut K) -> Result<(), Failed>
     requires { is_piece heap.now.objects piece ≡ true }
     ensures ok { OnOk result (Appends (K.taken out.old) (K.taken out.new) (bytes_of_piece heap.now.objects piece)) }
-    ensures err { OnErr result (AppendsPart (K.taken out.old) (K.taken out.new) (bytes_of_piece heap.now.objects piece)) }
+    ensures err { OnErr result
+        (AppendsPart (K.taken out.old) (K.taken out.new) (bytes_of_piece heap.now.objects piece)) }
     ensures never_falls { K.fault_count out.old ≤ K.fault_count out.new }
     ensures cause { OnErr result (Rose (K.fault_count out.old) (K.fault_count out.new)) }
 {
