@@ -19,7 +19,10 @@ or_twice false false = refl
 pub slots_stored-twice : (m : Memory) (a : ℕ) (xs ys : List Object) → slots_stored (slots_stored m a xs) a ys ≡ slots_stored m a ys
 slots_stored-twice m a xs ys = ap (λ d. let n : Memory = record m { objects = ys; dirty = d } in n) (or_twice m.dirty (is_watched m a))
 
--- a store into an object that isn't watched changes the objects alone
+-- a store into an object that isn't watched, or in a memory that is dirty, changes the objects alone
+pub slots_stored-counted : (m : Memory) (a : ℕ) (xs : List Object) → (m.dirty || is_watched m a) ≡ m.dirty → slots_stored m a xs ≡ record m { objects = xs }
+slots_stored-counted m a xs h = ap (λ d. let n : Memory = record m { objects = xs; dirty = d } in n) h
+
 pub slots_stored-unwatched : (m : Memory) (a : ℕ) (xs : List Object) → is_watched m a ≡ false → slots_stored m a xs ≡ record m { objects = xs }
 slots_stored-unwatched m a xs h = ap (λ d. let n : Memory = record m { objects = xs; dirty = d } in n) (ap (λ w. m.dirty || w) h ∙ or_false m.dirty)
 

@@ -2,6 +2,7 @@
 use Rattle.std.proofs.Common.{◌≡◌, ℕ, zero, suc, ◌<◌, true, List, [], ◌∷◌, ◌++◌, Some, refl, ap, subst, ◌∙◌, arith, get_or, ap₂, Result, Ok, IfOk}
 use Rattle.std.specs.Prelude.{slice_get}
 use Rattle.std.proofs.lemmas.Bool.{false≢true}
+use Rattle.cs_heap.specs.Writes.{slot_stored}
 use Rattle.cs_heap.specs.Object.{Memory, Object, at_index, index_among, new_object, next_address, slot_count_of, with_slot}
 use Rattle.cs_classes.specs.Meaning.{count_of}
 use Rattle.cs_classes.specs.Sound.{IsSound, IsSoundObject, is_reference}
@@ -127,5 +128,5 @@ method_at before m e h = h ∙ ap (λ (os : List Object). next_address os 1) e
 pub two_is : (before after : Memory) → before.objects ≡ one → after ≡ record before { objects = before.objects ++ new_object 34 24 1 1 ∷ [] } → after.objects ≡ one ++ new_object 34 24 1 1 ∷ []
 two_is before after e h = ap (λ (m : Memory). m.objects) h ∙ ap (λ (os : List Object). os ++ new_object 34 24 1 1 ∷ []) e
 
-pub written_is : (before after : Memory) (os : List Object) (a i v : ℕ) → before.objects ≡ os → after ≡ record before { objects = with_slot before.objects a i v } → after.objects ≡ with_slot os a i v
+pub written_is : (before after : Memory) (os : List Object) (a i v : ℕ) → before.objects ≡ os → after ≡ slot_stored before a i v → after.objects ≡ with_slot os a i v
 written_is before after os a i v e h = ap (λ (m : Memory). m.objects) h ∙ ap (λ (xs : List Object). with_slot xs a i v) e

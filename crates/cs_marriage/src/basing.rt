@@ -1,6 +1,7 @@
 //! How a single context becomes the base frame of a page.
-ghost use Rattle.std.specs.Prelude.{◌≡◌, ◌+◌, ◌<◌, ◌≤◌, ◌^◌, [], ◌∷◌, IsSome, length, unwrap_or};
-ghost use Rattle.cs_heap.specs.Object.{birth_of, slot_count_of, slot_of, with_object};
+ghost use Rattle.std.specs.Prelude.{◌≡◌, ◌+◌, ◌<◌, ◌≤◌, ◌^◌, ◌||◌, [], ◌∷◌, IsSome, length, unwrap_or};
+ghost use Rattle.cs_heap.specs.Object.{birth_of, is_watched, slot_count_of, slot_of, with_object};
+ghost use Rattle.cs_heap.specs.Writes.{slots_stored};
 ghost use Rattle.cs_classes.specs.Meaning.{count_of};
 ghost use Rattle.cs_frame.specs.Frame.{with_stack};
 ghost use Rattle.cs_frame.specs.Page.{IsTop, frames_of, on_page, on_top, top, used};
@@ -23,7 +24,7 @@ pub fn base(heap: &mut Heap, frames: &mut Frames, ctx: Oop, page: u32) -> FrameR
     requires empty { frames_of frames.old page ≡ [] }
     ensures page { result.page ≡ page }
     ensures at { result.at ≡ 0 }
-    ensures heap { heap.new ≡ record heap.old { objects = with_object heap.old.objects ctx.0 (linked result) } }
+    ensures heap { heap.new ≡ slots_stored heap.old ctx.0 (with_object heap.old.objects ctx.0 (linked result)) }
     ensures frames { frames.new ≡ on_page frames.old page (λ _. base_frame heap.old.objects ctx.0 ∷ []) }
     ensures married { HasContext frames.new ctx.0 result }
     ensures agree { Agree heap.new.objects frames.new }
@@ -77,7 +78,7 @@ fn vacate(heap: &mut Heap, ctx: Oop, f: FrameRef)
     requires context { IsContextAt heap.old.objects ctx.0 }
     requires page { f.page < 64 }
     requires at { f.at < 4096 }
-    ensures heap { heap.new ≡ record heap.old { objects = with_object heap.old.objects ctx.0 (linked f) } }
+    ensures heap { heap.new ≡ slots_stored heap.old ctx.0 (with_object heap.old.objects ctx.0 (linked f)) }
 {
     heap.set_slot(ctx, SENDER, link_word(f));
     heap.set_slot(ctx, PC, NIL);
@@ -85,9 +86,10 @@ fn vacate(heap: &mut Heap, ctx: Oop, f: FrameRef)
     clear_stack(heap, ctx);
 }
 
-/// Writes nil to the stack of a context.
+/// Writes nil to the stack of a context, to which a store came before.
 fn clear_stack(heap: &mut Heap, ctx: Oop)
     requires fields { 6 ≤ slot_count_of heap.old.objects ctx.0 }
+    requires counted { (heap.old.dirty || is_watched heap.old ctx.0) ≡ heap.old.dirty }
     ensures heap { heap.new ≡ record heap.old { objects = with_object heap.old.objects ctx.0 (cleared_from 6) } }
 {
     for i in STACK..heap.slot_count(ctx) {

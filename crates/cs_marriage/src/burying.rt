@@ -1,5 +1,6 @@
 //! How a widowed context becomes single.
 ghost use Rattle.std.specs.Prelude.{◌≡◌};
+ghost use Rattle.cs_heap.specs.Writes.{slots_stored};
 ghost use Rattle.cs_marriage.specs.Agree.{Agree, IsContextAt, IsWidowed};
 ghost use Rattle.cs_marriage.specs.Marriage.{buried};
 
@@ -15,7 +16,7 @@ pub fn bury(heap: &mut Heap, frames: &Frames, ctx: Oop)
     requires agree { Agree heap.old.objects frames.now }
     requires context { IsContextAt heap.old.objects ctx.0 }
     requires widowed { IsWidowed heap.old.objects frames.now ctx.0 }
-    ensures heap { heap.new ≡ record heap.old { objects = buried heap.old.objects ctx.0 } }
+    ensures heap { heap.new ≡ slots_stored heap.old ctx.0 (buried heap.old.objects ctx.0) }
     ensures agree { Agree heap.new.objects frames.now }
 {
     heap.set_slot(ctx, SENDER, NIL);

@@ -1,4 +1,4 @@
-use Rattle.std.proofs.Common.{◌≡◌, ℕ, ap, sym, ◌∙◌, option_map, length, None, arith}
+use Rattle.std.proofs.Common.{ap, sym, ◌∙◌, option_map, None, arith}
 use Rattle.std.proofs.lemmas.List.{get_or_past}
 use Rattle.std.specs.FinMap.{get}
 use Rattle.cs_word.specs.declared.Oop.{Oop}

@@ -1,5 +1,7 @@
-use Rattle.std.proofs.Common.{◌≡◌, ℕ, ◌<◌, List, [], ◌∷◌, ◌++◌, length, ap, sym, subst, ◌∙◌, arith}
-use Rattle.cs_heap.specs.Object.{Memory, Object, is_object, new_object, slot_count_of, with_hash, with_slot}
+use Rattle.std.proofs.Common.{◌≡◌, ℕ, ◌<◌, false, List, [], ◌∷◌, ◌++◌, length, ap, sym, subst, ◌∙◌, arith}
+use Rattle.cs_heap.specs.Object.{Memory, Object, is_object, is_watched, new_object, slot_count_of, with_hash}
+use Rattle.cs_heap.specs.Writes.{slot_stored}
+use Rattle.cs_heap.proofs.Writes.{slot_stored-unwatched}
 use Rattle.cs_image.specs.Heap.{seen}
 use Rattle.cs_image.specs.Loading.{loaded_word}
 use Rattle.cs_image.proofs.Storing.{begun, begun_all, begun_more, begun_slots, fresh, fresh_begun, fresh_there}
@@ -30,11 +32,16 @@ set_slot-requires c =
 
 pub loop-i-preserved : goal.loop-i-preserved
 loop-i-preserved c =
+    let m : Memory = c.args.heap.now in
+    let at : ℕ = c.in-Ok.at.0 in
+    let word : ℕ = loaded_word c.args.file.now c.args.o.now.format c.args.o.now.words.now c.loop-i.i in
+    let unwatched : is_watched m at ≡ false = ap (λ (n : Memory). is_watched n at) (sym c.in-Ok.ensures.added) ∙ c.in-Ok.ensures.unwatched in
     c.set_slot.ensures
-    ∙ ap (λ v. record c.loop-i.heap { objects = with_slot c.loop-i.heap.objects c.in-Ok.at.0 c.loop-i.i v }) c.loaded_word.ensures
-    ∙ ap (λ (m : Memory). record m { objects = with_slot m.objects c.in-Ok.at.0 c.loop-i.i (loaded_word c.args.file.now c.args.o.now.format c.args.o.now.words.now c.loop-i.i) }) c.loop-i.invariant
-    ∙ ap (λ (xs : List Object). record c.args.heap.now { objects = xs })
-    (begun_more c.args.file.now c.args.heap.now.objects c.args.birth (seen c.args.o.now) c.loop-i.i c.in-Ok.at.0 c.in-Ok.ensures.address)
+    ∙ ap (λ v. slot_stored c.loop-i.heap at c.loop-i.i v) c.loaded_word.ensures
+    ∙ ap (λ (n : Memory). slot_stored n at c.loop-i.i word) c.loop-i.invariant
+    ∙ slot_stored-unwatched (record m { objects = m.objects ++ begun c.args.file.now c.args.birth (seen c.args.o.now) c.loop-i.i ∷ [] }) at c.loop-i.i word unwatched
+    ∙ ap (λ (xs : List Object). record m { objects = xs })
+    (begun_more c.args.file.now m.objects c.args.birth (seen c.args.o.now) c.loop-i.i at c.in-Ok.ensures.address)
 
 pub returns : goal.returns
 returns c =

@@ -1,10 +1,23 @@
 use Rattle.std.proofs.Common.{◌≡◌, ◌∙◌, ap, sym, subst, List}
 use Rattle.cs_heap.specs.Object.{Memory, Object, set_word, with_object, with_slot}
+use Rattle.cs_heap.specs.Writes.{slot_stored, slots_stored}
+use Rattle.cs_heap.proofs.Writes.{slots_stored-twice}
 use Rattle.cs_heap.proofs.Laws.{set_word_keeps}
 use Rattle.cs_marriage.specs.Agree.{Agree}
 use Rattle.cs_marriage.proofs.Based.{agree_changed}
 use Rattle.cs_marriage.proofs.Objects.{with_object_twice}
 use Rattle.cs_marriage.proofs.burying.bury.Goals as goal
+
+pub returns-clause-heap : goal.returns-clause-heap
+returns-clause-heap c =
+    let m : Memory = c.args.heap.now in
+    let a = c.args.ctx.0 in
+    let one : List Object = with_slot m.objects a 0 65536 in
+    let two : List Object = with_slot one a 1 65536 in
+    let three : List Object = with_slot two a 2 1 in
+    c.set_slot-3.ensures
+    ∙ ap (λ (h : Memory). slot_stored h a 2 1) (c.set_slot-2.ensures ∙ ap (λ (h : Memory). slot_stored h a 1 65536) c.set_slot.ensures)
+    ∙ slots_stored-twice (slots_stored m a one) a two three ∙ slots_stored-twice m a one three
 
 pub returns-clause-agree : goal.returns-clause-agree
 returns-clause-agree c =
@@ -16,8 +29,8 @@ returns-clause-agree c =
     let three : Object → Object = λ x. set_word 2 1 (two x) in
     let written : c.set_slot-3.new.self.objects ≡ with_slot (with_slot (with_slot os a 0 65536) a 1 65536) a 2 1 =
     ap (λ (h : Memory). h.objects) (c.set_slot-3.ensures
-    ∙ ap (λ (h : Memory). record h { objects = with_slot h.objects a 2 1 }) (c.set_slot-2.ensures
-    ∙ ap (λ (h : Memory). record h { objects = with_slot h.objects a 1 65536 }) c.set_slot.ensures)) in
+    ∙ ap (λ (h : Memory). slot_stored h a 2 1) (c.set_slot-2.ensures
+    ∙ ap (λ (h : Memory). slot_stored h a 1 65536) c.set_slot.ensures)) in
     let whole : c.set_slot-3.new.self.objects ≡ with_object os a three =
     written
     ∙ (ap (λ (xs : List Object). with_slot xs a 2 1) (with_object_twice os a one (set_word 1 65536) (set_word_keeps 0 65536))
