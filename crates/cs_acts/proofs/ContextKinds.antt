@@ -7,7 +7,7 @@ use Rattle.std.proofs.lemmas.Bool.Decides.{eqb_tells}
 use Rattle.cs_heap.specs.Format.{is_pointers}
 use Rattle.cs_model.specs.Ref.{Ref, Small, Char, birth_of, index_of, same_ref}
 use Rattle.cs_model.specs.Ref as ref
-use Rattle.cs_model.specs.Obj.{Obj, Context, Head, Ptr, Raw, Method, Ctx, context_in, dead, is_context, is_context_at, is_method, new_head, popped, pushed, stored, with_pc}
+use Rattle.cs_model.specs.Obj.{Obj, Context, Head, Ptr, Raw, Method, Ctx, class_index_in, context_in, dead, is_context, is_context_at, is_method, new_head, popped, pushed, stored, with_pc}
 use Rattle.cs_model.specs.State.{Kept, Rest, ContextHeld, IsHeld, is_nil, object_at, object_of, put, with_rest}
 use Rattle.cs_model.specs.Read.{IsRunning, active_birth, active_context, blank}
 use Rattle.cs_model.specs.Context.{closure_class, has_class_index, lies_if_index}
@@ -172,6 +172,13 @@ kinds-set_stack k i x running kinds = let a = active_kinds k running kinds in ki
 
 -- ---- an object is edited
 
+context_is : (o : Option Obj) → is_context_at o ≡ true → (c : Context) × (o ≡ Some (Ctx c))
+context_is None h = absurd (false≢true h)
+context_is (Some (Ptr head slots)) h = absurd (false≢true h)
+context_is (Some (Raw head bytes)) h = absurd (false≢true h)
+context_is (Some (Method head header literals bytecodes)) h = absurd (false≢true h)
+context_is (Some (Ctx c)) h = (c, refl)
+
 -- an edit that leaves contexts, methods and closures what they are, and the fields of contexts what they name
 pub record EditKeeps (k : Kept) (f : Obj → Obj) : Type 0 where
   pub kind : (o : Obj) → KeepsKind (Some o) (f o)
@@ -190,81 +197,63 @@ kinds-edit_object k (Small z) f keeps kinds = kinds
 kinds-edit_object k (Char code) f keeps kinds = kinds
 kinds-edit_object k (ref.Obj i) f keeps kinds = kinds-edit_found k f i keeps kinds
 
-slot_keeps : (k : Kept) (i : ℕ) (v : Ref) → EditKeeps k (with_slot i v)
-slot_keeps k i v = record { kind = kind; fields = fields }
-  where
-    kind : (o : Obj) → KeepsKind (Some o) (with_slot i v o)
-    kind (Ptr head slots) = record { contexts = λ h. h; methods = λ h. h; closures = λ h. h }
-    kind (Raw head bytes) = record { contexts = λ h. h; methods = λ h. h; closures = λ h. h }
-    kind (Method head header literals bytecodes) = record { contexts = λ h. h; methods = λ h. h; closures = λ h. h }
-    kind (Ctx c) = record { contexts = λ h. h; methods = λ h. h; closures = λ h. h }
+-- an object and its edited form are both contexts or neither, and so with methods; and they have one class index
+record IsAlike (o new : Obj) : Type 0 where
+  contexts : is_context o ≡ is_context new
+  methods : is_method (Some o) ≡ is_method (Some new)
+  classes : class_index_in o ≡ class_index_in new
 
-    fields : (o : Obj) (c : Context) → with_slot i v o ≡ Ctx c → (d : Context) × ((o ≡ Ctx d) × (ContextKinds k d → ContextKinds k c))
-    fields (Ptr head slots) c e = absurd (cc)
-    fields (Raw head bytes) c e = absurd (cc)
-    fields (Method head header literals bytecodes) c e = absurd (cc)
-    fields (Ctx d) c e = let is : d ≡ c = cc in (d, (refl, subst (ContextKinds k) is))
+-- an edit of this kind, which edits contexts by g
+edit_keeps : (k : Kept) (f : Obj → Obj) (g : Context → Context) → ((o : Obj) → IsAlike o (f o)) → ((c : Context) → f (Ctx c) ≡ Ctx (g c)) → ((c : Context) → ContextKinds k c → ContextKinds k (g c)) → EditKeeps k f
+edit_keeps k f g alike context still = record {
+  kind = λ o. let a = alike o in record { contexts = λ h. sym a.contexts ∙ h; methods = λ h. sym a.methods ∙ h; closures = λ h. ap (λ n. n == closure_class) (sym a.classes) ∙ h };
+  fields = λ o c e.
+      let d = context_is (Some o) ((alike o).contexts ∙ ap is_context e) in
+      let is : o ≡ Ctx d.0 = let some = d.1 in cc in
+      let edited : Ctx (g d.0) ≡ Ctx c = sym (context d.0) ∙ ap f (sym is) ∙ e in
+      let same : g d.0 ≡ c = cc in
+      (d.0, (is, λ h. subst (ContextKinds k) same (still d.0 h)));
+}
+
+slot_alike : (i : ℕ) (v : Ref) (o : Obj) → IsAlike o (with_slot i v o)
+slot_alike i v (Ptr head slots) = record { contexts = refl; methods = refl; classes = refl }
+slot_alike i v (Raw head bytes) = record { contexts = refl; methods = refl; classes = refl }
+slot_alike i v (Method head header literals bytecodes) = record { contexts = refl; methods = refl; classes = refl }
+slot_alike i v (Ctx c) = record { contexts = refl; methods = refl; classes = refl }
 
 pub kinds-store : (k : Kept) (o : Ref) (i : ℕ) (v : Ref) → KindsStand k → KindsStand (store_of k o i v)
 unfolding store_of
-kinds-store k o i v = kinds-edit_object k o (with_slot i v) (slot_keeps k i v)
+kinds-store k o i v = kinds-edit_object k o (with_slot i v) (edit_keeps k (with_slot i v) (λ c. c) (slot_alike i v) (λ c. refl) (λ c h. h))
 
-byte_keeps : (k : Kept) (i b : ℕ) → EditKeeps k (with_byte i b)
-byte_keeps k i b = record { kind = kind; fields = fields }
-  where
-    kind : (o : Obj) → KeepsKind (Some o) (with_byte i b o)
-    kind (Ptr head slots) = record { contexts = λ h. h; methods = λ h. h; closures = λ h. h }
-    kind (Raw head bytes) = record { contexts = λ h. h; methods = λ h. h; closures = λ h. h }
-    kind (Method head header literals bytecodes) = record { contexts = λ h. h; methods = λ h. h; closures = λ h. h }
-    kind (Ctx c) = record { contexts = λ h. h; methods = λ h. h; closures = λ h. h }
-
-    fields : (o : Obj) (c : Context) → with_byte i b o ≡ Ctx c → (d : Context) × ((o ≡ Ctx d) × (ContextKinds k d → ContextKinds k c))
-    fields (Ptr head slots) c e = absurd (cc)
-    fields (Raw head bytes) c e = absurd (cc)
-    fields (Method head header literals bytecodes) c e = absurd (cc)
-    fields (Ctx d) c e = let is : d ≡ c = cc in (d, (refl, subst (ContextKinds k) is))
+byte_alike : (i b : ℕ) (o : Obj) → IsAlike o (with_byte i b o)
+byte_alike i b (Ptr head slots) = record { contexts = refl; methods = refl; classes = refl }
+byte_alike i b (Raw head bytes) = record { contexts = refl; methods = refl; classes = refl }
+byte_alike i b (Method head header literals bytecodes) = record { contexts = refl; methods = refl; classes = refl }
+byte_alike i b (Ctx c) = record { contexts = refl; methods = refl; classes = refl }
 
 pub kinds-store_byte : (k : Kept) (o : Ref) (i b : ℕ) → KindsStand k → KindsStand (store_byte_of k o i b)
 unfolding store_byte_of
-kinds-store_byte k o i b = kinds-edit_object k o (with_byte i b) (byte_keeps k i b)
+kinds-store_byte k o i b = kinds-edit_object k o (with_byte i b) (edit_keeps k (with_byte i b) (λ c. c) (byte_alike i b) (λ c. refl) (λ c h. h))
 
-fixed_keeps : (k : Kept) (on : Bool) → EditKeeps k (with_fixed on)
-fixed_keeps k on = record { kind = kind; fields = fields }
-  where
-    kind : (o : Obj) → KeepsKind (Some o) (with_fixed on o)
-    kind (Ptr head slots) = record { contexts = λ h. h; methods = λ h. h; closures = λ h. h }
-    kind (Raw head bytes) = record { contexts = λ h. h; methods = λ h. h; closures = λ h. h }
-    kind (Method head header literals bytecodes) = record { contexts = λ h. h; methods = λ h. h; closures = λ h. h }
-    kind (Ctx c) = record { contexts = λ h. h; methods = λ h. h; closures = λ h. h }
-
-    fields : (o : Obj) (c : Context) → with_fixed on o ≡ Ctx c → (d : Context) × ((o ≡ Ctx d) × (ContextKinds k d → ContextKinds k c))
-    fields (Ptr head slots) c e = absurd (cc)
-    fields (Raw head bytes) c e = absurd (cc)
-    fields (Method head header literals bytecodes) c e = absurd (cc)
-    fields (Ctx d) c e = let is : d ≡ c = cc in (d, (refl, subst (ContextKinds k) is))
+fixed_alike : (on : Bool) (o : Obj) → IsAlike o (with_fixed on o)
+fixed_alike on (Ptr head slots) = record { contexts = refl; methods = refl; classes = refl }
+fixed_alike on (Raw head bytes) = record { contexts = refl; methods = refl; classes = refl }
+fixed_alike on (Method head header literals bytecodes) = record { contexts = refl; methods = refl; classes = refl }
+fixed_alike on (Ctx c) = record { contexts = refl; methods = refl; classes = refl }
 
 pub kinds-set_fixed : (k : Kept) (o : Ref) (on : Bool) → KindsStand k → KindsStand (set_fixed_of k o on)
 unfolding set_fixed_of
-kinds-set_fixed k o on = kinds-edit_object k o (with_fixed on) (fixed_keeps k on)
+kinds-set_fixed k o on = kinds-edit_object k o (with_fixed on) (edit_keeps k (with_fixed on) (λ c. c) (fixed_alike on) (λ c. refl) (λ c h. h))
 
-hash_keeps : (k : Kept) (hash : ℕ) → EditKeeps k (with_hash hash)
-hash_keeps k hash = record { kind = kind; fields = fields }
-  where
-    kind : (o : Obj) → KeepsKind (Some o) (with_hash hash o)
-    kind (Ptr head slots) = record { contexts = λ h. h; methods = λ h. h; closures = λ h. h }
-    kind (Raw head bytes) = record { contexts = λ h. h; methods = λ h. h; closures = λ h. h }
-    kind (Method head header literals bytecodes) = record { contexts = λ h. h; methods = λ h. h; closures = λ h. h }
-    kind (Ctx c) = record { contexts = λ h. h; methods = λ h. h; closures = λ h. h }
-
-    fields : (o : Obj) (c : Context) → with_hash hash o ≡ Ctx c → (d : Context) × ((o ≡ Ctx d) × (ContextKinds k d → ContextKinds k c))
-    fields (Ptr head slots) c e = absurd (cc)
-    fields (Raw head bytes) c e = absurd (cc)
-    fields (Method head header literals bytecodes) c e = absurd (cc)
-    fields (Ctx d) c e = let is : record d { hash = hash } ≡ c = cc in
-        (d, (refl, λ h. subst (ContextKinds k) is (record { sender = h.sender; method = h.method; closure = h.closure })))
+hash_alike : (hash : ℕ) (o : Obj) → IsAlike o (with_hash hash o)
+hash_alike hash (Ptr head slots) = record { contexts = refl; methods = refl; classes = refl }
+hash_alike hash (Raw head bytes) = record { contexts = refl; methods = refl; classes = refl }
+hash_alike hash (Method head header literals bytecodes) = record { contexts = refl; methods = refl; classes = refl }
+hash_alike hash (Ctx c) = record { contexts = refl; methods = refl; classes = refl }
 
 pub kinds-set_hash : (k : Kept) (o : Ref) (hash : ℕ) → KindsStand k → KindsStand (edit_object k o (with_hash hash))
-kinds-set_hash k o hash = kinds-edit_object k o (with_hash hash) (hash_keeps k hash)
+kinds-set_hash k o hash = kinds-edit_object k o (with_hash hash) (edit_keeps k (with_hash hash) (λ c. record c { hash = hash }) (hash_alike hash) (λ c. refl)
+    (λ c h. record { sender = h.sender; method = h.method; closure = h.closure }))
 
 -- ---- an object is made
 
@@ -380,27 +369,15 @@ kinds-enter_block k x args running below kinds can =
 -- ---- leaving
 
 -- a context dies: its method and its closure stay, and its sender is nil
-dead_keeps : (k : Kept) → EditKeeps k (dead_object k.rest.nil)
-dead_keeps k = record { kind = kind; fields = fields }
-  where
-    kind : (o : Obj) → KeepsKind (Some o) (dead_object k.rest.nil o)
-    kind (Ptr head slots) = record { contexts = λ h. h; methods = λ h. h; closures = λ h. h }
-    kind (Raw head bytes) = record { contexts = λ h. h; methods = λ h. h; closures = λ h. h }
-    kind (Method head header literals bytecodes) = record { contexts = λ h. h; methods = λ h. h; closures = λ h. h }
-    kind (Ctx c) = record { contexts = λ h. h; methods = λ h. h; closures = λ h. h }
+dead_alike : (nil : ℕ) (o : Obj) → IsAlike o (dead_object nil o)
+dead_alike nil (Ptr head slots) = record { contexts = refl; methods = refl; classes = refl }
+dead_alike nil (Raw head bytes) = record { contexts = refl; methods = refl; classes = refl }
+dead_alike nil (Method head header literals bytecodes) = record { contexts = refl; methods = refl; classes = refl }
+dead_alike nil (Ctx c) = record { contexts = refl; methods = refl; classes = refl }
 
-    fields : (o : Obj) (c : Context) → dead_object k.rest.nil o ≡ Ctx c → (d : Context) × ((o ≡ Ctx d) × (ContextKinds k d → ContextKinds k c))
-    fields (Ptr head slots) c e = absurd (cc)
-    fields (Raw head bytes) c e = absurd (cc)
-    fields (Method head header literals bytecodes) c e = absurd (cc)
-    fields (Ctx d) c e =
-        let nil : ℕ = k.rest.nil in
-        let is : dead nil d ≡ c = cc in
-        (d, (refl, λ h. subst (ContextKinds k) is (record {
-          sender = or_left (nil == nil) (is_context_at (object_at k nil)) (eq-eqb nil nil refl);
-          method = h.method;
-          closure = h.closure;
-        })))
+dead_keeps : (k : Kept) → EditKeeps k (dead_object k.rest.nil)
+dead_keeps k = edit_keeps k (dead_object k.rest.nil) (dead k.rest.nil) (dead_alike k.rest.nil) (λ c. refl)
+    (λ c h. record { sender = or_left (k.rest.nil == k.rest.nil) (is_context_at (object_at k k.rest.nil)) (eq-eqb k.rest.nil k.rest.nil refl); method = h.method; closure = h.closure })
 
 edit_found_grows : (k : Kept) (f : Obj → Obj) (i : ℕ) → ((o : Obj) → KeepsKind (Some o) (f o)) → KindsGrow k (edit_found f i (object_at k i) k)
 edit_found_grows k f i keeps = go (object_at k i) refl
@@ -449,13 +426,6 @@ kinds-arrive k target x h kinds =
     let found : object_at t (active_birth t) ≡ Some (Ctx (active_context t)) = c.1 ∙ ap (λ d. Some (Ctx d)) (sym active) in
     let own : ContextKinds t (active_context t) = all target (active_context t) found in
     kinds-edit_active t (pushed x) found all (record { sender = own.sender; method = own.method; closure = own.closure })
-  where
-    context_is : (o : Option Obj) → is_context_at o ≡ true → (c : Context) × (o ≡ Some (Ctx c))
-    context_is None h = absurd (false≢true h)
-    context_is (Some (Ptr head slots)) h = absurd (false≢true h)
-    context_is (Some (Raw head bytes)) h = absurd (false≢true h)
-    context_is (Some (Method head header literals bytecodes)) h = absurd (false≢true h)
-    context_is (Some (Ctx c)) h = (c, refl)
 
 pub kinds-cut_to : (k : Kept) (dying : List ℕ) (target : ℕ) (x : Ref) → is_live k target ≡ true → KindsStand k → KindsStand (cut_to_of k dying target x)
 unfolding cut_to_of

@@ -1,22 +1,21 @@
 -- What the fields of the contexts of a heap name, in the state that it stands for.
-use Rattle.std.proofs.Common.{◌≡◌, ◌⊎◌, inl, inr, ℕ, Bool, true, false, List, Option, Some, refl, ap, subst, sym, ◌∙◌, option_map}
+use Rattle.std.proofs.Common.{◌≡◌, ◌⊎◌, inl, inr, ℕ, true, List, Option, Some, refl, ap, subst, sym, ◌∙◌, option_map}
 use Rattle.std.specs.Prelude.{◌==◌, ◌||◌, slice_index}
 use Rattle.std.specs.Ordering.{nat_cmp}
 use Rattle.std.specs.Option.{option_map_or}
-use Rattle.std.specs.FinMap.{FinMap, get}
+use Rattle.std.specs.FinMap.{FinMap}
 use Rattle.std.proofs.lemmas.Bool.{eq-eqb, eqb-true, false≢true, or_left, or_right}
 use Rattle.cs_heap.specs.Format.{is_method}
-use Rattle.cs_heap.specs.Object.{Object, birth_of, class_of, format_of, is_object, object_at}
+use Rattle.cs_heap.specs.Object.{Object, class_of, format_of, is_object, object_at}
 use Rattle.cs_model.specs.Context.{closure_class, has_class_index}
 use Rattle.cs_model.specs.Obj as obj
 use Rattle.cs_model.specs.Obj.{Context, Ctx}
-use Rattle.cs_model.specs.Ref.{Ref}
 use Rattle.cs_model.specs.State.{Kept, is_nil, object_of}
 use Rattle.cs_classes.specs.declared.Roots.{Roots}
 use Rattle.cs_classes.specs.Kinds.{KindsStand}
-use Rattle.cs_classes.specs.Meaning.{birth_at, context_of, is_context, kept_of, obj_of, objects_of, ref_of}
+use Rattle.cs_classes.specs.Meaning.{birth_at, context_of, kept_of, obj_of, ref_of}
 use Rattle.cs_classes.specs.Senders.{SendersStand}
-use Rattle.cs_classes.specs.Sound.{IsSoundObject, IsWhole, is_closure_address, is_method_address, nil_of}
+use Rattle.cs_classes.specs.Sound.{IsWhole, is_closure_address, is_method_address, nil_of}
 use Rattle.cs_classes.proofs.Heaps.{object_there}
 use Rattle.cs_classes.proofs.Makings.{ref_of-nil}
 use Rattle.cs_classes.proofs.Objects.{get-objects_of, objects_of-comes}

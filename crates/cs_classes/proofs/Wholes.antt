@@ -294,7 +294,7 @@ next_is_fresh os table roots w k x h e = omega (arith, w.births k x h, e)
 pub obj_of-push : (os : List Object) (y x : Object) → IsSoundObject os x → obj_of (ref_of (os ++ y ∷ [])) x ≡ obj_of (ref_of os) x
 obj_of-push os y x s = obj_of-alike (is_reference os) (ref_of (os ++ y ∷ [])) (ref_of os) (ref_of-push os y) x s.references
     (λ c. let whole = whole_context os x s c in
-        (whole.format, (whole.fields, ref_of-push_placed os y (slice_index x.words 0) (placed-sender os (slice_index x.words 0) whole.sender))))
+    (whole.format, (whole.fields, ref_of-push_placed os y (slice_index x.words 0) (placed-sender os (slice_index x.words 0) whole.sender))))
 
 births_push : (os : List Object) (y : Object) (k : ℕ) → k < length os → birth_at (os ++ y ∷ []) k ≡ birth_at os k
 births_push [] y k h = absurd (omega (arith, h))
