@@ -1,6 +1,7 @@
 //! How a return goes past a home: all contexts on the way die.
 ghost use Rattle.std.specs.Prelude.{◌≡◌, ◌<◌, [], IfSome, IsSome, IsSomeAnd};
 ghost use Rattle.cs_heap.specs.Object.{slot_count_of};
+ghost use Rattle.cs_heap.specs.Writes.{slots_stored};
 ghost use Rattle.cs_marriage.specs.Marriage.{buried};
 ghost use Rattle.cs_model.specs.Keeps.{Keeps};
 ghost use Rattle.cs_model.specs.Operation.{cut_to_of};
@@ -125,7 +126,7 @@ impl Parts {
 #[tactic(auto, using(cs_heap::proofs::Laws::heap_laws))]
 fn bury_words(heap: &mut Heap, context: Oop)
     requires { 5 < slot_count_of heap.old.objects context.0 }
-    ensures { heap.new ≡ record heap.old { objects = buried heap.old.objects context.0 } }
+    ensures { heap.new ≡ slots_stored heap.old context.0 (buried heap.old.objects context.0) }
 {
     heap.set_slot(context, SENDER, NIL);
     heap.set_slot(context, PC, NIL);

@@ -54,8 +54,7 @@ impl Model for StackWorld {
 const PROCESS_SLOTS: u32 = 4;
 
 impl StackWorld {
-    ghost use Rattle.std.specs.Prelude.{◌≤◌, ◌<◌, length, ℕ, IfOk, false, true, is_some, None, Some, [], option_map};
-    ghost use Rattle.std.specs.FinMap.{get};
+    ghost use Rattle.std.specs.Prelude.{◌≤◌, ◌<◌, length, ℕ, IfOk, false, None, Some, [], option_map};
     ghost use Rattle.cs_classes.specs.Sound.{IsWhole};
     ghost use Rattle.cs_classes.specs.Senders.{SendersStand};
     ghost use Rattle.cs_model.specs.Due.{is_idle};
@@ -74,7 +73,8 @@ impl StackWorld {
     /// Opens a loaded image on so many stack pages, 2 to 64 of 4,096 words each: the active process gives its context to the machine.
     /// With no active process none is active. The only error is that memory is refused.
     ///
-    /// Births are below 2^62, nil is no context, closures have a class, the pc of each context is nil or lies in its method, and its sender is nil or a context.
+    /// Births are below 2^62, nil is no context, the pc of each context is nil or lies in its method, and its sender is nil
+    /// or a context.
     /// Where a process is active, the context that it gives must be live.
     pub fn new(alloc: Global, loaded: Loaded, pages: u32) -> Result<StackWorld, AllocError>
         requires few { (2 ≤ pages) × (pages ≤ 64) }
@@ -83,7 +83,6 @@ impl StackWorld {
         requires pcs { (i : ℕ) (c : Context) → object_at (loaded_kept loaded) i ≡ Some (Ctx c) → PcLies (loaded_kept loaded) c }
         requires senders { SendersStand (loaded_kept loaded) }
         requires nil { is_context_at (object_at (loaded_kept loaded) (loaded_kept loaded).rest.nil) ≡ false }
-        requires closures { is_some (get loaded.classes 37) ≡ true }
         requires running { is_idle (loaded_kept loaded) ≡ false → IsRunning (open_kept (loaded_kept loaded)) }
         ensures view { IfOk result (λ w. view_of w ≡ open_kept (loaded_kept loaded)) }
         ensures sound { IfOk result (λ w. IsSound (stored_of w) (view_of w)) }
