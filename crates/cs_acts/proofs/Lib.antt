@@ -11,3 +11,4 @@ pub mod Dropping
 pub mod Leading
 pub mod Filling
 pub mod ContextKinds
+pub mod Dirty

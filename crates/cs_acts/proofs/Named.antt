@@ -12,9 +12,10 @@ use Rattle.cs_word.specs.declared.Oop.{Oop}
 use Rattle.cs_word.specs.declared.Kind.{Kind}
 use Rattle.cs_word.specs.declared.Kind.TheVariants as kind
 use Rattle.cs_word.specs.Word.{kind_of, small_value}
+use Rattle.cs_word.specs.Header.{bit, flag_bits}
 use Rattle.cs_word.proofs.Words.{kind_of-object}
 use Rattle.cs_heap.specs.Format.{is_pointers, is_method}
-use Rattle.cs_heap.specs.Object.{Memory, Object, birth_of, class_of, field_of, format_of, index_of, is_object, object_at, slot_count_of, slot_of}
+use Rattle.cs_heap.specs.Object.{Memory, Object, birth_of, class_of, field_of, format_of, index_of, is_fixed, is_object, object_at, slot_count_of, slot_of}
 use Rattle.cs_heap.proofs.Laws.{object_placed}
 use Rattle.cs_classes.specs.declared.Roots.{Roots}
 use Rattle.cs_classes.proofs.Wholes.{get-classes_of}
@@ -27,8 +28,8 @@ use Rattle.cs_classes.proofs.Sounds.{sound_at, method_other}
 use Rattle.cs_model.specs.Ref.{Ref, same_ref}
 use Rattle.cs_model.specs.Ref as ref
 use Rattle.cs_model.specs.Obj as obj
-use Rattle.cs_model.specs.Obj.{Obj, Context, Ptr, Raw, Method, Ctx, at_least, context_class, context_in, is_context_at, slots_in}
-use Rattle.cs_model.specs.State.{Kept, Rest, object_of, slots_of, special_at}
+use Rattle.cs_model.specs.Obj.{Obj, Context, Ptr, Raw, Method, Ctx, at_least, context_class, context_in, is_context_at, is_fixed_at, slots_in}
+use Rattle.cs_model.specs.State.{Kept, Rest, is_read_only, object_of, slots_of, special_at}
 use Rattle.cs_model.specs.Read.{class_index_of, class_of as class_in_table, index_of_class}
 use Rattle.cs_model.specs.Context.{closure_class, has_class_index, is_context_ref}
 use Rattle.cs_acts.specs.Names.{Store, IsNamed, NamesOption, name_of}
@@ -270,6 +271,43 @@ method_read s k m o e holds named = subst (λ (m : Memory). reading.is_method_at
         ap₂ (λ b c. b && is_method c) is (field_at (λ y. y.format) s.memory.objects o.0 x at)
         ∙ is_it x (is_context x) (sound_at s.memory.objects o.0 x holds.whole.heap at) refl (said (Some x) f)
     go (Nowhere f is) = ap (λ b. b && is_method (format_of s.memory.objects o.0)) is ∙ sym (ap obj.is_method (said None f))
+
+-- what is read-only in the heap is so in the state, where no context is
+context_not_fixed : (o : Option Obj) → is_context_at o ≡ true → is_fixed_at o ≡ false
+context_not_fixed None h = absurd (cc)
+context_not_fixed (Some (Ptr head slots)) h = absurd (cc)
+context_not_fixed (Some (Raw head bytes)) h = absurd (cc)
+context_not_fixed (Some (Method head header literals bytecodes)) h = absurd (cc)
+context_not_fixed (Some (Ctx c)) h = refl
+
+fixed_object : (refer : ℕ → Ref) (x : Object) → is_context x ≡ false → (flag_bits x.flags % 2 == 1) ≡ is_fixed_at (Some (obj_of refer x))
+fixed_object refer x other = ap (λ n. n == 1) (lowest (flag_bits x.flags)) ∙ sym (go (sort_of x))
+  where
+    lowest : (n : ℕ) → n % 2 ≡ bit n 0
+    lowest n = omega arith
+
+    go : Sort x → is_fixed_at (Some (obj_of refer x)) ≡ (bit (flag_bits x.flags) 0 == 1)
+    go (AContext c) = absurd (false≢true (sym other ∙ c))
+    go (Pointers o p) = ap (λ y. is_fixed_at (Some y)) (obj_of-pointers refer x o p)
+    go (AMethod o b m) = ap (λ y. is_fixed_at (Some y)) (obj_of-method refer x o b m)
+    go (Bytes o b m) = ap (λ y. is_fixed_at (Some y)) (obj_of-bytes refer x o b m)
+
+pub read_only_read : (s : Store) (k : Kept) (m : Memory) (o : Oop) → m ≡ s.memory → Holds s k → IsNamed s o → reading.is_read_only_at m.objects o.0 ≡ is_read_only k (name_of s o)
+read_only_read s k m o e holds named = subst (λ (m : Memory). reading.is_read_only_at m.objects o.0 ≡ is_read_only k (name_of s o)) (sym e) (go (place s.memory.objects o.0))
+  where
+    said : (p : Option Object) → object_named s.memory.objects o.0 ≡ p → Says (ref_of s.memory.objects) p (object_of k (name_of s o))
+    said p f = subst (λ q. Says (ref_of s.memory.objects) q (object_of k (name_of s o))) f (says s k o holds named)
+
+    is_it : (x : Object) (b : Bool) → is_context x ≡ b → Says (ref_of s.memory.objects) (Some x) (object_of k (name_of s o)) → (not b && flag_bits x.flags % 2 == 1) ≡ is_read_only k (name_of s o)
+    is_it x true f h = sym (context_not_fixed (object_of k (name_of s o)) (h.1 f))
+    is_it x false f h = fixed_object (ref_of s.memory.objects) x f ∙ sym (ap is_fixed_at (h.0 f))
+
+    go : Place s.memory.objects o.0 → reading.is_read_only_at s.memory.objects o.0 ≡ is_read_only k (name_of s o)
+    go (There x f at is) =
+        ap₂ (λ b c. b && not (c == context_class) && is_fixed s.memory.objects o.0) is (field_at (λ y. y.class) s.memory.objects o.0 x at)
+        ∙ ap (λ n. not (is_context x) && n % 2 == 1) (field_at (λ y. flag_bits y.flags) s.memory.objects o.0 x at)
+        ∙ is_it x (is_context x) refl (said (Some x) f)
+    go (Nowhere f is) = ap (λ b. b && not (class_of s.memory.objects o.0 == context_class) && is_fixed s.memory.objects o.0) is ∙ sym (ap is_fixed_at (said None f))
 
 -- ---- special objects and classes
 

@@ -6,7 +6,7 @@ ghost use Rattle.cs_model.specs.Obj.{first_pc, is_method, lies_in, slots_in};
 ghost use Rattle.cs_model.specs.Operation.{nil_of};
 ghost use Rattle.cs_model.specs.Read.{bytecodes_of, class_of, depth_of, from_top, literals_of, method_of, pc_of, stack_of};
 ghost use Rattle.cs_model.specs.Ref.{same_ref};
-ghost use Rattle.cs_model.specs.State.{active_process, object_of, scheduler_of, slots_of, special_at};
+ghost use Rattle.cs_model.specs.State.{active_process, is_read_only, object_of, scheduler_of, slots_of, special_at};
 ghost use Rattle.cs_model.specs.Step.{instruction_at};
 ghost use Rattle.cs_acts.specs.Names.{IsNamed, Names, NamesOption, name_of};
 ghost use Rattle.cs_acts.specs.Ready.{IsReady, IsSound};
@@ -178,6 +178,15 @@ pub fn is_method<W: World>(w: &W, o: Oop) -> bool
     ensures { result ≡ is_method (object_of (W.view w.now) (name_of (W.stored w.now) o)) }
 {
     words::is_method(w.heap(), o)
+}
+
+/// Whether a word names a read-only object, into which image code may not store. No context is one.
+pub fn is_read_only<W: World>(w: &W, o: Oop) -> bool
+    requires sound { IsSound (W.stored w.now) (W.view w.now) }
+    requires named { IsNamed (W.stored w.now) o }
+    ensures { result ≡ is_read_only (W.view w.now) (name_of (W.stored w.now) o) }
+{
+    words::is_read_only(w.heap(), o)
 }
 
 /// The scheduler: slot 1 of special 3, where both have two slots.

@@ -2,23 +2,23 @@
 use Rattle.std.proofs.Common.{◌≡◌, ℕ, List, Option, Some, None, IfSome, Err, refl, subst}
 use Rattle.cs_model.specs.Image.{fault_of, image_of}
 use Rattle.cs_model.specs.ImageFault.{ImageFault}
-use Rattle.cs_image.specs.Answer.{HasBirthSection, Told}
+use Rattle.cs_image.specs.Answer.{Tells}
 use Rattle.cs_image.specs.declared.error.ImageError.{ImageError}
 use Rattle.cs_image.specs.declared.error.ImageError.TheVariants as error
 use Rattle.cs_cli.specs.Answer.{IsRefused, heap_limit}
-use Rattle.cs_cli.specs.Answer as answer
 
 faulty : (bytes : List ℕ) (f : ImageFault) → fault_of bytes heap_limit ≡ Some f → IsRefused bytes
 unfolding image_of
-faulty bytes f h = answer.fault (rw h refl)
+faulty bytes f h = rw h refl
 
 -- an error that isn't want of memory
-pub refused_by : {X : Type 0} (P : X → Type 0) (bytes : List ℕ) (e : ImageError) → (e ≡ error.NoMemory → ⊥) → Told (HasBirthSection bytes) (fault_of bytes heap_limit) P (Err e)
+pub refused_by : {X : Type 0} (P : X → Type 0) (bytes : List ℕ) (e : ImageError) → (e ≡ error.NoMemory → ⊥) → Tells (fault_of bytes heap_limit) P (Err e)
     → IsRefused bytes
 refused_by P bytes error.TooLong other h = faulty bytes _ h
 refused_by P bytes error.Short other h = faulty bytes _ h
 refused_by P bytes error.BadFormat other h = faulty bytes _ h
 refused_by P bytes error.BadHeaderSize other h = faulty bytes _ h
+refused_by P bytes error.BadProfile other h = faulty bytes _ h
 refused_by P bytes error.BadLength other h = faulty bytes _ h
 refused_by P bytes (error.BadObject at) other h = faulty bytes _ h
 refused_by P bytes error.OverLimit other h = faulty bytes _ h
@@ -28,8 +28,12 @@ refused_by P bytes (error.BadClass at) other h = faulty bytes _ h
 refused_by P bytes (error.BadContext at) other h = faulty bytes _ h
 refused_by P bytes error.BadRoots other h = faulty bytes _ h
 refused_by P bytes error.BadBirths other h = faulty bytes _ h
-refused_by P bytes error.HasBirths other h = answer.births h
 refused_by P bytes error.NoMemory other h = absurd (other refl)
+
+-- a file that is longer than an image may be
+pub refused_long : (bytes : List ℕ) → 536870912 < length bytes → IsRefused bytes
+unfolding image_of fault_of
+refused_long bytes long = rw (grind (arith, nat_tests, long)) refl
 
 -- where the shelf tells a content, it is what was read
 pub refused_read : (content : Option (List ℕ)) (bytes : List ℕ) → IfSome content (λ held. bytes ≡ held) → IsRefused bytes → IfSome content IsRefused

@@ -3,7 +3,6 @@ use Rattle.std.specs.Prelude.{◌≡◌, ◌⊎◌, ℕ, ◌<◌, true, false, L
 use Rattle.cs_shelf.specs.Outside.{Appends, AppendsPart, Fault, Rose, read_fault}
 use Rattle.cs_model.specs.State.{Kept}
 use Rattle.cs_model.specs.Image.{image_of}
-use Rattle.cs_model.specs.ImageFile.{has_births}
 use Rattle.cs_model.specs.Settle.{open_kept}
 use Rattle.cs_model.specs.Line.{Said}
 use Rattle.cs_model.specs.Demand.{words_in}
@@ -13,7 +12,6 @@ use Rattle.cs_model.specs.Built.{is_built_bytecode}
 use Rattle.cs_model.specs.Step as model
 use Rattle.cs_model.specs.Step.{bytecode}
 use Rattle.cs_model.specs.Report.{report_of}
-use Rattle.cs_image.specs.Answer.{HasBirthSection}
 use Rattle.cs_core.specs.Deep.{IsDeep, run_of, state_of}
 use Rattle.cs_core.specs.Stepped.{IsNext, Needs, next_turn}
 use Rattle.cs_acts.specs.declared.act.Full.TheVariants.{Heap}
@@ -25,10 +23,6 @@ heap_limit = 16777216
 -- the stack pages of the machine
 abbrev pub stack_pages : ℕ
 stack_pages = 8
-
--- the bytes that an image may have
-abbrev pub longest_image : ℕ
-longest_image = 536870912
 
 -- ---- the outside, before the call and behind it
 
@@ -127,18 +121,14 @@ Begun k n out status = Reported k n out status ⊎ Printed no_memory out status
 
 -- ---- images
 
--- an image is refused: it is too long, a birth section follows its heap, or it has a fault
-pub data IsRefused (bytes : List ℕ) : Type 0 where
-  too_long : longest_image < length bytes → IsRefused bytes
-  births : HasBirthSection bytes → IsRefused bytes
-  fault : IsErr (image_of bytes heap_limit) → IsRefused bytes
+-- an image is refused: it has a fault
+abbrev pub IsRefused : List ℕ → Type 0
+IsRefused bytes = IsErr (image_of bytes heap_limit)
 
--- An image is open: these bytes describe the state k, before it was opened, and no birth section follows their heap. Where the shelf
--- tells a content, it is these bytes.
+-- An image is open: these bytes describe the state k, before it was opened. Where the shelf tells a content, it is these bytes.
 pub record IsImage (content : Option (List ℕ)) (k : Kept) : Type 0 where
   pub bytes : List ℕ
   pub told : IfSome content (λ held. bytes ≡ held)
-  pub no_section : has_births bytes ≡ false
   pub state : image_of bytes heap_limit ≡ Ok k
 
 -- ---- the call

@@ -5,7 +5,7 @@
 
 ghost use Rattle.std.specs.Prelude.{◌≡◌, ◌≤◌, ◌+◌, ◌++◌, length};
 ghost use Rattle.arrayvec.specs.ArrayString.{array_string_len};
-ghost use Rattle.cs_model.specs.Report.{ending_text, line_of, number_text};
+ghost use Rattle.cs_model.specs.Report.{ending_text, report_line, number_text};
 ghost use Rattle.cs_core.specs.Running.{ending_of, place_by};
 
 use arrayvec::ArrayString;
@@ -20,7 +20,7 @@ pub const LONGEST_REPORT: usize = 132;
 ///
 /// It takes no memory.
 pub fn report(ending: Ending, steps: u64, place: &Place) -> ArrayString<LONGEST_REPORT>
-    ensures { result.bytes ≡ line_of (ending_of ending) steps (place_by place.now) }
+    ensures { result.bytes ≡ report_line (ending_of ending) steps (place_by place.now) }
 {
     let mut text = ArrayString::new();
     text.push_str("\n");

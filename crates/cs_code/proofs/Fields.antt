@@ -12,9 +12,9 @@ use Rattle.cs_model.specs.Obj.{Obj, Context, Ptr, Raw, Method, Ctx, at_least, co
 use Rattle.cs_model.specs.State.{Kept, object_at, object_of, put, slots_of}
 use Rattle.cs_model.specs.Context.{is_context_ref}
 use Rattle.cs_model.specs.Read.{IsRunning, active_birth, active_context, receiver_of, stack_of}
-use Rattle.cs_model.specs.Operation.{drop_of, nil_of, pop_of, store_of}
-use Rattle.cs_model.specs.End.{done, given, stop}
-use Rattle.cs_model.specs.Exec.{exec, literal_at, pop_into, push_field, push_out, push_receiver_out, store_field, store_into, store_receiver_out, store_variable_out, store_vector_out, variable_at, variable_value, vector_at, vector_slot}
+use Rattle.cs_model.specs.Operation.{drop_of, nil_of, pop_of}
+use Rattle.cs_model.specs.End.{given, stop}
+use Rattle.cs_model.specs.Exec.{exec, literal_at, pop_into, push_field, push_out, push_receiver_out, store_field, store_into, store_slot, store_receiver_out, store_variable_out, store_vector_out, variable_at, variable_value, vector_at, vector_slot}
 use Rattle.cs_model.specs.Keeps.{Keeps}
 use Rattle.cs_model.proofs.Objects.{object_at-put_same, object_at-put_other}
 use Rattle.cs_model.proofs.Reading.{object_of_same, receiver_same}
@@ -53,20 +53,20 @@ storable_of k n i x y h = storable (object_of k x) i y (go (slots_in (object_of 
 
 -- ---- literal variables and vectors
 
-pub variable-stored : (k : Kept) (i : ℕ) (v x y : Ref) → Some x ≡ literal_at k i → Some y ≡ option_and_then (λ slots. slice_get slots 1) (slots_of k 2 x) → store_variable_out k i v ≡ done (store_of k x 1 v)
+pub variable-stored : (k bare : Kept) (i : ℕ) (v x y : Ref) → Some x ≡ literal_at k i → Some y ≡ option_and_then (λ slots. slice_get slots 1) (slots_of k 2 x) → store_variable_out k bare i v ≡ store_slot k bare x 1 v
 unfolding store_variable_out variable_at
-variable-stored k i v x y literal there =
+variable-stored k bare i v x y literal there =
     let value : variable_value k i ≡ Some y = ap (λ o. option_and_then (λ (slots : List Ref). slice_get slots 1) (option_and_then (λ l. slots_of k 2 l) o)) (sym literal) ∙ sym there in
-    ap (λ o. given o (stop why.BadLiteral k) (λ (old : Ref). done (store_of k (unwrap_or (literal_at k i) (nil_of k)) 1 v))) value
-    ∙ ap (λ o. done (store_of k (unwrap_or o (nil_of k)) 1 v)) (sym literal)
+    ap (λ o. given o (stop why.BadLiteral k) (λ (old : Ref). store_slot k bare (unwrap_or (literal_at k i) (nil_of k)) 1 v)) value
+    ∙ ap (λ o. store_slot k bare (unwrap_or o (nil_of k)) 1 v) (sym literal)
 
-pub vector-stored : (k : Kept) (i j : ℕ) (v x y : Ref) → Some x ≡ slice_get (stack_of k) j → Some y ≡ option_and_then (λ slots. slice_get slots i) (slots_in (object_of k x)) → store_vector_out k i j v ≡ done (store_of k x i v)
+pub vector-stored : (k bare : Kept) (i j : ℕ) (v x y : Ref) → Some x ≡ slice_get (stack_of k) j → Some y ≡ option_and_then (λ slots. slice_get slots i) (slots_in (object_of k x)) → store_vector_out k bare i j v ≡ store_slot k bare x i v
 unfolding store_vector_out
-vector-stored k i j v x y vector there =
+vector-stored k bare i j v x y vector there =
     let is : vector_at k j ≡ x = ap (λ o. unwrap_or o (Small (pos 0))) (sym vector) in
     let slot : vector_slot k i j ≡ Some y = ap (λ r. option_and_then (λ (slots : List Ref). slice_get slots i) (slots_in (object_of k r))) is ∙ sym there in
-    ap (λ o. given o (stop why.BadField k) (λ (old : Ref). done (store_of k (vector_at k j) i v))) slot
-    ∙ ap (λ r. done (store_of k r i v)) is
+    ap (λ o. given o (stop why.BadField k) (λ (old : Ref). store_slot k bare (vector_at k j) i v)) slot
+    ∙ ap (λ r. store_slot k bare r i v) is
 
 -- ---- fields of a receiver that is no context
 
@@ -77,34 +77,34 @@ field-pushed k i (Some (Raw head bytes)) h = refl
 field-pushed k i (Some (Method head header literals bytecodes)) h = refl
 field-pushed k i (Some (Ctx c)) h = absurd (cc)
 
-stored_if : (k : Kept) (i : ℕ) (v : Ref) (slots : List Ref) (o : Option Ref) → o ≡ slice_get slots i
-    → (if nat_lt i (length slots) then done (store_of k (receiver_of k) i v) else stop why.BadField k) ≡ given o (stop why.BadField k) (λ old. done (store_of k (receiver_of k) i v))
-stored_if k i v slots None h = ap (λ b. if b then done (store_of k (receiver_of k) i v) else stop why.BadField k) (beyond slots i h)
-stored_if k i v slots (Some y) h = ap (λ b. if b then done (store_of k (receiver_of k) i v) else stop why.BadField k) (within slots i y h)
+stored_if : (k bare : Kept) (i : ℕ) (v : Ref) (slots : List Ref) (o : Option Ref) → o ≡ slice_get slots i
+    → (if nat_lt i (length slots) then store_slot k bare (receiver_of k) i v else stop why.BadField k) ≡ given o (stop why.BadField k) (λ old. store_slot k bare (receiver_of k) i v)
+stored_if k bare i v slots None h = ap (λ b. if b then store_slot k bare (receiver_of k) i v else stop why.BadField k) (beyond slots i h)
+stored_if k bare i v slots (Some y) h = ap (λ b. if b then store_slot k bare (receiver_of k) i v else stop why.BadField k) (within slots i y h)
 
-pub field-stored : (k : Kept) (i : ℕ) (v : Ref) (o : Option Obj) → is_some (context_in o) ≡ false
-    → store_field k i v o ≡ given (option_and_then (λ slots. slice_get slots i) (slots_in o)) (stop why.BadField k) (λ old. done (store_of k (receiver_of k) i v))
-field-stored k i v None h = refl
-field-stored k i v (Some (Ptr head slots)) h = stored_if k i v slots (slice_get slots i) refl
-field-stored k i v (Some (Raw head bytes)) h = refl
-field-stored k i v (Some (Method head header literals bytecodes)) h = refl
-field-stored k i v (Some (Ctx c)) h = absurd (cc)
+pub field-stored : (k bare : Kept) (i : ℕ) (v : Ref) (o : Option Obj) → is_some (context_in o) ≡ false
+    → store_field k bare i v o ≡ given (option_and_then (λ slots. slice_get slots i) (slots_in o)) (stop why.BadField k) (λ old. store_slot k bare (receiver_of k) i v)
+field-stored k bare i v None h = refl
+field-stored k bare i v (Some (Ptr head slots)) h = stored_if k bare i v slots (slice_get slots i) refl
+field-stored k bare i v (Some (Raw head bytes)) h = refl
+field-stored k bare i v (Some (Method head header literals bytecodes)) h = refl
+field-stored k bare i v (Some (Ctx c)) h = absurd (cc)
 
 pub receiver-pushed : (k : Kept) (i : ℕ) → is_context_ref k (receiver_of k) ≡ false
     → push_receiver_out k i ≡ given (option_and_then (λ slots. slice_get slots i) (slots_in (object_of k (receiver_of k)))) (stop why.BadField k) (λ x. push_out k x)
 unfolding push_receiver_out
 receiver-pushed k i other = field-pushed k i (object_of k (receiver_of k)) other
 
-pub receiver-stored : (k : Kept) (i : ℕ) (v : Ref) → is_context_ref k (receiver_of k) ≡ false
-    → store_receiver_out k i v ≡ given (option_and_then (λ slots. slice_get slots i) (slots_in (object_of k (receiver_of k)))) (stop why.BadField k) (λ old. done (store_of k (receiver_of k) i v))
+pub receiver-stored : (k bare : Kept) (i : ℕ) (v : Ref) → is_context_ref k (receiver_of k) ≡ false
+    → store_receiver_out k bare i v ≡ given (option_and_then (λ slots. slice_get slots i) (slots_in (object_of k (receiver_of k)))) (stop why.BadField k) (λ old. store_slot k bare (receiver_of k) i v)
 unfolding store_receiver_out
-receiver-stored k i v other = field-stored k i v (object_of k (receiver_of k)) other
+receiver-stored k bare i v other = field-stored k bare i v (object_of k (receiver_of k)) other
 
-pub receiver-kept : (k : Kept) (i : ℕ) → is_context_ref k (receiver_of k) ≡ false → built_exec (op.StoreRcvr i) k ≡ store_into k (λ t x. store_receiver_out t i x)
+pub receiver-kept : (k : Kept) (i : ℕ) → is_context_ref k (receiver_of k) ≡ false → built_exec (op.StoreRcvr i) k ≡ store_into k (λ t bare x. store_receiver_out t bare i x)
 unfolding built_exec exec
 receiver-kept k i other = rw other refl
 
-pub receiver-popped : (k : Kept) (i : ℕ) → is_context_ref k (receiver_of k) ≡ false → built_exec (op.PopRcvr i) k ≡ pop_into k (λ t x. store_receiver_out t i x)
+pub receiver-popped : (k : Kept) (i : ℕ) → is_context_ref k (receiver_of k) ≡ false → built_exec (op.PopRcvr i) k ≡ pop_into k (λ t bare x. store_receiver_out t bare i x)
 unfolding built_exec exec
 receiver-popped k i other = rw other refl
 
@@ -115,18 +115,18 @@ receiver-pushed-there k i j r y other is same_index there =
     receiver-pushed k i other
     ∙ ap (λ o. given o (stop why.BadField k) (λ x. push_out k x)) (sym (there ∙ ap₂ (λ (x : Ref) (n : ℕ). option_and_then (λ (slots : List Ref). slice_get slots n) (slots_in (object_of k x))) is same_index))
 
-pub receiver-stored-there : (k : Kept) (i j l : ℕ) (v r y : Ref) → is_context_ref k (receiver_of k) ≡ false → r ≡ receiver_of k → j ≡ i → l ≡ i → Some y ≡ option_and_then (λ slots. slice_get slots j) (slots_in (object_of k r))
-    → store_receiver_out k i v ≡ done (store_of k r l v)
-receiver-stored-there k i j l v r y other is same_index same_too there =
-    receiver-stored k i v other
-    ∙ ap (λ o. given o (stop why.BadField k) (λ (old : Ref). done (store_of k (receiver_of k) i v))) (sym (there ∙ ap₂ (λ (x : Ref) (n : ℕ). option_and_then (λ (slots : List Ref). slice_get slots n) (slots_in (object_of k x))) is same_index))
-    ∙ ap₂ (λ (x : Ref) (n : ℕ). done (store_of k x n v)) (sym is) (sym same_too)
+pub receiver-stored-there : (k bare : Kept) (i j : ℕ) (v r y : Ref) → is_context_ref k (receiver_of k) ≡ false → r ≡ receiver_of k → j ≡ i → Some y ≡ option_and_then (λ slots. slice_get slots j) (slots_in (object_of k r))
+    → store_receiver_out k bare i v ≡ store_slot k bare r i v
+receiver-stored-there k bare i j v r y other is same_index there =
+    receiver-stored k bare i v other
+    ∙ ap (λ o. given o (stop why.BadField k) (λ (old : Ref). store_slot k bare (receiver_of k) i v)) (sym (there ∙ ap₂ (λ (x : Ref) (n : ℕ). option_and_then (λ (slots : List Ref). slice_get slots n) (slots_in (object_of k x))) is same_index))
+    ∙ ap (λ (x : Ref). store_slot k bare x i v) (sym is)
 
-pub receiver-stored-gone : (k : Kept) (i j : ℕ) (v r : Ref) → is_context_ref k (receiver_of k) ≡ false → r ≡ receiver_of k → j ≡ i → None ≡ option_and_then (λ slots. slice_get slots j) (slots_in (object_of k r))
-    → store_receiver_out k i v ≡ stop why.BadField k
-receiver-stored-gone k i j v r other is same_index gone =
-    receiver-stored k i v other
-    ∙ ap (λ o. given o (stop why.BadField k) (λ (old : Ref). done (store_of k (receiver_of k) i v))) (sym (gone ∙ ap₂ (λ (x : Ref) (n : ℕ). option_and_then (λ (slots : List Ref). slice_get slots n) (slots_in (object_of k x))) is same_index))
+pub receiver-stored-gone : (k bare : Kept) (i j : ℕ) (v r : Ref) → is_context_ref k (receiver_of k) ≡ false → r ≡ receiver_of k → j ≡ i → None ≡ option_and_then (λ slots. slice_get slots j) (slots_in (object_of k r))
+    → store_receiver_out k bare i v ≡ stop why.BadField k
+receiver-stored-gone k bare i j v r other is same_index gone =
+    receiver-stored k bare i v other
+    ∙ ap (λ o. given o (stop why.BadField k) (λ (old : Ref). store_slot k bare (receiver_of k) i v)) (sym (gone ∙ ap₂ (λ (x : Ref) (n : ℕ). option_and_then (λ (slots : List Ref). slice_get slots n) (slots_in (object_of k x))) is same_index))
 
 -- ---- a pop leaves contexts contexts, and the receiver as it is
 

@@ -2,7 +2,7 @@ pub mod Through
 pub mod Fields
 pub mod Tops
 pub mod Bits
-pub mod Sending
+pub mod Refusing
 pub mod Looking
 pub mod Adding
 pub mod Closing

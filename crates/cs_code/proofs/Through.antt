@@ -54,17 +54,17 @@ gives-along old mid new l n v k e a b names alike laid equal g = record {
 }
 
 -- the topmost value is popped, and the rest is done with it
-pub popped : (s0 s1 s2 : Store) (l n : Option Layout) (v0 v1 v2 : Kept) (x : Oop) (e : CodeEnd) (f : Kept → Ref → Out) → ((t u : Kept) (y : Ref) → Keeps t u → Same (IsHeld t) y y → Alike t (f t y) (f u y))
+pub popped : (s0 s1 s2 : Store) (l n : Option Layout) (v0 v1 v2 : Kept) (x : Oop) (e : CodeEnd) (f : Kept → Kept → Ref → Out) → ((t u : Kept) (y : Ref) → Keeps t u → Same (IsHeld t) y y → Alike t (f t t y) (f u u y))
     → IsReady s1 v1 → Keeps v1 (pop_of v0) → (l ≡ None → SameKept v1 (pop_of v0)) → n ≡ l → KeepsNames s0 s1 → NamesOption s0 (Some x) (from_top 0 (stack_of v0))
-    → Gives s1 s2 n v2 e (f v1 (name_of s1 x)) → Gives s0 s2 l v2 e (pop_into v0 f)
+    → Gives s1 s2 n v2 e (f v1 v1 (name_of s1 x)) → Gives s0 s2 l v2 e (pop_into v0 f)
 unfolding pop_into
 popped s0 s1 s2 l n v0 v1 v2 x e f alike ready keeps exact laid names top g =
     let named : Names s1 x (name_of s0 x) = names x top.sound in
     let held : IsHeld v1 (name_of s0 x) = subst (IsHeld v1) named.is (named_held s1 v1 x ready.sound.holds named.sound) in
-    let given_x : Gives s1 s2 n v2 e (f v1 (name_of s0 x)) = subst (λ r. Gives s1 s2 n v2 e (f v1 r)) named.is g in
-    subst (λ o. Gives s0 s2 l v2 e (given o (stop why.StackUnder v0) (λ y. f (pop_of v0) y))) top.is
+    let given_x : Gives s1 s2 n v2 e (f v1 v1 (name_of s0 x)) = subst (λ r. Gives s1 s2 n v2 e (f v1 v1 r)) named.is g in
+    subst (λ o. Gives s0 s2 l v2 e (given o (stop why.StackUnder v0) (λ y. f (pop_of v0) (pop_of v0) y))) top.is
     (gives-along s0 s1 s2 l n v2 v1 e _ _ names (alike v1 (pop_of v0) (name_of s0 x) keeps (same (name_of s0 x) held)) laid
-    (λ none. ap (λ (t : Kept). f t (name_of s0 x)) (equal_kept v1 (pop_of v0) (exact none))) given_x)
+    (λ none. ap (λ (t : Kept). f t t (name_of s0 x)) (equal_kept v1 (pop_of v0) (exact none))) given_x)
 
 -- the wanted condition is popped, and the jump is done behind it
 pub jumped : (s0 s1 s2 : Store) (l n : Option Layout) (v0 v1 v2 : Kept) (x : Oop) (e : CodeEnd) (wanted : Bool) (offset : ℕ) (z : ℤ) → z ≡ pos offset

@@ -1,3 +1,4 @@
+pub mod Bare
 pub mod Gives
 pub mod Built
 pub mod Closures

@@ -1,29 +1,110 @@
 //! Stores into variables of every sort.
 //!
-//! A pop form takes the value first, and what is there is judged on the stack without it.
-ghost use Rattle.std.specs.Prelude.{◌≡◌, false};
+//! A pop form takes the value first, and what is there is judged on the stack without it. A store form judges it on
+//! the stack with the value. Nothing is stored into a read-only object: the value is off the stack then in both forms,
+//! and the object is told of it.
+ghost use Rattle.std.specs.Prelude.{◌≡◌, ◌<◌, true, false, [], ◌∷◌};
 ghost use Rattle.cs_model.specs.declared.instruction.Op.{Op};
 ghost use Rattle.cs_model.specs.Context.{is_context_ref};
-ghost use Rattle.cs_model.specs.Exec.{store_temp_out, store_variable_out, store_vector_out, store_receiver_out, store_into, pop_into};
-ghost use Rattle.cs_model.specs.Read.{receiver_of};
+ghost use Rattle.cs_model.specs.Exec.{push_all, refuse_store as refused_of, store_slot as slot_stored, store_temp_out};
+ghost use Rattle.cs_model.specs.Exec.{store_variable_out, store_vector_out, store_receiver_out, store_into, pop_into};
+ghost use Rattle.cs_model.specs.Read.{depth_of, receiver_of};
+ghost use Rattle.cs_model.specs.State.{object_of};
 ghost use Rattle.cs_acts.specs.Made.{MakesAtMost};
 ghost use Rattle.cs_acts.specs.Names.{IsNamed, name_of};
-ghost use Rattle.cs_acts.specs.Ready.{IsReady};
+ghost use Rattle.cs_acts.specs.Ready.{IsReady, is_storable};
+ghost use Rattle.cs_code.specs.Bare.{bare_of};
 ghost use Rattle.cs_code.specs.Built.{built_exec};
 ghost use Rattle.cs_code.specs.Gives.{Gives};
 
 use crate::CodeEnd;
+use crate::pushes::{push, small_word};
+use crate::sends::send_special;
 use cs_acts::World;
-use cs_acts::read::{from_top, is_context, literal, slot, slot_if_any, temporary};
+use cs_acts::read::{from_top, is_context, is_read_only, literal, slot, slot_if_any, temporary};
 use cs_model::Stop;
 use cs_word::Oop;
+
+/// The special object that is the selector `attemptToAssign:withIndex:`.
+const ATTEMPT_TO_ASSIGN: u32 = 50;
+
+/// Pushes three values, the first one lowest, as far as there is room.
+#[tactic(auto, unfolding(cs_model::specs::Exec::push_all))]
+fn push_three<W: World>(w: &mut W, a: Oop, b: Oop, c: Oop) -> CodeEnd
+    requires ready { IsReady (W.stored w.old) (W.view w.old) }
+    requires first { IsNamed (W.stored w.old) a }
+    requires second { IsNamed (W.stored w.old) b }
+    requires third { IsNamed (W.stored w.old) c }
+    ensures gives { Gives (W.stored w.old) (W.stored w.new) (W.layout w.old) (W.view w.new) result
+        (push_all (name_of (W.stored w.old) a ∷ name_of (W.stored w.old) b ∷ name_of (W.stored w.old) c ∷ [])
+        (W.view w.old)) }
+    ensures layout { W.layout w.new ≡ W.layout w.old }
+    ensures limit { (W.stored w.new).memory.limit ≡ (W.stored w.old).memory.limit }
+    ensures contexts { MakesAtMost 0 (W.layout w.old) (W.stored w.old) (W.stored w.new) }
+{
+    match push(w, a) {
+        CodeEnd::Done => {}
+        end => return end,
+    }
+    match push(w, b) {
+        CodeEnd::Done => push(w, c),
+        end => end,
+    }
+}
+
+/// Tells a read-only object of a store into its slot `i`, counted from 0: pushes the object, the value and the number
+/// of the slot counted from 1, and sends `attemptToAssign:withIndex:`.
+#[tactic(auto, unfolding(cs_model::specs::Exec::refuse_store))]
+fn refuse_store<W: World>(w: &mut W, target: Oop, i: u8, x: Oop) -> CodeEnd
+    requires ready { IsReady (W.stored w.old) (W.view w.old) }
+    requires object { IsNamed (W.stored w.old) target }
+    requires named { IsNamed (W.stored w.old) x }
+    ensures gives { Gives (W.stored w.old) (W.stored w.new) (W.layout w.old) (W.view w.new) result
+        (refused_of (W.view w.old) (name_of (W.stored w.old) target) i (name_of (W.stored w.old) x)) }
+    ensures layout { W.layout w.new ≡ W.layout w.old }
+    ensures limit { (W.stored w.new).memory.limit ≡ (W.stored w.old).memory.limit }
+    ensures contexts { MakesAtMost 0 (W.layout w.old) (W.stored w.old) (W.stored w.new) }
+{
+    let number = small_word(i32::from(i) + 1);
+    match push_three(w, target, x, number) {
+        CodeEnd::Done => send_special(w, ATTEMPT_TO_ASSIGN, 2),
+        end => end,
+    }
+}
+
+/// Stores into slot `i` of a pointer object. A read-only one refuses: the value is popped then, where it is still on
+/// the stack, which `kept` says, and the object is told of it.
+#[tactic(auto, unfolding(cs_model::specs::Exec::store_slot))]
+fn store_slot<W: World>(w: &mut W, target: Oop, i: u8, x: Oop, kept: bool) -> CodeEnd
+    requires ready { IsReady (W.stored w.old) (W.view w.old) }
+    requires there { is_storable (object_of (W.view w.old) (name_of (W.stored w.old) target)) i ≡ true }
+    requires object { IsNamed (W.stored w.old) target }
+    requires named { IsNamed (W.stored w.old) x }
+    requires on_top { kept ≡ true → 0 < depth_of (W.view w.old) }
+    ensures gives { Gives (W.stored w.old) (W.stored w.new) (W.layout w.old) (W.view w.new) result
+        (slot_stored (W.view w.old) (bare_of kept (W.view w.old)) (name_of (W.stored w.old) target) i
+        (name_of (W.stored w.old) x)) }
+    ensures layout { W.layout w.new ≡ W.layout w.old }
+    ensures limit { (W.stored w.new).memory.limit ≡ (W.stored w.old).memory.limit }
+    ensures contexts { MakesAtMost 0 (W.layout w.old) (W.stored w.old) (W.stored w.new) }
+{
+    if is_read_only(w, target) {
+        if kept {
+            w.pop();
+        }
+        return refuse_store(w, target, i, x);
+    }
+    w.store(target, u32::from(i), x);
+    CodeEnd::Done
+}
 
 /// Stores into argument or temporary `i`.
 #[tactic(auto, unfolding(cs_model::specs::Exec::store_temp_out))]
 fn store_temporary<W: World>(w: &mut W, i: u8, x: Oop) -> CodeEnd
     requires ready { IsReady (W.stored w.old) (W.view w.old) }
     requires named { IsNamed (W.stored w.old) x }
-    ensures gives { Gives (W.stored w.old) (W.stored w.new) (W.layout w.old) (W.view w.new) result (store_temp_out (W.view w.old) i (name_of (W.stored w.old) x)) }
+    ensures gives { Gives (W.stored w.old) (W.stored w.new) (W.layout w.old) (W.view w.new) result
+        (store_temp_out (W.view w.old) i (name_of (W.stored w.old) x)) }
     ensures layout { W.layout w.new ≡ W.layout w.old }
     ensures limit { (W.stored w.new).memory.limit ≡ (W.stored w.old).memory.limit }
     ensures contexts { MakesAtMost 0 (W.layout w.old) (W.stored w.old) (W.stored w.new) }
@@ -37,12 +118,14 @@ fn store_temporary<W: World>(w: &mut W, i: u8, x: Oop) -> CodeEnd
     }
 }
 
-/// Stores into literal variable `i`.
+/// Stores into literal variable `i` a value that may still be on the stack.
 #[tactic(auto, unfolding(cs_model::specs::Exec::store_variable_out, cs_model::specs::Exec::variable_at))]
-fn store_variable<W: World>(w: &mut W, i: u8, x: Oop) -> CodeEnd
+fn store_variable<W: World>(w: &mut W, i: u8, x: Oop, kept: bool) -> CodeEnd
     requires ready { IsReady (W.stored w.old) (W.view w.old) }
     requires named { IsNamed (W.stored w.old) x }
-    ensures gives { Gives (W.stored w.old) (W.stored w.new) (W.layout w.old) (W.view w.new) result (store_variable_out (W.view w.old) i (name_of (W.stored w.old) x)) }
+    requires on_top { kept ≡ true → 0 < depth_of (W.view w.old) }
+    ensures gives { Gives (W.stored w.old) (W.stored w.new) (W.layout w.old) (W.view w.new) result
+        (store_variable_out (W.view w.old) (bare_of kept (W.view w.old)) i (name_of (W.stored w.old) x)) }
     ensures layout { W.layout w.new ≡ W.layout w.old }
     ensures limit { (W.stored w.new).memory.limit ≡ (W.stored w.old).memory.limit }
     ensures contexts { MakesAtMost 0 (W.layout w.old) (W.stored w.old) (W.stored w.new) }
@@ -51,20 +134,19 @@ fn store_variable<W: World>(w: &mut W, i: u8, x: Oop) -> CodeEnd
         return CodeEnd::Stop(Stop::BadLiteral);
     };
     match slot(w, variable, 2, 1) {
-        Some(_) => {
-            w.store(variable, 1, x);
-            CodeEnd::Done
-        }
+        Some(_) => store_slot(w, variable, 1, x, kept),
         None => CodeEnd::Stop(Stop::BadLiteral),
     }
 }
 
-/// Stores into slot `k` of the vector that is stack value `j`.
+/// Stores into slot `k` of the vector that is stack value `j` a value that may still be on the stack.
 #[tactic(auto, unfolding(cs_model::specs::Exec::store_vector_out))]
-fn store_vector<W: World>(w: &mut W, k: u8, j: u8, x: Oop) -> CodeEnd
+fn store_vector<W: World>(w: &mut W, k: u8, j: u8, x: Oop, kept: bool) -> CodeEnd
     requires ready { IsReady (W.stored w.old) (W.view w.old) }
     requires named { IsNamed (W.stored w.old) x }
-    ensures gives { Gives (W.stored w.old) (W.stored w.new) (W.layout w.old) (W.view w.new) result (store_vector_out (W.view w.old) k j (name_of (W.stored w.old) x)) }
+    requires on_top { kept ≡ true → 0 < depth_of (W.view w.old) }
+    ensures gives { Gives (W.stored w.old) (W.stored w.new) (W.layout w.old) (W.view w.new) result
+        (store_vector_out (W.view w.old) (bare_of kept (W.view w.old)) k j (name_of (W.stored w.old) x)) }
     ensures layout { W.layout w.new ≡ W.layout w.old }
     ensures limit { (W.stored w.new).memory.limit ≡ (W.stored w.old).memory.limit }
     ensures contexts { MakesAtMost 0 (W.layout w.old) (W.stored w.old) (W.stored w.new) }
@@ -73,31 +155,27 @@ fn store_vector<W: World>(w: &mut W, k: u8, j: u8, x: Oop) -> CodeEnd
         return CodeEnd::Stop(Stop::BadField);
     };
     match slot_if_any(w, vector, u32::from(k)) {
-        Some(_) => {
-            w.store(vector, u32::from(k), x);
-            CodeEnd::Done
-        }
+        Some(_) => store_slot(w, vector, k, x, kept),
         None => CodeEnd::Stop(Stop::BadField),
     }
 }
 
-/// Stores into field `i` of the receiver, which is no context.
+/// Stores into field `i` of the receiver, which is no context, a value that may still be on the stack.
 #[tactic(auto, unfolding(cs_model::specs::Exec::store_receiver_out))]
-fn store_field<W: World>(w: &mut W, i: u8, x: Oop) -> CodeEnd
+fn store_field<W: World>(w: &mut W, i: u8, x: Oop, kept: bool) -> CodeEnd
     requires ready { IsReady (W.stored w.old) (W.view w.old) }
     requires named { IsNamed (W.stored w.old) x }
     requires plain { is_context_ref (W.view w.old) (receiver_of (W.view w.old)) ≡ false }
-    ensures gives { Gives (W.stored w.old) (W.stored w.new) (W.layout w.old) (W.view w.new) result (store_receiver_out (W.view w.old) i (name_of (W.stored w.old) x)) }
+    requires on_top { kept ≡ true → 0 < depth_of (W.view w.old) }
+    ensures gives { Gives (W.stored w.old) (W.stored w.new) (W.layout w.old) (W.view w.new) result
+        (store_receiver_out (W.view w.old) (bare_of kept (W.view w.old)) i (name_of (W.stored w.old) x)) }
     ensures layout { W.layout w.new ≡ W.layout w.old }
     ensures limit { (W.stored w.new).memory.limit ≡ (W.stored w.old).memory.limit }
     ensures contexts { MakesAtMost 0 (W.layout w.old) (W.stored w.old) (W.stored w.new) }
 {
     let receiver = w.receiver();
     match slot_if_any(w, receiver, u32::from(i)) {
-        Some(_) => {
-            w.store(receiver, u32::from(i), x);
-            CodeEnd::Done
-        }
+        Some(_) => store_slot(w, receiver, i, x, kept),
         None => CodeEnd::Stop(Stop::BadField),
     }
 }
@@ -106,7 +184,8 @@ fn store_field<W: World>(w: &mut W, i: u8, x: Oop) -> CodeEnd
 #[tactic(auto, unfolding(cs_model::specs::Exec::store_into))]
 pub fn keep_temporary<W: World>(w: &mut W, i: u8) -> CodeEnd
     requires { IsReady (W.stored w.old) (W.view w.old) }
-    ensures gives { Gives (W.stored w.old) (W.stored w.new) (W.layout w.old) (W.view w.new) result (store_into (W.view w.old) (λ t x. store_temp_out t i x)) }
+    ensures gives { Gives (W.stored w.old) (W.stored w.new) (W.layout w.old) (W.view w.new) result
+        (store_into (W.view w.old) (λ t bare x. store_temp_out t i x)) }
     ensures layout { W.layout w.new ≡ W.layout w.old }
     ensures limit { (W.stored w.new).memory.limit ≡ (W.stored w.old).memory.limit }
     ensures contexts { MakesAtMost 0 (W.layout w.old) (W.stored w.old) (W.stored w.new) }
@@ -121,7 +200,8 @@ pub fn keep_temporary<W: World>(w: &mut W, i: u8) -> CodeEnd
 #[tactic(auto, unfolding(cs_model::specs::Exec::pop_into))]
 pub fn pop_temporary<W: World>(w: &mut W, i: u8) -> CodeEnd
     requires { IsReady (W.stored w.old) (W.view w.old) }
-    ensures gives { Gives (W.stored w.old) (W.stored w.new) (W.layout w.old) (W.view w.new) result (pop_into (W.view w.old) (λ t x. store_temp_out t i x)) }
+    ensures gives { Gives (W.stored w.old) (W.stored w.new) (W.layout w.old) (W.view w.new) result
+        (pop_into (W.view w.old) (λ t bare x. store_temp_out t i x)) }
     ensures layout { W.layout w.new ≡ W.layout w.old }
     ensures limit { (W.stored w.new).memory.limit ≡ (W.stored w.old).memory.limit }
     ensures contexts { MakesAtMost 0 (W.layout w.old) (W.stored w.old) (W.stored w.new) }
@@ -139,13 +219,14 @@ pub fn pop_temporary<W: World>(w: &mut W, i: u8) -> CodeEnd
 #[tactic(auto, unfolding(cs_model::specs::Exec::store_into))]
 pub fn keep_variable<W: World>(w: &mut W, i: u8) -> CodeEnd
     requires { IsReady (W.stored w.old) (W.view w.old) }
-    ensures gives { Gives (W.stored w.old) (W.stored w.new) (W.layout w.old) (W.view w.new) result (store_into (W.view w.old) (λ t x. store_variable_out t i x)) }
+    ensures gives { Gives (W.stored w.old) (W.stored w.new) (W.layout w.old) (W.view w.new) result
+        (store_into (W.view w.old) (λ t bare x. store_variable_out t bare i x)) }
     ensures layout { W.layout w.new ≡ W.layout w.old }
     ensures limit { (W.stored w.new).memory.limit ≡ (W.stored w.old).memory.limit }
     ensures contexts { MakesAtMost 0 (W.layout w.old) (W.stored w.old) (W.stored w.new) }
 {
     match from_top(w, 0) {
-        Some(x) => store_variable(w, i, x),
+        Some(x) => store_variable(w, i, x, true),
         None => CodeEnd::Stop(Stop::StackUnder),
     }
 }
@@ -154,7 +235,8 @@ pub fn keep_variable<W: World>(w: &mut W, i: u8) -> CodeEnd
 #[tactic(auto, unfolding(cs_model::specs::Exec::pop_into))]
 pub fn pop_variable<W: World>(w: &mut W, i: u8) -> CodeEnd
     requires { IsReady (W.stored w.old) (W.view w.old) }
-    ensures gives { Gives (W.stored w.old) (W.stored w.new) (W.layout w.old) (W.view w.new) result (pop_into (W.view w.old) (λ t x. store_variable_out t i x)) }
+    ensures gives { Gives (W.stored w.old) (W.stored w.new) (W.layout w.old) (W.view w.new) result
+        (pop_into (W.view w.old) (λ t bare x. store_variable_out t bare i x)) }
     ensures layout { W.layout w.new ≡ W.layout w.old }
     ensures limit { (W.stored w.new).memory.limit ≡ (W.stored w.old).memory.limit }
     ensures contexts { MakesAtMost 0 (W.layout w.old) (W.stored w.old) (W.stored w.new) }
@@ -162,7 +244,7 @@ pub fn pop_variable<W: World>(w: &mut W, i: u8) -> CodeEnd
     match from_top(w, 0) {
         Some(x) => {
             w.pop();
-            store_variable(w, i, x)
+            store_variable(w, i, x, false)
         }
         None => CodeEnd::Stop(Stop::StackUnder),
     }
@@ -172,13 +254,14 @@ pub fn pop_variable<W: World>(w: &mut W, i: u8) -> CodeEnd
 #[tactic(auto, unfolding(cs_model::specs::Exec::store_into))]
 pub fn keep_vector<W: World>(w: &mut W, k: u8, j: u8) -> CodeEnd
     requires { IsReady (W.stored w.old) (W.view w.old) }
-    ensures gives { Gives (W.stored w.old) (W.stored w.new) (W.layout w.old) (W.view w.new) result (store_into (W.view w.old) (λ t x. store_vector_out t k j x)) }
+    ensures gives { Gives (W.stored w.old) (W.stored w.new) (W.layout w.old) (W.view w.new) result
+        (store_into (W.view w.old) (λ t bare x. store_vector_out t bare k j x)) }
     ensures layout { W.layout w.new ≡ W.layout w.old }
     ensures limit { (W.stored w.new).memory.limit ≡ (W.stored w.old).memory.limit }
     ensures contexts { MakesAtMost 0 (W.layout w.old) (W.stored w.old) (W.stored w.new) }
 {
     match from_top(w, 0) {
-        Some(x) => store_vector(w, k, j, x),
+        Some(x) => store_vector(w, k, j, x, true),
         None => CodeEnd::Stop(Stop::StackUnder),
     }
 }
@@ -187,7 +270,8 @@ pub fn keep_vector<W: World>(w: &mut W, k: u8, j: u8) -> CodeEnd
 #[tactic(auto, unfolding(cs_model::specs::Exec::pop_into))]
 pub fn pop_vector<W: World>(w: &mut W, k: u8, j: u8) -> CodeEnd
     requires { IsReady (W.stored w.old) (W.view w.old) }
-    ensures gives { Gives (W.stored w.old) (W.stored w.new) (W.layout w.old) (W.view w.new) result (pop_into (W.view w.old) (λ t x. store_vector_out t k j x)) }
+    ensures gives { Gives (W.stored w.old) (W.stored w.new) (W.layout w.old) (W.view w.new) result
+        (pop_into (W.view w.old) (λ t bare x. store_vector_out t bare k j x)) }
     ensures layout { W.layout w.new ≡ W.layout w.old }
     ensures limit { (W.stored w.new).memory.limit ≡ (W.stored w.old).memory.limit }
     ensures contexts { MakesAtMost 0 (W.layout w.old) (W.stored w.old) (W.stored w.new) }
@@ -195,17 +279,19 @@ pub fn pop_vector<W: World>(w: &mut W, k: u8, j: u8) -> CodeEnd
     match from_top(w, 0) {
         Some(x) => {
             w.pop();
-            store_vector(w, k, j, x)
+            store_vector(w, k, j, x, false)
         }
         None => CodeEnd::Stop(Stop::StackUnder),
     }
 }
 
-/// Stores the topmost value into field `i` of the receiver and leaves it on the stack, where the receiver is no context.
+/// Stores the topmost value into field `i` of the receiver and leaves it on the stack, where the receiver is no
+/// context.
 #[tactic(auto, unfolding(crate::specs::Built::built_exec, cs_model::specs::Exec::exec, cs_model::specs::Exec::store_into))]
 pub fn keep_field<W: World>(w: &mut W, i: u8) -> CodeEnd
     requires { IsReady (W.stored w.old) (W.view w.old) }
-    ensures gives { Gives (W.stored w.old) (W.stored w.new) (W.layout w.old) (W.view w.new) result (built_exec (Op.StoreRcvr i) (W.view w.old)) }
+    ensures gives { Gives (W.stored w.old) (W.stored w.new) (W.layout w.old) (W.view w.new) result
+        (built_exec (Op.StoreRcvr i) (W.view w.old)) }
     ensures layout { W.layout w.new ≡ W.layout w.old }
     ensures limit { (W.stored w.new).memory.limit ≡ (W.stored w.old).memory.limit }
     ensures contexts { MakesAtMost 0 (W.layout w.old) (W.stored w.old) (W.stored w.new) }
@@ -215,7 +301,7 @@ pub fn keep_field<W: World>(w: &mut W, i: u8) -> CodeEnd
         return CodeEnd::Stop(Stop::NotBuilt);
     }
     match from_top(w, 0) {
-        Some(x) => store_field(w, i, x),
+        Some(x) => store_field(w, i, x, true),
         None => CodeEnd::Stop(Stop::StackUnder),
     }
 }
@@ -224,7 +310,8 @@ pub fn keep_field<W: World>(w: &mut W, i: u8) -> CodeEnd
 #[tactic(auto, unfolding(crate::specs::Built::built_exec, cs_model::specs::Exec::exec, cs_model::specs::Exec::pop_into))]
 pub fn pop_field<W: World>(w: &mut W, i: u8) -> CodeEnd
     requires { IsReady (W.stored w.old) (W.view w.old) }
-    ensures gives { Gives (W.stored w.old) (W.stored w.new) (W.layout w.old) (W.view w.new) result (built_exec (Op.PopRcvr i) (W.view w.old)) }
+    ensures gives { Gives (W.stored w.old) (W.stored w.new) (W.layout w.old) (W.view w.new) result
+        (built_exec (Op.PopRcvr i) (W.view w.old)) }
     ensures layout { W.layout w.new ≡ W.layout w.old }
     ensures limit { (W.stored w.new).memory.limit ≡ (W.stored w.old).memory.limit }
     ensures contexts { MakesAtMost 0 (W.layout w.old) (W.stored w.old) (W.stored w.new) }
@@ -236,7 +323,7 @@ pub fn pop_field<W: World>(w: &mut W, i: u8) -> CodeEnd
     match from_top(w, 0) {
         Some(x) => {
             w.pop();
-            store_field(w, i, x)
+            store_field(w, i, x, false)
         }
         None => CodeEnd::Stop(Stop::StackUnder),
     }

@@ -86,11 +86,11 @@ pushed_on n k x t runs h = record {
 }
 
 -- all of them are pushed, or the stack is over
-data Fits (n : ℕ) (k : Kept) (o : Out) : Type 0 where
+pub data Fits (n : ℕ) (k : Kept) (o : Out) : Type 0 where
   fits : o.end ≡ ends.Done → (Runs k → Pushed n k o.state) → Fits n k o
   over : o.end ≡ ends.Stopped why.StackOver → Fits n k o
 
-all_fit : (k : Kept) (xs : List Ref) → Fits (length xs) k (push_all xs k)
+pub all_fit : (k : Kept) (xs : List Ref) → Fits (length xs) k (push_all xs k)
 unfolding push_all push_out and_then
 all_fit k [] = fits refl (λ runs. record { stays = stays_itself k; next = refl; words = λ page apart. omega arith })
 all_fit k (x ∷ xs) = go (nat_lt (depth_of k) (size_of k)) (all_fit (push_of k x) xs)

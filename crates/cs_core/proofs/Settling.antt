@@ -1,5 +1,5 @@
 -- An instruction leaves the senders of all contexts as they are, and the stacks of all but the active one.
-use Rattle.std.proofs.Common.{◌≡◌, ℕ, ◌+◌, ◌<◌, ◌≤◌, arith, nat_le, Bool, true, false, refl, sym, ap, ◌∙◌, Option, Some, None, length, nat_lt, is_some, option_map, option_and_then, unwrap_or, inl, inr}
+use Rattle.std.proofs.Common.{◌≡◌, ℕ, ◌+◌, ◌<◌, ◌≤◌, arith, nat_le, Bool, true, false, refl, sym, ap, ◌∙◌, Option, Some, None, List, [], ◌∷◌, length, nat_lt, is_some, option_map, option_and_then, unwrap_or, inl, inr}
 use Rattle.std.specs.Prelude.{ℤ, pos, ◌==◌, ◌*◌, ◌-◌, not, if◌then◌else◌, slice_get}
 use Rattle.std.proofs.lemmas.Bool.Decides.{eqb_tells}
 use Rattle.cs_model.specs.declared.instruction.Op.{Op}
@@ -7,14 +7,14 @@ use Rattle.cs_model.specs.declared.instruction.Op.TheVariants as op
 use Rattle.cs_model.specs.Ref.{Ref, Small, Char, same_ref}
 use Rattle.cs_model.specs.Ref as ref
 use Rattle.cs_model.specs.Obj.{Obj, Context, Ptr, Raw, Method, Ctx, context_in, popped, pushed, stored, with_pc}
-use Rattle.cs_model.specs.State.{Kept, Rest, put, object_at, object_of, special_at}
+use Rattle.cs_model.specs.State.{Kept, Rest, is_read_only, put, object_at, object_of, special_at}
 use Rattle.cs_model.specs.Read.{active_birth, active_context, blank, depth_of, from_top, literals_of, receiver_of, size_of, stack_of}
 use Rattle.cs_model.specs.Operation.{add_of, next_ref, drop_of, edit_active, edit_found, nil_of, pop_of, push_of, set_pc_of, set_stack_of, store_of, with_slot, with_next}
 use Rattle.cs_model.specs.Context.{context_get, is_context_ref}
 use Rattle.cs_model.specs.Number.{boolean}
 use Rattle.cs_model.specs.End as ends
 use Rattle.cs_model.specs.End.{End, Out, given, done, looked, made, and_then, is_done}
-use Rattle.cs_model.specs.Exec.{closure_out, new_closure, argument_count_in, literal_at, selector_pair, top_of, variable_value, vector_at, vector_slot, at_once, pc_after, class_out, common_out, dup_out, exec, jump_if_out, jump_out, pop_into, pop_out, push_field, push_literal_out, push_out, push_receiver_out, push_temp_out, push_variable_out, push_vector_out, same_out, send_literal_out, send_selector_out, send_super_out, special_out, special_send_out, store_field, store_into, store_receiver_out, store_temp_out, store_variable_out, store_vector_out, this_context_out}
+use Rattle.cs_model.specs.Exec.{attempt_to_assign, push_all, refuse_store, store_slot, closure_out, new_closure, argument_count_in, literal_at, selector_pair, top_of, variable_value, vector_at, vector_slot, at_once, pc_after, class_out, common_out, dup_out, exec, jump_if_out, jump_out, pop_into, pop_out, push_field, push_literal_out, push_out, push_receiver_out, push_temp_out, push_variable_out, push_vector_out, same_out, send_literal_out, send_selector_out, send_super_out, special_out, special_send_out, store_field, store_into, store_receiver_out, store_temp_out, store_variable_out, store_vector_out, this_context_out}
 use Rattle.cs_model.specs.Built.{is_built_op}
 use Rattle.cs_model.proofs.Editing.{active_context-put}
 use Rattle.cs_model.proofs.Objects.{object_at-put_other, object_at-put_same, rest-put}
@@ -207,20 +207,37 @@ field_settles k i (Some (Raw head bytes)) = still
 field_settles k i (Some (Method head header literals bytecodes)) = still
 field_settles k i (Some (Ctx c)) = given_settles k (context_get k c i) _ _ still (λ x. if_settles k (i == 0) _ _ (looked_settles k (push_out k x) (push_settles k x)) (push_settles k x))
 
-store_field_settles : (t : Kept) (i : ℕ) (v : Ref) (o : Option Obj) → is_some (context_in o) ≡ false → Settles t (store_field t i v o)
-store_field_settles t i v None h = still
-store_field_settles t i v (Some (Ptr head slots)) h = if_settles t (nat_lt i (length slots)) _ _ (to (λ _. store_stays t (receiver_of t) i v)) still
-store_field_settles t i v (Some (Raw head bytes)) h = still
-store_field_settles t i v (Some (Method head header literals bytecodes)) h = still
-store_field_settles t i v (Some (Ctx c)) h = absurd (cc)
+special_send_settles : (k : Kept) (special args : ℕ) → Settles k (special_send_out k special args)
+unfolding special_send_out
+special_send_settles k special args = given_settles k (special_at k special) _ _ still (λ x. still)
+
+push_all_settles : (xs : List Ref) (k : Kept) → Settles k (push_all xs k)
+unfolding push_all
+push_all_settles [] k = still
+push_all_settles (x ∷ xs) k = then_settles k (push_out k x) (λ t. push_all xs t) (push_settles k x) (λ t. push_all_settles xs t)
+
+refuse_settles : (k : Kept) (target : Ref) (i : ℕ) (v : Ref) → Settles k (refuse_store k target i v)
+unfolding refuse_store
+refuse_settles k target i v = then_settles k _ _ (push_all_settles (target ∷ v ∷ Small (pos (i + 1)) ∷ []) k) (λ t. special_send_settles t attempt_to_assign 2)
+
+slot_settles : (t bare : Kept) → (Runs t → Stays t bare) → (target : Ref) (i : ℕ) (v : Ref) → Settles t (store_slot t bare target i v)
+unfolding store_slot
+slot_settles t bare s target i v = if_settles t (is_read_only t target) _ _ (behind t bare _ s (refuse_settles bare target i v)) (to (λ _. store_stays t target i v))
+
+store_field_settles : (t bare : Kept) → (Runs t → Stays t bare) → (i : ℕ) (v : Ref) (o : Option Obj) → is_some (context_in o) ≡ false → Settles t (store_field t bare i v o)
+store_field_settles t bare s i v None h = still
+store_field_settles t bare s i v (Some (Ptr head slots)) h = if_settles t (nat_lt i (length slots)) _ _ (slot_settles t bare s (receiver_of t) i v) still
+store_field_settles t bare s i v (Some (Raw head bytes)) h = still
+store_field_settles t bare s i v (Some (Method head header literals bytecodes)) h = still
+store_field_settles t bare s i v (Some (Ctx c)) h = absurd (cc)
 
 receiver_settles : (k : Kept) (i : ℕ) → Settles k (push_receiver_out k i)
 unfolding push_receiver_out
 receiver_settles k i = field_settles k i (object_of k (receiver_of k))
 
-store_receiver_settles : (t : Kept) (i : ℕ) (v : Ref) → is_context_ref t (receiver_of t) ≡ false → Settles t (store_receiver_out t i v)
+store_receiver_settles : (t bare : Kept) → (Runs t → Stays t bare) → (i : ℕ) (v : Ref) → is_context_ref t (receiver_of t) ≡ false → Settles t (store_receiver_out t bare i v)
 unfolding store_receiver_out
-store_receiver_settles t i v h = store_field_settles t i v (object_of t (receiver_of t)) h
+store_receiver_settles t bare s i v h = store_field_settles t bare s i v (object_of t (receiver_of t)) h
 
 temp_settles : (k : Kept) (i : ℕ) → Settles k (push_temp_out k i)
 unfolding push_temp_out
@@ -238,23 +255,23 @@ variable_settles : (k : Kept) (i : ℕ) → Settles k (push_variable_out k i)
 unfolding push_variable_out
 variable_settles k i = given_settles k (variable_value k i) _ _ still (λ x. push_settles k x)
 
-store_variable_settles : (t : Kept) (i : ℕ) (v : Ref) → Settles t (store_variable_out t i v)
+store_variable_settles : (t bare : Kept) → (Runs t → Stays t bare) → (i : ℕ) (v : Ref) → Settles t (store_variable_out t bare i v)
 unfolding store_variable_out
-store_variable_settles t i v = given_settles t (variable_value t i) _ _ still (λ x. to (λ _. store_stays t (unwrap_or (literal_at t i) (nil_of t)) 1 v))
+store_variable_settles t bare s i v = given_settles t (variable_value t i) _ _ still (λ x. slot_settles t bare s (unwrap_or (literal_at t i) (nil_of t)) 1 v)
 
 vector_settles : (k : Kept) (i j : ℕ) → Settles k (push_vector_out k i j)
 unfolding push_vector_out
 vector_settles k i j = given_settles k (vector_slot k i j) _ _ still (λ x. push_settles k x)
 
-store_vector_settles : (t : Kept) (i j : ℕ) (v : Ref) → Settles t (store_vector_out t i j v)
+store_vector_settles : (t bare : Kept) → (Runs t → Stays t bare) → (i j : ℕ) (v : Ref) → Settles t (store_vector_out t bare i j v)
 unfolding store_vector_out
-store_vector_settles t i j v = given_settles t (vector_slot t i j) _ _ still (λ x. to (λ _. store_stays t (vector_at t j) i v))
+store_vector_settles t bare s i j v = given_settles t (vector_slot t i j) _ _ still (λ x. slot_settles t bare s (vector_at t j) i v)
 
-pop_into_settles : (k : Kept) (f : Kept → Ref → Out) → ((x : Ref) → Settles (pop_of k) (f (pop_of k) x)) → Settles k (pop_into k f)
+pop_into_settles : (k : Kept) (f : Kept → Kept → Ref → Out) → ((x : Ref) → Settles (pop_of k) (f (pop_of k) (pop_of k) x)) → Settles k (pop_into k f)
 unfolding pop_into
-pop_into_settles k f h = given_settles k (top_of k) _ _ still (λ x. behind k (pop_of k) (f (pop_of k) x) (drop_stays k 1) (h x))
+pop_into_settles k f h = given_settles k (top_of k) _ _ still (λ x. behind k (pop_of k) (f (pop_of k) (pop_of k) x) (drop_stays k 1) (h x))
 
-store_into_settles : (k : Kept) (f : Kept → Ref → Out) → ((x : Ref) → Settles k (f k x)) → Settles k (store_into k f)
+store_into_settles : (k : Kept) (f : Kept → Kept → Ref → Out) → ((x : Ref) → Settles k (f k (pop_of k) x)) → Settles k (store_into k f)
 unfolding store_into
 store_into_settles k f h = given_settles k (top_of k) _ _ still (λ x. h x)
 
@@ -273,10 +290,6 @@ this_settles k = if_settles k (nat_lt (depth_of k) (size_of k)) _ _ (looked_sett
 jump_settles : (k : Kept) (offset : ℤ) → Settles k (jump_out k offset)
 unfolding jump_out
 jump_settles k offset = given_settles k (pc_after k offset) _ _ still (λ x. to (set_pc_stays k x))
-
-special_send_settles : (k : Kept) (special args : ℕ) → Settles k (special_send_out k special args)
-unfolding special_send_out
-special_send_settles k special args = given_settles k (special_at k special) _ _ still (λ x. still)
 
 jump_if_settles : (k : Kept) (wanted : Bool) (offset : ℕ) → Settles k (jump_if_out k wanted offset)
 unfolding jump_if_out
@@ -371,12 +384,12 @@ exec_settles (op.PushRcvr i) k h free = receiver_settles k i
 exec_settles (op.PushTemp i) k h free = temp_settles k i
 exec_settles (op.PushLit i) k h free = literal_settles k i
 exec_settles (op.PushLitVar i) k h free = variable_settles k i
-exec_settles (op.PopRcvr i) k h free = running k _ (λ runs. pop_into_settles k _ (λ x. store_receiver_settles (pop_of k) i x (popped_no_context k runs h)))
+exec_settles (op.PopRcvr i) k h free = running k _ (λ runs. pop_into_settles k _ (λ x. store_receiver_settles (pop_of k) (pop_of k) (λ _. stays_itself (pop_of k)) i x (popped_no_context k runs h)))
 exec_settles (op.PopTemp i) k h free = pop_into_settles k _ (λ x. store_temp_settles (pop_of k) i x)
-exec_settles (op.PopLitVar i) k h free = pop_into_settles k _ (λ x. store_variable_settles (pop_of k) i x)
-exec_settles (op.StoreRcvr i) k h free = store_into_settles k _ (λ x. store_receiver_settles k i x (no_context k h))
+exec_settles (op.PopLitVar i) k h free = pop_into_settles k _ (λ x. store_variable_settles (pop_of k) (pop_of k) (λ _. stays_itself (pop_of k)) i x)
+exec_settles (op.StoreRcvr i) k h free = store_into_settles k _ (λ x. store_receiver_settles k (pop_of k) (drop_stays k 1) i x (no_context k h))
 exec_settles (op.StoreTemp i) k h free = store_into_settles k _ (λ x. store_temp_settles k i x)
-exec_settles (op.StoreLitVar i) k h free = store_into_settles k _ (λ x. store_variable_settles k i x)
+exec_settles (op.StoreLitVar i) k h free = store_into_settles k _ (λ x. store_variable_settles k (pop_of k) (drop_stays k 1) i x)
 exec_settles op.PushSelf k h free = push_settles k _
 exec_settles op.PushTrue k h free = push_settles k _
 exec_settles op.PushFalse k h free = push_settles k _
@@ -397,8 +410,8 @@ exec_settles (op.NewArray n) k h free = absurd (cc)
 exec_settles (op.PopArray n) k h free = absurd (cc)
 exec_settles (op.Prim i j) k h free = still
 exec_settles (op.PushVec i j) k h free = vector_settles k i j
-exec_settles (op.StoreVec i j) k h free = store_into_settles k _ (λ x. store_vector_settles k i j x)
-exec_settles (op.PopVec i j) k h free = pop_into_settles k _ (λ x. store_vector_settles (pop_of k) i j x)
+exec_settles (op.StoreVec i j) k h free = store_into_settles k _ (λ x. store_vector_settles k (pop_of k) (drop_stays k 1) i j x)
+exec_settles (op.PopVec i j) k h free = pop_into_settles k _ (λ x. store_vector_settles (pop_of k) (pop_of k) (λ _. stays_itself (pop_of k)) i j x)
 exec_settles (op.Closure copied args size) k h free = closure_settles k copied args size free
 exec_settles (op.Jump offset) k h free = jump_settles k offset
 exec_settles (op.JumpTrue offset) k h free = jump_if_settles k true offset

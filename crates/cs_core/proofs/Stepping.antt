@@ -19,7 +19,7 @@ use Rattle.cs_acts.specs.declared.act.Full.{Full as Why}
 use Rattle.cs_acts.specs.Layout.{Layout}
 use Rattle.cs_acts.specs.Names.{Store}
 use Rattle.cs_acts.specs.Ready.{IsReady}
-use Rattle.cs_core.specs.Stepped.{EndsBy, StepGives, TurnGives, least_of_return, least_of_send, returning, sending}
+use Rattle.cs_core.specs.Stepped.{EndsBy, StepGives, TurnGives, least_of_return, returning, sending}
 use Rattle.cs_core.specs.declared.step.StepEnd.{StepEnd}
 use Rattle.cs_core.specs.declared.step.StepEnd.TheVariants.{Stopped as Stop, Full}
 use Rattle.cs_core.proofs.Asking.{behind_return, behind_send}
@@ -77,7 +77,7 @@ module _ (k : Kept) (i : Instr) (l n : Option Layout) (s : Store) (v : Kept) (h 
       → TurnGives (sending u m) u b old new s v n e → StepGives k l old new s v n e
   send_gives u m b old new e running free on (did op end keeps) held same gives =
       turn_gives k i l n old new s v e h
-      (carried (sending u m) (model_turn k i) u k l n old new s v e (sends_same k i u m op end keeps held) (λ output steps. fills_by_words u k least_of_send least_of_return (behind_send k u i m.selector m.args m.above running op end keeps).words (omega arith))
+      (carried (sending u m) (model_turn k i) u k l n old new s v e (sends_same k i u m op end keeps held) (λ output steps. (behind_send k u i m.selector m.args m.above running op end keeps).fills)
       (settled_stacked k (effect k i).state u l (effect_stays k i running free op) keeps on)
       (subst (λ b. TurnGives (sending u m) u b old new s v n e) same gives))
   send_gives u m b old new e running free on (did_not op is) held same gives = absurd (cc)

@@ -53,5 +53,3 @@ const STACK: u32 = 6;
 /// The word of nil.
 const NIL: Oop = Oop(BASE);
 
-#[cfg(test)]
-mod tests;

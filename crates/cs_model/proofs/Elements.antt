@@ -6,7 +6,7 @@ use Rattle.cs_model.specs.Obj.{Obj, Ptr, Raw, Method, Ctx, first_pc}
 use Rattle.cs_model.specs.State.{Kept, IsHeld, NamesHeld}
 use Rattle.cs_model.specs.Arithmetic.{if_small}
 use Rattle.cs_model.specs.Instance.{unit_bytes}
-use Rattle.cs_model.specs.Element.{number_of, bytes_of, fields_within, class_shape, fields_of, range, range_in, range_of, place_in, place_of, unit_at, small_ref, read_in, element_at, store_bytes, store_unit, write_in, with_element, front_of, front, copy_unit, copy_slot, copy_one, copy_elements}
+use Rattle.cs_model.specs.Element.{number_of, bytes_of_number, fields_within, class_shape, named_fields, range, range_in, range_of, place_in, element_place, unit_at, small_ref, read_in, element_at, store_bytes, store_unit, write_in, with_element, front_of, front, copy_unit, copy_slot, copy_one, copy_elements}
 use Rattle.cs_model.specs.Keeps.{Keeps}
 use Rattle.cs_model.proofs.Same.{Same, same, SameOption, none, some, Any, is, value, of_option, and_then_same, map_same, plain, any_option}
 use Rattle.cs_model.proofs.Keeping.{Moved, moved, unmoved, IsHeld-grows}
@@ -20,8 +20,8 @@ class_shape_same k s =
     and_then_same (slots_of_same k 3 (same class h)) (λ slots g.
     and_then_same (slice_same 2 (same slots g)) (λ z f. any_option (small_of z))))
 
-pub fields_of_same : {v m : Kept} {x y : Ref} → Keeps v m → Same (IsHeld v) x y → (slots : List Ref) → SameOption Any (fields_of v x slots) (fields_of m y slots)
-unfolding fields_of
+pub fields_of_same : {v m : Kept} {x y : Ref} → Keeps v m → Same (IsHeld v) x y → (slots : List Ref) → SameOption Any (named_fields v x slots) (named_fields m y slots)
+unfolding named_fields
 fields_of_same k s slots = plain (of_option (fields_within (length slots)) (class_shape_same k s))
 
 range_in_same : {v m : Kept} {x y : Ref} {o p : Option Obj} → Keeps v m → Same (IsHeld v) x y → SameOption (NamesHeld v) o p → SameOption Any (range_in v x o) (range_in m y p)
@@ -35,7 +35,7 @@ pub range_of_same : {v m : Kept} {x y : Ref} → Keeps v m → Same (IsHeld v) x
 unfolding range_of
 range_of_same k s = range_in_same k s (object_of_same k s)
 
-pub place_of_same : {v m : Kept} {P : Ref → Type 0} {x y i j : Ref} → Keeps v m → Same (IsHeld v) x y → Same P i j → SameOption Any (place_of v x i) (place_of m y j)
+pub place_of_same : {v m : Kept} {P : Ref → Type 0} {x y i j : Ref} → Keeps v m → Same (IsHeld v) x y → Same P i j → SameOption Any (element_place v x i) (element_place m y j)
 place_of_same k s (same i h) = and_then_same (range_of_same k s) (λ r a. any_option (place_in r (index_of i)))
 
 -- ---- reading
@@ -67,7 +67,7 @@ store_bytes_moved k (same x h) at bytes = store_each_moved bytes k x at
 
 store_unit_moved : {v m : Kept} {P : Ref → Type 0} {x y : Ref} {o p : Option ℕ} → Keeps v m → Same P x y → (size place : ℕ) → Same Any o p → MovedOption v (store_unit v x size place o) (store_unit m y size place p)
 store_unit_moved k s size place (same None a) = nothing
-store_unit_moved k s size place (same (Some n) a) = if_moved (is (nat_lt n (2 ^ (8 * size)))) (gives (store_bytes_moved k s (place * size) (bytes_of size n))) nothing
+store_unit_moved k s size place (same (Some n) a) = if_moved (is (nat_lt n (2 ^ (8 * size)))) (gives (store_bytes_moved k s (place * size) (bytes_of_number size n))) nothing
 
 write_in_moved : {v m : Kept} {x y z w : Ref} {o p : Option Obj} → Keeps v m → Same (IsHeld v) x y → (place : ℕ) → Same (IsHeld v) z w → SameOption (NamesHeld v) o p → MovedOption v (write_in v x place z o) (write_in m y place w p)
 write_in_moved k s place t none = nothing

@@ -5,7 +5,7 @@ use Rattle.cs_model.specs.Ref as ref
 use Rattle.cs_model.specs.Obj.{Obj, Context, Ptr, Raw, Method, Ctx, is_context, context_fields, edit_context, is_method}
 use Rattle.cs_model.specs.State.{Kept, IsHeld, ContextHeld, NamesHeld}
 use Rattle.cs_model.specs.Operation.{nil_of}
-use Rattle.cs_model.specs.Context.{pc_value, context_get, is_context_ref, has_class_index, closure_class, lies_if_live, lies_if_index, at_most, accepts, of_depth, to_depth, with_field, context_put}
+use Rattle.cs_model.specs.Context.{pc_value, context_get, is_context_ref, has_class_index, closure_class, lies_if_live, lies_if_index, is_at_most, accepts, of_depth, to_depth, with_field, context_put}
 use Rattle.cs_model.specs.Keeps.{Keeps}
 use Rattle.cs_model.proofs.Same.{some_same, option_is, Same, same, SameOption, Any, is, of, value, of_option, two, if_same, if_option, all-append, all-take, all-replicate, all-slice_set}
 use Rattle.cs_model.proofs.Keeping.{Moved, IsEdit, edit_found_moved}
@@ -43,7 +43,7 @@ unfolding accepts
 accepts_same k (same b a) s i t =
     if_same (is (i == 0)) (or_else_same (is_nil_same k t) (is_context_ref_same k t))
     (if_same (is (i == 1)) (if_same (is_nil_same k t) (is (not b)) (two (λ o x. lies_if_index o (index_of x)) (option_is (object_of_same k (context_method s))) t))
-    (if_same (is (i == 2)) (two (λ c x. not b && at_most c.size (index_of x)) s t)
+    (if_same (is (i == 2)) (two (λ c x. not b && is_at_most c.size (index_of x)) s t)
     (if_same (is (i == 3)) (two (λ o c. not b && is_method o && lies_if_live o c.pc) (option_is (object_of_same k t)) s)
     (if_same (is (i == 4)) (and_same (is (not b)) (or_else_same (is_nil_same k t) (of_option (has_class_index closure_class) (object_of_same k t))))
     (value (λ c. i == 5 || nat_lt (i - context_fields) (length c.stack)) s)))))

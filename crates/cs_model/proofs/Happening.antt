@@ -6,7 +6,7 @@ use Rattle.cs_model.specs.declared.event.EventKind.TheVariants as kind
 use Rattle.cs_model.specs.Ref.{Ref}
 use Rattle.cs_model.specs.State.{Kept, Run, State, Timer, IsHeld}
 use Rattle.cs_model.specs.PrimRun.{with_timer}
-use Rattle.cs_model.specs.Due.{external_semaphores, external_at, signal_external, due_timer, Happened, happened, with_out, fire, with_clock, add_input, happen, with_events, is_idle_at, is_idle, is_left, without_context, left_count, behind, go_on, due_of, due}
+use Rattle.cs_model.specs.Due.{external_semaphores, external_at, signal_external, due_timer, Happened, happened, with_out, fire, with_clock, add_input, happen, with_events, is_idle_at, is_idle, is_left, without_context, left_count, behind, and_then_due, due_of, due}
 use Rattle.cs_model.specs.End.{Out, Count, no_count, is_done, plus}
 use Rattle.cs_model.specs.Keeps.{Keeps, KeepsState}
 use Rattle.cs_model.specs.Alike.{Alike, AlikeHappened}
@@ -68,7 +68,7 @@ without_context_moved k = choose_moved (is_left_same k) (suspend_moved k) (unmov
 pub left_counted : {x y : Bool} {n l : Count} → Same Any x y → Same Any n l → plus n (if x then record { objects = 0; contexts = 0; looks = 1 } else no_count) ≡ plus l (if y then record { objects = 0; contexts = 0; looks = 1 } else no_count)
 left_counted (same x c) (same n d) = refl
 
-go_on_alike : {v : Kept} {a b : Happened} (f g : State → Happened) → AlikeHappened v a b → ((t u : Kept) (r q : Run) → Keeps t u → Same Any r q → AlikeHappened t (f (record { kept = t; run = r })) (g (record { kept = u; run = q }))) → AlikeHappened v (go_on a f) (go_on b g)
+go_on_alike : {v : Kept} {a b : Happened} (f g : State → Happened) → AlikeHappened v a b → ((t u : Kept) (r q : Run) → Keeps t u → Same Any r q → AlikeHappened t (f (record { kept = t; run = r })) (g (record { kept = u; run = q }))) → AlikeHappened v (and_then_due a f) (and_then_due b g)
 go_on_alike {v} {a} {b} f g h next =
     let w = without_context_moved h.state.kept in
     let n = next _ _ _ _ w.keeps (run_same h.state) in

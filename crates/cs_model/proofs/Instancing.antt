@@ -6,7 +6,7 @@ use Rattle.cs_model.specs.Obj.{Obj, Context, Ptr, Raw, Method, Ctx, new_head, cl
 use Rattle.cs_model.specs.State.{Kept, object_at, IsHeld, NamesHeld}
 use Rattle.cs_model.specs.Operation.{add_of}
 use Rattle.cs_model.specs.Instance.{Index, IndexAt, NoIndex, NoneFree, Hashed}
-use Rattle.cs_model.specs.PrimObject.{small_count, hash_prim, has_index, first_instance, instance_from, entry_index, table_index, some_instance_prim, index_but_context, next_instance_prim, method_of, is_method_index, make_method, is_method_shape, new_method_prim, copy_kinds, copy_fits, count_of, copy_to, replace_prim, identical_prim, class_prim, copied, look_if, copy_object, copy_prim, answer_hashed, behavior_hash_prim, is_unwritable, read_only_prim, can_be_fixed, boolean_in, set_read_only_prim, quick_prim}
+use Rattle.cs_model.specs.PrimObject.{small_count, hash_prim, has_index, first_instance, instance_from, entry_index, table_index, some_instance_prim, index_but_context, next_instance_prim, blank_method, is_method_index, make_method, is_method_shape, new_method_prim, copy_kinds, copy_fits, count_of, copy_to, replace_prim, identical_prim, class_prim, copied, look_if, copy_object, copy_prim, answer_hashed, behavior_hash_prim, is_unwritable, read_only_prim, can_be_fixed, boolean_in, set_read_only_prim, quick_prim}
 use Rattle.cs_model.specs.PrimContext.{stack_at_prim, stack_put, stack_at_put_prim, stackp_prim}
 use Rattle.cs_model.specs.End.{Out}
 use Rattle.cs_model.specs.Keeps.{Keeps}
@@ -90,7 +90,7 @@ next_instance_alike k args =
 
 -- ---- a new method
 
-method_made_same : {v m : Kept} → Keeps v m → (index count header : ℕ) → Same (NamesHeld v) (method_of v index count header) (method_of m index count header)
+method_made_same : {v m : Kept} → Keeps v m → (index count header : ℕ) → Same (NamesHeld v) (blank_method v index count header) (blank_method m index count header)
 method_made_same {v} k index count header =
     of (NamesHeld v) (λ nil. Method (new_head index (24 + (3 - (count + 3) % 4))) header (replicate (literal_count header) nil) (replicate count 0)) (nil_same k) (λ nil h. all-replicate (IsHeld v) (literal_count header) nil h)
 

@@ -5,7 +5,7 @@ use Rattle.cs_model.specs.Ref.{Ref, index_of}
 use Rattle.cs_model.specs.Obj.{Obj, Ptr, Raw, Method, Ctx, slots_in}
 use Rattle.cs_model.specs.State.{Kept, object_of}
 use Rattle.cs_model.specs.Instance.{unit_bytes}
-use Rattle.cs_model.specs.Element.{bytes_of, unit_at, fields_of, store_bytes, store_unit, write_in, with_element, copy_unit, copy_slot, copy_one, copy_elements}
+use Rattle.cs_model.specs.Element.{bytes_of_number, unit_at, named_fields, store_bytes, store_unit, write_in, with_element, copy_unit, copy_slot, copy_one, copy_elements}
 use Rattle.cs_model.proofs.LeadCombining.{Ready, Goes, goes_itself, goes_trans, ready_behind}
 use Rattle.cs_model.proofs.LeadOperation.{store_goes, store_byte_goes}
 
@@ -32,7 +32,7 @@ if_goes_some {k} false h = goes_none k
 
 store_unit_goes : {k : Kept} (x : Ref) (size place : ℕ) (o : Option ℕ) → Ready k → GoesIf k (store_unit k x size place o)
 store_unit_goes {k} x size place None r = goes_none k
-store_unit_goes x size place (Some n) r = if_goes_some (nat_lt n (2 ^ (8 * size))) (λ e. store_bytes_goes (bytes_of size n) x (place * size) r)
+store_unit_goes x size place (Some n) r = if_goes_some (nat_lt n (2 ^ (8 * size))) (λ e. store_bytes_goes (bytes_of_number size n) x (place * size) r)
 
 pub map_goes : {A : Type 0} {k : Kept} (f : A → Kept) (o : Option A) → ((x : A) → Goes k (f x)) → GoesIf k (option_map f o)
 map_goes {k = k} f None h = goes_none k
@@ -44,7 +44,7 @@ and_then_goes_if f (Some x) h = h x refl
 
 write_in_goes : {k : Kept} (x : Ref) (place : ℕ) (v : Ref) (o : Option Obj) → Ready k → GoesIf k (write_in k x place v o)
 write_in_goes {k} x place v None r = goes_none k
-write_in_goes {k} x place v (Some (Ptr head slots)) r = map_goes _ (fields_of k x slots) (λ fields. store_goes x (fields + place) v r)
+write_in_goes {k} x place v (Some (Ptr head slots)) r = map_goes _ (named_fields k x slots) (λ fields. store_goes x (fields + place) v r)
 write_in_goes x place v (Some (Raw head bytes)) r = store_unit_goes x (unit_bytes head.format) place (index_of v) r
 write_in_goes x place v (Some (Method head header literals bytecodes)) r = store_unit_goes x 1 place (index_of v) r
 write_in_goes {k} x place v (Some (Ctx c)) r = goes_none k

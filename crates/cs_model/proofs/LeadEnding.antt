@@ -5,7 +5,7 @@ use Rattle.cs_model.specs.State.{Kept, slots_of, active_process, is_nil}
 use Rattle.cs_model.specs.Profile.{puts_in_front}
 use Rattle.cs_model.specs.Operation.{store_of, nil_of}
 use Rattle.cs_model.specs.Return.{context_birth, is_live}
-use Rattle.cs_model.specs.Process.{suspended_context, first_link, last_link, excess_signals, process_slots, semaphore_slots, list_slots, slot_or_none, shaped_scheduler, list_of_process, with_list_of, link_last, add_last, add_first, add_preempted, take_out, start, stop_running, priority_of, resume_beside, one_more, signal}
+use Rattle.cs_model.specs.Process.{suspended_context, first_link, last_link, excess_signals, process_slots, semaphore_slots, list_slots, slot_or_none, shaped_scheduler, list_of_process, with_list_of, link_last, add_last, add_first, add_preempted, take_out, start, stop_running, priority_of, resume_beside, one_more_excess, signal}
 use Rattle.cs_model.specs.PrimProcess.{is_semaphore}
 use Rattle.cs_model.specs.Due.{external_at, signal_external}
 use Rattle.cs_model.specs.End.{End, Out, done, stop, looked, given, is_done, and_then}
@@ -91,7 +91,7 @@ resume_beside_ends k running p =
     (looked_ends (with_list_ends (stop_running k running) running _ (λ list. and_then_ends _ (add_preempted_ends (stop_running k running) list running) (λ t. start_ends t p))))
     (with_list_ends k p _ (λ list. add_last_ends k list p)))))
 
-one_more_ends : (k : Kept) (semaphore : Ref) (o : Option ℤ) → Ends (one_more k semaphore o)
+one_more_ends : (k : Kept) (semaphore : Ref) (o : Option ℤ) → Ends (one_more_excess k semaphore o)
 one_more_ends k semaphore None = record { plain = tt }
 one_more_ends k semaphore (Some n) = if_ends (int_lt n (pos 1073741823)) (record { plain = tt }) (record { plain = tt })
 

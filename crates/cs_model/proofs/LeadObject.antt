@@ -9,10 +9,10 @@ use Rattle.cs_model.specs.State.{Kept, object_at, object_of, slots_of, special_a
 use Rattle.cs_model.specs.Operation.{next_ref}
 use Rattle.cs_model.specs.Context.{context_get, accepts}
 use Rattle.cs_model.specs.Instance.{Made, New, NotInstantiable, TableFull, instantiate, Index, IndexAt, NoIndex, NoneFree, class_index_for, shape_of, Hashed, Hash, NotAClass, NoneLeft, behavior_hash}
-use Rattle.cs_model.specs.Element.{range_of, place_of, front}
+use Rattle.cs_model.specs.Element.{range_of, element_place, front}
 use Rattle.cs_model.specs.Exec.{is_active, small_operands}
 use Rattle.cs_model.specs.PrimAnswer.{receiver, argument}
-use Rattle.cs_model.specs.PrimObject.{at_prim, at_put_prim, has_size, small_count, size_prim, is_bytes, char_at_prim, byte_code, char_at_put_prim, method_slot, slot_index, object_at_prim, object_at_put_prim, answer_made, new_prim, new_size_prim, point_class, point_slots, point_made, point_prim, answer_field, slot_at, slot_at_prim, context_at_put, slot_put, slot_at_put_prim, hash_prim, some_instance_prim, next_instance_prim, method_of, is_method_index, make_method, is_method_shape, new_method_prim, copy_kinds, copy_fits, count_of, copy_to, replace_prim, identical_prim, class_prim, copied, look_if, copy_object, copy_prim, answer_hashed, behavior_hash_prim, read_only_prim, can_be_fixed, boolean_in, set_read_only_prim, quick_prim}
+use Rattle.cs_model.specs.PrimObject.{at_prim, at_put_prim, has_size, small_count, size_prim, is_bytes, char_at_prim, byte_code, char_at_put_prim, method_slot, slot_index, object_at_prim, object_at_put_prim, answer_made, new_prim, new_size_prim, point_class, point_slots, point_made, point_prim, answer_field, slot_at, slot_at_prim, context_at_put, slot_put, slot_at_put_prim, hash_prim, some_instance_prim, next_instance_prim, blank_method, is_method_index, make_method, is_method_shape, new_method_prim, copy_kinds, copy_fits, count_of, copy_to, replace_prim, identical_prim, class_prim, copied, look_if, copy_object, copy_prim, answer_hashed, behavior_hash_prim, read_only_prim, can_be_fixed, boolean_in, set_read_only_prim, quick_prim}
 use Rattle.cs_model.specs.End.{Out}
 use Rattle.cs_model.proofs.Leading.{Sound, PcsLie}
 use Rattle.cs_model.proofs.LeadCombining.{Ready, goes_trans, ready_behind, Leading, fail_leading, made_leading, looked_leading, given_leading, if_leading}
@@ -33,7 +33,7 @@ pub at_put_leading : {P : Kept → Type 0} {k : Kept} (args : ℕ) → Ready k �
 unfolding at_put_prim
 at_put_leading {k = k} args r =
     with_count_leading 2 args r (unless_read_only_leading (receiver k 2) r (answer_in_leading _ 2 _ r
-    (and_then_goes_if _ (place_of k (receiver k 2) (argument k 2 0)) (λ place e. with_element_goes (receiver k 2) place (argument k 2 1) r))))
+    (and_then_goes_if _ (element_place k (receiver k 2) (argument k 2 0)) (λ place e. with_element_goes (receiver k 2) place (argument k 2 1) r))))
 
 pub size_leading : {P : Kept → Type 0} {k : Kept} (args : ℕ) → Ready k → Leading P k (size_prim k args)
 unfolding size_prim
@@ -47,7 +47,7 @@ pub char_at_put_leading : {P : Kept → Type 0} {k : Kept} (args : ℕ) → Read
 unfolding char_at_put_prim
 char_at_put_leading {k = k} args r =
     with_count_leading 2 args r (unless_read_only_leading (receiver k 2) r (if_leading (is_bytes k (receiver k 2))
-    (λ e. answer_in_leading _ 2 _ r (and_then_goes_if _ (place_of k (receiver k 2) (argument k 2 0)) (λ place f.
+    (λ e. answer_in_leading _ 2 _ r (and_then_goes_if _ (element_place k (receiver k 2) (argument k 2 0)) (λ place f.
     map_goes _ (byte_code (argument k 2 1)) (λ b. store_byte_goes (receiver k 2) place b r))))
     (λ e. fail_leading r)))
 
@@ -174,7 +174,7 @@ make_method_leading class count header NoneFree r h seen = fail_leading r
 make_method_leading {k = k} class count header (IndexAt index) r h seen =
     if_leading (is_method_index index) (λ e.
     let a = take_index_goes 3 class index r h seen in
-    let o = method_of k index count header in
+    let o = blank_method k index count header in
     made_leading (words_of o) (answer_behind 2 (next_ref k) (goes_trans a (add_goes o (ready_behind a) (shown_index index (and_true (nat_lt 3 index) _ e).0 seen) (no_context_lies refl)))))
     (λ e. fail_leading r)
 

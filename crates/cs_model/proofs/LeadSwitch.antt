@@ -10,7 +10,7 @@ use Rattle.cs_model.specs.Profile.{puts_in_front}
 use Rattle.cs_model.specs.Operation.{store_of, suspend_of, nil_of}
 use Rattle.cs_model.specs.Return.{context_birth, is_live}
 use Rattle.cs_model.specs.Due.{is_idle, is_idle_at}
-use Rattle.cs_model.specs.Process.{next_link, suspended_context, my_list, first_link, last_link, excess_signals, process_slots, semaphore_slots, list_slots, slot_or_none, with_slot_of, if_scheduler, shaped_scheduler, lists_of, list_of_process, with_list_of, link_last, add_last, last_if_alone, add_first, add_preempted, link_past, take_out, with_first, give_context, start_at, start, stop_running, Highest, Waiting, AllEmpty, NoList, highest_of, none_active, start_highest, start_next, priority_of, preempt, resume_beside, resume, one_more, signal, wait_behind, wait, suspend_active, Place, At, NotThere, NoProcess, TooFar, leave_list, suspend_other, give_way_to, give_way}
+use Rattle.cs_model.specs.Process.{next_link, suspended_context, my_list, first_link, last_link, excess_signals, process_slots, semaphore_slots, list_slots, slot_or_none, with_slot_of, if_scheduler, shaped_scheduler, lists_of, list_of_process, with_list_of, link_last, add_last, last_if_alone, add_first, add_preempted, link_past, take_out, with_first, give_context, start_at, start, stop_running, Highest, Waiting, AllEmpty, NoList, highest_of, none_active, start_highest, start_next, priority_of, preempt, resume_beside, resume, one_more_excess, signal, wait_behind, wait, suspend_active, ListPlace, At, NotThere, NoProcess, TooFar, leave_list, suspend_other, give_way_to, give_way}
 use Rattle.cs_model.specs.End.{Out, stop, done, and_then}
 use Rattle.cs_model.proofs.Leading.{Sound, Leads, leads_itself, leads_trans}
 use Rattle.cs_model.proofs.LeadCombining.{Runs, Ready, Settled, runs_settled, Leading, done_leading, stop_leading, fail_leading, behind, looked_leading, given_leading, if_leading, and_then_leading, weaker, settled_leading}
@@ -226,7 +226,7 @@ running_runs k a running e apart = go k.rest.active refl where
   go None f = absurd (both (sym (a.idle f) ∙ ap (λ o. is_idle_at k o) e ∙ apart))
   go (Some i) f = record { active = ap is_some f }
 
-one_more_leading : {k : Kept} → Sound k → Awake k → (semaphore : Ref) (o : Option ℤ) → Leading Awake k (one_more k semaphore o)
+one_more_leading : {k : Kept} → Sound k → Awake k → (semaphore : Ref) (o : Option ℤ) → Leading Awake k (one_more_excess k semaphore o)
 unfolding is_idle
 one_more_leading s a semaphore None = stop_leading s why.BadProcess
 one_more_leading {k} s a semaphore (Some n) =
@@ -278,7 +278,7 @@ suspend_active_leading {k} r running =
     (λ e. let a = stop_running_leads r.sound running in looked_leading (behind a (start_next_leading a.sound)))
     (λ e. stop_leading r.sound why.BadProcess)
 
-leave_list_leading : {k : Kept} → Ready k → (p list : Ref) (place : Place) → Leading Runs k (leave_list k p list place)
+leave_list_leading : {k : Kept} → Ready k → (p list : Ref) (place : ListPlace) → Leading Runs k (leave_list k p list place)
 leave_list_leading r p list (At before) = let a = take_out_stored r.sound list p before in done_leading a.leads (stored_runs a r.runs)
 leave_list_leading r p list NotThere = fail_leading r
 leave_list_leading r p list NoProcess = stop_leading r.sound why.BadProcess

@@ -13,7 +13,7 @@ use Rattle.cs_model.specs.Return.{Search, Met, Ended, TooLong, senders_to, sende
 use Rattle.cs_model.specs.PrimAnswer.{receiver, argument}
 use Rattle.cs_model.specs.PrimObject.{slot_index}
 use Rattle.cs_model.specs.PrimContext.{stack_at_prim, stack_put, stack_at_put_prim, stackp_prim}
-use Rattle.cs_model.specs.PrimUnwind.{evaluate_prim, evaluate_array_prim, answer_context, Marked, MarkAt, NoMark, MarkTooFar, search_mark, answer_mark, is_end, unwind_mark_prim, handler_mark_prim, with_sender, end_between_of, end_if, end_searched, end_at, end_between_prim}
+use Rattle.cs_model.specs.PrimUnwind.{evaluate_prim, evaluate_array_prim, answer_context, Marked, MarkAt, NoMark, MarkTooFar, search_mark, answer_mark, is_end, unwind_mark_prim, handler_mark_prim, with_sender, end_between_of, end_if, end_searched, end_up_to, end_between_prim}
 use Rattle.cs_model.proofs.LeadCombining.{Ready, Goes, goes_trans, goes_by, ready_behind, Leading, stop_leading, fail_leading, behind, looked_leading, given_leading, if_leading}
 use Rattle.cs_model.proofs.LeadOperation.{KeepsPlace, edit_context_mild, edit_found_leads, edit_found-rest}
 use Rattle.cs_model.proofs.LeadEntering.{kill_all_leads, kill_all-rest, enter_block_leading, can_evaluate_block, block_beside}
@@ -85,7 +85,7 @@ end_searched_leading i goal (Met passed) r = end_if_leading i goal passed r
 end_searched_leading i goal (Ended passed) r = end_if_leading i goal [] r
 end_searched_leading i goal TooLong r = stop_leading r.sound why.ChainTooLong
 
-end_at_leading : {P : Kept → Type 0} {k : Kept} (i : ℕ) (goal : Ref) (o : Option ℕ) → Ready k → Leading P k (end_at k i goal o)
+end_at_leading : {P : Kept → Type 0} {k : Kept} (i : ℕ) (goal : Ref) (o : Option ℕ) → Ready k → Leading P k (end_up_to k i goal o)
 end_at_leading i goal None r = fail_leading r
 end_at_leading {P} {k} i goal (Some birth) r = if_leading (is_nil k goal) (λ e. end_if_leading i goal [] r) (λ e. end_searched_leading i goal (senders_to k i birth) r)
 

@@ -52,3 +52,9 @@ pub mod LeadEvent
 pub mod LeadEnding
 pub mod LeadFollowing
 pub mod LeadStep
+pub mod Passing
+pub mod Unanswered
+pub mod Trying
+pub mod Finding
+pub mod Doing
+pub mod Changing

@@ -8,7 +8,7 @@ use Rattle.cs_model.specs.Ref.{Ref, Small, Char, same_ref, small_of, index_of}
 use Rattle.cs_model.specs.Obj.{Obj, Ptr, Raw, Method, Ctx, is_context, slots_in, at_least}
 use Rattle.cs_model.specs.State.{Kept, object_at, slots_of, IsHeld}
 use Rattle.cs_model.specs.Profile.{puts_in_front}
-use Rattle.cs_model.specs.Process.{next_link, suspended_context, priority, my_list, first_link, last_link, excess_signals, process_slots, semaphore_slots, list_slots, slot_or_none, with_slot_of, if_scheduler, shaped_scheduler, with_scheduler, with_active_process, lists_of, list_at, if_list, list_of_process, with_list_of, link_last, add_last, last_if_alone, add_first, add_preempted, link_past, is_same, end_at, unlinked, take_out, with_first, give_context, start_at, start, stop_running, Highest, Waiting, AllEmpty, NoList, if_waiting, or_lower, highest_of, none_active, start_highest, start_next, with_priority, preempt, resume_beside, resume, one_more, signal, wait_behind, wait, suspend_active, list_links, Place, At, NotThere, NoProcess, TooFar, find_link, leave_list, suspend_other, suspend, give_way_to, give_way}
+use Rattle.cs_model.specs.Process.{next_link, suspended_context, priority, my_list, first_link, last_link, excess_signals, process_slots, semaphore_slots, list_slots, slot_or_none, with_slot_of, if_scheduler, shaped_scheduler, with_scheduler, with_active_process, lists_of, list_at, if_list, list_of_process, with_list_of, link_last, add_last, last_if_alone, add_first, add_preempted, link_past, is_same, last_past, unlinked, take_out, with_first, give_context, start_at, start, stop_running, Highest, Waiting, AllEmpty, NoList, if_waiting, or_lower, highest_of, none_active, start_highest, start_next, with_priority, preempt, resume_beside, resume, one_more_excess, signal, wait_behind, wait, suspend_active, list_links, ListPlace, At, NotThere, NoProcess, TooFar, find_link, leave_list, suspend_other, suspend, give_way_to, give_way}
 use Rattle.cs_model.specs.End.{Out}
 use Rattle.cs_model.specs.Keeps.{Keeps}
 use Rattle.cs_model.specs.Alike.{Alike, IsHeldIf}
@@ -101,7 +101,7 @@ link_past_moved : {v m : Kept} {x y n l : Ref} {o p : Option Ref} → Keeps v m 
 link_past_moved k list none next = store_moved k list first_link next
 link_past_moved k list (some before h) next = store_moved k (is before) next_link next
 
-end_at_moved : {v m : Kept} {x y p q b c : Ref} → Keeps v m → Same (IsHeld v) x y → Same (IsHeld v) p q → Same (IsHeld v) b c → Moved v (end_at v x p b) (end_at m y q c)
+end_at_moved : {v m : Kept} {x y p q b c : Ref} → Keeps v m → Same (IsHeld v) x y → Same (IsHeld v) p q → Same (IsHeld v) b c → Moved v (last_past v x p b) (last_past m y q c)
 end_at_moved k list p before = choose_moved (two is_same (option_is (slot_same k list_slots last_link list)) p) (store_moved k list last_link before) (unmoved k)
 
 unlinked_moved : {v m : Kept} {p q : Ref} → Keeps v m → Same (IsHeld v) p q → Moved v (unlinked v p) (unlinked m q)
@@ -200,7 +200,7 @@ resume_alike k p =
     (with_active_alike _ _ k (λ running h. resume_beside_alike k (same running h) p))
     (stop_alike k _)
 
-one_more_alike : {v m : Kept} {x y : Ref} {o p : Option ℤ} → Keeps v m → Same (IsHeld v) x y → Same Any o p → Alike v (one_more v x o) (one_more m y p)
+one_more_alike : {v m : Kept} {x y : Ref} {o p : Option ℤ} → Keeps v m → Same (IsHeld v) x y → Same Any o p → Alike v (one_more_excess v x o) (one_more_excess m y p)
 one_more_alike k s (same None a) = stop_alike k _
 one_more_alike k s (same (Some n) a) = if_alike (is (int_lt n (pos 1073741823))) (done_alike (store_moved k s excess_signals (same (Small (n +ℤ pos 1)) tt))) (stop_alike k _)
 
@@ -259,7 +259,7 @@ unfolding suspend_active
 suspend_active_alike k p = if_alike (is_process_same k p) (let s = stop_running_moved k p in looked_alike (behind s (start_next_alike s.keeps))) (stop_alike k _)
 
 -- the process behind which another one stands is there
-abbrev PlaceHeld : Kept → Place → Type 0
+abbrev PlaceHeld : Kept → ListPlace → Type 0
 PlaceHeld v (At before) = IsHeldIf v before
 PlaceHeld v NotThere = Unit {0}
 PlaceHeld v NoProcess = Unit {0}
@@ -280,7 +280,7 @@ find_link_same k p (suc n) before (some link h) =
     (if_same (is (same_ref link p)) (at_same k before) (find_link_same k p n (some link h) (slot_same k process_slots next_link (same link h))))
     (same NoProcess tt))
 
-leave_list_alike : {v m : Kept} {x y p q : Ref} {a b : Place} → Keeps v m → Same (IsHeld v) p q → Same (IsHeld v) x y → Same (PlaceHeld v) a b → Alike v (leave_list v p x a) (leave_list m q y b)
+leave_list_alike : {v m : Kept} {x y p q : Ref} {a b : ListPlace} → Keeps v m → Same (IsHeld v) p q → Same (IsHeld v) x y → Same (PlaceHeld v) a b → Alike v (leave_list v p x a) (leave_list m q y b)
 leave_list_alike k p list (same (At before) h) = done_alike (take_out_moved k list p (held_if k before h))
 leave_list_alike k p list (same NotThere h) = fail_alike k
 leave_list_alike k p list (same NoProcess h) = stop_alike k _

@@ -5,7 +5,7 @@ use Rattle.cs_model.specs.Ref as ref
 use Rattle.cs_model.specs.State.{Kept, IsHeld}
 use Rattle.cs_model.specs.Operation.{kill_all}
 use Rattle.cs_model.specs.Return.{Search, Met, Ended, TooLong, sender_birth, links, is_among, unwind_mark, handler_mark}
-use Rattle.cs_model.specs.PrimUnwind.{evaluate_prim, evaluate_array_prim, answer_context, Marked, MarkAt, NoMark, MarkTooFar, is_goal, search_mark, answer_mark, is_end, unwind_mark_prim, handler_mark_prim, with_sender, end_between_of, end_if, end_searched, end_at, end_between_prim}
+use Rattle.cs_model.specs.PrimUnwind.{evaluate_prim, evaluate_array_prim, answer_context, Marked, MarkAt, NoMark, MarkTooFar, is_goal, search_mark, answer_mark, is_end, unwind_mark_prim, handler_mark_prim, with_sender, end_between_of, end_if, end_searched, end_up_to, end_between_prim}
 use Rattle.cs_model.specs.Keeps.{Keeps}
 use Rattle.cs_model.specs.Alike.{Alike}
 use Rattle.cs_model.proofs.Same.{holds, Same, same, SameOption, none, some, Any, is, of_option, value, if_same}
@@ -94,7 +94,7 @@ end_searched_alike k i h s (same (Met passed) all) = end_if_alike k i h s passed
 end_searched_alike k i h s (same (Ended passed) all) = end_if_alike k i h s []
 end_searched_alike k i h s (same TooLong all) = stop_alike k _
 
-end_at_alike : {v m : Kept} {x y : Ref} {o p : Option ℕ} → Keeps v m → (i : ℕ) → Has v i → Same (IsHeld v) x y → SameOption (Has v) o p → Alike v (end_at v i x o) (end_at m i y p)
+end_at_alike : {v m : Kept} {x y : Ref} {o p : Option ℕ} → Keeps v m → (i : ℕ) → Has v i → Same (IsHeld v) x y → SameOption (Has v) o p → Alike v (end_up_to v i x o) (end_up_to m i y p)
 end_at_alike k i h s none = fail_alike k
 end_at_alike k i h s (some birth g) = if_alike (is_nil_same k s) (end_if_alike k i h s []) (end_searched_alike k i h s (senders_to_same k (same i h) birth))
 

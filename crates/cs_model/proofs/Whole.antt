@@ -7,7 +7,7 @@ use Rattle.cs_model.specs.PrimTable.{prim}
 use Rattle.cs_model.specs.Due.{due}
 use Rattle.cs_model.specs.Step.{Ending, try_primitive, do_send, do_return, bytecode, step, run}
 use Rattle.cs_model.specs.Built.{built_step, built_run}
-use Rattle.cs_model.specs.Report.{line_of, place_of, report_of}
+use Rattle.cs_model.specs.Report.{report_line, place_of, report_of}
 use Rattle.cs_model.specs.Settle.{opened}
 use Rattle.cs_model.specs.Keeps.{Keeps, KeepsState}
 use Rattle.cs_model.specs.Alike.{AlikeResult, AlikeHappened, AlikeStep, AlikeRan, IsHeldIf}
@@ -60,7 +60,7 @@ opened-keeps v m events snapping k = record { kept = (open_moved k).keeps; run =
 
 pub report_of-kept : (s t : State) (e : Ending) → KeepsState s t → report_of t e ≡ report_of s e
 unfolding report_of
-report_of-kept s t e k = ap (λ r. line_of e r.steps (place_of t.kept)) (sym k.run) ∙ ap (line_of e s.run.steps) (place_of-kept s.kept t.kept k.kept)
+report_of-kept s t e k = ap (λ r. report_line e r.steps (place_of t.kept)) (sym k.run) ∙ ap (report_line e s.run.steps) (place_of-kept s.kept t.kept k.kept)
 
 -- a valid state is closed
 pub valid-keeps : (s : State) → IsValid s → KeepsState s s

@@ -52,6 +52,13 @@ pub record AlikeResult (v : Kept) (a b : Result) : Type 0 where
   pub run : a.run ≡ b.run
   pub snapshot : KeepsIf a.snapshot b.snapshot
 
+-- the same results but for what was counted
+pub record SameButCount (a b : Result) : Type 0 where
+  pub end : a.out.end ≡ b.out.end
+  pub state : a.out.state ≡ b.out.state
+  pub run : a.run ≡ b.run
+  pub snapshot : a.snapshot ≡ b.snapshot
+
 -- what events give
 pub record AlikeHappened (v : Kept) (a b : Happened) : Type 0 where
   pub end : a.end ≡ b.end

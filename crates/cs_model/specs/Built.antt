@@ -7,8 +7,7 @@ use Rattle.cs_model.specs.Ref.{Ref}
 use Rattle.cs_model.specs.Obj.{header_in, bytecodes_in, argument_count, primitive_number}
 use Rattle.cs_model.specs.State.{Kept, State, object_of, special_at}
 use Rattle.cs_model.specs.Context.{is_context_ref}
-use Rattle.cs_model.specs.Read.{pc_of, depth_of, receiver_of}
-use Rattle.cs_model.specs.Operation.{set_pc_of}
+use Rattle.cs_model.specs.Read.{depth_of, receiver_of}
 use Rattle.cs_model.specs.Exec.{exec}
 use Rattle.cs_model.specs.Lookup.{Sought}
 use Rattle.cs_model.specs.Lookup as sought
@@ -17,7 +16,7 @@ use Rattle.cs_model.specs.Return.{back}
 use Rattle.cs_model.specs.Due.{is_idle}
 use Rattle.cs_model.specs.PrimAnswer.{receiver}
 use Rattle.cs_model.specs.End.{Out, no_count, given}
-use Rattle.cs_model.specs.Step.{Message, call_in, message_in, return_in, instruction_at, birth_limit, Step, step, stops, Ran, run_by}
+use Rattle.cs_model.specs.Step.{Message, call_in, message_in, return_in, instruction_at, moved_past, birth_limit, Step, step, stops, Ran, run_by}
 
 -- ---- instructions: all but those that make an Array, and writes to the fields of a receiver that is a context
 
@@ -114,7 +113,7 @@ abbrev pub is_built_from : Kept → Op → Bool
 is_built_from k op = is_built_op op k && is_built_out (exec op k)
 
 unfoldable pub is_built_bytecode : Kept → Bool
-is_built_bytecode k = given (instruction_at k) true (λ i. is_built_from (set_pc_of k (pc_of k + i.len)) i.op)
+is_built_bytecode k = given (instruction_at k) true (λ i. is_built_from (moved_past k i) i.op)
 
 -- births that are used up, and no active process, come before the bytecode
 unfoldable pub is_built : State → Bool

@@ -40,16 +40,16 @@ abbrev pub lies_if_index : Option Obj → Option ℕ → Bool
 lies_if_index method None = false
 lies_if_index method (Some pc) = lies_in method pc
 
-abbrev pub at_most : ℕ → Option ℕ → Bool
-at_most size None = false
-at_most size (Some n) = nat_le n size
+abbrev pub is_at_most : ℕ → Option ℕ → Bool
+is_at_most size None = false
+is_at_most size (Some n) = nat_le n size
 
 -- whether v may be written into field i of the context; on the active one neither pc nil nor stackp, method or closure may
 unfoldable pub accepts : Kept → Bool → Context → ℕ → Ref → Bool
 accepts k active c i v =
     if i == 0 then is_nil k v || is_context_ref k v else
     if i == 1 then (if is_nil k v then not active else lies_if_index (object_of k c.method) (index_of v)) else
-    if i == 2 then not active && at_most c.size (index_of v) else
+    if i == 2 then not active && is_at_most c.size (index_of v) else
     if i == 3 then not active && is_method (object_of k v) && lies_if_live (object_of k v) c.pc else
     if i == 4 then not active && (is_nil k v || has_class_index closure_class (object_of k v)) else
     i == 5 || nat_lt (i - context_fields) (length c.stack)

@@ -1,7 +1,7 @@
 -- What memory a run asks for: the words of all that it makes, and how often something looks at a context. A machine that keeps
 -- activations on stack pages makes a context only for a look, so by these numbers it can be told from one that makes a context
 -- for each activation (this machine's own).
-use Rattle.std.specs.Prelude.{◌≡◌, ℕ, zero, suc, ◌+◌, ◌==◌, ◌&&◌, Bool, true, false, nat_lt, if◌then◌else◌, List, [], ◌∷◌, ◌++◌, length, Option, Some, None, option_and_then}
+use Rattle.std.specs.Prelude.{◌≡◌, ℕ, zero, suc, ◌+◌, ◌==◌, ◌&&◌, Bool, true, false, nat_lt, if◌then◌else◌, List, [], ◌∷◌, ◌++◌, length, take, Option, Some, None, option_and_then}
 use Rattle.std.specs.List.{range_with_len, filter, list_any}
 use Rattle.cs_model.specs.declared.event.Event.{Event}
 use Rattle.cs_model.specs.Obj.{Obj, words_of}
@@ -35,6 +35,15 @@ behind_events (e ∷ es) s =
 -- the states between this one and the next bytecode; where births are used up no event comes
 unfoldable pub before_bytecode : State → List Kept
 before_bytecode s = if nat_lt birth_limit s.kept.rest.next then [] else behind_events s.run.events s
+
+-- the last of these states, where there is one
+unfoldable pub last_state : Kept → List Kept → Kept
+last_state k [] = k
+last_state k (t ∷ ts) = last_state t ts
+
+-- the same state with the first n of its events alone
+abbrev pub first_events : ℕ → State → State
+first_events n s = record s { run = with_events (take n s.run.events) s.run }
 
 -- the states that a run of n steps passes, in order: the one in which it begins, and those behind each event and each step
 unfoldable pub states_of : ℕ → State → List Kept

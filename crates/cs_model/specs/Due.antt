@@ -91,14 +91,14 @@ behind h = record { kept = without_context h.state.kept; run = h.state.run }
 abbrev pub counting : Count → Happened → Happened
 counting n h = record h { count = plus n h.count }
 
-abbrev pub go_on : Happened → (State → Happened) → Happened
-go_on h next = if is_done h.end then counting (plus h.count (left_count h.state.kept)) (next (behind h)) else h
+abbrev pub and_then_due : Happened → (State → Happened) → Happened
+and_then_due h next = if is_done h.end then counting (plus h.count (left_count h.state.kept)) (next (behind h)) else h
 
 -- the events are given as a list, so that the recursion follows it; `with_events` leaves those that aren't due
 unfoldable pub due_of : List Event → State → Happened
 due_of [] s = happened (record s { run = with_events [] s.run })
 due_of (e ∷ es) s =
-    if is_due s e then go_on (happen e.kind s.kept (with_events es s.run)) (λ t. due_of es t)
+    if is_due s e then and_then_due (happen e.kind s.kept (with_events es s.run)) (λ t. due_of es t)
     else happened (record s { run = with_events (e ∷ es) s.run })
 
 unfoldable pub due : State → Happened

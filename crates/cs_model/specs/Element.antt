@@ -13,9 +13,10 @@ abbrev pub number_of : List ℕ → ℕ
 number_of [] = 0
 number_of (b ∷ bytes) = b + 256 * number_of bytes
 
-abbrev pub bytes_of : ℕ → ℕ → List ℕ
-bytes_of zero n = []
-bytes_of (suc count) n = n % 256 ∷ bytes_of count (n / 256)
+-- so many bytes of a number
+abbrev pub bytes_of_number : ℕ → ℕ → List ℕ
+bytes_of_number zero n = []
+bytes_of_number (suc count) n = n % 256 ∷ bytes_of_number count (n / 256)
 
 -- ---- which elements there are
 
@@ -27,8 +28,8 @@ fields_within slots (Some shape) = option_and_then (λ n. if nat_le n slots then
 abbrev pub class_shape : Kept → Ref → Option ℤ
 class_shape k x = option_and_then (λ class. option_and_then (λ slots. option_and_then (λ s. small_of s) (slice_get slots 2)) (slots_of k 3 class)) (class_of k x)
 
-unfoldable pub fields_of : Kept → Ref → List Ref → Option ℕ
-fields_of k x slots = fields_within (length slots) (class_shape k x)
+unfoldable pub named_fields : Kept → Ref → List Ref → Option ℕ
+named_fields k x slots = fields_within (length slots) (class_shape k x)
 
 -- the elements are counted from `first`, and there are so many
 pub record Range : Type 0 where
@@ -40,7 +41,7 @@ range first count = record { first = first; count = count }
 
 abbrev pub range_in : Kept → Ref → Option Obj → Option Range
 range_in k x None = None
-range_in k x (Some (Ptr head slots)) = option_map (λ fields. range 1 (length slots - fields)) (fields_of k x slots)
+range_in k x (Some (Ptr head slots)) = option_map (λ fields. range 1 (length slots - fields)) (named_fields k x slots)
 range_in k x (Some (Raw head bytes)) = Some (range 1 (length bytes / unit_bytes head.format))
 range_in k x (Some (Method head header literals bytecodes)) = Some (range (first_pc literals) (length bytecodes))
 range_in k x (Some (Ctx c)) = None
@@ -53,8 +54,8 @@ abbrev pub place_in : Range → Option ℕ → Option ℕ
 place_in r None = None
 place_in r (Some i) = if nat_le r.first i && nat_lt (i - r.first) r.count then Some (i - r.first) else None
 
-abbrev pub place_of : Kept → Ref → Ref → Option ℕ
-place_of k x index = option_and_then (λ r. place_in r (index_of index)) (range_of k x)
+abbrev pub element_place : Kept → Ref → Ref → Option ℕ
+element_place k x index = option_and_then (λ r. place_in r (index_of index)) (range_of k x)
 
 -- ---- reading
 
@@ -66,7 +67,7 @@ small_ref value = option_map (λ z. Small z) value
 
 abbrev pub read_in : Kept → Ref → ℕ → Option Obj → Option Ref
 read_in k x place None = None
-read_in k x place (Some (Ptr head slots)) = option_and_then (λ fields. slice_get slots (fields + place)) (fields_of k x slots)
+read_in k x place (Some (Ptr head slots)) = option_and_then (λ fields. slice_get slots (fields + place)) (named_fields k x slots)
 read_in k x place (Some (Raw head bytes)) = small_ref (if_small (pos (number_of (unit_at (unit_bytes head.format) place bytes))))
 read_in k x place (Some (Method head header literals bytecodes)) = option_map (λ b. Small (pos b)) (slice_get bytecodes place)
 read_in k x place (Some (Ctx c)) = None
@@ -84,11 +85,11 @@ store_bytes k x at (b ∷ bytes) = store_bytes (store_byte_of k x at b) x (at + 
 
 abbrev pub store_unit : Kept → Ref → ℕ → ℕ → Option ℕ → Option Kept
 store_unit k x size place None = None
-store_unit k x size place (Some n) = if nat_lt n (2 ^ (8 * size)) then Some (store_bytes k x (place * size) (bytes_of size n)) else None
+store_unit k x size place (Some n) = if nat_lt n (2 ^ (8 * size)) then Some (store_bytes k x (place * size) (bytes_of_number size n)) else None
 
 abbrev pub write_in : Kept → Ref → ℕ → Ref → Option Obj → Option Kept
 write_in k x place v None = None
-write_in k x place v (Some (Ptr head slots)) = option_map (λ fields. store_of k x (fields + place) v) (fields_of k x slots)
+write_in k x place v (Some (Ptr head slots)) = option_map (λ fields. store_of k x (fields + place) v) (named_fields k x slots)
 write_in k x place v (Some (Raw head bytes)) = store_unit k x (unit_bytes head.format) place (index_of v)
 write_in k x place v (Some (Method head header literals bytecodes)) = store_unit k x 1 place (index_of v)
 write_in k x place v (Some (Ctx c)) = None
@@ -102,7 +103,7 @@ with_element k x place v = write_in k x place v (object_of k x)
 -- where the elements of an object begin: behind the named fields of a pointer object, and else at its front
 abbrev pub front_of : Kept → Ref → Option Obj → ℕ
 front_of k x None = 0
-front_of k x (Some (Ptr head slots)) = unwrap_or (fields_of k x slots) 0
+front_of k x (Some (Ptr head slots)) = unwrap_or (named_fields k x slots) 0
 front_of k x (Some (Raw head bytes)) = 0
 front_of k x (Some (Method head header literals bytecodes)) = 0
 front_of k x (Some (Ctx c)) = 0

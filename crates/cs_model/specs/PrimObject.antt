@@ -10,7 +10,7 @@ use Rattle.cs_model.specs.Operation.{store_of, store_byte_of, set_fixed_of, add_
 use Rattle.cs_model.specs.Context.{context_get, accepts, context_put}
 use Rattle.cs_model.specs.Number.{boolean}
 use Rattle.cs_model.specs.Instance.{Made, New, NotInstantiable, TableFull, instantiate, shape_of, Index, IndexAt, NoIndex, NoneFree, class_index_for, take_index, behavior_hash, Hashed, Hash, NotAClass, NoneLeft, hash_of, hash_given}
-use Rattle.cs_model.specs.Element.{Range, range_of, place_of, element_at, with_element, front, copy_elements}
+use Rattle.cs_model.specs.Element.{Range, range_of, element_place, element_at, with_element, front, copy_elements}
 use Rattle.cs_model.specs.Exec.{fill_of, is_active, small_operands}
 use Rattle.cs_model.specs.PrimAnswer.{fail, answer, answer_if, receiver, argument, with_count}
 use Rattle.cs_model.specs.End.{Out, stop, given, made, looked}
@@ -18,7 +18,7 @@ use Rattle.cs_model.specs.End.{Out, stop, given, made, looked}
 -- ---- 60 to 64: elements
 
 unfoldable pub at_prim : Kept → ℕ → Out
-at_prim k args = with_count k 1 args (answer_if k 1 (option_and_then (λ place. element_at k (receiver k 1) place) (place_of k (receiver k 1) (argument k 1 0))))
+at_prim k args = with_count k 1 args (answer_if k 1 (option_and_then (λ place. element_at k (receiver k 1) place) (element_place k (receiver k 1) (argument k 1 0))))
 
 abbrev pub answer_in : Option Kept → Kept → ℕ → Ref → Out
 answer_in None k args x = fail k
@@ -30,7 +30,7 @@ unless_read_only k x o = if is_read_only k x then fail k else o
 
 unfoldable pub at_put_prim : Kept → ℕ → Out
 at_put_prim k args = with_count k 2 args (unless_read_only k (receiver k 2)
-    (answer_in (option_and_then (λ place. with_element k (receiver k 2) place (argument k 2 1)) (place_of k (receiver k 2) (argument k 2 0))) k 2 (argument k 2 1)))
+    (answer_in (option_and_then (λ place. with_element k (receiver k 2) place (argument k 2 1)) (element_place k (receiver k 2) (argument k 2 0))) k 2 (argument k 2 1)))
 
 -- formats 2 and 3 have a size, and so have raw objects and methods; a context has none
 abbrev pub has_size : Option Obj → Bool
@@ -59,7 +59,7 @@ abbrev pub is_bytes : Kept → Ref → Bool
 is_bytes k x = is_some (byte_string (object_of k x))
 
 abbrev pub byte_at : Kept → Ref → Ref → Option ℕ
-byte_at k x index = option_and_then (λ place. option_and_then (λ bytes. slice_get bytes place) (byte_string (object_of k x))) (place_of k x index)
+byte_at k x index = option_and_then (λ place. option_and_then (λ bytes. slice_get bytes place) (byte_string (object_of k x))) (element_place k x index)
 
 unfoldable pub char_at_prim : Kept → ℕ → Out
 char_at_prim k args = with_count k 1 args (answer_if k 1 (option_map (λ b. Char b) (byte_at k (receiver k 1) (argument k 1 0))))
@@ -73,7 +73,7 @@ byte_code (ref.Obj i) = None
 unfoldable pub char_at_put_prim : Kept → ℕ → Out
 char_at_put_prim k args = with_count k 2 args (unless_read_only k (receiver k 2)
     (if is_bytes k (receiver k 2) then
-    answer_in (option_and_then (λ place. option_map (λ b. store_byte_of k (receiver k 2) place b) (byte_code (argument k 2 1))) (place_of k (receiver k 2) (argument k 2 0)))
+    answer_in (option_and_then (λ place. option_map (λ b. store_byte_of k (receiver k 2) place b) (byte_code (argument k 2 1))) (element_place k (receiver k 2) (argument k 2 0)))
     k 2 (argument k 2 1)
     else fail k))
 
@@ -208,8 +208,8 @@ next_instance_prim k args = with_count k 0 args
 
 -- ---- 79: a new method
 
-abbrev pub method_of : Kept → ℕ → ℕ → ℕ → Obj
-method_of k index count header =
+abbrev pub blank_method : Kept → ℕ → ℕ → ℕ → Obj
+blank_method k index count header =
     Method (new_head index (24 + (3 - (count + 3) % 4))) header (replicate (literal_count header) (nil_of k)) (replicate count 0)
 
 abbrev pub is_method_index : ℕ → Bool
@@ -220,7 +220,7 @@ make_method k class count header NoIndex = fail k
 make_method k class count header NoneFree = fail k
 make_method k class count header (IndexAt index) =
     if is_method_index index then
-    made (words_of (method_of k index count header)) (answer (add_of (take_index k class index) (method_of k index count header)) 2 (next_ref k))
+    made (words_of (blank_method k index count header)) (answer (add_of (take_index k class index) (blank_method k index count header)) 2 (next_ref k))
     else fail k
 
 abbrev pub is_method_shape : Option ℕ → Bool

@@ -89,11 +89,11 @@ end_searched k i goal (Ended passed) = end_if k i goal []
 end_searched k i goal TooLong = stop why.ChainTooLong k
 
 -- for nil nothing is searched
-abbrev pub end_at : Kept → ℕ → Ref → Option ℕ → Out
-end_at k i goal None = fail k
-end_at k i goal (Some birth) = if is_nil k goal then end_if k i goal [] else end_searched k i goal (senders_to k i birth)
+abbrev pub end_up_to : Kept → ℕ → Ref → Option ℕ → Out
+end_up_to k i goal None = fail k
+end_up_to k i goal (Some birth) = if is_nil k goal then end_if k i goal [] else end_searched k i goal (senders_to k i birth)
 
 unfoldable pub end_between_prim : Kept → ℕ → Out
 end_between_prim k args = with_count k 1 args
     (given (context_birth k (receiver k 1)) (fail k) (λ i.
-    if is_end k (argument k 1 0) then end_at k i (argument k 1 0) (birth_of (argument k 1 0)) else fail k))
+    if is_end k (argument k 1 0) then end_up_to k i (argument k 1 0) (birth_of (argument k 1 0)) else fail k))

@@ -134,8 +134,8 @@ is_same None y = false
 is_same (Some x) y = same_ref x y
 
 -- where the process was the last, the one before is the last
-abbrev pub end_at : Kept → Ref → Ref → Ref → Kept
-end_at k list p before = if is_same (slot_or_none k list_slots last_link list) p then store_of k list last_link before else k
+abbrev pub last_past : Kept → Ref → Ref → Ref → Kept
+last_past k list p before = if is_same (slot_or_none k list_slots last_link list) p then store_of k list last_link before else k
 
 -- out of a list nextLink and myList are nil
 abbrev pub unlinked : Kept → Ref → Kept
@@ -143,7 +143,7 @@ unlinked k p = store_of (store_of k p next_link (nil_of k)) p my_list (nil_of k)
 
 unfoldable pub take_out : Kept → Ref → Ref → Option Ref → Kept
 take_out k list p before =
-    unlinked (end_at (link_past k list before (unwrap_or (slot_or_none k process_slots next_link p) (nil_of k))) list p (unwrap_or before (nil_of k))) p
+    unlinked (last_past (link_past k list before (unwrap_or (slot_or_none k process_slots next_link p) (nil_of k))) list p (unwrap_or before (nil_of k))) p
 
 -- the first of a list that isn't empty leaves it
 abbrev pub with_first : Kept → Ref → (Kept → Ref → Out) → Out
@@ -229,9 +229,9 @@ resume k p =
     else stop why.BadProcess k
 
 -- one more excess signal, if that is still a SmallInteger
-abbrev pub one_more : Kept → Ref → Option ℤ → Out
-one_more k semaphore None = stop why.BadProcess k
-one_more k semaphore (Some n) =
+abbrev pub one_more_excess : Kept → Ref → Option ℤ → Out
+one_more_excess k semaphore None = stop why.BadProcess k
+one_more_excess k semaphore (Some n) =
     if int_lt n (pos 1073741823) then done (store_of k semaphore excess_signals (Small (n +ℤ pos 1))) else stop why.BadProcess k
 
 -- The first waiter is resumed; without one the signal is kept. The active process is read before the waiter leaves the list,
@@ -239,7 +239,7 @@ one_more k semaphore (Some n) =
 unfoldable pub signal : Kept → Ref → Out
 signal k semaphore =
     with_slot_of k semaphore_slots first_link semaphore (λ first.
-    if is_nil k first then one_more k semaphore (option_and_then (λ x. small_of x) (slot_or_none k semaphore_slots excess_signals semaphore))
+    if is_nil k first then one_more_excess k semaphore (option_and_then (λ x. small_of x) (slot_or_none k semaphore_slots excess_signals semaphore))
     else with_active_process k (λ running. with_first k semaphore (λ t p. resume_beside t running p)))
 
 -- the active process waits in the semaphore's list, and the next one runs
@@ -266,13 +266,13 @@ unfoldable pub list_links : ℕ
 list_links = 65536
 
 -- where a process stands in a list: behind which one, if it isn't the first
-pub data Place : Type 0 where
-  At : (before : Option Ref) → Place
-  NotThere : Place
-  NoProcess : Place
-  TooFar : Place
+pub data ListPlace : Type 0 where
+  At : (before : Option Ref) → ListPlace
+  NotThere : ListPlace
+  NoProcess : ListPlace
+  TooFar : ListPlace
 
-unfoldable pub find_link : ℕ → Kept → Ref → Option Ref → Option Ref → Place
+unfoldable pub find_link : ℕ → Kept → Ref → Option Ref → Option Ref → ListPlace
 find_link n k p before None = NoProcess
 find_link zero k p before (Some link) = if is_nil k link then NotThere else TooFar
 find_link (suc n) k p before (Some link) =
@@ -282,7 +282,7 @@ find_link (suc n) k p before (Some link) =
     else NoProcess
 
 -- a process that isn't active leaves its list
-abbrev pub leave_list : Kept → Ref → Ref → Place → Out
+abbrev pub leave_list : Kept → Ref → Ref → ListPlace → Out
 leave_list k p list (At before) = done (take_out k list p before)
 leave_list k p list NotThere = out ends.Fail k
 leave_list k p list NoProcess = stop why.BadProcess k

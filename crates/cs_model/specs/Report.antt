@@ -53,8 +53,8 @@ abbrev pub place_text : Place → List ℕ
 place_text p = codes " process=" ++ number_text p.process ++ codes " context=" ++ number_text p.context ++ codes " pc=" ++ number_text p.pc
 
 -- the line of an ending, the completed bytecodes and the place
-abbrev pub line_of : Ending → ℕ → Place → List ℕ
-line_of e steps p = codes "\n" ++ ending_text e ++ codes " steps=" ++ decimal steps ++ place_text p ++ codes "\n"
+abbrev pub report_line : Ending → ℕ → Place → List ℕ
+report_line e steps p = codes "\n" ++ ending_text e ++ codes " steps=" ++ decimal steps ++ place_text p ++ codes "\n"
 
 unfoldable pub report_of : State → Ending → List ℕ
-report_of s e = line_of e s.run.steps (place_of s.kept)
+report_of s e = report_line e s.run.steps (place_of s.kept)

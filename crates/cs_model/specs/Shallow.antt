@@ -8,8 +8,7 @@ use Rattle.cs_model.specs.declared.instruction.Op.{Op}
 use Rattle.cs_model.specs.declared.instruction.Op.TheVariants as op
 use Rattle.cs_model.specs.Ref.{Ref, birth_of, same_ref}
 use Rattle.cs_model.specs.State.{Kept, Run, State, special_at, is_nil, active_process}
-use Rattle.cs_model.specs.Read.{pc_of, receiver_of}
-use Rattle.cs_model.specs.Operation.{set_pc_of}
+use Rattle.cs_model.specs.Read.{receiver_of}
 use Rattle.cs_model.specs.Exec.{exec}
 use Rattle.cs_model.specs.Send.{send}
 use Rattle.cs_model.specs.Return.{Search, Met, Ended, TooLong, context_birth, sender_birth, senders_to, back}
@@ -18,7 +17,7 @@ use Rattle.cs_model.specs.PrimObject.{slot_index}
 use Rattle.cs_model.specs.PrimRun.{Result}
 use Rattle.cs_model.specs.PrimTable.{prim}
 use Rattle.cs_model.specs.Due.{is_idle, due}
-use Rattle.cs_model.specs.Step.{message_in, return_in, primitive_in, call_in, arguments_of, with_kept, instruction_at, birth_limit, run}
+use Rattle.cs_model.specs.Step.{Message, message_in, return_in, primitive_in, call_in, arguments_of, with_kept, instruction_at, moved_past, birth_limit, run}
 use Rattle.cs_model.specs.Demand.{step_after, states_of, before_bytecode, was_active}
 use Rattle.cs_model.specs.End.{End, Out, given, is_done}
 use Rattle.cs_model.specs.End as ends
@@ -70,22 +69,31 @@ result_of t = prim t.number (arguments_of t.state.kept t.method) t.state
 abbrev pub trial_in : Run → Out → Option Trial
 trial_in r o = option_map (λ p. record { state = with_kept o.state r; method = p.0; number = p.1 }) (primitive_in o.end)
 
--- that of the method, and that of the one that a perform finds
+-- that of the method, and that of the one that a perform finds, which is entered at once where it is a perform too
 abbrev pub trials_from : Trial → List Trial
 trials_from t = t ∷ option_to_list (trial_in (result_of t).run (result_of t).out)
 
--- the send that an instruction leads to: its own, or the one of a return that can't be done
-abbrev pub call_sent : Out → Option Out
-call_sent o = option_and_then (λ c. option_map (λ selector. send o.state selector c.1 None) (special_at o.state c.0)) (call_in o.end)
+-- the message that an instruction leads to, and the state in which it is sent: its own, or that of a return that can't be done
+pub record Sending : Type 0 where
+  pub state : Kept
+  pub message : Message
 
-abbrev pub send_from : Out → Option Out
-send_from o =
+abbrev pub sending_of_call : Out → Option Sending
+sending_of_call o =
+    option_and_then (λ c. option_map (λ selector. record { state = o.state; message = record { selector = selector; args = c.1; above = None } })
+    (special_at o.state c.0)) (call_in o.end)
+
+abbrev pub sending_from : Out → Option Sending
+sending_from o =
     given (message_in o.end)
-    (option_and_then (λ p. call_sent (back o.state p.0 p.1)) (return_in o.end))
-    (λ m. Some (send o.state m.selector m.args m.above))
+    (option_and_then (λ p. sending_of_call (back o.state p.0 p.1)) (return_in o.end))
+    (λ m. Some (record { state = o.state; message = m }))
+
+abbrev pub sent_out : Sending → Out
+sent_out a = send a.state a.message.selector a.message.args a.message.above
 
 unfoldable pub trials : Run → Out → List Trial
-trials r o = given (option_and_then (λ sent. trial_in r sent) (send_from o)) [] (λ t. trials_from t)
+trials r o = given (option_and_then (λ a. trial_in r (sent_out a)) (sending_from o)) [] (λ t. trials_from t)
 
 -- ---- the contexts that image code changes
 
@@ -141,7 +149,7 @@ changed_by_op r o k = changed_by_store o k ++ changed_by_trials (trials r (exec 
 
 -- of a bytecode: the contexts of which it writes such a field, and those that 196 changes or ends
 unfoldable pub changed : State → List ℕ
-changed s = given (instruction_at s.kept) [] (λ i. changed_by_op s.run i.op (set_pc_of s.kept (pc_of s.kept + i.len)))
+changed s = given (instruction_at s.kept) [] (λ i. changed_by_op s.run i.op (moved_past s.kept i))
 
 -- the state in which the bytecode of a step is done, if it comes to that
 abbrev pub bytecode_state : State → Option State

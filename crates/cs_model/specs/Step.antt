@@ -105,8 +105,11 @@ unfoldable pub instruction_at : Kept → Option Instr
 instruction_at k = decode_at (bytecodes_of k) (pc_of k - first_pc (literals_of k))
 
 -- the pc is moved past it, and then it has its effect
+abbrev pub moved_past : Kept → Instr → Kept
+moved_past k i = set_pc_of k (pc_of k + i.len)
+
 abbrev pub obey : State → Instr → Result
-obey s i = followed s.run (exec i.op (set_pc_of s.kept (pc_of s.kept + i.len)))
+obey s i = followed s.run (exec i.op (moved_past s.kept i))
 
 unfoldable pub bytecode : State → Result
 bytecode s = given (instruction_at s.kept) (result (stop why.BadCode s.kept) s.run) (λ i. obey s i)

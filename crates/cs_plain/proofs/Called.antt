@@ -4,6 +4,8 @@ use Rattle.std.specs.Prelude.{if◌then◌else◌, ◌==◌}
 use Rattle.std.specs.Option.{option_map_or}
 use Rattle.cs_word.specs.declared.Oop.{Oop}
 use Rattle.cs_word.specs.Word.{small_word}
+use Rattle.cs_heap.specs.Writes.{slot_stored, slots_stored}
+use Rattle.cs_acts.proofs.Dirty.{names-dirtied, ready-dirtied}
 use Rattle.cs_heap.specs.Object.{Memory, Object, is_object, new_object, next_address, size, slot_count_of, used, with_slot}
 use Rattle.cs_heap.proofs.Laws.{field_of-new, field_of-old, length-new_words, next_address-new, slot_count_of-with_slot}
 use Rattle.cs_classes.specs.Meaning.{depth_in}
@@ -23,6 +25,7 @@ use Rattle.cs_plain.specs.View.{stored_of, view_of}
 use Rattle.cs_plain.proofs.Active.{Active, active_is}
 use Rattle.cs_plain.proofs.Calling.{entered_names, entered_ready, entered_view, entered_words, with_entered}
 use Rattle.cs_plain.proofs.Making.{context_object-is, context_words, context_added}
+use Rattle.cs_plain.proofs.Written.{dirtied}
 use Rattle.cs_plain.proofs.Slots.{depth_is_read, depth_within, few_slots, fields_within, slots_are}
 
 -- ---- how many slots are there behind a call
@@ -58,12 +61,12 @@ made_objects os slots birth f new left args n =
 pub written-heap : (h0 h1 h2 h3 h4 h5 : Memory) (slots birth : ℕ) (f : Fields) (a left args n v : ℕ)
     → h1 ≡ record h0 { objects = h0.objects ++ new_object 36 3 slots birth ∷ [] } → h2 ≡ record h1 { objects = with_fields h1.objects a f }
     → h3 ≡ record h2 { objects = copied h2.objects f.sender.0 (6 + left + 1) a 6 args } → h4 ≡ record h3 { objects = copied h3.objects f.closure.0 3 a (6 + args) n }
-    → h5 ≡ record h4 { objects = with_slot h4.objects f.sender.0 2 v } → v ≡ small_word (pos left)
-    → h5 ≡ record h0 { objects = made_objects h0.objects slots birth f a left args n }
+    → h5 ≡ slot_stored h4 f.sender.0 2 v → v ≡ small_word (pos left)
+    → h5 ≡ slots_stored h0 f.sender.0 (made_objects h0.objects slots birth f a left args n)
 written-heap h0 h1 h2 h3 h4 h5 slots birth f a left args n v e1 e2 e3 e4 e5 word =
-    e5 ∙ ap (λ (m : Memory). record m { objects = with_slot m.objects f.sender.0 2 v }) (e4 ∙ ap (λ (m : Memory). record m { objects = copied m.objects f.closure.0 3 a (6 + args) n })
+    e5 ∙ ap (λ (m : Memory). slot_stored m f.sender.0 2 v) (e4 ∙ ap (λ (m : Memory). record m { objects = copied m.objects f.closure.0 3 a (6 + args) n })
     (e3 ∙ ap (λ (m : Memory). record m { objects = copied m.objects f.sender.0 (6 + left + 1) a 6 args }) (e2 ∙ ap (λ (m : Memory). record m { objects = with_fields m.objects a f }) e1)))
-    ∙ ap (λ (u : ℕ). record h0 { objects = with_slot (copied (copied (with_fields (h0.objects ++ new_object 36 3 slots birth ∷ []) a f) f.sender.0 (6 + left + 1) a 6 args) f.closure.0 3 a (6 + args) n) f.sender.0 2 u }) word
+    ∙ ap (λ (u : ℕ). slots_stored h0 f.sender.0 (with_slot (copied (copied (with_fields (h0.objects ++ new_object 36 3 slots birth ∷ []) a f) f.sender.0 (6 + left + 1) a 6 args) f.closure.0 3 a (6 + args) n) f.sender.0 2 u)) word
 
 -- ---- the call
 
@@ -71,6 +74,9 @@ pub record Enters (w v : PlainWorld) (header args n : ℕ) (f : Fields) : Type 0
   pub view : view_of v ≡ called_of (view_of w) args (called_context (stored_of w) (view_of w) header args n f)
   pub ready : IsReady (stored_of v) (view_of v)
   pub names : KeepsNames (stored_of w) (stored_of v)
+
+enters-dirtied : {w v : PlainWorld} {header args n : ℕ} {f : Fields} (d : Bool) → Enters w v header args n f → Enters w (dirtied v d) header args n f
+enters-dirtied {w = w} {v = v} d done = record { view = done.view; ready = ready-dirtied d done.ready; names = names-dirtied (stored_of w) (stored_of v) d done.names }
 
 -- a context has at most 56 values
 size_few : (header : ℕ) → context_size header ≤ 56
@@ -148,7 +154,7 @@ module _ (w : PlainWorld) (header args n depth : ℕ) (f : Fields) (ready : IsRe
     }
 
     pub enters : (h : Memory) (new : Oop) → new.0 ≡ next_address w.heap.objects slots → (w.heap.limit < used w.heap.objects + size slots → ⊥)
-        → h ≡ record w.heap { objects = made_objects w.heap.objects slots w.roots.next_birth f new.0 left args n }
+        → h ≡ slots_stored w.heap f.sender.0 (made_objects w.heap.objects slots w.roots.next_birth f new.0 left args n)
         → Enters w (record w { heap = h; roots = after_birth w.roots; active = Some new }) header args n f
     enters h new at room e =
         let os = w.heap.objects in
@@ -163,11 +169,11 @@ module _ (w : PlainWorld) (header args n depth : ℕ) (f : Fields) (ready : IsRe
         let old : List Object = with_slot os f.sender.0 2 (small_word (pos (d - (args + 1)))) in
         let part : List ℕ = take args (drop at x.words) in
         let objects : List Object = old ++ record (new_object 36 3 (6 + csize) w.roots.next_birth) { words = context_words f part more (csize - (args + n)) } ∷ [] in
-        let heap : h ≡ record w.heap { objects = objects } =
+        let heap : h ≡ slots_stored w.heap f.sender.0 objects =
         e
-        ∙ ap₂ (λ (k l : ℕ). record w.heap { objects = made_objects os k w.roots.next_birth f new.0 (l - (args + 1)) args n }) count same
-        ∙ ap (λ (us : List Object). record w.heap { objects = us }) (context_added os x y.0 f new.0 f.sender.0 f.closure.0 at args n csize w.roots.next_birth (small_word (pos (d - (args + 1)))) active.there y.1 next)
-        ∙ ap (λ (z : Object). record w.heap { objects = old ++ z ∷ [] })
+        ∙ ap₂ (λ (k l : ℕ). slots_stored w.heap f.sender.0 (made_objects os k w.roots.next_birth f new.0 (l - (args + 1)) args n)) count same
+        ∙ ap (slots_stored w.heap f.sender.0) (context_added os x y.0 f new.0 f.sender.0 f.closure.0 at args n csize w.roots.next_birth (small_word (pos (d - (args + 1)))) active.there y.1 next)
+        ∙ ap (λ (z : Object). slots_stored w.heap f.sender.0 (old ++ z ∷ []))
         (context_object-is f x.words y.0.words at args n csize w.roots.next_birth (omega (arith, same, args_below, sender_slots, slots_are ready active)) (ap length read ∙ fits.values) stack_holds
         ∙ ap (λ us. record (new_object 36 3 (6 + csize) w.roots.next_birth) { words = context_words f part us (csize - (args + n)) }) read) in
         let done : Enters w (with_entered w objects new) header args n f = record {
@@ -175,4 +181,4 @@ module _ (w : PlainWorld) (header args n depth : ℕ) (f : Fields) (ready : IsRe
           ready = entered_ready header args n f ready active fits new next (omega (arith, room, ap size count));
           names = entered_names header args n f ready active fits new;
         } in
-        subst (λ (g : Memory). Enters w (record w { heap = g; roots = after_birth w.roots; active = Some new }) header args n f) (sym heap) done
+        subst (λ (g : Memory). Enters w (record w { heap = g; roots = after_birth w.roots; active = Some new }) header args n f) (sym heap) (enters-dirtied (slots_stored w.heap f.sender.0 objects).dirty done)

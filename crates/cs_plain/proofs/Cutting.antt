@@ -25,7 +25,9 @@ use Rattle.cs_plain.proofs.Acts.{ContextAt, sender_read}
 use Rattle.cs_plain.proofs.Leaving.{buried_edited, buried_sound, killed, names_both, some_same}
 use Rattle.cs_plain.proofs.Ways.{IsWay, first_apart, killed_other, killed_sender, killed_way, rest_apart, search_first, way_apart}
 use Rattle.cs_plain.proofs.Writing.{held_by}
-use Rattle.cs_plain.proofs.Written.{keeps_names, with_objects}
+use Rattle.cs_heap.specs.Writes.{slots_stored}
+use Rattle.cs_acts.proofs.Dirty.{names-dirtied, sound-dirtied}
+use Rattle.cs_plain.proofs.Written.{dirtied, keeps_names, with_objects}
 
 -- So many contexts are dead, and this one is the next. What is left to die is the way from it to the home, in the state that is left.
 pub record Cuts (w v : PlainWorld) (home target : ℕ) (c : Oop) (n : ℕ) : Type 0 where
@@ -41,6 +43,22 @@ pub record Cuts (w v : PlainWorld) (home target : ℕ) (c : Oop) (n : ℕ) : Typ
   pub sound : IsSound (stored_of v) (view_of v)
   pub names : KeepsNames (stored_of w) (stored_of v)
   pub limit : v.heap.limit ≡ w.heap.limit
+
+cuts-dirtied : {w v : PlainWorld} {home target : ℕ} {c : Oop} {n : ℕ} (d : Bool) → Cuts w v home target c n → Cuts w (dirtied v d) home target c n
+cuts-dirtied {w = w} {v = v} d h = record {
+  birth = h.birth;
+  rest = h.rest;
+  at = h.at;
+  way = h.way;
+  kills = h.kills;
+  few = h.few;
+  sender = h.sender;
+  apart = h.apart;
+  stays = h.stays;
+  sound = sound-dirtied d h.sound;
+  names = names-dirtied (stored_of w) (stored_of v) d h.names;
+  limit = h.limit;
+}
 
 -- ---- at the beginning
 
@@ -157,7 +175,7 @@ module _ (w v : PlainWorld) (home : ℕ) (c : Oop) (n : ℕ) (t : Cutting w v ho
 
   -- ---- one more dies
 
-  module _ (sender : Oop) (h : Memory) (read : sender.0 ≡ slot_of v.heap.objects c.0 0) (e : h ≡ record v.heap { objects = buried v.heap.objects c.0 }) where
+  module _ (sender : Oop) (h : Memory) (read : sender.0 ≡ slot_of v.heap.objects c.0 0) (e : h ≡ slots_stored v.heap c.0 (buried v.heap.objects c.0)) where
     abbrev u : PlainWorld
     u = with_objects v (buried v.heap.objects c.0)
 
@@ -189,7 +207,7 @@ module _ (w v : PlainWorld) (home : ℕ) (c : Oop) (n : ℕ) (t : Cutting w v ho
 
     pub next : (birth : ℕ) → birth ≡ birth_of v.heap.objects c.0 → birth ≢ home → IfSome (sender_birth (view_of w) home) (λ target. Cuts w (record v { heap = h }) home target sender (n + 1))
     next birth is other = subst (λ o. IfSome o (λ target. Cuts w (record v { heap = h }) home target sender (n + 1))) (sym t.is)
-        (subst (λ (g : Memory). Cuts w (record v { heap = g }) home target sender (n + 1)) (sym e) (go cuts.rest refl))
+        (subst (λ (g : Memory). Cuts w (record v { heap = g }) home target sender (n + 1)) (sym e) (cuts-dirtied (slots_stored v.heap c.0 (buried v.heap.objects c.0)).dirty (go cuts.rest refl)))
       where
         go : (us : List ℕ) → cuts.rest ≡ us → Cuts w u home target sender (n + 1)
         go [] none = absurd (other (is ∙ birth_read ∙ subst (λ us. IsWay (view_of v) home cuts.birth us) none cuts.way))

@@ -3,6 +3,8 @@ use Rattle.std.proofs.Common.{◌≡◌, ℕ, pos, ◌+◌, ◌-◌, ◌<◌, �
 use Rattle.std.specs.Prelude.{◌==◌, ◌||◌, is_some}
 use Rattle.cs_word.specs.declared.Oop.{Oop}
 use Rattle.cs_word.specs.Word.{small_word}
+use Rattle.cs_heap.specs.Writes.{slot_stored}
+use Rattle.cs_acts.proofs.Dirty.{names-dirtied, ready-dirtied}
 use Rattle.cs_heap.specs.Object.{Memory, Object, set_word, with_slot}
 use Rattle.cs_classes.specs.Meaning.{count_of, depth_in, ref_of}
 use Rattle.cs_classes.specs.Sound.{nil_of}
@@ -24,7 +26,7 @@ use Rattle.cs_plain.specs.View.{stored_of, view_of, active_in}
 use Rattle.cs_plain.proofs.Active.{Active}
 use Rattle.cs_plain.proofs.Edits.{Edited, edited}
 use Rattle.cs_plain.proofs.Slots.{depth_is_read, size_is_read}
-use Rattle.cs_plain.proofs.Written.{with_objects, written}
+use Rattle.cs_plain.proofs.Written.{dirtied, with_objects, written}
 
 -- the operation on every state that is kept; then the world is ready, and words mean what they meant
 pub record Writes (w v : PlainWorld) (op : Kept → Kept) : Type 0 where
@@ -36,16 +38,17 @@ pub record Writes (w v : PlainWorld) (op : Kept → Kept) : Type 0 where
 pub same_kept : (a b : Kept) → a ≡ b → SameKept a b
 same_kept a b e = record { objects = λ i. ap (λ k. object_at k i) e; rest = ap (λ k. k.rest) e }
 
+-- the same where the heap is dirty or not
+writes-dirtied : {w v : PlainWorld} {op : Kept → Kept} (d : Bool) → Writes w v op → Writes w (dirtied v d) op
+writes-dirtied {w = w} {v = v} d done = record { state = done.state; exact = done.exact; ready = ready-dirtied d done.ready; names = names-dirtied (stored_of w) (stored_of v) d done.names }
+
 -- the same where the heap is told by an equation
-pub along : (w : PlainWorld) (h : Memory) (us : List Object) (op : Kept → Kept) → h ≡ record w.heap { objects = us } → Writes w (with_objects w us) op → Writes w (record w { heap = h }) op
-along w h us op e done = subst (λ g. Writes w (record w { heap = g }) op) (sym e) done
+pub along : (w : PlainWorld) (h : Memory) (us : List Object) {d : Bool} (op : Kept → Kept) → h ≡ record w.heap { objects = us; dirty = d } → Writes w (with_objects w us) op → Writes w (record w { heap = h }) op
+along w h us {d = d} op e done = subst (λ g. Writes w (record w { heap = g }) op) (sym e) (writes-dirtied d done)
 
 -- the heap behind two stores into one object
-pub twice : (h g k : Memory) (a i v j w z : ℕ) → g ≡ record h { objects = with_slot h.objects a i v } → k ≡ record g { objects = with_slot g.objects a j w } → w ≡ z
-    → k ≡ record h { objects = with_slot (with_slot h.objects a i v) a j z }
-twice h g k a i v j w z first second word =
-    let store : ℕ → Memory → Memory = λ n m. record m { objects = with_slot m.objects a j n } in
-    second ∙ ap (store w) first ∙ ap (λ n. store n (record h { objects = with_slot h.objects a i v })) word
+pub twice : (h g k : Memory) (a i v j w z : ℕ) → g ≡ slot_stored h a i v → k ≡ slot_stored g a j w → w ≡ z → k ≡ slot_stored (slot_stored h a i v) a j z
+twice h g k a i v j w z first second word = second ∙ ap (λ (m : Memory). slot_stored m a j w) first ∙ ap (slot_stored (slot_stored h a i v) a j) word
 
 pub held_by : (w : PlainWorld) (o : Oop) → IsReady (stored_of w) (view_of w) → IsNamed (stored_of w) o → Same (IsHeld (view_of w)) (name_of (stored_of w) o) (name_of (stored_of w) o)
 held_by w o ready named = same (name_of (stored_of w) o) (ref_of-held w.heap.objects w.classes w.roots (active_in w.heap.objects w.active) o.0 ready.sound.holds.whole.heap named)
@@ -64,7 +67,7 @@ module _ {w : PlainWorld} {a : Oop} {x : Object} (ready : IsReady (stored_of w) 
       let count : count_of (small_word (pos pc)) ≡ Some pc = count_of-small pc small in
       let does = does-set_pc known active.context (small_word (pos pc)) (is_reference-small w.heap.objects (pos pc) (small_natural pc small))
       (or_right (small_word (pos pc) == nil_of w.heap.objects) (is_some (count_of (small_word (pos pc)))) (ap is_some count)) in
-      let done = written w a x _ (with_pc (count_of (small_word (pos pc)))) pc ready active does (slot_edited 1 (small_word (pos pc))) count refl lies in
+      let done = written w a x _ (with_pc (count_of (small_word (pos pc)))) pc ready active does (slot_edited 1 (small_word (pos pc))) count refl refl refl lies in
       record {
         state = λ m k. subst (λ v. Keeps v (set_pc_of m pc)) (sym (done.view ∙ ap (λ p. edit_active (view_of w) (with_pc p)) count)) (set_pc_moved k (is pc)).keeps;
         exact = same_kept _ _ (done.view ∙ ap (λ p. edit_active (view_of w) (with_pc p)) count);
@@ -81,7 +84,7 @@ module _ {w : PlainWorld} {a : Oop} {x : Object} (ready : IsReady (stored_of w) 
   unfolding set_stack_of
   writes-set_stack i v named =
       let done = written w a x _ (stored i (name_of (stored_of w) v)) (pc_of (view_of w)) ready active (does-set_stack known active.context i v.0 named) (slot_edited (6 + i) v.0)
-      ready.running.live refl ready.running.method in
+      ready.running.live refl refl refl ready.running.method in
       record {
         state = λ m k. subst (λ u. Keeps u (set_stack_of m i (name_of (stored_of w) v))) (sym done.view) (set_stack_moved k i (held_by w v ready named)).keeps;
         exact = same_kept _ _ done.view;
@@ -102,8 +105,9 @@ module _ {w : PlainWorld} {a : Oop} {x : Object} (ready : IsReady (stored_of w) 
         slots = λ y. (set_word-IsEdit 2 (small_word (pos (d + 1)))).slots (set_word (6 + d) v.0 y) ∙ (set_word-IsEdit (6 + d) v.0).slots y;
         birth = λ y. refl;
         class = λ y. refl;
+        format = λ y. refl;
       }) active.there in
-      let done = written w a x _ (pushed (name_of (stored_of w) v)) (pc_of (view_of w)) ready active does (subst (Edited os) (sym twice) edit) ready.running.live refl ready.running.method in
+      let done = written w a x _ (pushed (name_of (stored_of w) v)) (pc_of (view_of w)) ready active does (subst (Edited os) (sym twice) edit) ready.running.live refl refl refl ready.running.method in
       record {
         state = λ m k. subst (λ u. Keeps u (push_of m (name_of (stored_of w) v))) (sym done.view) (push_moved k (held_by w v ready named)).keeps;
         exact = same_kept _ _ done.view;
@@ -117,7 +121,7 @@ module _ {w : PlainWorld} {a : Oop} {x : Object} (ready : IsReady (stored_of w) 
       let os = w.heap.objects in
       let depth : depth_in x.words ≡ d = depth_is_read ready active ∙ sym deep in
       let does = subst (λ n. Does os (with_slot os a.0 2 (small_word (pos (n - 1)))) w.classes w.roots (λ k. edit_object k (ref_of os a.0) (edit_context (popped 1)))) depth (does-pop known active.context 1) in
-      let done = written w a x _ (popped 1) (pc_of (view_of w)) ready active does (slot_edited 2 (small_word (pos (d - 1)))) ready.running.live refl ready.running.method in
+      let done = written w a x _ (popped 1) (pc_of (view_of w)) ready active does (slot_edited 2 (small_word (pos (d - 1)))) ready.running.live refl refl refl ready.running.method in
       record {
         state = λ m k. subst (λ u. Keeps u (drop_of m 1)) (sym done.view) (drop_moved k 1).keeps;
         exact = same_kept _ _ done.view;

@@ -1,12 +1,15 @@
 -- The entries of a shelf in memory: one is given a content.
-use Rattle.std.proofs.Common.{◌≡◌, ◌≢◌, ℕ, ◌<◌, List, [], ◌∷◌, Option, Some, None, Bool, true, false, cond, find, length, map, zero, suc, get_or, slice_set, ap, sym, ◌∙◌, refl, arith, slice_get, option_and_then, option_map}
+use Rattle.std.proofs.Common.{◌≡◌, ◌≢◌, ℕ, ◌<◌, ◌≤◌, IsSome, nat_lt, subst, List, [], ◌∷◌, Option, Some, None, Bool, true, false, cond, find, length, map, zero, suc, get_or, slice_set, ap, sym, ◌∙◌, refl, arith, slice_get, option_and_then, option_map}
 use Rattle.std.specs.Prelude.{IfSome}
+use Rattle.std.specs.List.{position_or_len, All}
+use Rattle.std.proofs.lemmas.List.Sums.{passes_at_first}
+use borrow.Author.Tests.{ltb-true}
 use Rattle.std.specs.Str.{bytes_eq}
 use Rattle.std.proofs.lemmas.Slice.Eq.{bytes_eq-Decides}
 use Rattle.std.proofs.lemmas.Bool.{false_from_ne_true}
 use Rattle.std.proofs.lemmas.List.{length-map}
-use Rattle.std.proofs.lemmas.Option.{get_or_from_slice_get, slice_get_within, slice_get-map}
-use Rattle.cs_shelf.specs.Memory.{EntryView, NamesDiffer, content_of, names_of, new_entry, put_at}
+use Rattle.std.proofs.lemmas.Option.{cond_some, get_or_from_slice_get, same_Some, slice_get-get_or, slice_get_within, slice_get-map}
+use Rattle.cs_shelf.specs.Memory.{AreKept, EntryView, NamesDiffer, content_of, names_of, new_entry, place_of, put_at}
 
 -- a new shelf has the names that it was given
 pub names_of-new : (room : ℕ) (names : List (List ℕ)) → names_of (map (new_entry room) names) ≡ names
@@ -77,6 +80,92 @@ pub others_after : (was is : List EntryView) (k : ℕ) (bytes : List ℕ) → is
 others_after was is k bytes put =
     let Others : EntryView → Type 0 = λ e. (other : List ℕ) → other ≢ e.name → content_of is other ≡ content_of was other in
     if_some (slice_get was k) Others (λ e at other differs. rw put (content_of-put_at_other was k bytes e at other differs))
+
+-- new ones are names that differ and are short enough, with that room
+new_rooms : (room : ℕ) (names : List (List ℕ)) → All (λ held. room ≤ held) (map (λ e. e.room) (map (new_entry room) names))
+new_rooms room [] k d h = absurd (omega arith)
+new_rooms room (x ∷ xs) zero d h = omega arith
+new_rooms room (x ∷ xs) (suc k) d h = new_rooms room xs k d (omega arith)
+
+pub kept_new : (room : ℕ) (names : List (List ℕ)) (es : List EntryView) → es ≡ map (new_entry room) names
+    → NamesDiffer names → All (λ name. length name ≤ 4096) names → AreKept room es
+kept_new room names es is differ short =
+    let Short : List (List ℕ) → Type 0 = λ ns. All (λ name. length name ≤ 4096) ns in
+    let Kept : List EntryView → Type 0 = AreKept room in
+    subst Kept (sym is) (record {
+      differ = subst NamesDiffer (sym (names_of-new room names)) differ;
+      short = subst Short (sym (names_of-new room names)) short;
+      roomy = new_rooms room names;
+    })
+
+-- what stays of entries stays when one is given a content
+rooms-put_at : (es : List EntryView) (k : ℕ) (bytes : List ℕ) → map (λ e. e.room) (put_at es k bytes) ≡ map (λ e. e.room) es
+rooms-put_at [] k bytes = refl
+rooms-put_at (e ∷ es) zero bytes = refl
+rooms-put_at (e ∷ es) (suc k) bytes = ap (λ (ys : List ℕ). e.room ∷ ys) (rooms-put_at es k bytes)
+
+pub kept_after : (room : ℕ) (was is : List EntryView) (k : ℕ) (bytes : List ℕ) → is ≡ put_at was k bytes
+    → AreKept room was → AreKept room is
+kept_after room was is k bytes put kept =
+    let names = sym (ap names_of put ∙ names_of-put_at was k bytes) in
+    let rooms = sym (ap (λ (es : List EntryView). map (λ (e : EntryView). e.room) es) put ∙ rooms-put_at was k bytes) in
+    let Short : List (List ℕ) → Type 0 = λ ns. All (λ name. length name ≤ 4096) ns in
+    let Roomy : List ℕ → Type 0 = λ ns. All (λ held. room ≤ held) ns in
+    record {
+      differ = subst NamesDiffer names kept.differ;
+      short = subst Short names kept.short;
+      roomy = subst Roomy rooms kept.roomy;
+    }
+
+-- a place that has a name is one of the list's, with room for what is taken
+pub named_within : (es : List EntryView) (k : ℕ) → IsSome (slice_get (names_of es) k) → k < length es
+named_within [] k h = cc
+named_within (e ∷ es) zero h = omega arith
+named_within (e ∷ es) (suc k) h = let t : k < length es = named_within es k h in omega arith
+
+pub roomy_at : (room : ℕ) (es : List EntryView) (k : ℕ) → AreKept room es → IfSome (slice_get es k) (λ e. room ≤ e.room)
+roomy_at room es k kept =
+    let Roomy : EntryView → Type 0 = λ e. room ≤ e.room in
+    if_some (slice_get es k) Roomy (λ e is.
+    let rooms : List ℕ = map (λ (x : EntryView). x.room) es in
+    let at : slice_get rooms k ≡ Some e.room = slice_get-map (λ (x : EntryView). x.room) es k ∙ ap (option_map (λ (x : EntryView). x.room)) is in
+    let held : get_or rooms k 0 ≡ e.room = get_or_from_slice_get rooms k e.room 0 at in
+    let big : room ≤ get_or rooms k 0 = kept.roomy k 0 (slice_get_within rooms k e.room at) in
+    omega arith)
+
+-- the name at the place of a name
+pub named_place : (es : List EntryView) (name : List ℕ) (k : ℕ) → place_of es name ≡ Some k → slice_get (names_of es) k ≡ Some name
+named_place es name k is =
+    let has : EntryView → Bool = λ e. bytes_eq e.name name in
+    let first = position_or_len has es in
+    let d : EntryView = new_entry 0 name in
+    let split = cond_some (nat_lt first (length es)) first k is in
+    let within : first < length es = ltb-true first (length es) split.0 in
+    let same : (get_or es first d).name ≡ name = (bytes_eq-Decides (get_or es first d).name name).0 (passes_at_first has es d within) in
+    let At : ℕ → Type 0 = λ n. slice_get (names_of es) n ≡ Some name in
+    subst At split.1 (slice_get-map (λ (e : EntryView). e.name) es first
+    ∙ ap (option_map (λ (e : EntryView). e.name)) (slice_get-get_or es first d within) ∙ ap Some same)
+
+-- what finishing leaves, as its clauses say it
+pub named_holds : (was is : List EntryView) (k : ℕ) (bytes : List ℕ) → is ≡ put_at was k bytes → NamesDiffer (names_of was)
+    → IfSome (slice_get (names_of was) k) (λ name. content_of is name ≡ Some bytes)
+named_holds was is k bytes put differ =
+    let Holds : List ℕ → Type 0 = λ name. content_of is name ≡ Some bytes in
+    if_some (slice_get (names_of was) k) Holds (λ name at.
+    let e = get_or was k (new_entry 0 name) in
+    let there : slice_get was k ≡ Some e = slice_get-get_or was k (new_entry 0 name) (named_within was k (rw at refl)) in
+    let same : e.name ≡ name = same_Some e.name name (sym (slice_get-map (λ (x : EntryView). x.name) was k
+    ∙ ap (option_map (λ (x : EntryView). x.name)) there) ∙ at) in
+    subst Holds same (rw put (content_of-put_at was k bytes e differ there)))
+
+pub named_others : (was is : List EntryView) (k : ℕ) (bytes : List ℕ) → is ≡ put_at was k bytes → k < length was
+    → (other : List ℕ) → slice_get (names_of was) k ≢ Some other → content_of is other ≡ content_of was other
+named_others was is k bytes put within other differs =
+    let e = get_or was k (new_entry 0 other) in
+    let there : slice_get was k ≡ Some e = slice_get-get_or was k (new_entry 0 other) within in
+    let named : slice_get (names_of was) k ≡ Some e.name = slice_get-map (λ (x : EntryView). x.name) was k
+    ∙ ap (option_map (λ (x : EntryView). x.name)) there in
+    rw put (content_of-put_at_other was k bytes e there other (λ same. differs (named ∙ ap Some (sym same))))
 
 -- the write of the code, from what was read at the index
 pub written : (es : List EntryView) (k : ℕ) (bytes : List ℕ) (was is : EntryView) → k < length es

@@ -1,5 +1,5 @@
 -- The outside in memory, as its callers see it.
-use Rattle.std.specs.Prelude.{◌≡◌, ◌≢◌, ℕ, ◌-◌, ◌<◌, List, [], ◌∷◌, Option, Some, None, AllPairs, Contains, find, length, map, option_and_then, suc, zero}
+use Rattle.std.specs.Prelude.{◌≡◌, ◌≢◌, ℕ, ◌-◌, ◌<◌, ◌≤◌, List, [], ◌∷◌, ◌++◌, Option, Some, None, All, AllPairs, Contains, find, length, map, option_and_then, position, slice_get, suc, zero}
 use Rattle.std.specs.Str.{bytes_eq}
 use Rattle.cs_shelf.specs.Outside.{Fault, next_count}
 
@@ -23,21 +23,32 @@ passed calls = record calls { made = next_count calls.made }
 abbrev pub failed : CallsView → CallsView
 failed calls = record calls { made = next_count calls.made; faults = next_count calls.faults }
 
--- a sink: what it took, and how many bytes it has room for in all
-pub record SinkView : Type 0 where
-  pub taken : List ℕ
+-- bytes that were taken one behind another, and how many there is room for in all
+pub record TakenView : Type 0 where
+  pub bytes : List ℕ
   pub room : ℕ
+
+abbrev pub none_taken : ℕ → TakenView
+none_taken room = record { bytes = []; room = room }
+
+abbrev pub room_left : TakenView → ℕ
+room_left taken = taken.room - length taken.bytes
+
+-- a piece isn't empty, and there is no room for any of it
+abbrev pub IsFullFor : TakenView → List ℕ → Type 0
+IsFullFor taken piece = (0 < length piece) × (room_left taken ≡ 0)
+
+-- after a piece was taken
+abbrev pub grown : TakenView → List ℕ → TakenView
+grown taken piece = record taken { bytes = taken.bytes ++ piece }
+
+-- a sink in memory
+pub record SinkView : Type 0 where
+  pub taken : TakenView
   pub calls : CallsView
 
 abbrev pub new_sink : ℕ → List ℕ → SinkView
-new_sink room listed = record { taken = []; room = room; calls = new_calls listed }
-
-abbrev pub room_left : SinkView → ℕ
-room_left sink = sink.room - length sink.taken
-
--- a piece isn't empty, and there is no room for any of it
-abbrev pub IsFullFor : SinkView → List ℕ → Type 0
-IsFullFor sink piece = (0 < length piece) × (room_left sink ≡ 0)
+new_sink room listed = record { taken = none_taken room; calls = new_calls listed }
 
 -- a name of a shelf, its content where it has one, and how many bytes that may have
 pub record EntryView : Type 0 where
@@ -48,11 +59,15 @@ pub record EntryView : Type 0 where
 abbrev pub new_entry : ℕ → List ℕ → EntryView
 new_entry room name = record { name = name; content = None; room = room }
 
--- a shelf: its names, and the call that failed last
+-- a shelf: its names, the place of the one whose content is begun, what was taken since the last start, the call
+-- that failed last, and how far was read
 pub record ShelfView : Type 0 where
   pub entries : List EntryView
+  pub begun : Option ℕ
+  pub taken : TakenView
   pub calls : CallsView
   pub last : Fault
+  pub asked : ℕ
 
 abbrev pub names_of : List EntryView → List (List ℕ)
 names_of entries = map (λ e. e.name) entries
@@ -64,6 +79,20 @@ NamesDiffer names = AllPairs (λ a b. a ≢ b) names
 -- what a name holds
 abbrev pub content_of : List EntryView → List ℕ → Option (List ℕ)
 content_of entries name = option_and_then (λ e. e.content) (find (λ e. bytes_eq e.name name) entries)
+
+-- the place of a name
+abbrev pub place_of : List EntryView → List ℕ → Option ℕ
+place_of entries name = position (λ e. bytes_eq e.name name) entries
+
+-- the name at a place
+abbrev pub name_at : List EntryView → Option ℕ → Option (List ℕ)
+name_at entries place = option_and_then (λ k. slice_get (names_of entries) k) place
+
+-- names that differ and are short enough, each with room for what is taken
+pub record AreKept (room : ℕ) (entries : List EntryView) : Type 0 where
+  pub differ : NamesDiffer (names_of entries)
+  pub short : All (λ name. length name ≤ 4096) (names_of entries)
+  pub roomy : All (λ held. room ≤ held) (map (λ e. e.room) entries)
 
 -- the entries after the one at k was given a content
 abbrev pub put_at : List EntryView → ℕ → List ℕ → List EntryView

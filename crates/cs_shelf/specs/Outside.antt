@@ -1,5 +1,5 @@
 -- What the outside of the machine promises: counts of faults, bytes that are taken, bytes that are read.
-use Rattle.std.specs.Prelude.{◌≡◌, ℕ, ◌+◌, ◌-◌, ◌^◌, ◌<◌, ◌≤◌, Bool, true, List, ◌++◌, Option, length, take, option_map, min}
+use Rattle.std.specs.Prelude.{◌≡◌, ℕ, ◌+◌, ◌-◌, ◌^◌, ◌<◌, ◌≤◌, Bool, true, false, List, [], ◌++◌, Option, IfSome, length, take, option_map, min, max}
 
 -- the last value of a count, at which it stands
 abbrev pub greatest_count : ℕ
@@ -20,6 +20,17 @@ pub record Fault : Type 0 where
 
 abbrev pub read_fault : List ℕ → Fault
 read_fault name = record { name = name; was_read = true }
+
+abbrev pub save_fault : List ℕ → Fault
+save_fault name = record { name = name; was_read = false }
+
+-- where bytes are told, none are taken any more
+abbrev pub Empties : Option (List ℕ) → Option (List ℕ) → Type 0
+Empties old new = new ≡ option_map (λ (taken : List ℕ). []) old
+
+-- where it is told how far was read, that went no further than `end`
+abbrev pub AsksTo : Option ℕ → Option ℕ → ℕ → Type 0
+AsksTo old new end = IfSome old (λ far. IfSome new (λ now. now ≤ max far end))
 
 -- where bytes are told, these stand behind those that were there before
 abbrev pub Appends : Option (List ℕ) → Option (List ℕ) → List ℕ → Type 0

@@ -2,7 +2,7 @@
 
 ghost use Rattle.std.specs.Prelude.{◌≡◌, ◌≤◌, Some, IfOk, find, length, option_map, string_bytes};
 ghost use Rattle.std.specs.Str.{bytes_eq};
-ghost use Rattle.cs_shelf.specs.Memory.{content_of, new_entry};
+ghost use Rattle.cs_shelf.specs.Memory.{content_of, new_entry, place_of};
 
 use std::alloc::{AllocError, Global};
 use std::marker::Model;
@@ -57,6 +57,12 @@ impl Entry {
         self.has_content = true;
     }
 
+    pub(crate) fn name(&self) -> &str
+        ensures { result.now ≡ self.now.name }
+    {
+        self.name.as_str()
+    }
+
     fn has_name(&self, name: &str) -> bool
         ensures { result ≡ bytes_eq self.now.name name.now }
     {
@@ -79,6 +85,13 @@ fn entry_named<'a>(entries: &'a [Entry], name: &str) -> Option<&'a Entry>
     ensures { option_map (λ entry. entry.now) result ≡ find (λ entry. bytes_eq entry.name name.now) entries.now }
 {
     entries.iter().find(|entry| entry.has_name(name))
+}
+
+/// The place of the first entry of a name.
+pub(crate) fn place_named(entries: &[Entry], name: &str) -> Option<usize>
+    ensures { result ≡ place_of entries.now name.now }
+{
+    entries.iter().position(|entry| entry.has_name(name))
 }
 
 /// What a name holds.

@@ -1,10 +1,11 @@
 //! A sink in memory.
 
-ghost use Rattle.std.specs.Prelude.{◌≡◌, ◌↔◌, ◌⊎◌, ◌++◌, ℕ, ◌<◌, ◌≤◌, Some, IfOk, OnErr, IsErr, length, min, take};
-ghost use Rattle.cs_shelf.specs.Memory.{IsFullFor, IsListed, failed, new_sink, passed, room_left};
+ghost use Rattle.std.specs.Prelude.{◌≡◌, ◌↔◌, ◌⊎◌, ℕ, ◌<◌, ◌≤◌, Some, IfOk, OnErr, IsErr, length, min, take};
+ghost use Rattle.cs_shelf.specs.Memory.{IsFullFor, IsListed, failed, grown, new_sink, passed, room_left};
 ghost use Rattle.cs_shelf.specs.Outside.{Appends, Rose};
 
 use crate::calls::Calls;
+use crate::taken::Taken;
 use crate::{Failed, Sink};
 use std::alloc::{AllocError, Global};
 use std::marker::Model;
@@ -15,20 +16,16 @@ use std::marker::Model;
 /// After `new` it takes no more memory.
 #[derive(Drop)]
 pub struct MemSink {
-    taken: Vec<u8>,
-    room: usize,
+    taken: Taken,
     calls: Calls,
 }
 
 impl Model for MemSink {
-    ghost use Rattle.std.specs.Prelude.{◌≤◌, vec_capacity, vec_len};
     ghost use Rattle.cs_shelf.specs.Memory.{SinkView};
 
     ghost Value = { SinkView };
 
-    ghost view = { λ s. record { taken = s.taken.items; room = s.room; calls = s.calls } };
-
-    ghost invariant = { λ s. (vec_len s.taken ≤ s.room) × (s.room ≤ vec_capacity s.taken) };
+    ghost view = { λ s. record { taken = s.taken; calls = s.calls } };
 }
 
 impl MemSink {
@@ -36,48 +33,47 @@ impl MemSink {
     pub fn new(alloc: Global, room: usize, fail: &[u64]) -> Result<MemSink, AllocError>
         ensures { IfOk result (λ sink. sink ≡ new_sink room fail.now) }
     {
-        let taken = Vec::with_capacity(alloc, room)?;
+        let taken = Taken::new(alloc, room)?;
         let listed = Vec::from_slice(alloc, fail)?;
         Ok(MemSink {
             taken,
-            room,
             calls: Calls::new(listed),
         })
     }
 
     /// All that the sink took.
     pub fn taken(&self) -> &[u8]
-        ensures { result.now ≡ self.now.taken }
+        ensures { result.now ≡ self.now.taken.bytes }
     {
-        self.taken.as_slice()
+        self.taken.bytes()
     }
 }
 
 impl Sink for MemSink {
     ghost fault_count = { λ s. s.calls.faults };
 
-    ghost taken = { λ s. Some s.taken };
+    ghost taken = { λ s. Some s.taken.bytes };
 
     fn write(&mut self, bytes: &[u8]) -> Result<usize, Failed>
-        ensures fails { IsErr result ↔ (IsListed self.old.calls ⊎ IsFullFor self.old bytes.now) }
-        ensures part { IfOk result (λ n. n ≡ min (length bytes.now) (room_left self.old)) }
+        ensures fails { IsErr result ↔ (IsListed self.old.calls ⊎ IsFullFor self.old.taken bytes.now) }
+        ensures part { IfOk result (λ n. n ≡ min (length bytes.now) (room_left self.old.taken)) }
         ensures ok { IfOk result (λ n. self.new ≡
-            record self.old { taken = self.old.taken ++ take n bytes.now; calls = passed self.old.calls }) }
+            record self.old { taken = grown self.old.taken (take n bytes.now); calls = passed self.old.calls }) }
         ensures err { OnErr result (self.new ≡ record self.old { calls = failed self.old.calls }) }
         ensures never_falls { self.old.calls.faults ≤ self.new.calls.faults }
     {
-        let left = self.room - self.taken.len();
-        let n = bytes.len().min(left);
-        let is_full = n == 0 && !bytes.is_empty();
-        if is_full || self.calls.is_listed() {
-            self.calls.fail();
-            return Err(Failed);
+        let is_listed = self.calls.is_listed();
+        match self.taken.room_for(bytes) {
+            Some(n) if !is_listed => {
+                self.taken.take(&bytes[..n]);
+                self.calls.pass();
+                Ok(n)
+            }
+            _ => {
+                self.calls.fail();
+                Err(Failed)
+            }
         }
-        let Ok(()) = self.taken.extend_from_slice(&bytes[..n]) else {
-            unreachable!()
-        };
-        self.calls.pass();
-        Ok(n)
     }
 
     fn faults(&self) -> u64 {

@@ -1,7 +1,8 @@
 //! Reads and writes of a whole: loops over the calls of a shelf and a sink.
 
-ghost use Rattle.std.specs.Prelude.{◌≡◌, ◌≢◌, ℕ, ◌<◌, ◌≤◌, List, Err, IfOk, OnOk, OnErr, IfSome, length, vec_len};
-ghost use Rattle.cs_shelf.specs.Outside.{Rose, read_fault, Appends, AppendsPart};
+ghost use Rattle.std.specs.Prelude.{◌≡◌, ◌≢◌, ℕ, ◌+◌, ◌<◌, ◌≤◌, List, Some, None, Err, IfOk, OnOk, OnErr, IfSome};
+ghost use Rattle.std.specs.Prelude.{IsSome, length, vec_len};
+ghost use Rattle.cs_shelf.specs.Outside.{Rose, read_fault, save_fault, Appends, AppendsPart, AsksTo};
 
 use crate::{Failed, Shelf, Sink};
 use std::alloc::{AllocError, Global};
@@ -22,6 +23,33 @@ pub fn write_whole<K: Sink>(sink: &mut K, bytes: &[u8]) -> Result<(), Failed>
     let mut at = 0;
     while at < bytes.len() {
         let n = sink.write(&bytes[at..])?;
+        at += n;
+    }
+    Ok(())
+}
+
+/// Appends all the bytes to the content that is begun, each once and in order, in as many calls as it takes.
+///
+/// `Failed` comes only where a call failed. Then the shelf has taken the first bytes of the piece, maybe
+/// none, and not all of them, and no content is begun any more.
+pub fn append_whole<S: Shelf>(shelf: &mut S, bytes: &[u8]) -> Result<(), Failed>
+    requires begun { IsSome (S.begun shelf.old) }
+    ensures ok { OnOk result (Appends (S.taken shelf.old) (S.taken shelf.new) bytes.now) }
+    ensures err { OnErr result (AppendsPart (S.taken shelf.old) (S.taken shelf.new) bytes.now) }
+    ensures begun_stays { OnOk result (S.begun shelf.new ≡ S.begun shelf.old) }
+    ensures none_begun { OnErr result (S.begun shelf.new ≡ None) }
+
+    ensures contents { (other : List ℕ) → S.begun shelf.old ≢ Some other →
+        S.content shelf.new other ≡ S.content shelf.old other }
+    ensures asked_stays { S.asked shelf.new ≡ S.asked shelf.old }
+    ensures never_falls { S.fault_count shelf.old ≤ S.fault_count shelf.new }
+    ensures cause { OnErr result (Rose (S.fault_count shelf.old) (S.fault_count shelf.new)) }
+    ensures last { OnErr result (IfSome (S.begun shelf.old) (λ name. S.last_fault shelf.new ≡ save_fault name)) }
+    ensures last_stays { OnOk result (S.last_fault shelf.new ≡ S.last_fault shelf.old) }
+{
+    let mut at = 0;
+    while at < bytes.len() {
+        let n = shelf.append(&bytes[at..])?;
         at += n;
     }
     Ok(())
@@ -60,7 +88,7 @@ impl From<AllocError> for ReadError {
 
 /// Reads all that a name holds, where that is at most `most` bytes.
 ///
-/// It reads on until a read gives nothing, and looks at no more than one byte beyond `most`. Memory is
+/// It reads on until a read gives nothing, and asks for no more than one byte beyond `most`. Memory is
 /// taken for what was read, never for `most` bytes at once.
 pub fn read_whole<S: Shelf>(
     alloc: Global,
@@ -75,8 +103,11 @@ pub fn read_whole<S: Shelf>(
         IfSome (S.content shelf.old name.now) (λ bytes. most < length bytes) }
     ensures failed { result ≡ Err ReadError.Failed →
         Rose (S.fault_count shelf.old) (S.fault_count shelf.new) }
+    ensures asked { AsksTo (S.asked shelf.old) (S.asked shelf.new) (most + 1) }
 
     ensures contents { (other : List ℕ) → S.content shelf.new other ≡ S.content shelf.old other }
+    ensures begun_stays { S.begun shelf.new ≡ S.begun shelf.old }
+    ensures taken_stays { S.taken shelf.new ≡ S.taken shelf.old }
     ensures never_falls { S.fault_count shelf.old ≤ S.fault_count shelf.new }
     ensures last { result ≡ Err ReadError.Failed → S.last_fault shelf.new ≡ read_fault name.now }
     ensures last_stays { result ≢ Err ReadError.Failed → S.last_fault shelf.new ≡ S.last_fault shelf.old }

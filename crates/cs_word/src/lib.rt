@@ -95,6 +95,3 @@ impl Oop {
         }
     }
 }
-
-#[cfg(test)]
-mod tests;

@@ -20,7 +20,7 @@ set_slot-requires c =
 
 pub loop-i-preserved : goal.loop-i-preserved
 loop-i-preserved c =
-    copied-more c.args.heap.now c.loop-i.heap c.set_slot.new.self c.args.from.0 c.args.at c.args.to.0 c.args.start c.loop-i.i c.slot-value.result.0 c.loop-i.invariant c.slot-value.ensures c.set_slot.ensures
+    copied-more c.args.heap.now c.loop-i.heap c.set_slot.new.self c.args.from.0 c.args.at c.args.to.0 c.args.start c.loop-i.i c.slot-value.result.0 c.loop-i.invariant c.slot-value.ensures c.requires.unwatched c.set_slot.ensures
 
 pub returns : goal.returns
 returns c =

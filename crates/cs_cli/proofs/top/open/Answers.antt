@@ -12,7 +12,6 @@ returns-in-Ok-new-clause-opens g c =
       read = record {
         bytes = c.as_slice.result.now;
         told = subst P (sym c.as_slice.ensures.value) c.in-Ok.ensures.whole;
-        no_section = c.in-Ok-load.ensures.no_section;
         state = c.in-Ok-load.ensures.state;
       };
       view = c.in-Ok-new.ensures.view;

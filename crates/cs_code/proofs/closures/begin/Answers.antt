@@ -9,6 +9,7 @@ use Rattle.cs_model.specs.Read.{active_birth, pc_of}
 use Rattle.cs_model.specs.Operation.{add_of, next_ref, nil_of}
 use Rattle.cs_acts.specs.Full.{CausesFull}
 use Rattle.cs_acts.specs.Names.{name_of}
+use Rattle.cs_model.specs.Obj.{new_head}
 use Rattle.cs_code.specs.Closures.{bare_closure}
 use Rattle.cs_code.proofs.Adding.{cause-added, storable-added}
 use Rattle.cs_code.proofs.Closing.{bare-refused, can-make, made-bare, written}
@@ -39,7 +40,7 @@ store-requires-clause-there g c =
     let rest : List Ref = replicate c.args.copied (nil_of k) in
     let n : Ref = nil_of k in
     let at_made = a.value.is ∙ ap (λ (t : Kept). next_ref t) same in
-    storable-added (g.W.World.view c.allocate.new.self) k 37 3 0 0 (n ∷ n ∷ n ∷ rest) (name_of (g.W.World.stored c.allocate.new.self) c.in-Ok-allocate.closure) made.state at_made (omega arith)
+    storable-added (g.W.World.view c.allocate.new.self) k (new_head 37 3) 0 (n ∷ n ∷ n ∷ rest) (name_of (g.W.World.stored c.allocate.new.self) c.in-Ok-allocate.closure) made.state at_made (omega arith)
 
 pub store-requires-2-clause-there : goal.store-requires-2-clause-there
 store-requires-2-clause-there g c =
@@ -53,11 +54,11 @@ store-requires-2-clause-there g c =
     let at_made = a.value.is ∙ ap (λ (t : Kept). next_ref t) same in
     let first = c.store.ensures in
     let x_first : name_of (g.W.World.stored c.allocate.new.self) c.in-Ok.context ≡ ref.Obj (active_birth k) = (a.names c.in-Ok.context c.in-Ok.ensures.value.sound).is ∙ c.in-Ok.ensures.value.is in
-    let with_first = written (g.W.World.stored c.args.w.now) (g.W.World.stored c.allocate.new.self) (g.W.World.stored c.store.new.self) (g.W.World.layout c.args.w.now) (g.W.World.layout c.allocate.new.self) (g.W.World.layout c.store.new.self) (g.W.World.view c.allocate.new.self) (g.W.World.view c.store.new.self) k 37 3 0 0 (n ∷ n ∷ n ∷ rest) c.in-Ok-allocate.closure c.in-Ok.context (ref.Obj (active_birth k)) made at_made x_first
+    let with_first = written (g.W.World.stored c.args.w.now) (g.W.World.stored c.allocate.new.self) (g.W.World.stored c.store.new.self) (g.W.World.layout c.args.w.now) (g.W.World.layout c.allocate.new.self) (g.W.World.layout c.store.new.self) (g.W.World.view c.allocate.new.self) (g.W.World.view c.store.new.self) k (new_head 37 3) 0 (n ∷ n ∷ n ∷ rest) c.in-Ok-allocate.closure c.in-Ok.context (ref.Obj (active_birth k)) made at_made x_first
     first.state first.exact first.layout first.limit first.contexts first.ready first.names in
     let named_first = first.names c.in-Ok-allocate.closure a.value.sound in
     let at_first = named_first.is ∙ at_made in
-    storable-added (g.W.World.view c.store.new.self) k 37 3 0 1 (ref.Obj (active_birth k) ∷ n ∷ n ∷ rest) (name_of (g.W.World.stored c.store.new.self) c.in-Ok-allocate.closure) with_first.state at_first (omega arith)
+    storable-added (g.W.World.view c.store.new.self) k (new_head 37 3) 1 (ref.Obj (active_birth k) ∷ n ∷ n ∷ rest) (name_of (g.W.World.stored c.store.new.self) c.in-Ok-allocate.closure) with_first.state at_first (omega arith)
 
 pub store-requires-3-clause-there : goal.store-requires-3-clause-there
 store-requires-3-clause-there g c =
@@ -71,17 +72,17 @@ store-requires-3-clause-there g c =
     let at_made = a.value.is ∙ ap (λ (t : Kept). next_ref t) same in
     let first = c.store.ensures in
     let x_first : name_of (g.W.World.stored c.allocate.new.self) c.in-Ok.context ≡ ref.Obj (active_birth k) = (a.names c.in-Ok.context c.in-Ok.ensures.value.sound).is ∙ c.in-Ok.ensures.value.is in
-    let with_first = written (g.W.World.stored c.args.w.now) (g.W.World.stored c.allocate.new.self) (g.W.World.stored c.store.new.self) (g.W.World.layout c.args.w.now) (g.W.World.layout c.allocate.new.self) (g.W.World.layout c.store.new.self) (g.W.World.view c.allocate.new.self) (g.W.World.view c.store.new.self) k 37 3 0 0 (n ∷ n ∷ n ∷ rest) c.in-Ok-allocate.closure c.in-Ok.context (ref.Obj (active_birth k)) made at_made x_first
+    let with_first = written (g.W.World.stored c.args.w.now) (g.W.World.stored c.allocate.new.self) (g.W.World.stored c.store.new.self) (g.W.World.layout c.args.w.now) (g.W.World.layout c.allocate.new.self) (g.W.World.layout c.store.new.self) (g.W.World.view c.allocate.new.self) (g.W.World.view c.store.new.self) k (new_head 37 3) 0 (n ∷ n ∷ n ∷ rest) c.in-Ok-allocate.closure c.in-Ok.context (ref.Obj (active_birth k)) made at_made x_first
     first.state first.exact first.layout first.limit first.contexts first.ready first.names in
     let named_first = first.names c.in-Ok-allocate.closure a.value.sound in
     let at_first = named_first.is ∙ at_made in
     let second = c.store-2.ensures in
     let pc_made = a.names c.pc_word-pc.result c.pc_word-pc.ensures.sound in
     let x_second : name_of (g.W.World.stored c.store.new.self) c.pc_word-pc.result ≡ Small (pos (pc_of k)) = (first.names c.pc_word-pc.result pc_made.sound).is ∙ pc_made.is ∙ c.pc_word-pc.ensures.is ∙ ap (λ (t : Kept). Small (pos (pc_of t))) same in
-    let with_second = written (g.W.World.stored c.args.w.now) (g.W.World.stored c.store.new.self) (g.W.World.stored c.store-2.new.self) (g.W.World.layout c.args.w.now) (g.W.World.layout c.store.new.self) (g.W.World.layout c.store-2.new.self) (g.W.World.view c.store.new.self) (g.W.World.view c.store-2.new.self) k 37 3 0 1 (ref.Obj (active_birth k) ∷ n ∷ n ∷ rest) c.in-Ok-allocate.closure c.pc_word-pc.result (Small (pos (pc_of k))) with_first at_first x_second
+    let with_second = written (g.W.World.stored c.args.w.now) (g.W.World.stored c.store.new.self) (g.W.World.stored c.store-2.new.self) (g.W.World.layout c.args.w.now) (g.W.World.layout c.store.new.self) (g.W.World.layout c.store-2.new.self) (g.W.World.view c.store.new.self) (g.W.World.view c.store-2.new.self) k (new_head 37 3) 1 (ref.Obj (active_birth k) ∷ n ∷ n ∷ rest) c.in-Ok-allocate.closure c.pc_word-pc.result (Small (pos (pc_of k))) with_first at_first x_second
     second.state second.exact second.layout second.limit second.contexts second.ready second.names in
     let at_second = (second.names c.in-Ok-allocate.closure named_first.sound).is ∙ at_first in
-    storable-added (g.W.World.view c.store-2.new.self) k 37 3 0 2 (ref.Obj (active_birth k) ∷ Small (pos (pc_of k)) ∷ n ∷ rest) (name_of (g.W.World.stored c.store-2.new.self) c.in-Ok-allocate.closure) with_second.state at_second (omega arith)
+    storable-added (g.W.World.view c.store-2.new.self) k (new_head 37 3) 2 (ref.Obj (active_birth k) ∷ Small (pos (pc_of k)) ∷ n ∷ rest) (name_of (g.W.World.stored c.store-2.new.self) c.in-Ok-allocate.closure) with_second.state at_second (omega arith)
 
 pub returns-clause-leads : goal.returns-clause-leads
 returns-clause-leads g c =
@@ -95,18 +96,18 @@ returns-clause-leads g c =
     let at_made = a.value.is ∙ ap (λ (t : Kept). next_ref t) same in
     let first = c.store.ensures in
     let x_first : name_of (g.W.World.stored c.allocate.new.self) c.in-Ok.context ≡ ref.Obj (active_birth k) = (a.names c.in-Ok.context c.in-Ok.ensures.value.sound).is ∙ c.in-Ok.ensures.value.is in
-    let with_first = written (g.W.World.stored c.args.w.now) (g.W.World.stored c.allocate.new.self) (g.W.World.stored c.store.new.self) (g.W.World.layout c.args.w.now) (g.W.World.layout c.allocate.new.self) (g.W.World.layout c.store.new.self) (g.W.World.view c.allocate.new.self) (g.W.World.view c.store.new.self) k 37 3 0 0 (n ∷ n ∷ n ∷ rest) c.in-Ok-allocate.closure c.in-Ok.context (ref.Obj (active_birth k)) made at_made x_first
+    let with_first = written (g.W.World.stored c.args.w.now) (g.W.World.stored c.allocate.new.self) (g.W.World.stored c.store.new.self) (g.W.World.layout c.args.w.now) (g.W.World.layout c.allocate.new.self) (g.W.World.layout c.store.new.self) (g.W.World.view c.allocate.new.self) (g.W.World.view c.store.new.self) k (new_head 37 3) 0 (n ∷ n ∷ n ∷ rest) c.in-Ok-allocate.closure c.in-Ok.context (ref.Obj (active_birth k)) made at_made x_first
     first.state first.exact first.layout first.limit first.contexts first.ready first.names in
     let named_first = first.names c.in-Ok-allocate.closure a.value.sound in
     let at_first = named_first.is ∙ at_made in
     let second = c.store-2.ensures in
     let pc_made = a.names c.pc_word-pc.result c.pc_word-pc.ensures.sound in
     let x_second : name_of (g.W.World.stored c.store.new.self) c.pc_word-pc.result ≡ Small (pos (pc_of k)) = (first.names c.pc_word-pc.result pc_made.sound).is ∙ pc_made.is ∙ c.pc_word-pc.ensures.is ∙ ap (λ (t : Kept). Small (pos (pc_of t))) same in
-    let with_second = written (g.W.World.stored c.args.w.now) (g.W.World.stored c.store.new.self) (g.W.World.stored c.store-2.new.self) (g.W.World.layout c.args.w.now) (g.W.World.layout c.store.new.self) (g.W.World.layout c.store-2.new.self) (g.W.World.view c.store.new.self) (g.W.World.view c.store-2.new.self) k 37 3 0 1 (ref.Obj (active_birth k) ∷ n ∷ n ∷ rest) c.in-Ok-allocate.closure c.pc_word-pc.result (Small (pos (pc_of k))) with_first at_first x_second
+    let with_second = written (g.W.World.stored c.args.w.now) (g.W.World.stored c.store.new.self) (g.W.World.stored c.store-2.new.self) (g.W.World.layout c.args.w.now) (g.W.World.layout c.store.new.self) (g.W.World.layout c.store-2.new.self) (g.W.World.view c.store.new.self) (g.W.World.view c.store-2.new.self) k (new_head 37 3) 1 (ref.Obj (active_birth k) ∷ n ∷ n ∷ rest) c.in-Ok-allocate.closure c.pc_word-pc.result (Small (pos (pc_of k))) with_first at_first x_second
     second.state second.exact second.layout second.limit second.contexts second.ready second.names in
     let at_second = (second.names c.in-Ok-allocate.closure named_first.sound).is ∙ at_first in
     let third = c.store-3.ensures in
     let value : to_z w32 (of_z w32 c.from-2.result) ≡ pos c.args.args = omega (arith, ints, c.from-2.ensures, c.ranges.args) in
     let x_third : name_of (g.W.World.stored c.store-2.new.self) c.small_word.result ≡ Small (pos c.args.args) = (c.small_word.ensures (g.W.World.stored c.store-2.new.self)).is ∙ ap (λ z. Small z) value in
-    written (g.W.World.stored c.args.w.now) (g.W.World.stored c.store-2.new.self) (g.W.World.stored c.store-3.new.self) (g.W.World.layout c.args.w.now) (g.W.World.layout c.store-2.new.self) (g.W.World.layout c.store-3.new.self) (g.W.World.view c.store-2.new.self) (g.W.World.view c.store-3.new.self) k 37 3 0 2 (ref.Obj (active_birth k) ∷ Small (pos (pc_of k)) ∷ n ∷ rest) c.in-Ok-allocate.closure c.small_word.result (Small (pos c.args.args)) with_second at_second x_third
+    written (g.W.World.stored c.args.w.now) (g.W.World.stored c.store-2.new.self) (g.W.World.stored c.store-3.new.self) (g.W.World.layout c.args.w.now) (g.W.World.layout c.store-2.new.self) (g.W.World.layout c.store-3.new.self) (g.W.World.view c.store-2.new.self) (g.W.World.view c.store-3.new.self) k (new_head 37 3) 2 (ref.Obj (active_birth k) ∷ Small (pos (pc_of k)) ∷ n ∷ rest) c.in-Ok-allocate.closure c.small_word.result (Small (pos c.args.args)) with_second at_second x_third
     third.state third.exact third.layout third.limit third.contexts third.ready third.names

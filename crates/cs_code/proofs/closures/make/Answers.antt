@@ -1,7 +1,7 @@
 use Rattle.std.proofs.Common.{◌≡◌, ◌∙◌, ◌+◌, ◌-◌, ◌<◌, refl, sym, ap, subst, arith, List, length, unwrap_or}
 use Rattle.std.specs.Prelude.{slice_get}
 use Rattle.cs_model.specs.Ref.{Ref}
-use Rattle.cs_model.specs.Obj.{words_of_slots}
+use Rattle.cs_model.specs.Obj.{new_head, words_of_slots}
 use Rattle.cs_model.specs.Exec.{new_closure}
 use Rattle.cs_model.specs.Read.{depth_of, stack_of}
 use Rattle.cs_model.specs.Operation.{add_of, nil_of}
@@ -56,7 +56,7 @@ store-requires-clause-there g c =
     let all = copied_so_far k n c.loop-i.i in
     let place : c.depth.result - c.from.result + c.loop-i.i ≡ depth_of k - n + c.loop-i.i = omega (arith, first, c.depth.ensures.value, c.from.ensures) in
     let size : length all ≡ n = length-so_far k n c.loop-i.i c.requires.there (omega (arith, few)) in
-    storable-added (g.W.World.view c.loop-i.w) k 37 3 0 (3 + c.loop-i.i) (slots_with k c.args.args all) (name_of (g.W.World.stored c.loop-i.w) c.in-Ok.closure) led.state c.loop-i.invariant.1.is (omega (arith, size, few))
+    storable-added (g.W.World.view c.loop-i.w) k (new_head 37 3) (3 + c.loop-i.i) (slots_with k c.args.args all) (name_of (g.W.World.stored c.loop-i.w) c.in-Ok.closure) led.state c.loop-i.invariant.1.is (omega (arith, size, few))
 
 pub store-requires-clause-object : goal.store-requires-clause-object
 store-requires-clause-object g c = c.loop-i.invariant.1.sound
@@ -77,7 +77,7 @@ loop-i-preserved g c =
     let e = c.store.ensures in
     let named = e.names c.in-Ok.closure c.loop-i.invariant.1.sound in
     let more = copied-more k n c.loop-i.i (c.depth.result - c.from.result + c.loop-i.i) x (nil_of (g.W.World.view c.loop-i.w)) c.requires.there few place value in
-    let next = written (g.W.World.stored c.args.w.now) (g.W.World.stored c.loop-i.w) (g.W.World.stored c.store.new.self) (g.W.World.layout c.args.w.now) (g.W.World.layout c.loop-i.w) (g.W.World.layout c.store.new.self) (g.W.World.view c.loop-i.w) (g.W.World.view c.store.new.self) k 37 3 0 (3 + c.loop-i.i) (slots_with k c.args.args all) c.in-Ok.closure c.stack_at-value.result x led c.loop-i.invariant.1.is refl
+    let next = written (g.W.World.stored c.args.w.now) (g.W.World.stored c.loop-i.w) (g.W.World.stored c.store.new.self) (g.W.World.layout c.args.w.now) (g.W.World.layout c.loop-i.w) (g.W.World.layout c.store.new.self) (g.W.World.view c.loop-i.w) (g.W.World.view c.store.new.self) k (new_head 37 3) (3 + c.loop-i.i) (slots_with k c.args.args all) c.in-Ok.closure c.stack_at-value.result x led c.loop-i.invariant.1.is refl
     e.state e.exact e.layout e.limit e.contexts e.ready e.names in (
       subst (λ (o : _). Leads (g.W.World.stored c.args.w.now) (g.W.World.stored c.store.new.self) (g.W.World.layout c.args.w.now) (g.W.World.layout c.store.new.self) (g.W.World.view c.store.new.self) (add_of k o) 1) (set-copied k c.args.args c.loop-i.i x all (copied_so_far k n (c.loop-i.i + 1)) more) next,
       record { sound = named.sound; is = named.is ∙ c.loop-i.invariant.1.is },

@@ -6,5 +6,5 @@ use Rattle.cs_code.proofs.stores.pop_temporary.Goals as goal
 pub returns-in-Some-clause-gives : goal.returns-in-Some-clause-gives
 returns-in-Some-clause-gives g c =
     let old = g.W.World.view c.args.w.now in
-    popped (g.W.World.stored c.args.w.now) (g.W.World.stored c.pop.new.self) _ (g.W.World.layout c.args.w.now) (g.W.World.layout c.pop.new.self) old (g.W.World.view c.pop.new.self) _ c.in-Some.x _ (λ t x. store_temp_out t c.args.i x) (λ t u y k s. store_temp_alike k c.args.i s)
+    popped (g.W.World.stored c.args.w.now) (g.W.World.stored c.pop.new.self) _ (g.W.World.layout c.args.w.now) (g.W.World.layout c.pop.new.self) old (g.W.World.view c.pop.new.self) _ c.in-Some.x _ (λ t bare x. store_temp_out t c.args.i x) (λ t u y k s. store_temp_alike k c.args.i s)
     c.pop.ensures.ready (c.pop.ensures.state old c.requires.sound.closed) c.pop.ensures.exact c.pop.ensures.layout c.pop.ensures.names c.in-Some.ensures.value c.store_temporary.ensures.gives

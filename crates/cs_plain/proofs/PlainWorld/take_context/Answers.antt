@@ -3,7 +3,7 @@ use Rattle.cs_heap.specs.Object.{Memory}
 use Rattle.cs_model.specs.Settle.{context_kept}
 use Rattle.cs_acts.specs.Names.{NamesOption, name_of}
 use Rattle.cs_plain.specs.View.{stored_of, view_of}
-use Rattle.cs_plain.proofs.Opening.{Taken, context_taken, process_is}
+use Rattle.cs_plain.proofs.Opening.{Taken, context_taken, process_is, taken-dirtied}
 use Rattle.cs_plain.proofs.PlainWorld.take_context.Goals as goal
 
 pub set_slot-requires : goal.set_slot-requires
@@ -16,11 +16,11 @@ returns-in-Some-clause-view c =
     let w = c.args.self.now in
     let kept = subst (λ o. NamesOption (stored_of w) o (context_kept (view_of w) (name_of (stored_of w) c.args.process))) c.in-Some.is c.slot.ensures in
     let taken = context_taken c.args.process c.in-Some.context c.args.nil c.requires.sound c.requires.closed c.requires.named c.requires.nil kept c.requires.running in
-    (subst (λ (h : Memory). Taken w (record w { heap = h; active = Some c.in-Some.context }) (name_of (stored_of w) c.args.process)) (sym c.set_slot.ensures) taken).view
+    (subst (λ (h : Memory). Taken w (record w { heap = h; active = Some c.in-Some.context }) (name_of (stored_of w) c.args.process)) (sym c.set_slot.ensures) (taken-dirtied _ taken)).view
 
 pub returns-in-Some-clause-sound : goal.returns-in-Some-clause-sound
 returns-in-Some-clause-sound c =
     let w = c.args.self.now in
     let kept = subst (λ o. NamesOption (stored_of w) o (context_kept (view_of w) (name_of (stored_of w) c.args.process))) c.in-Some.is c.slot.ensures in
     let taken = context_taken c.args.process c.in-Some.context c.args.nil c.requires.sound c.requires.closed c.requires.named c.requires.nil kept c.requires.running in
-    (subst (λ (h : Memory). Taken w (record w { heap = h; active = Some c.in-Some.context }) (name_of (stored_of w) c.args.process)) (sym c.set_slot.ensures) taken).sound
+    (subst (λ (h : Memory). Taken w (record w { heap = h; active = Some c.in-Some.context }) (name_of (stored_of w) c.args.process)) (sym c.set_slot.ensures) (taken-dirtied _ taken)).sound

@@ -1,5 +1,5 @@
 use Rattle.std.proofs.Common.{arith, ap, ◌∙◌, ◌-◌}
-use Rattle.cs_heap.specs.Object.{with_slot}
+use Rattle.cs_heap.specs.Writes.{slot_stored}
 use Rattle.cs_model.specs.Operation.{drop_of, nil_of}
 use Rattle.std.specs.Prelude.{slice_get, unwrap_or}
 use Rattle.cs_model.specs.Read.{stack_of}
@@ -20,16 +20,16 @@ set_slot-requires c =
     omega (arith, slots_are c.requires.ready a.1, fields_within c.requires.ready a.1)
 
 pub returns-clause-state : goal.returns-clause-state
-returns-clause-state c m k = (along c.args.self.now _ _ (λ m. drop_of m 1) (c.set_slot.ensures ∙ ap (λ v. record c.args.self.now.heap { objects = with_slot c.args.self.now.heap.objects c.active_context-context.result.0 2 v }) c.count_word.ensures) (writes-pop c.requires.ready (active_is _ _ c.requires.ready c.active_context-context.ensures).1 c.depth-depth.result c.depth-depth.ensures.value)).state m k
+returns-clause-state c m k = (along c.args.self.now _ _ (λ m. drop_of m 1) (c.set_slot.ensures ∙ ap (λ v. slot_stored c.args.self.now.heap c.active_context-context.result.0 2 v) c.count_word.ensures) (writes-pop c.requires.ready (active_is _ _ c.requires.ready c.active_context-context.ensures).1 c.depth-depth.result c.depth-depth.ensures.value)).state m k
 
 pub returns-clause-exact : goal.returns-clause-exact
-returns-clause-exact c none = (along c.args.self.now _ _ (λ m. drop_of m 1) (c.set_slot.ensures ∙ ap (λ v. record c.args.self.now.heap { objects = with_slot c.args.self.now.heap.objects c.active_context-context.result.0 2 v }) c.count_word.ensures) (writes-pop c.requires.ready (active_is _ _ c.requires.ready c.active_context-context.ensures).1 c.depth-depth.result c.depth-depth.ensures.value)).exact
+returns-clause-exact c none = (along c.args.self.now _ _ (λ m. drop_of m 1) (c.set_slot.ensures ∙ ap (λ v. slot_stored c.args.self.now.heap c.active_context-context.result.0 2 v) c.count_word.ensures) (writes-pop c.requires.ready (active_is _ _ c.requires.ready c.active_context-context.ensures).1 c.depth-depth.result c.depth-depth.ensures.value)).exact
 
 pub returns-clause-ready : goal.returns-clause-ready
-returns-clause-ready c = (along c.args.self.now _ _ (λ m. drop_of m 1) (c.set_slot.ensures ∙ ap (λ v. record c.args.self.now.heap { objects = with_slot c.args.self.now.heap.objects c.active_context-context.result.0 2 v }) c.count_word.ensures) (writes-pop c.requires.ready (active_is _ _ c.requires.ready c.active_context-context.ensures).1 c.depth-depth.result c.depth-depth.ensures.value)).ready
+returns-clause-ready c = (along c.args.self.now _ _ (λ m. drop_of m 1) (c.set_slot.ensures ∙ ap (λ v. slot_stored c.args.self.now.heap c.active_context-context.result.0 2 v) c.count_word.ensures) (writes-pop c.requires.ready (active_is _ _ c.requires.ready c.active_context-context.ensures).1 c.depth-depth.result c.depth-depth.ensures.value)).ready
 
 pub returns-clause-names : goal.returns-clause-names
-returns-clause-names c = (along c.args.self.now _ _ (λ m. drop_of m 1) (c.set_slot.ensures ∙ ap (λ v. record c.args.self.now.heap { objects = with_slot c.args.self.now.heap.objects c.active_context-context.result.0 2 v }) c.count_word.ensures) (writes-pop c.requires.ready (active_is _ _ c.requires.ready c.active_context-context.ensures).1 c.depth-depth.result c.depth-depth.ensures.value)).names
+returns-clause-names c = (along c.args.self.now _ _ (λ m. drop_of m 1) (c.set_slot.ensures ∙ ap (λ v. slot_stored c.args.self.now.heap c.active_context-context.result.0 2 v) c.count_word.ensures) (writes-pop c.requires.ready (active_is _ _ c.requires.ready c.active_context-context.ensures).1 c.depth-depth.result c.depth-depth.ensures.value)).names
 
 pub returns-clause-value : goal.returns-clause-value
 returns-clause-value c =
