@@ -1,11 +1,9 @@
 -- Words that name nil, or an object of one class: senders and closures.
 use Rattle.std.proofs.Common.{◌≡◌, ℕ, ◌<◌, Bool, true, false, refl, sym, ap, ap₂, subst, ◌∙◌, List, [], ◌∷◌, ◌++◌, length, ◌⊎◌, inl, inr, zero, suc, arith}
-use Rattle.std.specs.Prelude.{◌&&◌, ◌==◌, ◌%◌, ◌/◌, ◌||◌, ◌≤◌, ◌-◌, IsTrue, drop, is_some, slice_index, unwrap_or, if◌then◌else◌}
+use Rattle.std.specs.Prelude.{◌&&◌, ◌==◌, ◌||◌, ◌≤◌, ◌-◌, IsTrue, drop, is_some, slice_index, unwrap_or}
 use Rattle.std.specs.List.{AllPass}
 use Rattle.std.proofs.lemmas.List.Elements.{All-cons}
 use Rattle.std.proofs.lemmas.Bool.{eq-eqb, eqb-true, or_left, or_right}
-use Rattle.cs_word.specs.Word.{small_value}
-use Rattle.cs_word.specs.declared.Kind.TheVariants as kind
 use Rattle.cs_heap.specs.Object.{Object, class_of, is_object, with_object}
 use Rattle.cs_heap.proofs.Laws.{field_of-old, is_object-old, is_object-with_object}
 use Rattle.cs_classes.specs.Meaning.{count_of}
@@ -15,6 +13,7 @@ use Rattle.cs_classes.proofs.Refs.{both_true, either_true, is_nil_or_closure, is
 use Rattle.cs_classes.proofs.Sounds.{IsContextWrite, IsWholeContext}
 use Rattle.cs_frame.specs.Frame.{nil}
 use Rattle.cs_marriage.specs.Place.{names_place}
+use Rattle.cs_marriage.proofs.Places.{place_small}
 use Rattle.cs_model.specs.Context.{closure_class}
 use Rattle.cs_model.specs.Obj.{context_class}
 use Rattle.cs_stack.specs.Good.{SenderFits, is_nil_or}
@@ -74,19 +73,20 @@ sender_sound os v e h =
 
 -- ---- a word of a context
 
-pub odd_reference : (os : List Object) (w : ℕ) → (w % 2 == 1) ≡ true → is_reference os w ≡ true
+-- a word that names a place is a SmallInteger, so it is a reference, and may stand for a sender
+pub place_reference : (os : List Object) (w : ℕ) → names_place w ≡ true → is_reference os w ≡ true
 unfolding is_reference
-odd_reference os w odd = ap (λ b. is_reference_kind os (if b then kind.Small (small_value w) else (if w % 4 == 2 then kind.Character (w / 4) else (if w % 8 == 0 then kind.Object w else kind.Link w)))) odd
+place_reference os w named = ap (is_reference_kind os) (place_small w named)
 
-pub odd_sender : (os : List Object) (w : ℕ) → (w % 2 == 1) ≡ true → is_sender os w ≡ true
+pub place_sender : (os : List Object) (w : ℕ) → names_place w ≡ true → is_sender os w ≡ true
 unfolding is_sender
-odd_sender os w odd = ap (λ b. is_sender_kind os (if b then kind.Small (small_value w) else (if w % 4 == 2 then kind.Character (w / 4) else (if w % 8 == 0 then kind.Object w else kind.Link w)))) odd
+place_sender os w named = ap (is_sender_kind os) (place_small w named)
 
 pub sender_there : (os : List Object) (x : Object) → SenderFits os x → is_reference os (slice_index x.words 0) ≡ true
 sender_there os x h = go (either_true (names_place (slice_index x.words 0)) (is_nil_or context_class os (slice_index x.words 0)) h)
   where
     go : (names_place (slice_index x.words 0) ≡ true) ⊎ (is_nil_or context_class os (slice_index x.words 0) ≡ true) → is_reference os (slice_index x.words 0) ≡ true
-    go (inl e) = odd_reference os (slice_index x.words 0) e
+    go (inl e) = place_reference os (slice_index x.words 0) e
     go (inr e) = nil_or_named context_class os (slice_index x.words 0) e
 
 -- where it names no place

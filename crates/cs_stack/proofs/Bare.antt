@@ -24,6 +24,7 @@ use Rattle.cs_classes.proofs.Sorts.{AContext, AMethod, Bytes, Pointers, Sort, ob
 use Rattle.cs_classes.proofs.Sounds.{ReadsAlike, sound-alike, sound-set_context}
 use Rattle.cs_frame.specs.Frame.{nil}
 use Rattle.cs_marriage.specs.Place.{names_place}
+use Rattle.cs_marriage.proofs.Places.{place_small}
 use Rattle.cs_model.specs.Ref.{Ref}
 use Rattle.cs_model.specs.Ref as ref
 use Rattle.cs_model.specs.Obj.{Ctx, Obj, context_class}
@@ -425,16 +426,13 @@ unfolding bare
 bare_same [] none = refl
 bare_same (x ∷ os) none = ap₂ (λ (y : Object) (ys : List Object). y ∷ ys) (unlinked x (none 0 x refl)) (bare_same os (λ k y e. none (suc k) y e))
 
-kind_odd : (word : ℕ) → names_place word ≡ true → kind_of word ≡ kind.Small (small_value word)
-kind_odd word h = rw h refl
-
 -- a heap of an image that was loaded has no linked context
 pub bare_loaded : (l : Loaded) → IsWhole l.heap.objects l.classes l.roots → SendersStand (loaded_kept l) → bare l.heap.objects ≡ l.heap.objects
 unfolding ref_of context_of
 bare_loaded l whole stand = bare_same l.heap.objects none
   where
     small : (word : ℕ) → names_place word ≡ true → ref_of l.heap.objects word ≡ ref.Small (small_value word)
-    small word h = ap (ref_of_kind l.heap.objects) (kind_odd word h)
+    small word h = ap (ref_of_kind l.heap.objects) (place_small word h)
 
     none : (k : ℕ) (x : Object) → slice_get l.heap.objects k ≡ Some x → is_linked x ≡ false
     none k x e = go (is_linked x) refl (is_context x) refl (names_place (slice_index x.words 0)) refl

@@ -30,7 +30,7 @@ use Rattle.cs_model.specs.Context.{lies_if_live}
 use Rattle.cs_acts.specs.Made.{contexts_in}
 use Rattle.cs_stack.specs.View.{is_linked}
 use Rattle.cs_stack.specs.Good.{LinkFits, PcFits, SenderFits}
-use Rattle.cs_stack.proofs.Addresses.{all_words, odd_reference, odd_sender, sender_fits-place, sender_fits-with_object, write_pc, write_sender, write_stackp}
+use Rattle.cs_stack.proofs.Addresses.{all_words, place_reference, place_sender, sender_fits-place, sender_fits-with_object, write_pc, write_sender, write_stackp}
 
 -- ---- words
 
@@ -101,10 +101,10 @@ nil_passes os e = ap (λ n. nil == n || is_some (count_of nil)) e
 pub sound_linked : (os : List Object) (r : FrameRef) (x : Object) → IsSoundObject os x → is_context x ≡ true → is_reference os nil ≡ true → nil_of os ≡ nil → IsSoundObject os (linked r x)
 sound_linked os r x s c named at_base =
     let place : ℕ = link_word r in
-    let link : is_reference os (link_word r) ≡ true = odd_reference os (link_word r) (eq-eqb (link_word r % 2) 1 (omega arith)) in
+    let link : is_reference os (link_word r) ≡ true = place_reference os (link_word r) (link_names r) in
     let one : Object = set_word 0 (link_word r) x in
     let two : Object = set_word 1 nil one in
-    let first = sound-set_context os x 0 (link_word r) s c (write_sender os x (link_word r) (odd_sender os (link_word r) (eq-eqb (link_word r % 2) 1 (omega arith)))) in
+    let first = sound-set_context os x 0 (link_word r) s c (write_sender os x (link_word r) (place_sender os (link_word r) (link_names r))) in
     let second = sound-set_context os one 1 nil first c (write_pc os one nil named (nil_passes os at_base)) in
     let third = sound-set_context os two 2 nil second c (write_stackp os two nil named (nil_passes os at_base) (omega (arith, ap (λ (o : Option ℕ). unwrap_or o 0) nil_counts))) in
     let long = (whole_context os x s c).fields in

@@ -53,7 +53,7 @@ use Rattle.cs_stack.proofs.Bare.{bare_none, bare_push, bare_rest, bare_whole, un
 use Rattle.cs_stack.proofs.Places.{agreed}
 use Rattle.cs_stack.proofs.Counting.{words_frame}
 use Rattle.cs_stack.proofs.Acts.{FrameAct, body_married, frame_at, nil_counts}
-use Rattle.cs_stack.proofs.Addresses.{closure_sound, nil_or-push, nil_or_named, odd_sender, sender_fits-place, sender_fits-push}
+use Rattle.cs_stack.proofs.Addresses.{closure_sound, nil_or-push, nil_or_named, place_sender, sender_fits-place, sender_fits-push}
 
 -- ---- the frame of a birth gets a context
 
@@ -200,7 +200,7 @@ spouse_sound us r f header nil_is nil_named method closure receiver =
       context = λ _. record {
         format = refl;
         slots = allowed.1;
-        sender = odd_sender us (link_word r) (link_names r);
+        sender = place_sender us (link_word r) (link_names r);
         pc = ap (λ b. b || is_some (count_of nil)) (eq-eqb nil (nil_of us) (sym nil_is));
         stackp = ap (λ b. b || is_some (count_of nil)) (eq-eqb nil (nil_of us) (sym nil_is));
         depth = omega (arith, ap (λ n. unwrap_or n 0) nil_counts);

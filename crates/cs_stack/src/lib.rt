@@ -1,9 +1,9 @@
 //! A world that keeps activations as frames on stack pages.
 //!
-//! A context that the machine enters is a frame, and has no object in the heap until code looks at it, or until a method or block that it
-//! calls finds no room on its page and begins another one. Then frame and context are married, and the frame goes on as its body. The
-//! context that was active when the machine was opened, and a single one into which it returns later, become the base frame of a page.
-//! All other contexts stay in the heap.
+//! A context that the machine enters is a frame, and has no object in the heap until code looks at it, or until a
+//! method or block that it calls finds no room on its page and begins another one. Then frame and context are married,
+//! and the frame goes on as its body. The context that was active when the machine was opened, and a single one into
+//! which it returns later, become the base frame of a page. All other contexts stay in the heap.
 #![tactic(auto)]
 
 ghost use Rattle.std.specs.Prelude.{◌≡◌};
@@ -70,12 +70,11 @@ impl StackWorld {
     ghost use Rattle.cs_stack.specs.Moved.{taken_of};
     ghost use Rattle.cs_stack.specs.View.{active_page, layout_of, loaded_kept, stored_of, view_of};
 
-    /// Opens a loaded image on so many stack pages, 2 to 64 of 4,096 words each: the active process gives its context to the machine.
-    /// With no active process none is active. The only error is that memory is refused.
+    /// Opens a loaded image on so many stack pages, 2 to 64 of 4,096 words each: the active process gives its context
+    /// to the machine. With no active process none is active. The only error is that memory is refused.
     ///
-    /// Births are below 2^62, nil is no context, the pc of each context is nil or lies in its method, and its sender is nil
-    /// or a context.
-    /// Where a process is active, the context that it gives must be live.
+    /// Births are below 2^62, nil is no context, the pc of each context is nil or lies in its method, and its sender is
+    /// nil or a context. Where a process is active, the context that it gives must be live.
     pub fn new(alloc: Global, loaded: Loaded, pages: u32) -> Result<StackWorld, AllocError>
         requires few { (2 ≤ pages) × (pages ≤ 64) }
         requires whole { IsWhole loaded.heap.objects loaded.classes loaded.roots }
