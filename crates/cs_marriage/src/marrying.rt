@@ -52,7 +52,8 @@ fn new_context(heap: &mut Heap, frames: &Frames, f: FrameRef) -> Result<Oop, Hea
     ensures full { IsErr result ↔ (heap.old.limit
         < used heap.old.objects + size (6 + new_size heap.old.objects (frame frames.now f))) }
     ensures unchanged_if_full { OnErr result (heap.new ≡ heap.old) }
-    ensures address { IfOk result (λ o. o.0 ≡ next_address heap.old.objects (6 + new_size heap.old.objects (frame frames.now f))) }
+    ensures address { IfOk result (λ o. o.0 ≡ next_address heap.old.objects
+        (6 + new_size heap.old.objects (frame frames.now f))) }
     ensures added { IfOk result (λ _. heap.new ≡ record heap.old {
       objects = heap.old.objects
           ++ new_spouse f (new_size heap.old.objects (frame frames.now f)) (frame frames.now f) ∷ [];

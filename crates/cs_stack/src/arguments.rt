@@ -20,7 +20,8 @@ pub(crate) fn copy_arguments(frames: &mut Frames, caller: FrameRef, callee: Fram
     requires apart { caller.page ≢ callee.page }
     requires there { args ≤ length (frame frames.old caller).stack }
     requires room { used (frames_of frames.old callee.page) + args ≤ 4096 }
-    requires values { (i : ℕ) → i < length (frame frames.old caller).stack → IsValue (slice_index (frame frames.old caller).stack i) }
+    requires values { (i : ℕ) → i < length (frame frames.old caller).stack
+        → IsValue (slice_index (frame frames.old caller).stack i) }
     ensures copied { frames.new ≡ on_page frames.old callee.page (on_top (with_stack (
         (top (frames_of frames.old callee.page)).stack
         ++ drop (length (frame frames.old caller).stack - args) (frame frames.old caller).stack))) }

@@ -79,7 +79,8 @@ impl StackWorld {
         requires few { (2 ≤ pages) × (pages ≤ 64) }
         requires whole { IsWhole loaded.heap.objects loaded.classes loaded.roots }
         requires births { loaded.roots.next_birth ≤ 4611686018427387904 }
-        requires pcs { (i : ℕ) (c : Context) → object_at (loaded_kept loaded) i ≡ Some (Ctx c) → PcLies (loaded_kept loaded) c }
+        requires pcs { (i : ℕ) (c : Context) → object_at (loaded_kept loaded) i ≡ Some (Ctx c)
+            → PcLies (loaded_kept loaded) c }
         requires senders { SendersStand (loaded_kept loaded) }
         requires nil { is_context_at (object_at (loaded_kept loaded) (loaded_kept loaded).rest.nil) ≡ false }
         requires running { is_idle (loaded_kept loaded) ≡ false → IsRunning (open_kept (loaded_kept loaded)) }

@@ -70,7 +70,8 @@ impl Parts {
         requires stands { IsSome (act_of self.old a) }
         ensures good { IsGood self.new }
         ensures view { view_of self.new ≡ view_of self.old }
-        ensures value { IfOk result (λ o. IfSome (act_of self.old a) (λ birth. Names (stored_of self.new) o (ref.Obj birth))) }
+        ensures value { IfOk result (λ o. IfSome (act_of self.old a)
+            (λ birth. Names (stored_of self.new) o (ref.Obj birth))) }
         ensures layout { layout_of self.new ≡ layout_of self.old }
         ensures limit { self.new.heap.limit ≡ self.old.heap.limit }
         ensures contexts { MakesAtMost 1 (layout_of self.old) (stored_of self.old) (stored_of self.new) }
@@ -96,10 +97,11 @@ impl Parts {
             (field_of (view_of self.old) (name_of (stored_of self.old) ctx) i)) }
         ensures layout { layout_of self.new ≡ layout_of self.old }
         ensures limit { self.new.heap.limit ≡ self.old.heap.limit }
-        ensures contexts { MakesAtMost (made_by_reading i) (layout_of self.old) (stored_of self.old) (stored_of self.new) }
+        ensures contexts { MakesAtMost (made_by_reading i) (layout_of self.old) (stored_of self.old)
+            (stored_of self.new) }
         ensures names { KeepsNames (stored_of self.old) (stored_of self.new) }
-        ensures full { IfErr result (λ why. (i ≡ 0) × (why ≡ full.Heap) × CausesFull (stored_of self.new) (layout_of self.old)
-            (view_of self.old) 0 (view_of self.old) why) }
+        ensures full { IfErr result (λ why. (i ≡ 0) × (why ≡ full.Heap)
+            × CausesFull (stored_of self.new) (layout_of self.old) (view_of self.old) 0 (view_of self.old) why) }
     {
         match self.act_of(ctx) {
             Act::Frame { page, at } => self.frame_get(FrameRef { page, at }, i),
@@ -118,10 +120,11 @@ impl Parts {
             (field_at (view_of self.old) (act_of self.old (Act.Frame f.page f.at)) i)) }
         ensures layout { layout_of self.new ≡ layout_of self.old }
         ensures limit { self.new.heap.limit ≡ self.old.heap.limit }
-        ensures contexts { MakesAtMost (made_by_reading i) (layout_of self.old) (stored_of self.old) (stored_of self.new) }
+        ensures contexts { MakesAtMost (made_by_reading i) (layout_of self.old) (stored_of self.old)
+            (stored_of self.new) }
         ensures names { KeepsNames (stored_of self.old) (stored_of self.new) }
-        ensures full { IfErr result (λ why. (i ≡ 0) × (why ≡ full.Heap) × CausesFull (stored_of self.new) (layout_of self.old)
-            (view_of self.old) 0 (view_of self.old) why) }
+        ensures full { IfErr result (λ why. (i ≡ 0) × (why ≡ full.Heap)
+            × CausesFull (stored_of self.new) (layout_of self.old) (view_of self.old) 0 (view_of self.old) why) }
     {
         match i {
             SENDER => self.sender_of(f),

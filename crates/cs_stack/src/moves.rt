@@ -70,12 +70,13 @@ impl Parts {
         requires named { IsNamed (stored_of self.old) method }
         requires fits { CanEnter (view_of self.old) (name_of (stored_of self.old) method) args skip }
         ensures good { IsGood self.new }
-        ensures view { OnOk result (view_of self.new ≡ enter_of (view_of self.old) (name_of (stored_of self.old) method) args skip) }
-        ensures layout { OnOk result (LaidBy (entered (view_of self.old) (view_of self.old).rest.next) (layout_of self.old)
-            (layout_of self.new)) }
+        ensures view { OnOk result (view_of self.new ≡ enter_of (view_of self.old)
+            (name_of (stored_of self.old) method) args skip) }
+        ensures layout { OnOk result (LaidBy (entered (view_of self.old) (view_of self.old).rest.next)
+            (layout_of self.old) (layout_of self.new)) }
         ensures limit { self.new.heap.limit ≡ self.old.heap.limit }
-        ensures contexts { OnOk result (MakesAtMost (made_by_entering (view_of self.old) (layout_of self.old)) (layout_of self.old)
-            (stored_of self.old) (stored_of self.new)) }
+        ensures contexts { OnOk result (MakesAtMost (made_by_entering (view_of self.old) (layout_of self.old))
+            (layout_of self.old) (stored_of self.old) (stored_of self.new)) }
         ensures names { OnOk result (KeepsNames (stored_of self.old) (stored_of self.new)) }
         ensures full { IfErr result (CausesFull (stored_of self.new) (layout_of self.old) (view_of self.old) 0
             (enter_of (view_of self.old) (name_of (stored_of self.old) method) args skip)) }
@@ -101,13 +102,13 @@ impl Parts {
         requires named { IsNamed (stored_of self.old) closure }
         requires fits { CanEnterBlock (view_of self.old) (name_of (stored_of self.old) closure) args }
         ensures good { IsGood self.new }
-        ensures view { OnOk result (view_of self.new ≡ enter_block_of (view_of self.old) (name_of (stored_of self.old) closure)
-            args) }
-        ensures layout { OnOk result (LaidBy (entered (view_of self.old) (view_of self.old).rest.next) (layout_of self.old)
-            (layout_of self.new)) }
+        ensures view { OnOk result (view_of self.new ≡ enter_block_of (view_of self.old)
+            (name_of (stored_of self.old) closure) args) }
+        ensures layout { OnOk result (LaidBy (entered (view_of self.old) (view_of self.old).rest.next)
+            (layout_of self.old) (layout_of self.new)) }
         ensures limit { self.new.heap.limit ≡ self.old.heap.limit }
-        ensures contexts { OnOk result (MakesAtMost (made_by_entering (view_of self.old) (layout_of self.old)) (layout_of self.old)
-            (stored_of self.old) (stored_of self.new)) }
+        ensures contexts { OnOk result (MakesAtMost (made_by_entering (view_of self.old) (layout_of self.old))
+            (layout_of self.old) (stored_of self.old) (stored_of self.new)) }
         ensures names { OnOk result (KeepsNames (stored_of self.old) (stored_of self.new)) }
         ensures full { IfErr result (CausesFull (stored_of self.new) (layout_of self.old) (view_of self.old) 0
             (enter_block_of (view_of self.old) (name_of (stored_of self.old) closure) args)) }
@@ -134,12 +135,13 @@ impl Parts {
         requires ready { IsReady (stored_of self.old) (view_of self.old) }
         requires can { CanBegin (stored_of self.old) (view_of self.old) new pc copies }
         ensures good { IsGood self.new }
-        ensures view { OnOk result (view_of self.new ≡ begun_state (stored_of self.old) (view_of self.old) new pc copies) }
-        ensures layout { OnOk result (LaidBy (entered (view_of self.old) (view_of self.old).rest.next) (layout_of self.old)
-            (layout_of self.new)) }
+        ensures view { OnOk result (view_of self.new ≡ begun_state (stored_of self.old) (view_of self.old) new pc
+            copies) }
+        ensures layout { OnOk result (LaidBy (entered (view_of self.old) (view_of self.old).rest.next)
+            (layout_of self.old) (layout_of self.new)) }
         ensures limit { self.new.heap.limit ≡ self.old.heap.limit }
-        ensures contexts { OnOk result (MakesAtMost (made_by_entering (view_of self.old) (layout_of self.old)) (layout_of self.old)
-            (stored_of self.old) (stored_of self.new)) }
+        ensures contexts { OnOk result (MakesAtMost (made_by_entering (view_of self.old) (layout_of self.old))
+            (layout_of self.old) (stored_of self.old) (stored_of self.new)) }
         ensures names { OnOk result (KeepsNames (stored_of self.old) (stored_of self.new)) }
         ensures full { IfErr result (CausesFull (stored_of self.new) (layout_of self.old) (view_of self.old) 0
             (begun_state (stored_of self.old) (view_of self.old) new pc copies)) }
@@ -174,9 +176,10 @@ impl Parts {
         requires can { CanBegin (stored_of self.old) (view_of self.old) new pc copies }
         requires full { 4096 < used (active_page self.old) + 66 }
         ensures good { IsGood self.new }
-        ensures view { OnOk result (view_of self.new ≡ begun_state (stored_of self.old) (view_of self.old) new pc copies) }
-        ensures layout { OnOk result (LaidBy (entered (view_of self.old) (view_of self.old).rest.next) (layout_of self.old)
-            (layout_of self.new)) }
+        ensures view { OnOk result (view_of self.new ≡ begun_state (stored_of self.old) (view_of self.old) new pc
+            copies) }
+        ensures layout { OnOk result (LaidBy (entered (view_of self.old) (view_of self.old).rest.next)
+            (layout_of self.old) (layout_of self.new)) }
         ensures limit { self.new.heap.limit ≡ self.old.heap.limit }
         ensures contexts { OnOk result (MakesAtMost 1 (layout_of self.old) (stored_of self.old) (stored_of self.new)) }
         ensures names { OnOk result (KeepsNames (stored_of self.old) (stored_of self.new)) }
@@ -226,7 +229,8 @@ impl Parts {
         requires good { IsGood self.old }
         requires ready { IsReady (stored_of self.old) (view_of self.old) }
         requires named { IsNamed (stored_of self.old) v }
-        requires target { IsSomeAnd (sender_birth (view_of self.old) (active_birth (view_of self.old))) (CanArrive (view_of self.old)) }
+        requires target { IsSomeAnd (sender_birth (view_of self.old) (active_birth (view_of self.old)))
+            (CanArrive (view_of self.old)) }
         ensures good { IsGood self.new }
         ensures state { (m : Kept) → Keeps (view_of self.old) m → Keeps (view_of self.new)
             (leave_of m (name_of (stored_of self.old) v)) }
@@ -245,10 +249,12 @@ impl Parts {
     fn unwind(&mut self)
         requires good { IsGood self.old }
         requires ready { IsReady (stored_of self.old) (view_of self.old) }
-        requires target { IsSomeAnd (sender_birth (view_of self.old) (active_birth (view_of self.old))) (CanArrive (view_of self.old)) }
+        requires target { IsSomeAnd (sender_birth (view_of self.old) (active_birth (view_of self.old)))
+            (CanArrive (view_of self.old)) }
         ensures limit { self.new.heap.limit ≡ self.old.heap.limit }
         ensures contexts { MakesAtMost 0 (layout_of self.old) (stored_of self.old) (stored_of self.new) }
-        ensures unwound { IfSome (sender_birth (view_of self.old) (active_birth (view_of self.old))) (Unwound self.old self.new) }
+        ensures unwound { IfSome (sender_birth (view_of self.old) (active_birth (view_of self.old)))
+            (Unwound self.old self.new) }
     {
         let top = self.top();
         match self.frames.caller(top) {
@@ -263,12 +269,14 @@ impl Parts {
     fn leave_page(&mut self, frame: FrameRef)
         requires good { IsGood self.old }
         requires ready { IsReady (stored_of self.old) (view_of self.old) }
-        requires target { IsSomeAnd (sender_birth (view_of self.old) (active_birth (view_of self.old))) (CanArrive (view_of self.old)) }
+        requires target { IsSomeAnd (sender_birth (view_of self.old) (active_birth (view_of self.old)))
+            (CanArrive (view_of self.old)) }
         requires top { frame ≡ ref_of (active_number self.old) (top (active_page self.old)) }
         requires base { IsBase self.old.frames frame }
         ensures limit { self.new.heap.limit ≡ self.old.heap.limit }
         ensures contexts { MakesAtMost 0 (layout_of self.old) (stored_of self.old) (stored_of self.new) }
-        ensures unwound { IfSome (sender_birth (view_of self.old) (active_birth (view_of self.old))) (Unwound self.old self.new) }
+        ensures unwound { IfSome (sender_birth (view_of self.old) (active_birth (view_of self.old)))
+            (Unwound self.old self.new) }
     {
         let sender = self.frames.sender(frame);
         self.frames.drop_top(frame.page);

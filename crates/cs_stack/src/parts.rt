@@ -114,7 +114,8 @@ impl Parts {
         requires good { IsGood self.now }
         requires named { IsNamed (stored_of self.now) context }
         requires context { is_context_ref (view_of self.now) (name_of (stored_of self.now) context) ≡ true }
-        ensures value { act_of self.now result ≡ context_birth (view_of self.now) (name_of (stored_of self.now) context) }
+        ensures value { act_of self.now result ≡ context_birth (view_of self.now)
+            (name_of (stored_of self.now) context) }
         ensures gone { is_gone result ≡ false }
     {
         match spouse(&self.heap, &self.frames, context) {
@@ -221,7 +222,8 @@ impl Parts {
     pub(crate) fn sender_act(&self, a: Act) -> Act
         requires good { IsGood self.now }
         requires stands { IsSome (act_of self.now a) }
-        ensures value { IfSome (act_of self.now a) (λ birth. act_of self.now result ≡ sender_birth (view_of self.now) birth) }
+        ensures value { IfSome (act_of self.now a) (λ birth. act_of self.now result ≡ sender_birth (view_of self.now)
+            birth) }
         ensures gone { is_gone result ≡ not (is_some (act_of self.now result)) }
     {
         match a {
@@ -356,7 +358,8 @@ impl Parts {
         requires good { IsGood self.old }
         requires fits { CanAllocate (view_of self.old) class format slots }
         ensures good { IsGood self.new }
-        ensures view { OnOk result (view_of self.new ≡ add_of (view_of self.old) (blank_of (view_of self.old) class format slots)) }
+        ensures view { OnOk result (view_of self.new ≡ add_of (view_of self.old)
+            (blank_of (view_of self.old) class format slots)) }
         ensures value { IfOk result (λ o. Names (stored_of self.new) o (next_ref (view_of self.old))) }
         ensures layout { layout_of self.new ≡ layout_of self.old }
         ensures limit { self.new.heap.limit ≡ self.old.heap.limit }
