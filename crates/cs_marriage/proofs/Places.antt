@@ -1,11 +1,17 @@
 -- Words that name places.
-use Rattle.std.proofs.Common.{◌≡◌, ◌≢◌, ℕ, ◌%◌, ◌<◌, true, false, not, eqb, inl, inr, arith, ap, ◌∙◌}
+use Rattle.std.proofs.Common.{◌≡◌, ◌≢◌, ℕ, ◌%◌, ◌<◌, true, false, not, eqb, inl, inr, arith, ap, refl, ◌∙◌}
 use Rattle.std.proofs.lemmas.Bool.{cases_Bool, eq-eqb, eqb-true}
+use Rattle.cs_word.specs.declared.Kind.TheVariants as kind
+use Rattle.cs_word.specs.Word.{kind_of, small_value}
 use Rattle.cs_frame.specs.declared.FrameRef.{FrameRef}
 use Rattle.cs_marriage.specs.Place.{link_word, names_place, page_named}
 
 pub link_names : (r : FrameRef) → names_place (link_word r) ≡ true
 link_names r = eq-eqb (link_word r % 2) 1 (omega arith)
+
+-- and is a SmallInteger
+pub place_small : (word : ℕ) → names_place word ≡ true → kind_of word ≡ kind.Small (small_value word)
+place_small word h = rw h refl
 
 pub link_page : (r : FrameRef) → r.at < 4096 → page_named (link_word r) ≡ r.page
 link_page r lt = omega (arith, lt)

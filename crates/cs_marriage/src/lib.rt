@@ -27,6 +27,7 @@ use cs_word::Oop;
 pub use marrying::marry;
 pub use search::spouse;
 pub use state::Spouse;
+pub use words::names_place;
 
 /// The class index of contexts.
 const CONTEXT: u32 = 36;
@@ -52,4 +53,3 @@ const STACK: u32 = 6;
 
 /// The word of nil.
 const NIL: Oop = Oop(BASE);
-

@@ -24,7 +24,10 @@ pub fn marry(heap: &mut Heap, frames: &mut Frames, f: FrameRef) -> Result<Oop, H
     ensures unchanged_if_full { OnErr result (heap.new ≡ heap.old) }
     ensures frames_if_full { OnErr result (frames.new ≡ frames.old) }
     ensures context { IfOk result (λ o. o.0 ≡ spouse_address heap.old.objects (frame frames.old f)) }
-    ensures heap { IfOk result (λ _. heap.new ≡ record heap.old { objects = married_objects heap.old.objects f (frame frames.old f) }) }
+    ensures heap { IfOk result (λ _. heap.new ≡ record heap.old {
+      objects = married_objects heap.old.objects f
+          (frame frames.old f);
+    }) }
     ensures frames { IfOk result (λ o. frames.new ≡ on_frame frames.old f (with_context o.0)) }
     ensures stands { IfOk result (λ o. IsContextAt heap.new.objects o.0) }
     ensures married { IfOk result (λ o. HasContext frames.new o.0 f) }
@@ -46,11 +49,14 @@ fn new_context(heap: &mut Heap, frames: &Frames, f: FrameRef) -> Result<Oop, Hea
     requires frame { IsFrame frames.now f }
     requires within { f.at < 4096 }
     requires method { 0 < slot_count_of heap.old.objects (frame frames.now f).method }
-    ensures full { IsErr result ↔ (heap.old.limit < used heap.old.objects + size (6 + new_size heap.old.objects (frame frames.now f))) }
+    ensures full { IsErr result ↔ (heap.old.limit
+        < used heap.old.objects + size (6 + new_size heap.old.objects (frame frames.now f))) }
     ensures unchanged_if_full { OnErr result (heap.new ≡ heap.old) }
-    ensures address { IfOk result (λ o. o.0 ≡ next_address heap.old.objects (6 + new_size heap.old.objects (frame frames.now f))) }
+    ensures address { IfOk result (λ o. o.0 ≡ next_address heap.old.objects
+        (6 + new_size heap.old.objects (frame frames.now f))) }
     ensures added { IfOk result (λ _. heap.new ≡ record heap.old {
-      objects = heap.old.objects ++ new_spouse f (new_size heap.old.objects (frame frames.now f)) (frame frames.now f) ∷ [];
+      objects = heap.old.objects
+          ++ new_spouse f (new_size heap.old.objects (frame frames.now f)) (frame frames.now f) ∷ [];
     }) }
 {
     let method = frames.method(f);

@@ -5,7 +5,6 @@ use Rattle.std.specs.Option.{option_map_or}
 use Rattle.std.specs.FinMap.{get}
 use Rattle.std.proofs.lemmas.Bool.{cases_eq, eq-eqb}
 use Rattle.std.proofs.lemmas.Bool.Decides.{eqb_tells}
-use Rattle.std.proofs.lemmas.List.Elements.{All-get_or}
 use Rattle.std.proofs.lemmas.List.Folds.{list_any_at}
 use Rattle.std.proofs.lemmas.List.{get_or-set_other, get_or-set_same, length-map, length-set}
 use Rattle.cs_word.specs.Word.{small_word}
@@ -30,19 +29,20 @@ use Rattle.cs_marriage.proofs.Objects.{context_there as spouse_there}
 use Rattle.cs_model.specs.Operation.{nil_of}
 use Rattle.cs_model.specs.Return.{closure_at, closure_in, context_birth, has_room, is_live, sender_birth}
 use Rattle.cs_model.specs.Ref as ref
-use Rattle.cs_model.specs.Obj.{Context, Ctx, Obj, context_in}
+use Rattle.cs_model.specs.Obj.{Context, Ctx, Obj, context_class, context_in}
 use Rattle.cs_model.specs.State as state
 use Rattle.cs_acts.specs.Names.{Names}
 use Rattle.cs_acts.specs.Targets.{method_in}
 use Rattle.cs_acts.specs.declared.act.Act.TheVariants as act
 use Rattle.cs_stack.specs.declared.parts.Parts.{Parts}
-use Rattle.cs_stack.specs.View.{act_of, bare, birth_from, birth_in, dead_words, frame_context, frame_sender, has_context, is_linked, is_married, stored_of, unframed, view_of}
+use Rattle.cs_stack.specs.View.{act_of, active_in, bare, birth_from, birth_in, dead_words, first_of, frame_context, frame_sender, has_context, is_linked, is_married, stored_of, unframed, view_of}
 use Rattle.cs_stack.specs.Moved.{field_at}
-use Rattle.cs_model.specs.Context.{context_get}
-use Rattle.cs_stack.specs.Good.{FrameFits, FramesFit, IsGood, Lacks, LinkFits}
+use Rattle.cs_model.specs.Context.{closure_class, context_get}
+use Rattle.cs_stack.specs.Good.{FrameFits, FramesFit, IsGood, Lacks, LinkFits, SenderFits}
 use Rattle.cs_stack.proofs.Bare.{bare_element, unframed_context}
 use Rattle.cs_stack.proofs.Lives.{Lives, lives}
 use Rattle.cs_stack.proofs.Framed.{IsOn, above, all_fit, below_on, fits_on, here, onto_bare, onto_frame}
+use Rattle.cs_stack.proofs.Addresses.{nil_or_named, word_there}
 
 -- ---- frames by their places
 
@@ -100,6 +100,20 @@ begun (f ∷ fs) at h = elim (eqb_tells f.at at) [
       let some : IsSome (birth_from fs at) = sym (ap (λ b. is_some (if b then Some f.birth else birth_from fs at)) e.0) ∙ h in
       omega (arith, i, begun fs at some)
 ]
+
+-- the last frame of the first of these pages is the active one
+pub first_birth : (ps : List (List Frame)) (recent : List ℕ) (r : FrameRef) → 0 < length recent → r ≡ page.ref_of (slice_index recent 0) (top (frames_of ps (slice_index recent 0)))
+    → (frames_of ps (slice_index recent 0) ≡ [] → ⊥) → birth_from (frames_of ps r.page) r.at ≡ active_in (first_of ps recent)
+first_birth ps [] r some is there = absurd (omega (arith, some))
+first_birth ps (p ∷ qs) r some is there = go (frames_of ps p) refl
+  where
+    go : (fs : List Frame) → frames_of ps p ≡ fs → birth_from (frames_of ps r.page) r.at ≡ active_in (frames_of ps p)
+    go [] e = absurd (there e)
+    go (g ∷ gs) e =
+        let page_is : r.page ≡ p = ap (λ (q : FrameRef). q.page) is in
+        let at_is : r.at ≡ g.at = ap (λ (q : FrameRef). q.at) is ∙ ap (λ (fs : List Frame). (top fs).at) e in
+        ap (λ n. birth_from (frames_of ps n) r.at) page_is ∙ ap (λ fs. birth_from fs r.at) e ∙ ap (birth_from (g ∷ gs)) at_is
+        ∙ ap (λ b. if b then Some g.birth else birth_from gs g.at) (eq-eqb g.at g.at refl) ∙ sym (ap active_in e)
 
 -- frames below end before a frame begins
 ends_below : {f : Frame} {gs fs : List Frame} (os : List Object) (next : ℕ) → IsOn f gs fs → FramesFit os next fs → f.at + 10 ≤ used fs
@@ -240,6 +254,7 @@ pub record ContextAct (w : Parts) (a : ℕ) : Type 0 where
   pub free : is_married a w.frames ≡ false
   pub found : state.object_at (view_of w) x.birth ≡ Some (Ctx (context_of (ref_of w.heap.objects) (unframed x).hash (unframed x).words))
   pub whole : IsWholeContext w.heap.objects x
+  pub sender : SenderFits w.heap.objects x
   pub links : is_linked x ≡ true → LinkFits x
 
 pub context_there : (w : Parts) (a : ℕ) (x : Object) → IsGood w → object_at w.heap.objects a ≡ Some x → is_context x ≡ true → is_married a w.frames ≡ false → ContextAct w a
@@ -254,6 +269,7 @@ context_there w a x good there context free =
       found = onto_bare os w.frames (objects_of (bare os)) x.birth (free_lacks w a x good there free) ∙ bare_element os s.0 x good.whole.heap s.1.element
           ∙ ap (λ y. Some y) (obj_of-context (ref_of os) (unframed x) (unframed_context x ∙ context));
       whole = whole_context os x (sound_at os a x good.whole.heap there) context;
+      sender = good.senders s.0 x s.1.element context;
       links = good.links s.0 x s.1.element;
     }
 
@@ -336,7 +352,7 @@ module _ {w : Parts} {a : ℕ} (c : ContextAct w a) where
   slot_within i l = omega (arith, l, slots_are, c.whole.fields)
 
   pub slot_named : (i v : ℕ) → i < length c.x.words → v ≡ slot_of w.heap.objects a i → is_reference w.heap.objects v ≡ true
-  slot_named i v l e = ap (is_reference w.heap.objects) (e ∙ slot_is i) ∙ All-get_or (λ (u : ℕ). is_reference w.heap.objects u ≡ true) c.x.words i 0 l c.whole.references
+  slot_named i v l e = ap (is_reference w.heap.objects) (e ∙ slot_is i) ∙ word_there w.heap.objects c.x c.whole c.sender i l
 
   pub field_named : (i v : ℕ) → i < 6 → v ≡ slot_of w.heap.objects a i → is_reference w.heap.objects v ≡ true
   field_named i v l e = slot_named i v (omega (arith, l, c.whole.fields)) e
@@ -387,7 +403,7 @@ module _ {w : Parts} {p at : ℕ} (good : IsGood w) (a : FrameAct w p at) where
 
   pub frame_closure : (v : Oop) → v.0 ≡ f.closure → Names (stored_of w) v (closure_at (view_of w) f.birth)
   unfolding frame_context
-  frame_closure v e = record { sound = ap (is_reference w.heap.objects) e ∙ a.fits.names.closure; is = ap (ref_of w.heap.objects) e ∙ sym (reads_closure frame_reads) }
+  frame_closure v e = record { sound = ap (is_reference w.heap.objects) e ∙ nil_or_named closure_class w.heap.objects f.closure a.fits.names.closure; is = ap (ref_of w.heap.objects) e ∙ sym (reads_closure frame_reads) }
 
   pub frame_method : (v : Oop) → v.0 ≡ f.method → Names (stored_of w) v (method_in (nil_of (view_of w)) (context_in (state.object_at (view_of w) f.birth)))
   unfolding frame_context
@@ -455,7 +471,7 @@ module _ {w : Parts} {p at : ℕ} (good : IsGood w) (a : FrameAct w p at) where
   base_frame (h ∷ hs) e base v is = absurd (omega (arith, base, a.begins_at.count, ap length e))
   base_frame [] e base v is =
       let fits : FrameFits w.heap.objects w.roots.next_birth f [] = subst (FrameFits w.heap.objects w.roots.next_birth f) e a.fits in (
-        ap (is_reference w.heap.objects) is ∙ fits.sender,
+        ap (is_reference w.heap.objects) is ∙ nil_or_named context_class w.heap.objects f.caller fits.sender,
         ap (λ es. frame_sender w.heap.objects f es) e ∙ ap (λ n. ref_of w.heap.objects n) (sym is),
       )
 

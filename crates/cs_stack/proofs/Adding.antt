@@ -61,10 +61,14 @@ later_whole os table roots whole = record {
   heap = whole.heap;
   first = whole.first;
   nil = whole.nil;
+  singles = whole.singles;
   births = λ j x h. omega (arith, whole.births j x h);
   indices = whole.indices;
   classes = whole.classes;
+  entries = whole.entries;
   special = whole.special;
+  array = record { format = whole.array.format; slots = whole.array.slots };
+  last_hash = whole.last_hash;
 }
 
 -- ---- pages behind the first
@@ -122,7 +126,6 @@ added_parts w m new order = record w { roots = record w.roots { next_birth = w.r
 
 -- The frame fits above those of page m, which is the most recent one from now on, and the pages are a chain again.
 pub record CanAdd (w : Parts) (m : ℕ) (new : Frame) (order : Order) : Type 0 where
-  pub entry : is_some (get w.classes context_class) ≡ true
   pub within : m < length w.frames
   pub births : w.roots.next_birth < 4611686018427387904
   pub fresh : new.birth ≡ w.roots.next_birth
@@ -193,6 +196,7 @@ module _ (w : Parts) (good : IsGood w) (m : ℕ) (new : Frame) (order : Order) (
     most = good.most;
     births = omega (arith, can.births);
     pcs = good.pcs;
+    senders = good.senders;
     links = good.links;
     agree = agree_on_page os ps m (λ gs. new ∷ gs) good.agree can.within (fits_above os m new (frames_of ps m) can.married (page_fits os ps m good.agree));
     frames = fit;
@@ -201,8 +205,6 @@ module _ (w : Parts) (good : IsGood w) (m : ℕ) (new : Frame) (order : Order) (
     order = can.sound;
     used_pages = used_pages;
     chain = subst (IsChain ss) (sym can.recent) can.chain;
-    entry = λ _. can.entry;
-    closures = good.closures;
   }
 
   -- ---- its context

@@ -10,16 +10,16 @@ use Rattle.cs_heap.specs.Format.{is_method, is_pointers}
 use Rattle.cs_heap.specs.Object.{Memory, Object, new_object, next_address, size, used}
 use Rattle.cs_heap.proofs.Laws.{is_object-new, length-new_words, next_address-new, object_at-new, used-pushed}
 use Rattle.cs_classes.specs.Meaning.{is_context, kept_of, objects_of, unused_bytes}
-use Rattle.cs_classes.specs.Sound.{IsWhole}
+use Rattle.cs_classes.specs.Sound.{IsWhole, is_weak}
 use Rattle.cs_classes.proofs.Heaps.{birth_of-object_at}
 use Rattle.cs_classes.proofs.Makings.{Makes, makes-bytes, makes-pointers}
 use Rattle.cs_classes.proofs.Refs.{is_reference-object, is_reference-push, ref_of-object, ref_of-push}
-use Rattle.cs_classes.proofs.Wholes.{after_birth, get-classes_of}
+use Rattle.cs_classes.proofs.Wholes.{after_birth, get-classes_of, kind_of-entry}
 use Rattle.cs_frame.specs.Page.{frames_of}
 use Rattle.cs_marriage.proofs.Laws.{agree_grown}
 use Rattle.cs_model.specs.Ref as ref
 use Rattle.cs_model.specs.Obj.{Obj, Raw, words_of, new_head}
-use Rattle.cs_model.specs.State.{Kept, NamesHeld, object_at, put}
+use Rattle.cs_model.specs.State.{Kept, NamesHeld, is_class_index, object_at, put}
 use Rattle.cs_model.specs.Demand.{words_at, words_below, words_in}
 use Rattle.cs_model.specs.Keeps.{Keeps}
 use Rattle.cs_model.specs.Operation.{add_of, new_pointers, next_ref}
@@ -36,7 +36,7 @@ use Rattle.cs_stack.specs.Good.{IsGood}
 use Rattle.cs_stack.proofs.Maps.{Objects}
 use Rattle.cs_stack.proofs.Bare.{bare_push, bare_whole, plain_unlinked, unlinked}
 use Rattle.cs_stack.proofs.Counting.{few_unused, raw_slots, some_slot, words_heap}
-use Rattle.cs_stack.proofs.Grown.{frames_grown, lacks_next, links_grown, pages_grown, pcs_grown}
+use Rattle.cs_stack.proofs.Grown.{frames_grown, lacks_next, links_grown, pages_grown, pcs_grown, senders_grown}
 use Rattle.cs_stack.proofs.Closed.{good_sound}
 use Rattle.cs_stack.proofs.Tops.{ready_again}
 use Rattle.cs_stack.proofs.Stores.{pages_insert}
@@ -123,6 +123,17 @@ module _ (w : Parts) (good : IsGood w) (class format slots : ℕ) (fits : CanAll
   no_method : is_method format ≡ false
   no_method = last_otherwise (format == 4) (format == 5) (is_method format) fits.plain
 
+  no_weak : is_weak format ≡ false
+  no_weak = grind (arith, nat_tests, fits.plain)
+
+  -- the class is none of an immediate's
+  kind : (xs : List Object) → IsWhole xs w.classes w.roots → is_class_index class ≡ true
+  kind xs whole = kind_of-entry xs w.classes w.roots class whole entry
+      (λ e. let no : true ≡ false = common 1 refl e in cc) (λ e. let no : true ≡ false = common 2 refl e in cc) (λ e. let no : true ≡ false = common 3 refl e in cc)
+    where
+      common : (n : ℕ) → (n == 1 || n == 2 || n == 3 || n == 36) ≡ true → class ≡ n → true ≡ false
+      common n is e = sym is ∙ ap (λ m. m == 1 || m == 2 || m == 3 || m == 36) (sym e) ∙ fits.common
+
   abbrev blank_by : Bool → Kept → Obj
   blank_by b m = if b then new_pointers m class format slots else Raw (new_head class format) (replicate (4 * slots - unused_bytes format) 0)
 
@@ -131,8 +142,8 @@ module _ (w : Parts) (good : IsGood w) (class format slots : ℕ) (fits : CanAll
   makes xs whole = go (is_pointers format) refl
     where
       go : (b : Bool) → is_pointers format ≡ b → Makes xs new w.classes w.roots (λ m. blank_of m class format slots)
-      go true e = subst (λ b. Makes xs new w.classes w.roots (blank_by b)) (sym e) (makes-pointers whole class format slots other e fits.shape entry)
-      go false e = subst (λ b. Makes xs new w.classes w.roots (blank_by b)) (sym e) (makes-bytes whole class format slots other e no_method fits.shape entry)
+      go true e = subst (λ b. Makes xs new w.classes w.roots (blank_by b)) (sym e) (makes-pointers whole class format slots (kind xs whole) other no_weak e fits.shape entry)
+      go false e = subst (λ b. Makes xs new w.classes w.roots (blank_by b)) (sym e) (makes-bytes whole class format slots (kind xs whole) other e no_method fits.shape entry)
 
   bare_all : bare all ≡ bare os ++ new ∷ []
   bare_all = bare_push os new ∙ ap (λ (y : Object). bare os ++ y ∷ []) (unlinked new (plain_unlinked new other))
@@ -165,6 +176,7 @@ module _ (w : Parts) (good : IsGood w) (class format slots : ℕ) (fits : CanAll
     most = good.most;
     births = omega (arith, fits.births);
     pcs = pcs_grown os new (inr other) good.pcs;
+    senders = senders_grown os new (inr other) good.senders;
     links = links_grown os new (λ l. absurd (let no = plain_unlinked new other in cc)) good.links;
     agree = agree_grown os w.frames new good.agree;
     frames = frames_grown w good new refl;
@@ -173,8 +185,6 @@ module _ (w : Parts) (good : IsGood w) (class format slots : ℕ) (fits : CanAll
     order = good.order;
     used_pages = good.used_pages;
     chain = good.chain;
-    entry = good.entry;
-    closures = good.closures;
   }
 
   pub made_contexts : contexts_in all ≡ contexts_in os

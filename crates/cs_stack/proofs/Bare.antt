@@ -1,7 +1,6 @@
 -- The heap without its frames: every object is where it was, and only the words of married and widowed contexts are other ones.
 use Rattle.std.proofs.Common.{◌≡◌, ℕ, zero, suc, pos, ◌<◌, ◌≤◌, Bool, true, false, refl, sym, ap, ap₂, cond, subst, ◌∙◌, Option, Some, None, List, [], ◌∷◌, ◌++◌, length, map, option_map, option_and_then, is_some, unwrap_or, arith}
 use Rattle.std.specs.Prelude.{◌&&◌, ◌||◌, ◌==◌, IsTrue, slice_get, slice_index, sum_by}
-use Rattle.std.specs.List.{AllPass}
 use Rattle.std.specs.Option.{option_map_or}
 use Rattle.std.specs.Ordering.{nat_cmp}
 use Rattle.std.specs.FinMap.{FinMap, entries, from_entries, get}
@@ -10,26 +9,29 @@ use Rattle.std.proofs.lemmas.List.{length-map, length-set, map-append}
 use Rattle.cs_word.specs.declared.Kind.{Kind}
 use Rattle.cs_word.specs.declared.Kind.TheVariants as kind
 use Rattle.cs_word.specs.Word.{kind_of, small_value, small_word}
-use Rattle.cs_heap.specs.Object.{Object, address_among, address_of, at_index, base, birth_of, index_among, index_of, is_object, object_at, set_word, size, slot_counts, used, with_object}
+use Rattle.cs_heap.specs.Format.{is_method}
+use Rattle.cs_heap.specs.Object.{Object, address_among, address_of, at_index, base, birth_of, class_of, field_of, format_of, index_among, index_of, is_object, object_at, set_word, size, slot_count_of, slot_counts, used, with_object}
 use Rattle.cs_heap.proofs.Laws.{address_of-below, index_of-address}
 use Rattle.cs_classes.specs.declared.Roots.{Roots}
 use Rattle.cs_classes.specs.declared.Loaded.{Loaded}
 use Rattle.cs_classes.specs.Senders.{SendersStand}
 use Rattle.cs_classes.specs.Meaning.{birth_at, classes_of, context_of, count_of, is_context, kept_of, method_of, obj_of, objects_of, ref_of, ref_of_kind}
-use Rattle.cs_classes.specs.Sound.{IsSound, IsSoundObject, IsWhole, is_reference, is_reference_kind, nil_of, references_in}
+use Rattle.cs_classes.specs.Sound.{IsSound, IsSoundClass, IsSoundObject, IsWhole, is_reference, is_reference_kind, is_sender, is_sender_kind, nil_of}
 use Rattle.cs_classes.proofs.Heaps.{stands}
 use Rattle.cs_classes.proofs.Objects.{AreApart, get-objects_of-element, objects_of-comes}
 use Rattle.cs_classes.proofs.Refs.{count_of-small, is_reference-object, is_reference-small, small_natural}
 use Rattle.cs_classes.proofs.Sorts.{AContext, AMethod, Bytes, Pointers, Sort, obj_of-bytes, obj_of-context, obj_of-method, obj_of-pointers, sort_of}
-use Rattle.cs_classes.proofs.Sounds.{sound-set_context}
+use Rattle.cs_classes.proofs.Sounds.{ReadsAlike, sound-alike, sound-set_context}
 use Rattle.cs_frame.specs.Frame.{nil}
 use Rattle.cs_marriage.specs.Place.{names_place}
+use Rattle.cs_marriage.proofs.Places.{place_small}
 use Rattle.cs_model.specs.Ref.{Ref}
 use Rattle.cs_model.specs.Ref as ref
-use Rattle.cs_model.specs.Obj.{Ctx, Obj}
+use Rattle.cs_model.specs.Obj.{Ctx, Obj, context_class}
 use Rattle.cs_model.specs.Obj as obj
 use Rattle.cs_model.specs.State.{Rest}
 use Rattle.cs_stack.specs.View.{bare, dead_words, is_linked, loaded_kept, unframed}
+use Rattle.cs_stack.proofs.Addresses.{nil_or_nil, sender_sound, write_pc, write_sender, write_stackp}
 
 -- ---- an object and what it means
 
@@ -60,7 +62,7 @@ meaning_there os a x sound there = let s = stands os a x there in get-objects_of
 
 -- ---- one object without its frame
 
-abbrev dead_object : Object → Object
+abbrev pub dead_object : Object → Object
 dead_object x = record x { words = dead_words x.words }
 
 unframed_keeps : {Y : Type 0} (g : Object → Y) (x : Object) → g (dead_object x) ≡ g x → g (unframed x) ≡ g x
@@ -192,19 +194,17 @@ or_there : (b c : Bool) → c ≡ true → (b || c) ≡ true
 or_there true c h = refl
 or_there false c h = h
 
-dead_sound : (os : List Object) (x : Object) → 3 ≤ length os → nil_of os ≡ base → IsSoundObject os x → is_context x ≡ true → IsSoundObject os (dead_object x)
+pub dead_sound : (os : List Object) (x : Object) → 3 ≤ length os → nil_of os ≡ base → IsSoundObject os x → is_context x ≡ true → IsSoundObject os (dead_object x)
 dead_sound os x first nil_is sound c =
     let there : is_reference os nil ≡ true = is_reference-object os nil (nil_object os first nil_is) in
     let is_nil : IsTrue (nil == nil_of os || is_some (count_of nil)) = or_here (nil == nil_of os) (is_some (count_of nil)) (eq-eqb nil (nil_of os) (sym nil_is)) in
     let none : count_of (small_word (pos 0)) ≡ Some 0 = count_of-small 0 (omega arith) in
-    let one = sound-set_context os x 0 nil sound c (record { reference = there; pc = λ e. absurd (omega (arith, e)); stackp = λ e. absurd (omega (arith, e)); depth = λ e. absurd (omega (arith, e)) }) in
-    let two = sound-set_context os (set_word 0 nil x) 1 nil one c (record { reference = there; pc = λ e. is_nil; stackp = λ e. absurd (omega (arith, e)); depth = λ e. absurd (omega (arith, e)) }) in
-    sound-set_context os (set_word 1 nil (set_word 0 nil x)) 2 (small_word (pos 0)) two c (record {
-      reference = is_reference-small os (pos 0) (small_natural 0 (omega arith));
-      pc = λ e. absurd (omega (arith, e));
-      stackp = λ e. or_there (small_word (pos 0) == nil_of os) (is_some (count_of (small_word (pos 0)))) (ap is_some none);
-      depth = λ e. omega (arith, ap (λ o. unwrap_or o 0) none);
-    })
+    let sender = sender_sound os nil nil_is (nil_or_nil context_class os (nil_object os first nil_is)) in
+    let one = sound-set_context os x 0 nil sound c (write_sender os x nil sender) in
+    let two = sound-set_context os (set_word 0 nil x) 1 nil one c (write_pc os (set_word 0 nil x) nil there is_nil) in
+    sound-set_context os (set_word 1 nil (set_word 0 nil x)) 2 (small_word (pos 0)) two c
+    (write_stackp os (set_word 1 nil (set_word 0 nil x)) (small_word (pos 0)) (is_reference-small os (pos 0) (small_natural 0 (omega arith)))
+    (or_there (small_word (pos 0) == nil_of os) (is_some (count_of (small_word (pos 0)))) (ap is_some none)) (omega (arith, ap (λ o. unwrap_or o 0) none)))
 
 linked_context : (x : Object) → is_linked x ≡ true → is_context x ≡ true
 linked_context x h = go (is_context x) refl h
@@ -223,19 +223,52 @@ unframed_sound os x first nil_is sound = go (is_linked x) refl
 bare_nil : (os : List Object) → nil_of (bare os) ≡ nil_of os
 bare_nil os = ap (λ (ns : List ℕ). unwrap_or (address_among ns base 0) 0) (bare_counts os)
 
-along : (os us : List Object) → is_reference us ≡ is_reference os → nil_of us ≡ nil_of os → (x : Object) → IsSoundObject os x → IsSoundObject us x
-along os us refers nil x s = record {
-  shape = s.shape;
-  references = subst (λ (p : ℕ → Bool). AllPass p (references_in x)) (sym refers) s.references;
-  context = λ c. let old = s.context c in record {
-    format = old.format;
-    slots = old.slots;
-    pc = subst (λ (n : ℕ). IsTrue (slice_index x.words 1 == n || is_some (count_of (slice_index x.words 1)))) (sym nil) old.pc;
-    stackp = subst (λ (n : ℕ). IsTrue (slice_index x.words 2 == n || is_some (count_of (slice_index x.words 2)))) (sym nil) old.stackp;
-    depth = old.depth;
-  };
-  method = s.method;
+bare_field : (g : Object → ℕ) → ((x : Object) → g (unframed x) ≡ g x) → (os : List Object) (a : ℕ) → field_of g (bare os) a ≡ field_of g os a
+bare_field g same os a = ap (λ o. option_map_or g o 0) (bare_at os a) ∙ go (object_at os a)
+  where
+    go : (o : Option Object) → option_map_or g (option_map unframed o) 0 ≡ option_map_or g o 0
+    go None = refl
+    go (Some x) = same x
+
+bare_class : (os : List Object) (a : ℕ) → class_of (bare os) a ≡ class_of os a
+bare_class = bare_field (λ x. x.class) unframed_class
+
+bare_format : (os : List Object) (a : ℕ) → format_of (bare os) a ≡ format_of os a
+bare_format = bare_field (λ x. x.format) unframed_format
+
+bare_count : (os : List Object) (a : ℕ) → slot_count_of (bare os) a ≡ slot_count_of os a
+bare_count = bare_field (λ x. length x.words) unframed_length
+
+bare_sender : (os : List Object) → is_sender (bare os) ≡ is_sender os
+unfolding is_sender
+bare_sender os = λ i w. at (kind_of w) i
+  where
+    at : (k : Kind) → is_sender_kind (bare os) k ≡ is_sender_kind os k
+    at (kind.Small z) = refl
+    at (kind.Character c) = refl
+    at (kind.Object b) = λ i. bare_is_object os b i && (b == bare_nil os i || bare_class os b i == 36)
+    at (kind.Link w) = refl
+
+-- what is said of words is the same of both heaps
+bare_alike : (os : List Object) → ReadsAlike os (bare os)
+bare_alike os = record {
+  references = bare_reference os;
+  nil = bare_nil os;
+  senders = bare_sender os;
+  methods = λ i w. w == bare_nil os i || (bare_is_object os w i && is_method (bare_format os w i));
+  closures = λ i w. w == bare_nil os i || (bare_is_object os w i && bare_class os w i == 37);
 }
+
+-- a class of the table is no context, so it is as it was
+bare_sound_class : (os : List Object) (index a : ℕ) (x : Object) → ((y : Object) → object_at os a ≡ Some y → IsSoundClass index y) → object_at (bare os) a ≡ Some x → IsSoundClass index x
+bare_sound_class os index a x class there = go (object_at os a) refl (sym (bare_at os a) ∙ there)
+  where
+    go : (o : Option Object) → object_at os a ≡ o → option_map unframed o ≡ Some x → IsSoundClass index x
+    go None e h = absurd (cc)
+    go (Some y) e h =
+        let old = class y e in
+        let is : unframed y ≡ x = cc in
+        subst (IsSoundClass index) (sym (unlinked y (plain_unlinked y old.other)) ∙ is) old
 
 pub bare_whole : (os : List Object) (table : FinMap nat_cmp ℕ) (roots : Roots) → IsWhole os table roots → IsWhole (bare os) table roots
 bare_whole os table roots whole = record {
@@ -243,16 +276,33 @@ bare_whole os table roots whole = record {
     apart = bare_apart os whole.heap.apart;
     each = λ k x h. let b = behind os k x h in
         subst (IsSoundObject (bare os)) b.is
-        (along os (bare os) (bare_reference os) (bare_nil os) (unframed b.object) (unframed_sound os b.object whole.first whole.nil (whole.heap.each k b.object b.element)));
+        (sound-alike os (bare os) (bare_alike os) (unframed b.object) (unframed_sound os b.object whole.first whole.nil (whole.heap.each k b.object b.element)));
   };
   first = omega (arith, whole.first, bare_length os);
   nil = bare_nil os ∙ whole.nil;
+  singles = λ k x h l. let b = behind os k x h in sym (ap (λ (z : Object). z.format) b.is) ∙ unframed_format b.object ∙ whole.singles k b.object b.element l;
   births = λ k x h. let b = behind os k x h in
       subst (λ n. n < roots.next_birth) (sym (unframed_birth b.object) ∙ ap (λ (z : Object). z.birth) b.is) (whole.births k b.object b.element);
   indices = λ k x h. let b = behind os k x h in
       subst (λ n. is_some (get table n) ≡ true) (sym (unframed_class b.object) ∙ ap (λ (z : Object). z.class) b.is) (whole.indices k b.object b.element);
   classes = λ index a e. bare_is_object os a ∙ whole.classes index a e;
+  entries = record {
+    within = whole.entries.within;
+    zero = whole.entries.zero;
+    hidden = whole.entries.hidden;
+    integers = whole.entries.integers;
+    characters = whole.entries.characters;
+    contexts = whole.entries.contexts;
+    closures = whole.entries.closures;
+    second = whole.entries.second;
+    class = λ index a x e three h. bare_sound_class os index a x (λ y there. whole.entries.class index a y e three there) h;
+  };
   special = bare_is_object os roots.special.0 ∙ whole.special;
+  array = record {
+    format = bare_format os roots.special.0 ∙ whole.array.format;
+    slots = omega (arith, whole.array.slots, bare_count os roots.special.0);
+  };
+  last_hash = whole.last_hash;
 }
 
 bare_birth_at : (os : List Object) (k : ℕ) → birth_at (bare os) k ≡ birth_at os k
@@ -376,16 +426,13 @@ unfolding bare
 bare_same [] none = refl
 bare_same (x ∷ os) none = ap₂ (λ (y : Object) (ys : List Object). y ∷ ys) (unlinked x (none 0 x refl)) (bare_same os (λ k y e. none (suc k) y e))
 
-kind_odd : (word : ℕ) → names_place word ≡ true → kind_of word ≡ kind.Small (small_value word)
-kind_odd word h = rw h refl
-
 -- a heap of an image that was loaded has no linked context
 pub bare_loaded : (l : Loaded) → IsWhole l.heap.objects l.classes l.roots → SendersStand (loaded_kept l) → bare l.heap.objects ≡ l.heap.objects
 unfolding ref_of context_of
 bare_loaded l whole stand = bare_same l.heap.objects none
   where
     small : (word : ℕ) → names_place word ≡ true → ref_of l.heap.objects word ≡ ref.Small (small_value word)
-    small word h = ap (ref_of_kind l.heap.objects) (kind_odd word h)
+    small word h = ap (ref_of_kind l.heap.objects) (place_small word h)
 
     none : (k : ℕ) (x : Object) → slice_get l.heap.objects k ≡ Some x → is_linked x ≡ false
     none k x e = go (is_linked x) refl (is_context x) refl (names_place (slice_index x.words 0)) refl

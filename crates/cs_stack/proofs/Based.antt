@@ -1,12 +1,12 @@
 -- A world without frames in which a live context of the heap becomes a base frame: it is good, and the context is active.
 use Rattle.std.proofs.Common.{◌≡◌, ◌≢◌, ◌↔◌, ℕ, pos, set, ◌-◌, ◌<◌, ◌≤◌, true, refl, sym, ap, subst, ◌∙◌, arith, Option, Some, None, IsSome, List, [], ◌∷◌, length, length-set, map, option_map, take, drop, zero, suc, inl, inr, is_some}
-use Rattle.std.specs.Prelude.{Contains, nat_eq, if◌then◌else◌}
+use Rattle.std.specs.Prelude.{Contains, nat_eq, slice_index, if◌then◌else◌}
 use Rattle.std.specs.List.{AllPass, IsDistinct}
 use Rattle.std.specs.Option.{option_map_or}
 use Rattle.std.specs.FinMap.{get, same_map, nat_cmp-IsAntisymmetric}
 use Rattle.std.specs.Cmp.{nat_cmp_total}
 use Rattle.std.proofs.lemmas.Bool.{cases_eq, ne_eqb, eqb-true}
-use Rattle.std.proofs.lemmas.List.Elements.{All-cons, All-drop, All-take}
+use Rattle.std.proofs.lemmas.List.Elements.{All-cons, All-take}
 use Rattle.std.proofs.lemmas.Map.Keys.{IsDistinct-cons}
 use Rattle.cs_heap.specs.Object.{Object, birth_of, class_of, hash_of, object_at, slot_count_of, slot_of, with_object}
 use Rattle.cs_heap.proofs.Laws.{field_of-with_object_kept}
@@ -15,6 +15,7 @@ use Rattle.cs_classes.specs.Meaning.{context_of, count_of, depth_in, kept_of, me
 use Rattle.cs_classes.specs.Sound.{IsWhole, is_reference}
 use Rattle.cs_classes.proofs.Heaps.{IsEdit, stands}
 use Rattle.cs_classes.proofs.Sorts.{obj_of-context}
+use Rattle.cs_classes.proofs.Sounds.{sound_at}
 use Rattle.cs_classes.proofs.Wholes.{kept_of-with_object}
 use Rattle.cs_frame.specs.declared.FrameRef.{FrameRef}
 use Rattle.cs_frame.specs.Frame.{Frame, nil}
@@ -27,7 +28,7 @@ use Rattle.cs_marriage.proofs.Based.{agree_based, deep, stack_long}
 use Rattle.cs_marriage.proofs.Places.{link_names}
 use Rattle.cs_model.specs.Ref as ref
 use Rattle.cs_model.specs.Obj.{Ctx, Obj, context_class}
-use Rattle.cs_model.specs.Context.{lies_if_index, lies_if_live}
+use Rattle.cs_model.specs.Context.{closure_class, lies_if_index, lies_if_live}
 use Rattle.cs_model.specs.State as state
 use Rattle.cs_model.specs.State.{Kept, put}
 use Rattle.cs_model.specs.Operation.{edit_found, edit_object}
@@ -37,13 +38,14 @@ use Rattle.cs_acts.specs.Names.{KeepsNames}
 use Rattle.cs_pages.specs.Order.{IsFree, IsSound}
 use Rattle.cs_stack.specs.declared.parts.Parts.{Parts}
 use Rattle.cs_stack.specs.View.{active_in, active_page, bare, births_of, dead_words, frame_context, is_linked, laid_pages, layout_of, pages_onto, stored_of, unframed, view_of}
-use Rattle.cs_stack.specs.Good.{AreApart, FramesFit, IsChain, IsGood, Lacks}
+use Rattle.cs_stack.specs.Good.{AreApart, FramesFit, IsChain, IsGood, Lacks, is_nil_or}
 use Rattle.cs_stack.specs.Moved.{based_parts}
 use Rattle.cs_stack.proofs.Bare.{bare_at, bare_birth, bare_element, bare_whole, bare_with_object, unlinked}
 use Rattle.cs_stack.proofs.Dying.{linked_is, unframed_linked}
 use Rattle.cs_stack.proofs.Framed.{AllFit, IsOn, here, onto_bare, onto_frame}
-use Rattle.cs_stack.proofs.Linking.{contexts_kept, linked_edit, linked_links, linked_pcs, linked_place, linked_references, linked_refers, linked_whole, linked_words, live_kept}
-use Rattle.cs_stack.proofs.Rebasing.{IsLive, bare_objects, can_base, live_below, live_birth, live_context, live_count, live_lies, live_named, live_slot, live_whole, no_frames}
+use Rattle.cs_stack.proofs.Linking.{contexts_kept, linked_edit, linked_links, linked_pcs, linked_place, linked_references, linked_refers, linked_senders, linked_whole, linked_words, live_kept}
+use Rattle.cs_stack.proofs.Rebasing.{IsLive, bare_objects, can_base, live_below, live_birth, live_context, live_count, live_lies, live_named, live_sender, live_slot, live_whole, no_frames}
+use Rattle.cs_stack.proofs.Addresses.{closure_from, nil_or-with_object}
 
 live_index : (m : Option Obj) (at : Option ℕ) → IsSome at → lies_if_live m at ≡ true → lies_if_index m at ≡ true
 live_index m None some h = absurd (cc)
@@ -122,12 +124,18 @@ module _ {u : Parts} (good : IsGood u) (closed : u.pages.recent ≡ []) (s : ℕ
 
   stack_named : AllPass (is_reference us) (stack_words os s)
   stack_named = subst (λ q. AllPass q (stack_words os s)) (sym references) (subst (λ ws. AllPass (is_reference os) (take (depth_in ws) (drop 6 ws))) (sym words_are)
-      (All-take (λ (v : ℕ). is_reference os v ≡ true) (depth_in x.words) (drop 6 x.words) (All-drop (λ (v : ℕ). is_reference os v ≡ true) 6 x.words (live_whole good.whole at good.pcs good.births).references)))
+      (All-take (λ (v : ℕ). is_reference os v ≡ true) (depth_in x.words) (drop 6 x.words) (live_whole good.whole at good.pcs good.births).stack))
+
+  closure_fits : is_nil_or closure_class us (slot_of os s 4) ≡ true
+  closure_fits =
+      ap (λ q. q (slot_of os s 4)) (nil_or-with_object closure_class os s (linked r) (linked_edit r))
+      ∙ ap (is_nil_or closure_class os) (live_slot good.whole at good.pcs good.births 4)
+      ∙ closure_from os (slice_index x.words 4) good.whole.nil good.agree.nil_there ((sound_at os s x good.whole.heap at.there).context at.context).closure
 
   base_fits : FramesFit us u.roots.next_birth (f ∷ [])
   base_fits = let can = can_base good.whole at good.pcs good.births in (
     record {
-      names = record { closure = slot_named 4 (omega arith); receiver = slot_named 5 (omega arith); stack = stack_named };
+      names = record { closure = closure_fits; receiver = slot_named 5 (omega arith); stack = stack_named };
       lies = live_index (meaning_at us (slot_of os s 3)) (count_of (slot_of os s 1)) can.live
           (live_kept s x r good.whole at.there at.context named (slot_of os s 3) (count_of (slot_of os s 1)) ∙ live_lies good.whole at good.pcs good.births);
       fits = omega (arith, stack_long os s can, deep os s can, size_some us f not_nil, kept_count);
@@ -135,7 +143,7 @@ module _ {u : Parts} (good : IsGood u) (closed : u.pages.recent ≡ []) (s : ℕ
       room = omega arith;
       birth = live_below good.whole at good.pcs good.births;
       apart = tt;
-      sender = slot_named 0 (omega arith);
+      sender = ap (λ q. q (slot_of os s 0)) (nil_or-with_object context_class os s (linked r) (linked_edit r)) ∙ live_sender good.whole at good.pcs good.births;
       alone = λ e. absurd (not_nil e);
     },
     tt,
@@ -178,12 +186,6 @@ module _ {u : Parts} (good : IsGood u) (closed : u.pages.recent ≡ []) (s : ℕ
       none q ne (zero, less, same) = ne (sym same)
       none q ne (suc k, less, same) = omega (arith, less)
 
-  -- the context is of the class of contexts
-  context_known : is_some (get u.classes context_class) ≡ true
-  context_known =
-      let place = stands os s at.object at.there in
-      subst (λ (n : ℕ). is_some (get u.classes n) ≡ true) (eqb-true at.object.class 36 at.context) (good.whole.indices place.0 at.object place.1.element)
-
   pub based_good : IsGood (based_parts page s u)
   based_good = record {
     whole = whole;
@@ -191,6 +193,7 @@ module _ {u : Parts} (good : IsGood u) (closed : u.pages.recent ≡ []) (s : ℕ
     most = good.most;
     births = good.births;
     pcs = linked_pcs s x r good.whole at.there at.context named good.pcs;
+    senders = linked_senders s x r good.whole at.there at.context named good.senders;
     links = linked_links s x r good.whole at.there at.context named good.links;
     agree = agree_based os u.frames s page good.agree (can_base good.whole at good.pcs good.births) within (no_frames good closed page);
     frames = fits;
@@ -199,8 +202,6 @@ module _ {u : Parts} (good : IsGood u) (closed : u.pages.recent ≡ []) (s : ℕ
     order = order;
     used_pages = λ q. subst (λ ns. Contains ns q ↔ (0 < length (frames_of ps q))) (sym recent_is) (only q);
     chain = subst (λ ns. IsChain ps ns) (sym recent_is) tt;
-    entry = λ _. context_known;
-    closures = good.closures;
   }
 
   -- ---- the state
@@ -216,6 +217,7 @@ module _ {u : Parts} (good : IsGood u) (closed : u.pages.recent ≡ []) (s : ℕ
     slots = λ y. length-set (set (set (linked r y).words 0 nil) 1 nil) 2 (small_word (pos 0)) ∙ length-set (set (linked r y).words 0 nil) 1 nil ∙ length-set (linked r y).words 0 nil ∙ (linked_edit r).slots y;
     birth = λ y. refl;
     class = λ y. refl;
+    format = λ y. refl;
   }
 
   bare_is : bare us ≡ with_object (bare os) s widowed

@@ -20,6 +20,7 @@ use Rattle.cs_marriage.specs.Agree.{AreMarried}
 use Rattle.cs_marriage.proofs.Based.{alone, alone_base, alone_frames, alone_on_frame, alone_on_top, alone_top}
 use Rattle.cs_marriage.proofs.Objects.{context_there}
 use Rattle.cs_model.specs.Ref as ref
+use Rattle.cs_model.specs.Obj.{context_class}
 use Rattle.cs_model.specs.Read.{active_birth}
 use Rattle.cs_acts.specs.Layout.{LaidBy, entered, page_words}
 use Rattle.cs_acts.specs.Ready.{IsReady}
@@ -27,15 +28,16 @@ use Rattle.cs_pages.specs.Order.{IsFree, IsSound, Order}
 use Rattle.cs_pages.proofs.Lists.{lacks_from_not}
 use Rattle.cs_stack.specs.declared.parts.Parts.{Parts}
 use Rattle.cs_stack.specs.View.{active_page, births_of, frame_sender, laid_pages, layout_of, stored_of, view_of}
-use Rattle.cs_stack.specs.Good.{FrameFits, IsChain, IsGood, base_of}
+use Rattle.cs_stack.specs.Good.{FrameFits, IsChain, IsGood, base_of, is_nil_or}
 use Rattle.cs_stack.specs.Moved.{CanBegin, active_number, begun_parts, begun_state, callee, copied_at, given_birth}
-use Rattle.cs_stack.proofs.Tops.{Opened, contexts_known}
+use Rattle.cs_stack.proofs.Tops.{Opened}
 use Rattle.cs_stack.proofs.Framed.{IsOn, here}
 use Rattle.cs_stack.proofs.Places.{married_on}
 use Rattle.cs_stack.proofs.Adding.{CanAdd, Stay, added_good, added_layout, added_parts, behind, chain_stay, laid_stay}
 use Rattle.cs_stack.proofs.Entering.{cut_edited, cut_parts, entered_state, new_fits, new_married, pages_are, words_used}
 use Rattle.cs_stack.proofs.Called.{number_is, top_frame, top_is_frame, top_ref}
 use Rattle.cs_stack.proofs.Stacking.{longer, shorter, shorter_page}
+use Rattle.cs_stack.proofs.Addresses.{nil_or_of}
 
 -- ---- a page that is free
 
@@ -109,8 +111,8 @@ module _ {w : Parts} (good : IsGood w) (ready : IsReady (stored_of w) (view_of w
   has : o.f.context ≢ nil
   has e = some (sym context_is ∙ e)
 
-  pub sender_named : is_reference os sender ≡ true
-  sender_named = subst (λ a. is_reference os a ≡ true) context_is (is_reference-object os o.f.context (spouse_there w good o has))
+  pub sender_named : is_nil_or context_class os sender ≡ true
+  sender_named = subst (λ a. is_nil_or context_class os a ≡ true) context_is (nil_or_of context_class os o.f.context (spouse_there w good o has) (married w good o has).context.class)
 
   sender_name : ref_of os sender ≡ ref.Obj (active_birth (view_of w))
   sender_name = subst (λ a. ref_of os a ≡ ref.Obj (active_birth (view_of w))) context_is (spouse_name w good o has)
@@ -160,7 +162,6 @@ module _ {w : Parts} (good : IsGood w) (ready : IsReady (stored_of w) (view_of w
 
   can_add : CanAdd w1 p made order
   can_add = record {
-    entry = contexts_known w good o;
     within = inside;
     births = can.births;
     fresh = can.birth;

@@ -4,7 +4,7 @@ use Rattle.std.specs.Prelude.{◌&&◌, nat_le, slice_get, slice_index}
 use Rattle.std.specs.Option.{option_map_or}
 use Rattle.std.proofs.lemmas.Bool.Decides.{nat_tests}
 use Rattle.std.proofs.lemmas.List.{length-map, take_all}
-use Rattle.std.proofs.lemmas.List.Elements.{All-get_or}
+use Rattle.std.proofs.lemmas.Bool.{or_right}
 use Rattle.std.proofs.lemmas.Option.{slice_get-get_or, slice_get-map}
 use Rattle.cs_word.specs.declared.Kind.{Kind}
 use Rattle.cs_word.specs.declared.Kind.TheVariants as kind
@@ -22,14 +22,15 @@ use Rattle.cs_marriage.specs.Agree.{AreMarried}
 use Rattle.cs_model.specs.Ref.{Ref, index_of}
 use Rattle.cs_model.specs.Ref as ref
 use Rattle.cs_model.specs.Obj.{Context, context_in, context_size, header_in, is_method}
-use Rattle.cs_model.specs.State.{Kept, object_of}
-use Rattle.cs_model.specs.Context.{lies_if_index}
+use Rattle.cs_model.specs.State.{Kept, is_nil, object_of}
+use Rattle.cs_model.specs.Context.{closure_class, has_class_index, lies_if_index}
 use Rattle.cs_model.specs.Enter.{block_context, can_evaluate, closure_method, closure_slot, closure_slots, copied_values, enter_block_of, method_in_context, outer_context, receiver_in_context}
 use Rattle.cs_model.specs.Read.{active_context, stack_of}
 use Rattle.cs_model.specs.Operation.{enter_with, last_values, nil_of}
 use Rattle.cs_acts.specs.Names.{IsNamed, name_of}
 use Rattle.cs_acts.specs.Ready.{IsReady}
 use Rattle.cs_acts.specs.Targets.{CanEnterBlock}
+use Rattle.cs_acts.proofs.ContextKinds.{evaluated}
 use Rattle.cs_stack.specs.declared.parts.Parts.{Parts}
 use Rattle.cs_stack.specs.View.{bare, frame_context, is_married, stored_of, unframed, view_of}
 use Rattle.cs_stack.specs.Good.{IsGood}
@@ -86,8 +87,8 @@ outer_read w good a named some = go (is_married a.0 w.frames) refl
     slot_is : (i : ℕ) → slot_of os a.0 i ≡ slice_index n.x.words i
     slot_is i = ap (λ p. option_map_or (λ (x : Object). slice_index x.words i) p 0) n.there
 
-    field_named : (i : ℕ) → i < 6 → is_reference os (slot_of os a.0 i) ≡ true
-    field_named i l = ap (is_reference os) (slot_is i) ∙ All-get_or (λ (u : ℕ). is_reference os u ≡ true) n.x.words i 0 (omega (arith, l, whole.fields)) whole.references
+    field_named : (i : ℕ) → 0 < i → i < 6 → is_reference os (slot_of os a.0 i) ≡ true
+    field_named i some l = ap (is_reference os) (slot_is i) ∙ whole.references i some (omega (arith, l, whole.fields))
 
     counted : slot_count_of os a.0 ≡ length n.x.words
     counted = ap (λ p. option_map_or (λ (x : Object). length x.words) p 0) n.there
@@ -98,8 +99,8 @@ outer_read w good a named some = go (is_married a.0 w.frames) refl
       found = found;
       method = method;
       receiver = receiver;
-      method_named = field_named 3 (omega arith);
-      receiver_named = field_named 5 (omega arith);
+      method_named = field_named 3 (omega arith) (omega arith);
+      receiver_named = field_named 5 (omega arith) (omega arith);
       fields = omega (arith, counted, whole.fields);
     }
 
@@ -234,6 +235,7 @@ module _ {w : Parts} (good : IsGood w) (ready : IsReady (stored_of w) (view_of w
         can = record {
           method = ap (is_reference os) method_word ∙ outer_there.method_named;
           closure = named;
+          kind = or_right (is_nil k x) (has_class_index closure_class (object_of k x)) (evaluated k x args can.closure).closure;
           receiver = ap (is_reference os) receiver_word ∙ outer_there.receiver_named;
           code = ap (λ r. is_method (object_of k r)) method_is ∙ e.method;
           lies = ap₂ (λ r p. lies_if_index (object_of k r) p) method_is pc_is ∙ e.lies;

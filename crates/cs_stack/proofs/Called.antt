@@ -17,7 +17,7 @@ use Rattle.cs_stack.specs.declared.parts.Parts.{Parts}
 use Rattle.cs_stack.specs.View.{active_page, births_of, frame_sender, laid_pages, layout_of, stored_of, view_of}
 use Rattle.cs_stack.specs.Good.{FrameFits, IsChain, IsGood, base_of}
 use Rattle.cs_stack.specs.Moved.{CanBegin, active_number, begun_state, called_page, called_parts, callee, copied_at, given_birth}
-use Rattle.cs_stack.proofs.Tops.{Opened, contexts_known}
+use Rattle.cs_stack.proofs.Tops.{Opened}
 use Rattle.cs_stack.proofs.Adding.{CanAdd, Stay, added_good, added_layout, added_parts, behind, chain_first, lacks_next, laid_stay}
 use Rattle.cs_stack.proofs.Stacking.{longer, longer_page}
 use Rattle.cs_stack.proofs.Entering.{cut_edited, cut_fits, cut_parts, entered_state, few, new_fits, new_married, pages_are, there, words_used}
@@ -166,7 +166,6 @@ module _ {w : Parts} (good : IsGood w) (ready : IsReady (stored_of w) (view_of w
 
     can_add : CanAdd w1 o.p made w.pages
     can_add = record {
-      entry = contexts_known w good o;
       within = inside;
       births = can.births;
       fresh = can.birth;

@@ -3,6 +3,7 @@ use Rattle.std.proofs.Common.{◌≡◌, ℕ, zero, suc, ◌+◌, ◌-◌, ◌<�
 use Rattle.std.specs.Prelude.{◌==◌, ◌&&◌, if◌then◌else◌, slice_index}
 use Rattle.std.specs.List.{AllPass, take-map}
 use Rattle.std.specs.Option.{option_map_or}
+use Rattle.std.proofs.lemmas.Bool.{eqb-true}
 use Rattle.std.proofs.lemmas.List.{drop-map, get_or-drop, length-map, take_more}
 use Rattle.std.proofs.lemmas.List.Elements.{All-drop, All-get_or, All-take}
 use Rattle.cs_word.specs.declared.Oop.{Oop}
@@ -10,9 +11,11 @@ use Rattle.cs_heap.specs.Object.{Object, object_at, slot_count_of, slot_of}
 use Rattle.cs_classes.specs.Meaning.{ref_of}
 use Rattle.cs_classes.specs.Sound.{is_reference}
 use Rattle.cs_classes.proofs.Sorts.{AContext, AMethod, Bytes, Pointers, Sort, obj_of-bytes, obj_of-method, obj_of-pointers, references-pointers, sort_of}
+use Rattle.cs_classes.proofs.Refs.{both_true}
 use Rattle.cs_classes.proofs.Sounds.{sound_at}
 use Rattle.cs_model.specs.Ref.{Ref}
 use Rattle.cs_model.specs.Obj.{Ctx, Method, Obj, Ptr, Raw, is_context_at}
+use Rattle.cs_model.specs.Context.{closure_class}
 use Rattle.cs_model.specs.State.{Kept, object_of}
 use Rattle.cs_model.specs.Enter.{closure_slots}
 use Rattle.cs_acts.specs.Names.{IsNamed, Store, name_of}
@@ -51,6 +54,7 @@ copied_more os a i there =
 pub record HasSlots (os : List Object) (slots : List Ref) (a : ℕ) : Type 0 where
   pub object : Object
   pub there : object_at os a ≡ Some object
+  pub class : object.class ≡ closure_class
   pub are : slots ≡ map (ref_of os) object.words
   pub named : AllPass (is_reference os) object.words
 
@@ -75,14 +79,14 @@ closure_there s k o holds named some = go (object_named s.memory.objects o.0) re
     none : closure_slots found ≡ [] → ⊥
     none e = omega (arith, some, ap length e)
 
-    chosen : (x : Object) (b : Bool) → object_at os o.0 ≡ Some x → AllPass (is_reference os) x.words → closure_slots found ≡ (if b then map (ref_of os) x.words else []) → HasSlots os (closure_slots found) o.0
-    chosen x true there named e = record { object = x; there = there; are = e; named = named }
-    chosen x false there named e = absurd (none e)
+    chosen : (x : Object) (b : Bool) → (x.class == 37 && x.format == 3) ≡ b → object_at os o.0 ≡ Some x → AllPass (is_reference os) x.words → closure_slots found ≡ (if b then map (ref_of os) x.words else []) → HasSlots os (closure_slots found) o.0
+    chosen x true is there named e = record { object = x; there = there; class = eqb-true x.class 37 (both_true (x.class == 37) (x.format == 3) is).0; are = e; named = named }
+    chosen x false is there named e = absurd (none e)
 
     by_sort : (x : Object) → object_at os o.0 ≡ Some x → Says (ref_of os) (Some x) found → Sort x → HasSlots os (closure_slots found) o.0
     by_sort x there said (AContext c) = absurd (none (no_slots found (said.1 c)))
     by_sort x there said (Pointers other p) =
-        chosen x (x.class == 37 && x.format == 3) there (subst (AllPass (is_reference os)) (references-pointers x p) (sound_at os o.0 x holds.whole.heap there).references)
+        chosen x (x.class == 37 && x.format == 3) refl there (subst (AllPass (is_reference os)) (references-pointers x other p) (sound_at os o.0 x holds.whole.heap there).references)
         (ap closure_slots (said.0 other ∙ ap (λ y. Some y) (obj_of-pointers (ref_of os) x other p)))
     by_sort x there said (AMethod other b m) = absurd (none (ap closure_slots (said.0 other ∙ ap (λ y. Some y) (obj_of-method (ref_of os) x other b m))))
     by_sort x there said (Bytes other b m) = absurd (none (ap closure_slots (said.0 other ∙ ap (λ y. Some y) (obj_of-bytes (ref_of os) x other b m))))

@@ -6,16 +6,16 @@ use Rattle.std.proofs.lemmas.Bool.{cases_eq, eq-eqb}
 use Rattle.std.proofs.lemmas.Bool.Decides.{eqb_tells}
 use Rattle.cs_word.specs.Word.{small_word}
 use Rattle.cs_word.specs.declared.Oop.{Oop}
-use Rattle.cs_heap.specs.Writes.{slots_stored}
 use Rattle.cs_heap.specs.Object.{Memory, Object, at_index, birth_of, object_at, set_word, with_object, with_slot}
+use Rattle.cs_heap.specs.Writes.{slots_stored}
 use Rattle.cs_heap.proofs.Laws.{field_of-with_object_kept, is_object-with_object, object_at-with_object_other, object_at-with_object_same, used-with_object}
 use Rattle.cs_classes.specs.Meaning.{context_of, count_of, is_context, kept_of, meaning_at, obj_of, objects_of, ref_of}
-use Rattle.cs_classes.specs.Sound.{IsSoundObject, IsWhole, is_reference, nil_of}
+use Rattle.cs_classes.specs.Sound.{IsSoundObject, IsWhole, is_reference}
 use Rattle.cs_classes.proofs.Contexts.{by_six}
 use Rattle.cs_classes.proofs.Heaps.{IsEdit, slice_get-at_index_other, slice_get-at_index_same, stands, with_object-stands, with_object-twice}
-use Rattle.cs_classes.proofs.Refs.{count_of-small, is_reference-small, is_reference-with_object, ref_of-with_object, small_natural}
+use Rattle.cs_classes.proofs.Refs.{is_reference-with_object, ref_of-with_object}
 use Rattle.cs_classes.proofs.Sorts.{obj_of-context}
-use Rattle.cs_classes.proofs.Sounds.{sound-set_context, sound_at}
+use Rattle.cs_classes.proofs.Sounds.{sound_at}
 use Rattle.cs_classes.proofs.Wholes.{kept_of-with_object, whole-with_object}
 use Rattle.cs_frame.specs.Frame.{nil}
 use Rattle.cs_frame.specs.Page.{IsFrame}
@@ -34,10 +34,10 @@ use Rattle.cs_acts.specs.declared.act.Act.TheVariants as act
 use Rattle.cs_acts.proofs.Firsts.{nil_names}
 use Rattle.cs_stack.specs.declared.parts.Parts.{Parts}
 use Rattle.cs_stack.specs.Cuts.{Dies, Fades, Stays}
-use Rattle.cs_stack.specs.Good.{FramesFit, IsGood, LinkFits, PcFits}
+use Rattle.cs_stack.specs.Good.{FramesFit, IsGood, LinkFits, PcFits, SenderFits}
 use Rattle.cs_stack.specs.View.{act_of, active_in, active_page, bare, birth_in, dead_words, is_linked, is_married, pages_onto, stored_of, unframed, view_of}
 use Rattle.cs_stack.proofs.Acts.{ContextAct, answers, birth_is, context_act, nil_counts}
-use Rattle.cs_stack.proofs.Bare.{bare_at, bare_birth, bare_element, bare_whole, bare_with_object, unlinked}
+use Rattle.cs_stack.proofs.Bare.{bare_at, bare_birth, bare_element, bare_whole, bare_with_object, dead_sound, unlinked}
 use Rattle.cs_stack.proofs.Based.{edit_other, edit_rest}
 use Rattle.cs_stack.proofs.Closed.{good_sound}
 use Rattle.cs_stack.proofs.CutWays.{among_not}
@@ -45,6 +45,7 @@ use Rattle.cs_stack.proofs.Dying.{dead_pc, dead_sender}
 use Rattle.cs_stack.proofs.Framed.{onto_bare}
 use Rattle.cs_stack.proofs.Linking.{contexts_kept}
 use Rattle.cs_stack.proofs.Rebasing.{lack_all, no_frames}
+use Rattle.cs_stack.proofs.Addresses.{sender_fits-nil, sender_fits-with_object}
 
 -- ---- words
 
@@ -56,13 +57,14 @@ entomb_edit = record {
   slots = λ x. length-set (set (set x.words 0 nil) 1 nil) 2 (small_word (pos 0)) ∙ length-set (set x.words 0 nil) 1 nil ∙ length-set x.words 0 nil;
   birth = λ x. refl;
   class = λ x. refl;
+  format = λ x. refl;
 }
 
 word_edit : (i v : ℕ) → IsEdit (set_word i v)
-word_edit i v = record { slots = λ x. length-set x.words i v; birth = λ x. refl; class = λ x. refl }
+word_edit i v = record { slots = λ x. length-set x.words i v; birth = λ x. refl; class = λ x. refl; format = λ x. refl }
 
 two_edit : IsEdit (λ x. set_word 1 nil (set_word 0 nil x))
-two_edit = record { slots = λ x. length-set (set x.words 0 nil) 1 nil ∙ length-set x.words 0 nil; birth = λ x. refl; class = λ x. refl }
+two_edit = record { slots = λ x. length-set (set x.words 0 nil) 1 nil ∙ length-set x.words 0 nil; birth = λ x. refl; class = λ x. refl; format = λ x. refl }
 
 buried_one : (os : List Object) (a : ℕ) → buried os a ≡ with_object os a entomb
 buried_one os a =
@@ -78,33 +80,9 @@ dead_context refer hash n ws h is =
     by_six (λ us. context_of refer hash (dead_words us) ≡ record (context_of refer hash us) { sender = refer nil; pc = None; stack = [] }) (λ a b c d e f rest. refl) ws h
     ∙ ap (λ r. record (context_of refer hash ws) { sender = r; pc = None; stack = [] }) is
 
-or_left : (p q : Bool) → p ≡ true → (p || q) ≡ true
-or_left p q e = ap (λ b. b || q) e
-
-or_right : (p q : Bool) → q ≡ true → (p || q) ≡ true
-or_right true q e = refl
-or_right false q e = e
-
 and_false : (p q : Bool) → q ≡ false → (p && q) ≡ false
 and_false true q e = e
 and_false false q e = refl
-
-sound_entombed : (os : List Object) (x : Object) → IsSoundObject os x → is_context x ≡ true → is_reference os nil ≡ true → nil_of os ≡ nil → IsSoundObject os (entomb x)
-sound_entombed os x s c named at_base =
-    let zero_word : ℕ = small_word (pos 0) in
-    let small : 0 < 2 ^ 30 = omega arith in
-    let count = count_of-small 0 small in
-    let is_nil : (nil == nil_of os) ≡ true = eq-eqb nil (nil_of os) (sym at_base) in
-    let first = sound-set_context os x 0 nil s c (record { reference = named; pc = λ e. absurd (omega (arith, e)); stackp = λ e. absurd (omega (arith, e)); depth = λ e. absurd (omega (arith, e)) }) in
-    let second = sound-set_context os (set_word 0 nil x) 1 nil first c
-    (record { reference = named; pc = λ e. or_left (nil == nil_of os) (is_some (count_of nil)) is_nil; stackp = λ e. absurd (omega (arith, e)); depth = λ e. absurd (omega (arith, e)) }) in
-    sound-set_context os (set_word 1 nil (set_word 0 nil x)) 2 zero_word second c
-    (record {
-      reference = is_reference-small os (pos 0) (small_natural 0 small);
-      pc = λ e. absurd (omega (arith, e));
-      stackp = λ e. or_right (zero_word == nil_of os) (is_some (count_of zero_word)) (ap is_some count);
-      depth = λ e. omega (arith, ap (λ (o : Option ℕ). unwrap_or o 0) count);
-    })
 
 context_lies : (refer : ℕ → Ref) (y : Object) (pc : ℕ) → is_context y ≡ true → lies_in (Some (obj_of refer y)) pc ≡ false
 context_lies refer y pc c = ap (λ o. lies_in (Some o) pc) (obj_of-context refer y c)
@@ -131,10 +109,10 @@ module _ {u : Parts} (good : IsGood u) (closed : u.pages.recent ≡ []) {a : ℕ
   nil_is = let names = nil_names (stored_of u) (view_of u) (record { 0 = nil }) (good_sound u good) refl in (names.is, names.sound)
 
   sound : IsSoundObject os (entomb x)
-  sound = sound_entombed os x (sound_at os a x good.whole.heap c.there) c.context nil_is.1 good.whole.nil
+  sound = dead_sound os x good.whole.first good.whole.nil (sound_at os a x good.whole.heap c.there) c.context
 
   whole : IsWhole us u.classes u.roots
-  whole = whole-with_object os u.classes u.roots a x entomb entomb_edit good.whole c.there sound
+  whole = whole-with_object os u.classes u.roots a x entomb entomb_edit refl good.whole c.there sound
 
   refers : ref_of us ≡ ref_of os
   refers = ref_of-with_object os a entomb entomb_edit
@@ -190,6 +168,12 @@ module _ {u : Parts} (good : IsGood u) (closed : u.pages.recent ≡ []) {a : ℕ
     | inr old ↦ good.links j y old is
   ]
 
+  senders : (j : ℕ) (y : Object) → slice_get us j ≡ Some y → is_context y ≡ true → SenderFits us y
+  senders j y h is = elim (cases j y h) [
+    | inl e ↦ subst (SenderFits us) e (sender_fits-nil us (entomb x) (is_object-with_object os a nil entomb entomb_edit.slots ∙ good.agree.nil_there) (dead_sender x.words long))
+    | inr old ↦ sender_fits-with_object os a entomb y entomb_edit (good.senders j y old is)
+  ]
+
   no_place : (r : _) → IsFrame u.frames r → ⊥
   no_place r there = omega (arith, there, ap length (no_frames good closed r.page))
 
@@ -208,6 +192,7 @@ module _ {u : Parts} (good : IsGood u) (closed : u.pages.recent ≡ []) {a : ℕ
     most = good.most;
     births = good.births;
     pcs = pcs;
+    senders = senders;
     links = links;
     agree = agree;
     frames = λ p. subst (FramesFit us u.roots.next_birth) (sym (no_frames good closed p)) tt;
@@ -216,8 +201,6 @@ module _ {u : Parts} (good : IsGood u) (closed : u.pages.recent ≡ []) {a : ℕ
     order = good.order;
     used_pages = good.used_pages;
     chain = good.chain;
-    entry = good.entry;
-    closures = good.closures;
   }
 
   -- ---- the state

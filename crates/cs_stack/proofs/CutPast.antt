@@ -211,7 +211,7 @@ module _ {w v : Parts} {dying : List ℕ} {t : ℕ} {a : Act} (ended : Arrives w
     live_now = sym (ap (λ p. is_some (option_and_then (λ (c : Context). c.pc) (context_in p))) (sym (ended.dies.other t apart) ∙ there)) ∙ live
 
     target_live : IsLive v.heap.objects s
-    target_live = live_at v.heap.objects v.classes v.roots s t d ended.good.whole (object c) (birth_is c ∙ birth) (sym (ap (λ m. get m t) (bare_objects ended.good none)) ∙ there) live_now
+    target_live = live_at v.heap.objects v.classes v.roots s t d ended.good.whole ended.good.senders (object c) (birth_is c ∙ birth) (sym (ap (λ m. get m t) (bare_objects ended.good none)) ∙ there) live_now
 
     pub can_rebase : CanBase v.heap.objects s
     can_rebase = can_base ended.good.whole target_live ended.good.pcs ended.good.births

@@ -45,6 +45,7 @@ use Rattle.cs_stack.proofs.Places.{stacked}
 use Rattle.cs_stack.proofs.Adding.{CanAdd, added_parts, added_view, begun_kept}
 use Rattle.cs_stack.proofs.Entries.{IsCode, code_there, size_most}
 use Rattle.cs_stack.proofs.Copies.{Copied, copied_there}
+use Rattle.cs_stack.proofs.Entries.{closure_word}
 
 map-replicate : (r : ℕ → Ref) (n w : ℕ) → map r (replicate n w) ≡ replicate n (r w)
 map-replicate r zero w = refl
@@ -214,7 +215,7 @@ module _ {w : Parts} (good : IsGood w) (ready : IsReady (stored_of w) (view_of w
       → FrameFits os (w.roots.next_birth + 1) (entered at sender) gs
   new_fits at sender gs stands room apart from = record {
     names = record {
-      closure = can.closure;
+      closure = closure_word (stored_of w) k new.closure ready.sound can.closure can.kind;
       receiver = can.receiver;
       stack = All-append (λ (u : ℕ). is_reference os u ≡ true) (drop (length o.f.stack - new.args) o.f.stack) (replicate new.fill nil ++ copied_at os new.closure.0 copies)
           (All-drop (λ (u : ℕ). is_reference os u ≡ true) (length o.f.stack - new.args) o.f.stack o.fits.names.stack)

@@ -1,28 +1,40 @@
 -- The method that is entered, as it lies in the heap, and the pc at which it is.
-use Rattle.std.proofs.Common.{◌≡◌, ◌≢◌, ℕ, ◌+◌, ◌*◌, ◌/◌, ◌%◌, ◌≤◌, ◌^◌, Bool, true, false, refl, sym, ap, ◌∙◌, arith, Option, Some, None, List, [], ◌∷◌, length, map, option_map}
-use Rattle.std.specs.Prelude.{◌==◌, ◌&&◌, if◌then◌else◌, nat_le, nat_lt}
+use Rattle.std.proofs.Common.{◌≡◌, ◌≢◌, ℕ, ◌+◌, ◌*◌, ◌/◌, ◌%◌, ◌≤◌, ◌^◌, Bool, true, false, refl, sym, ap, ◌∙◌, arith, Option, Some, None, List, [], ◌∷◌, length, map, option_map, subst, inl, inr}
+use Rattle.std.specs.Prelude.{◌==◌, ◌&&◌, ◌||◌, if◌then◌else◌, nat_le, nat_lt}
+use Rattle.std.proofs.lemmas.Bool.{eqb-true}
 use Rattle.std.proofs.lemmas.Bool.Decides.{nat_tests}
 use Rattle.std.proofs.lemmas.List.{length-map}
 use Rattle.cs_word.specs.declared.Oop.{Oop}
 use Rattle.std.specs.Option.{option_map_or}
 use Rattle.cs_heap.specs.Format.{is_method}
-use Rattle.cs_heap.specs.Object.{Object, object_at}
+use Rattle.cs_heap.specs.Object.{Object, is_object, object_at}
 use Rattle.cs_classes.specs.Meaning.{code_in, header_in, literals_in, meaning_at, obj_of, ref_of, used_bytes, head_of}
+use Rattle.cs_classes.proofs.Heaps.{is_object-object_at}
+use Rattle.cs_classes.proofs.Makings.{nil_is_object}
+use Rattle.cs_classes.proofs.Refs.{either_true, is_reference-object, same_births}
 use Rattle.cs_classes.proofs.Sorts.{AContext, AMethod, Bytes, Pointers, Sort, obj_of-bytes, obj_of-method, not_pointers, obj_of-pointers, sort_of}
 use Rattle.cs_classes.proofs.Sounds.{method_other, sound_at}
 use Rattle.cs_model.specs.Obj.{Ctx, Method, Obj, Ptr, Raw, argument_count, bytecodes_in, context_size, has_primitive, is_context_at, lies_in, literal_count, number_in, primitive_number, temporary_count, Head}
 use Rattle.cs_model.specs.Obj as obj
-use Rattle.cs_model.specs.State.{Kept, object_of}
+use Rattle.cs_model.specs.Context.{closure_class, has_class_index}
+use Rattle.cs_model.specs.Ref.{Ref, same_ref}
+use Rattle.cs_model.specs.Ref as ref
+use Rattle.cs_model.specs.State.{Kept, is_nil, object_of}
 use Rattle.cs_model.specs.Operation.{entry_pc}
 use Rattle.cs_acts.specs.Names.{IsNamed, Store, name_of}
-use Rattle.cs_acts.specs.Ready.{Holds}
+use Rattle.cs_acts.specs.Ready.{Holds, IsSound}
+use Rattle.cs_acts.proofs.Firsts.{nil_names}
 use Rattle.cs_acts.specs.Reading.{object_named}
 use Rattle.cs_acts.specs.Targets.{CanEnter}
 use Rattle.cs_acts.proofs.Held.{Says, says}
 use Rattle.cs_acts.proofs.Methods.{IsMethodAt, at_word, header_is, length-literals, slots_fit}
 use Rattle.cs_marriage.specs.Agree as marriage
 use Rattle.cs_marriage.specs.Agree.{header_at}
+use Rattle.cs_frame.specs.Frame.{nil}
+use Rattle.cs_stack.specs.Good.{is_nil_or}
 use Rattle.cs_stack.specs.Moved.{entry_of}
+use Rattle.cs_stack.proofs.Addresses.{nil_or_nil, nil_or_of}
+use Rattle.cs_stack.proofs.Unwinding.{address_of-object}
 
 context_no_method : (o : Option Obj) → is_context_at o ≡ true → obj.is_method o ≡ true → ⊥
 context_no_method None h m = absurd (cc)
@@ -62,6 +74,60 @@ method_named s k o holds named is = go (object_named s.memory.objects o.0) refl 
     go : (p : Option Object) → object_named os o.0 ≡ p → Says (ref_of os) p found → IsMethodAt os found o.0
     go None e said = absurd (let no : false ≡ true = sym (ap obj.is_method said) ∙ is in cc)
     go (Some x) e said = let there = at_word os o.0 (Some x) x e refl in by_sort x there said (sort_of x)
+
+-- ---- a closure
+
+context_no_closure : (o : Option Obj) → is_context_at o ≡ true → has_class_index closure_class o ≡ true → ⊥
+context_no_closure None h m = absurd (cc)
+context_no_closure (Some (Ptr head slots)) h m = absurd (cc)
+context_no_closure (Some (Raw head bytes)) h m = absurd (cc)
+context_no_closure (Some (Method head header literals bytecodes)) h m = absurd (cc)
+context_no_closure (Some (Ctx c)) h m = absurd (cc)
+
+same_as : (r : Ref) (n : ℕ) → same_ref r (ref.Obj n) ≡ true → r ≡ ref.Obj n
+same_as (ref.Small z) n h = absurd (cc)
+same_as (ref.Char c) n h = absurd (cc)
+same_as (ref.Obj m) n h = ap (λ i. ref.Obj i) (eqb-true m n h)
+
+-- a reference to nil or a closure of the state is the address of nil or a closure
+pub closure_word : (s : Store) (k : Kept) (o : Oop) → IsSound s k → IsNamed s o → (is_nil k (name_of s o) || has_class_index closure_class (object_of k (name_of s o))) ≡ true
+    → is_nil_or closure_class s.memory.objects o.0 ≡ true
+closure_word s k o sound named kind = elim (either_true (is_nil k (name_of s o)) (has_class_index closure_class (object_of k (name_of s o))) kind) [
+  | inl e ↦ subst (λ v. is_nil_or closure_class os v ≡ true) (sym (at_nil e)) (nil_or_nil closure_class os nil_there)
+  | inr e ↦ go e (object_named os o.0) refl (says s k o sound.holds named)
+]
+  where
+    os : List Object
+    os = s.memory.objects
+
+    found : Option Obj
+    found = object_of k (name_of s o)
+
+    nil_there : is_object os nil ≡ true
+    nil_there = nil_is_object os s.table s.roots sound.holds.whole
+
+    at_nil : is_nil k (name_of s o) ≡ true → o.0 ≡ nil
+    at_nil h =
+        let is = address_of-object os o.0 k.rest.nil named (same_as (name_of s o) k.rest.nil h) in
+        let first = address_of-object os nil k.rest.nil (is_reference-object os nil nil_there) (nil_names s k (record { 0 = nil }) sound refl).is in
+        same_births os o.0 nil sound.holds.whole.heap is.0 first.0 (is.1 ∙ sym first.1)
+
+    of_class : (x : Object) → object_at os o.0 ≡ Some x → (x.class == closure_class) ≡ true → is_nil_or closure_class os o.0 ≡ true
+    of_class x there e = nil_or_of closure_class os o.0 (is_object-object_at os o.0 x there)
+        (ap (λ (p : Option Object). option_map_or (λ (y : Object). y.class) p 0) there ∙ eqb-true x.class closure_class e)
+
+    by_sort : has_class_index closure_class found ≡ true → (x : Object) → object_at os o.0 ≡ Some x → Says (ref_of os) (Some x) found → Sort x → is_nil_or closure_class os o.0 ≡ true
+    by_sort is x there said (AContext c) = absurd (context_no_closure found (said.1 c) is)
+    by_sort is x there said (Pointers other p) =
+        of_class x there (sym (ap (has_class_index closure_class) (said.0 other ∙ ap (λ y. Some y) (obj_of-pointers (ref_of os) x other p))) ∙ is)
+    by_sort is x there said (Bytes other b m) =
+        of_class x there (sym (ap (has_class_index closure_class) (said.0 other ∙ ap (λ y. Some y) (obj_of-bytes (ref_of os) x other b m))) ∙ is)
+    by_sort is x there said (AMethod other b m) =
+        of_class x there (sym (ap (has_class_index closure_class) (said.0 other ∙ ap (λ y. Some y) (obj_of-method (ref_of os) x other b m))) ∙ is)
+
+    go : has_class_index closure_class found ≡ true → (p : Option Object) → object_named os o.0 ≡ p → Says (ref_of os) p found → is_nil_or closure_class os o.0 ≡ true
+    go is None e said = absurd (let no : false ≡ true = sym (ap (has_class_index closure_class) said) ∙ is in cc)
+    go is (Some x) e said = let there = at_word os o.0 (Some x) x e refl in by_sort is x there said (sort_of x)
 
 -- ---- its bytecodes
 

@@ -27,7 +27,7 @@ use Rattle.cs_model.specs.State.{Kept, object_at}
 use Rattle.cs_model.specs.Return.{context_at, context_birth}
 use Rattle.cs_acts.specs.Targets.{field_of}
 use Rattle.cs_model.specs.Operation.{nil_of}
-use Rattle.cs_model.specs.Context.{context_get, is_context_ref, pc_value}
+use Rattle.cs_model.specs.Context.{closure_class, context_get, is_context_ref, pc_value}
 use Rattle.cs_acts.specs.declared.act.Act.TheVariants as act
 use Rattle.cs_acts.specs.Names.{IsNamed, Names, NamesOption, Store, name_of}
 use Rattle.cs_acts.proofs.Firsts.{nil_names}
@@ -39,6 +39,7 @@ use Rattle.cs_stack.proofs.Closed.{good_sound}
 use Rattle.cs_stack.proofs.Acts.{Below, ContextAct, FrameAct, answers, base_sender, context_reads, depth_kept, field_named, frame_lives, frame_method_named, frame_reads, kept_depth, kept_pc, kept_word, reads_field, slot_is, slot_named, sender_below, stack_counted}
 use Rattle.cs_stack.proofs.Places.{size_few}
 use Rattle.cs_stack.proofs.Spouses.{sender_dead}
+use Rattle.cs_stack.proofs.Addresses.{nil_or_named}
 
 -- ---- words
 
@@ -193,7 +194,7 @@ module _ {w : Parts} {p at : ℕ} (good : IsGood w) (a : FrameAct w p at) where
   unfolding frame_context
   frame_get_closure v e =
       let word : v.0 ≡ f.closure = e ∙ ap (λ (g : Frame). g.closure) a.is in
-      names v 4 c.closure (ap (is_reference w.heap.objects) word ∙ a.fits.names.closure) (ap (ref_of w.heap.objects) word) (get_closure (view_of w) c)
+      names v 4 c.closure (ap (is_reference w.heap.objects) word ∙ nil_or_named closure_class w.heap.objects a.begins_at.f.closure a.fits.names.closure) (ap (ref_of w.heap.objects) word) (get_closure (view_of w) c)
 
   pub frame_get_receiver : (v : Oop) → v.0 ≡ (frame w.frames (record { page = p; at = at })).receiver → NamesOption (stored_of w) (Some v) (field_at (view_of w) (act_of w (act.Frame p at)) 5)
   unfolding frame_context

@@ -65,7 +65,7 @@ module _ {w : Parts} (good : IsGood w) (ready : IsReady (stored_of w) (view_of w
     sender = sender_at good ready o (next_of g) alone pages free.freed free.free free.others free.sound
 
     pub sender_live : IsLive os o.f.caller
-    sender_live = live_at os w.classes w.roots o.f.caller g.t g.c good.whole sender.0 sender.1 found live
+    sender_live = live_at os w.classes w.roots o.f.caller g.t g.c good.whole good.senders sender.0 sender.1 found live
 
     pub can_rebase : CanBase os o.f.caller
     can_rebase = can_base good.whole sender_live good.pcs good.births

@@ -20,15 +20,16 @@ use Rattle.cs_marriage.specs.Agree.{frame_size}
 use Rattle.cs_marriage.proofs.Agreeing.{size_none, size_some}
 use Rattle.cs_marriage.proofs.Objects.{context_like, context_there, header_same, method_like, method_there}
 use Rattle.cs_model.specs.Ref.{Ref}
-use Rattle.cs_model.specs.Obj.{Ctx, context_size, lies_between, lies_in}
-use Rattle.cs_model.specs.Context.{lies_if_index, lies_if_live}
+use Rattle.cs_model.specs.Obj.{Ctx, context_class, context_size, lies_between, lies_in}
+use Rattle.cs_model.specs.Context.{closure_class, lies_if_index, lies_if_live}
 use Rattle.cs_stack.specs.declared.parts.Parts.{Parts}
 use Rattle.cs_stack.specs.View.{frame_context, frame_hash, frame_sender, frames_onto, is_linked, pages_onto}
-use Rattle.cs_stack.specs.Good.{FrameFits, FramesFit, HasSender, IsGood, Lacks, LinkFits, PcFits}
+use Rattle.cs_stack.specs.Good.{FrameFits, FramesFit, HasSender, IsGood, Lacks, LinkFits, PcFits, SenderFits}
 use Rattle.cs_stack.proofs.Maps.{Objects, get_apart}
 use Rattle.cs_stack.proofs.Lives.{Lives, lives, lives_if_live}
 use Rattle.cs_stack.proofs.Framed.{IsOn, above, fits_on, here}
 use Rattle.cs_stack.proofs.Places.{agreed}
+use Rattle.cs_stack.proofs.Addresses.{nil_or-push, nil_or_named, sender_fits-push}
 
 -- ---- the map of frames that are the same contexts
 
@@ -91,6 +92,16 @@ module _ (os : List Object) (y : Object) where
     ]
   ]
 
+  pub senders_grown : SenderFits (os ++ y ∷ []) y ⊎ (is_context y ≡ false) → ((j : ℕ) (x : Object) → slice_get os j ≡ Some x → is_context x ≡ true → SenderFits os x)
+      → (j : ℕ) (x : Object) → slice_get (os ++ y ∷ []) j ≡ Some x → is_context x ≡ true → SenderFits (os ++ y ∷ []) x
+  senders_grown new senders j x e c = elim (slice_get-push os y j x e) [
+    | inl old ↦ sender_fits-push os y x (senders j x old c)
+    | inr last ↦ elim new [
+      | inl fits ↦ subst (SenderFits grown) last.1 fits
+      | inr other ↦ absurd (let no : true ≡ false = sym c ∙ ap is_context (sym last.1) ∙ other in cc)
+    ]
+  ]
+
   pub links_grown : (is_linked y ≡ true → LinkFits y) → ((j : ℕ) (x : Object) → slice_get os j ≡ Some x → is_linked x ≡ true → LinkFits x)
       → (j : ℕ) (x : Object) → slice_get (os ++ y ∷ []) j ≡ Some x → is_linked x ≡ true → LinkFits x
   links_grown new links j x e l = elim (slice_get-push os y j x e) [
@@ -132,7 +143,7 @@ module _ (w : Parts) (good : IsGood w) (y : Object) where
   fits p on = fits_on old w.roots.next_birth on (good.frames p)
 
   sender_grown : (f : Frame) (gs : List Frame) → HasSender old f gs → frame_sender new f gs ≡ frame_sender old f gs
-  sender_grown f [] h = ref_of-push old y f.caller h
+  sender_grown f [] h = ref_of-push old y f.caller (nil_or_named context_class old f.caller h)
   sender_grown f (g ∷ gs) h = refl
 
   method_named : {f : Frame} {gs : List Frame} → FrameFits old w.roots.next_birth f gs → is_reference old f.method ≡ true
@@ -146,7 +157,7 @@ module _ (w : Parts) (good : IsGood w) (y : Object) where
       let hash = hash_grown p on in
       let sender = sender_grown f gs h.sender in
       let method = ref_of-push old y f.method (method_named h) in
-      let closure = ref_of-push old y f.closure h.names.closure in
+      let closure = ref_of-push old y f.closure (nil_or_named closure_class old f.closure h.names.closure) in
       let receiver = ref_of-push old y f.receiver h.names.receiver in
       let stack = map_alike (is_reference old) (ref_of new) (ref_of old) (ref_of-push old y) f.stack h.names.stack in
       let size = size_grown p on in
@@ -169,7 +180,7 @@ module _ (w : Parts) (good : IsGood w) (y : Object) where
   stack_grown ws all = λ k d l. is_reference-push old y (get_or ws k d) (all k d l)
 
   caller_grown : (f : Frame) (gs : List Frame) → HasSender old f gs → HasSender new f gs
-  caller_grown f [] h = is_reference-push old y f.caller h
+  caller_grown f [] h = nil_or-push context_class old y f.caller h
   caller_grown f (g ∷ gs) h = tt
 
   -- the new object has the next birth, which no frame has
@@ -186,7 +197,7 @@ module _ (w : Parts) (good : IsGood w) (y : Object) where
         let h = fit.0 in (
           record {
             names = record {
-              closure = is_reference-push old y f.closure h.names.closure;
+              closure = nil_or-push closure_class old y f.closure h.names.closure;
               receiver = is_reference-push old y f.receiver h.names.receiver;
               stack = stack_grown f.stack h.names.stack;
             };

@@ -1,5 +1,6 @@
 pub mod Maps
 pub mod Lives
+pub mod Addresses
 pub mod Bare
 pub mod Framed
 pub mod Places

@@ -1,36 +1,36 @@
 -- A context of the heap that is linked to a frame: the heap is whole, and nothing else of it changes.
-use Rattle.std.proofs.Common.{◌≡◌, ◌≢◌, ◌⊎◌, ℕ, ◌+◌, ◌-◌, ◌%◌, ◌/◌, ◌<◌, ◌≤◌, true, false, refl, sym, ap, subst, ◌∙◌, arith, Option, Some, None, is_some, List, [], ◌∷◌, length, length-set, option_map, get_or-set_same, get_or-set_other, set, unwrap_or, zero, suc, take, replicate, inl, inr}
+use Rattle.std.proofs.Common.{◌≡◌, ◌≢◌, ◌⊎◌, ℕ, ◌+◌, ◌-◌, ◌%◌, ◌/◌, ◌<◌, ◌≤◌, true, false, refl, sym, ap, subst, ◌∙◌, arith, Option, Some, None, is_some, List, [], ◌∷◌, ◌++◌, length, length-set, option_map, get_or-set_same, get_or-set_other, set, unwrap_or, zero, suc, take, replicate, inl, inr}
 use Rattle.std.specs.Prelude.{IsTrue, slice_get, slice_index, ◌==◌, ◌||◌, if◌then◌else◌}
 use Rattle.std.specs.List.{AllPass}
 use Rattle.std.specs.Option.{option_map_or}
 use Rattle.std.specs.Ordering.{nat_cmp}
 use Rattle.std.specs.FinMap.{FinMap}
 use Rattle.std.proofs.lemmas.Bool.{cases_eq, eq-eqb, false≢true}
-use Rattle.std.proofs.lemmas.List.Elements.{All-append, All-replicate, All-take}
-use Rattle.cs_word.specs.declared.Kind.TheVariants as kind
-use Rattle.cs_word.specs.Word.{small_value}
+use Rattle.std.proofs.lemmas.List.Elements.{All-append, All-drop, All-replicate, All-take}
 use Rattle.cs_heap.specs.Format.{format_allows, is_pointers}
 use Rattle.cs_heap.specs.Object.{Object, at_index, index_of, object_at, set_word, used, with_object}
 use Rattle.cs_heap.proofs.Laws.{object_at-with_object_other, object_at-with_object_same, used-with_object}
 use Rattle.cs_classes.specs.declared.Roots.{Roots}
 use Rattle.cs_classes.specs.Meaning.{count_of, is_context, meaning_at, obj_of, ref_of}
-use Rattle.cs_classes.specs.Sound.{IsSoundObject, IsWhole, is_reference, is_reference_kind, nil_of}
+use Rattle.cs_classes.specs.Sound.{IsSoundObject, IsWhole, is_reference, is_sender, nil_of}
 use Rattle.cs_classes.proofs.Heaps.{IsEdit, slice_get-at_index_other, slice_get-at_index_same, stands, with_object-stands}
-use Rattle.cs_classes.proofs.Refs.{is_reference-with_object, ref_of-with_object}
-use Rattle.cs_classes.proofs.Sorts.{not_pointers, obj_of-context, references-pointers}
+use Rattle.cs_classes.proofs.Refs.{is_nil_or_closure, is_nil_or_method, is_reference-with_object, ref_of-with_object}
+use Rattle.cs_classes.proofs.Sorts.{not_pointers, obj_of-context, references-context}
 use Rattle.cs_classes.proofs.Sounds.{sound-set_context, sound_at, whole_context}
 use Rattle.cs_classes.proofs.Wholes.{whole-with_object}
 use Rattle.cs_frame.specs.declared.FrameRef.{FrameRef}
 use Rattle.cs_frame.specs.Frame.{nil}
 use Rattle.cs_marriage.specs.Marriage.{cleared_from, linked}
-use Rattle.cs_marriage.specs.Place.{link_word}
+use Rattle.cs_marriage.specs.Place.{link_word, names_place}
+use Rattle.cs_marriage.proofs.Places.{link_names}
 use Rattle.cs_marriage.proofs.Clearing.{cleared_keeps, get_or-cleared}
 use Rattle.cs_model.specs.Ref.{Ref}
 use Rattle.cs_model.specs.Obj.{lies_in}
 use Rattle.cs_model.specs.Context.{lies_if_live}
 use Rattle.cs_acts.specs.Made.{contexts_in}
 use Rattle.cs_stack.specs.View.{is_linked}
-use Rattle.cs_stack.specs.Good.{LinkFits, PcFits}
+use Rattle.cs_stack.specs.Good.{LinkFits, PcFits, SenderFits}
+use Rattle.cs_stack.proofs.Addresses.{all_words, place_reference, place_sender, sender_fits-place, sender_fits-with_object, write_pc, write_sender, write_stackp}
 
 -- ---- words
 
@@ -38,16 +38,13 @@ pub nil_counts : count_of nil ≡ None
 unfolding count_of
 nil_counts = refl
 
-odd_reference : (os : List Object) (w : ℕ) → (w % 2 == 1) ≡ true → is_reference os w ≡ true
-unfolding is_reference
-odd_reference os w odd = ap (λ b. is_reference_kind os (if b then kind.Small (small_value w) else (if w % 4 == 2 then kind.Character (w / 4) else (if w % 8 == 0 then kind.Object w else kind.Link w)))) odd
-
 pub linked_edit : (r : FrameRef) → IsEdit (linked r)
 linked_edit r = record {
   slots = λ x. cleared_keeps 6 (set_word 2 nil (set_word 1 nil (set_word 0 (link_word r) x)))
       ∙ length-set (set (set x.words 0 (link_word r)) 1 nil) 2 nil ∙ length-set (set x.words 0 (link_word r)) 1 nil ∙ length-set x.words 0 (link_word r);
   birth = λ x. refl;
   class = λ x. refl;
+  format = λ x. refl;
 }
 
 module _ (r : FrameRef) (x : Object) (long : 6 ≤ length x.words) where
@@ -68,8 +65,8 @@ module _ (r : FrameRef) (x : Object) (long : 6 ≤ length x.words) where
 
 -- ---- sound objects
 
-sound_cleared : (os : List Object) (z : Object) → IsSoundObject os z → is_context z ≡ true → is_reference os nil ≡ true → IsSoundObject os (cleared_from 6 z)
-sound_cleared os z s c named =
+sound_cleared : (os : List Object) (z : Object) → IsSoundObject os z → is_context z ≡ true → is_reference os (slice_index z.words 0) ≡ true → is_reference os nil ≡ true → IsSoundObject os (cleared_from 6 z)
+sound_cleared os z s c place named =
     let old = s.context c in
     let whole = whole_context os z s c in
     let pointers : is_pointers z.format ≡ true = ap is_pointers old.format in
@@ -77,17 +74,23 @@ sound_cleared os z s c named =
     let first = get_or-cleared 6 z.words 1 (omega arith) in
     let second = get_or-cleared 6 z.words 2 (omega arith) in
     record {
+      kind = s.kind;
+      plain = s.plain;
       shape = subst (λ (n : ℕ). IsTrue (format_allows z.format n)) (sym slots) s.shape;
-      references = subst (AllPass (is_reference os)) (sym (references-pointers (cleared_from 6 z) pointers))
+      references = subst (AllPass (is_reference os)) (sym (references-context (cleared_from 6 z) c old.format))
+          (All-drop (λ (u : ℕ). is_reference os u ≡ true) 1 (take 6 z.words ++ replicate (length z.words - 6) nil)
           (All-append (λ (u : ℕ). is_reference os u ≡ true) (take 6 z.words) (replicate (length z.words - 6) nil)
-          (All-take (λ (u : ℕ). is_reference os u ≡ true) 6 z.words whole.references)
-          (All-replicate (λ (u : ℕ). is_reference os u ≡ true) (length z.words - 6) nil named));
+          (All-take (λ (u : ℕ). is_reference os u ≡ true) 6 z.words (all_words (is_reference os) z.words place whole.behind))
+          (All-replicate (λ (u : ℕ). is_reference os u ≡ true) (length z.words - 6) nil named)));
       context = λ _. record {
         format = old.format;
         slots = subst (λ (n : ℕ). IsTrue (n == 22 || n == 62)) (sym slots) old.slots;
+        sender = subst (λ (u : ℕ). IsTrue (is_sender os u)) (sym (get_or-cleared 6 z.words 0 (omega arith))) old.sender;
         pc = subst (λ (u : ℕ). IsTrue (u == nil_of os || is_some (count_of u))) (sym first) old.pc;
         stackp = subst (λ (u : ℕ). IsTrue (u == nil_of os || is_some (count_of u))) (sym second) old.stackp;
         depth = omega (arith, ap (λ u. unwrap_or (count_of u) 0) second, old.depth, slots);
+        method = subst (λ (u : ℕ). IsTrue (is_nil_or_method os u)) (sym (get_or-cleared 6 z.words 3 (omega arith))) old.method;
+        closure = subst (λ (u : ℕ). IsTrue (is_nil_or_closure os u)) (sym (get_or-cleared 6 z.words 4 (omega arith))) old.closure;
       };
       method = λ m. absurd (false≢true (sym (not_pointers z.format m) ∙ pointers));
     }
@@ -97,14 +100,18 @@ nil_passes os e = ap (λ n. nil == n || is_some (count_of nil)) e
 
 pub sound_linked : (os : List Object) (r : FrameRef) (x : Object) → IsSoundObject os x → is_context x ≡ true → is_reference os nil ≡ true → nil_of os ≡ nil → IsSoundObject os (linked r x)
 sound_linked os r x s c named at_base =
-    let place = link_word r in
-    let link : is_reference os (link_word r) ≡ true = odd_reference os (link_word r) (eq-eqb (link_word r % 2) 1 (omega arith)) in
-    let first = sound-set_context os x 0 (link_word r) s c (record { reference = link; pc = λ e. absurd (omega (arith, e)); stackp = λ e. absurd (omega (arith, e)); depth = λ e. absurd (omega (arith, e)) }) in
-    let second = sound-set_context os (set_word 0 (link_word r) x) 1 nil first c
-    (record { reference = named; pc = λ e. nil_passes os at_base; stackp = λ e. absurd (omega (arith, e)); depth = λ e. absurd (omega (arith, e)) }) in
-    let third = sound-set_context os (set_word 1 nil (set_word 0 (link_word r) x)) 2 nil second c
-    (record { reference = named; pc = λ e. absurd (omega (arith, e)); stackp = λ e. nil_passes os at_base; depth = λ e. omega (arith, ap (λ (o : Option ℕ). unwrap_or o 0) nil_counts) }) in
-    sound_cleared os (set_word 2 nil (set_word 1 nil (set_word 0 (link_word r) x))) third c named
+    let place : ℕ = link_word r in
+    let link : is_reference os (link_word r) ≡ true = place_reference os (link_word r) (link_names r) in
+    let one : Object = set_word 0 (link_word r) x in
+    let two : Object = set_word 1 nil one in
+    let first = sound-set_context os x 0 (link_word r) s c (write_sender os x (link_word r) (place_sender os (link_word r) (link_names r))) in
+    let second = sound-set_context os one 1 nil first c (write_pc os one nil named (nil_passes os at_base)) in
+    let third = sound-set_context os two 2 nil second c (write_stackp os two nil named (nil_passes os at_base) (omega (arith, ap (λ (o : Option ℕ). unwrap_or o 0) nil_counts))) in
+    let long = (whole_context os x s c).fields in
+    let word : slice_index (set (set (set x.words 0 place) 1 nil) 2 nil) 0 ≡ place =
+    get_or-set_other (set (set x.words 0 place) 1 nil) 2 0 nil 0 (λ e. omega (arith, e))
+    ∙ get_or-set_other (set x.words 0 place) 1 0 nil 0 (λ e. omega (arith, e)) ∙ get_or-set_same x.words 0 place 0 (omega (arith, long)) in
+    sound_cleared os (set_word 2 nil two) third c (ap (is_reference os) word ∙ link) named
 
 -- ---- how many contexts there are
 
@@ -135,7 +142,7 @@ module _ {os : List Object} {table : FinMap nat_cmp ℕ} {roots : Roots} (a : �
   long = (whole_context os x (sound_at os a x heap.heap there) c).fields
 
   pub linked_whole : IsWhole us table roots
-  linked_whole = whole-with_object os table roots a x (linked r) (linked_edit r) heap there (sound_linked os r x (sound_at os a x heap.heap there) c named heap.nil)
+  linked_whole = whole-with_object os table roots a x (linked r) (linked_edit r) refl heap there (sound_linked os r x (sound_at os a x heap.heap there) c named heap.nil)
 
   pub linked_refers : ref_of us ≡ ref_of os
   linked_refers = ref_of-with_object os a (linked r) (linked_edit r)
@@ -183,6 +190,12 @@ module _ {os : List Object} {table : FinMap nat_cmp ℕ} {roots : Roots} (a : �
     | inl e ↦ subst (PcFits us) e (ap (λ w. lies_if_live (meaning_at us (slice_index (linked r x).words 3)) (count_of w)) (linked_pc r x long)
         ∙ ap (lies_if_live (meaning_at us (slice_index (linked r x).words 3))) nil_counts)
     | inr old ↦ live_kept (slice_index y.words 3) (count_of (slice_index y.words 1)) ∙ pcs j y old is
+  ]
+
+  pub linked_senders : ((j : ℕ) (y : Object) → slice_get os j ≡ Some y → is_context y ≡ true → SenderFits os y) → (j : ℕ) (y : Object) → slice_get us j ≡ Some y → is_context y ≡ true → SenderFits us y
+  linked_senders senders j y h is = elim (cases j y h) [
+    | inl e ↦ subst (SenderFits us) e (sender_fits-place us (linked r x) (ap names_place (linked_place r x long) ∙ link_names r))
+    | inr old ↦ sender_fits-with_object os a (linked r) y (linked_edit r) (senders j y old is)
   ]
 
   pub linked_links : ((j : ℕ) (y : Object) → slice_get os j ≡ Some y → is_linked y ≡ true → LinkFits y) → (j : ℕ) (y : Object) → slice_get us j ≡ Some y → is_linked y ≡ true → LinkFits y

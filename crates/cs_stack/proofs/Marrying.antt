@@ -1,24 +1,24 @@
 -- A frame gets a context: heap and frames say the same of everything, and stay good.
 use Rattle.std.proofs.Common.{◌≡◌, ◌≢◌, ◌⊎◌, ◌↔◌, ℕ, zero, suc, ◌+◌, ◌-◌, ◌<◌, ◌≤◌, Bool, true, false, refl, sym, ap, ap₂, subst, ◌∙◌, Option, Some, None, is_some, List, [], ◌∷◌, ◌++◌, length, map, option_and_then, replicate, arith, inl, inr, length-append}
-use Rattle.std.specs.Prelude.{◌==◌, ◌||◌, ◌*◌, pos, ◌/◌, ◌%◌, ◌^◌, if◌then◌else◌, option_map, slice_get, slice_index, unwrap_or, Contains, IsTrue}
+use Rattle.std.specs.Prelude.{◌==◌, ◌&&◌, ◌||◌, ◌/◌, ◌%◌, ◌^◌, if◌then◌else◌, option_map, slice_get, slice_index, unwrap_or, Contains, IsTrue}
 use Rattle.std.specs.List.{AllPass}
 use Rattle.std.specs.Option.{option_map_or}
 use Rattle.std.specs.Ordering.{nat_cmp}
 use Rattle.std.specs.FinMap.{FinMap, get, insert, nat_cmp-IsAntisymmetric, same_map}
 use Rattle.std.specs.Cmp.{nat_cmp_total}
-use Rattle.std.proofs.lemmas.Bool.{cases_eq, eq-eqb, ne_eqb}
+use Rattle.std.proofs.lemmas.Bool.{cases_eq, eq-eqb, ne_eqb, or_right}
 use Rattle.std.proofs.lemmas.List.{length-replicate}
 use Rattle.std.proofs.lemmas.List.Elements.{All-cons, All-replicate}
-use Rattle.cs_heap.specs.Format.{format_allows}
+use Rattle.cs_heap.specs.Format.{format_allows, is_method}
 use Rattle.cs_classes.specs.declared.Roots.{Roots}
 use Rattle.cs_word.specs.declared.Oop.{Oop}
-use Rattle.cs_heap.specs.Object.{Memory, Object, birth_of, class_of, hash_of, index_of as place_of, is_object, next_address, object_at, size, used}
+use Rattle.cs_heap.specs.Object.{Memory, Object, birth_of, class_of, format_of, hash_of, index_of as place_of, is_object, next_address, object_at, size, used}
 use Rattle.cs_heap.proofs.Laws.{field_of-new, field_of-old, is_object-new, is_object-old, is_object-pushed, no_object-next, object_at-old, used-pushed}
 use Rattle.cs_classes.specs.Meaning.{birth_at, classes_of, count_of, is_context, kept_of, meaning_at, obj_of, objects_of, ref_of}
-use Rattle.cs_classes.specs.Sound.{IsSound, IsSoundObject, IsWhole, is_reference, nil_of}
+use Rattle.cs_classes.specs.Sound.{IsSound, IsSoundObject, IsWhole, is_method_address, is_reference, nil_of}
 use Rattle.cs_classes.proofs.Heaps.{birth_of-push, object_at-push, slice_get-push}
 use Rattle.cs_classes.proofs.Objects.{IsFresh, get-objects_of-element, objects_of-push}
-use Rattle.cs_classes.proofs.Refs.{is_reference-object, is_reference-push, is_reference-small, nil_of-push, ref_of-object, ref_of-push, small_natural}
+use Rattle.cs_classes.proofs.Refs.{both_true, is_reference-object, is_reference-push, nil_of-push, ref_of-object, ref_of-push}
 use Rattle.cs_classes.proofs.Sorts.{map_alike}
 use Rattle.cs_classes.proofs.Sounds.{sound-push, sound_at}
 use Rattle.cs_classes.proofs.Wholes.{get-classes_of, obj_of-push}
@@ -32,10 +32,11 @@ use Rattle.cs_marriage.specs.Marriage.{married_objects, new_size, new_spouse, sp
 use Rattle.cs_marriage.specs.Place.{link_word}
 use Rattle.cs_marriage.proofs.Agreeing.{agree_married, context_again, size_none, size_some}
 use Rattle.cs_marriage.proofs.Objects.{context_there as spouse_there, method_there as code_there}
+use Rattle.cs_marriage.proofs.Places.{link_names}
 use Rattle.cs_model.specs.Ref as ref
 use Rattle.cs_model.specs.Obj.{Ctx, Obj, context_class, context_size, lies_in}
 use Rattle.cs_model.specs.State.{Kept, Rest}
-use Rattle.cs_model.specs.Context.{lies_if_index, lies_if_live}
+use Rattle.cs_model.specs.Context.{closure_class, lies_if_index, lies_if_live}
 use Rattle.cs_acts.specs.declared.act.Act.{Act}
 use Rattle.cs_acts.specs.declared.act.Act.TheVariants as act
 use Rattle.cs_acts.specs.Full.{IsFullHeap}
@@ -43,7 +44,7 @@ use Rattle.cs_acts.specs.Made.{contexts_in}
 use Rattle.cs_acts.specs.Names.{KeepsNames, Names}
 use Rattle.cs_stack.specs.declared.parts.Parts.{Parts}
 use Rattle.cs_stack.specs.View.{act_of, active_in, bare, birth_from, birth_in, births_of, first_of, laid_pages, layout_of, frame_context, frame_hash, frame_sender, frames_onto, has_context, is_linked, is_married, pages_onto, stored_of, unframed, view_of}
-use Rattle.cs_stack.specs.Good.{FrameFits, FramesFit, HasSender, IsChain, IsGood, Lacks, LinkFits, PcFits, base_of}
+use Rattle.cs_stack.specs.Good.{FrameFits, FramesFit, HasSender, IsChain, IsGood, Lacks, LinkFits, PcFits, SenderFits, base_of, is_nil_or}
 use Rattle.cs_stack.proofs.Lives.{lives_at}
 use Rattle.cs_stack.proofs.Maps.{Objects, get_apart}
 use Rattle.cs_stack.proofs.Framed.{Bare, Framed, IsOn, Which, above, all_fit, apart_on, fits_on, here, lacks_on, one_birth, onto_bare, onto_frame, which}
@@ -52,6 +53,7 @@ use Rattle.cs_stack.proofs.Bare.{bare_none, bare_push, bare_rest, bare_whole, un
 use Rattle.cs_stack.proofs.Places.{agreed}
 use Rattle.cs_stack.proofs.Counting.{words_frame}
 use Rattle.cs_stack.proofs.Acts.{FrameAct, body_married, frame_at, nil_counts}
+use Rattle.cs_stack.proofs.Addresses.{closure_sound, nil_or-push, nil_or_named, place_sender, sender_fits-place, sender_fits-push}
 
 -- ---- the frame of a birth gets a context
 
@@ -170,9 +172,6 @@ contexts_pushed (x ∷ os) y = omega (arith, contexts_pushed os y)
 
 -- ---- the context of a frame
 
-link_named : (os : List Object) (r : FrameRef) → r.page < 64 → r.at < 4096 → is_reference os (link_word r) ≡ true
-link_named os r page at = is_reference-small os (pos (r.page * 4096 + r.at)) (small_natural (r.page * 4096 + r.at) (omega (arith, page, at)))
-
 sizes_allowed : (header : ℕ) (xs : List ℕ) → length xs ≡ 6 + context_size header → (IsTrue (format_allows 3 (length xs))) × (IsTrue (length xs == 22 || length xs == 62))
 sizes_allowed header xs e = go (header / 2 ^ 17 % 2 == 1) e
   where
@@ -180,29 +179,33 @@ sizes_allowed header xs e = go (header / 2 ^ 17 % 2 == 1) e
     go true e = subst (λ n. (IsTrue (format_allows 3 n)) × (IsTrue (n == 22 || n == 62))) (sym e) (refl, refl)
     go false e = subst (λ n. (IsTrue (format_allows 3 n)) × (IsTrue (n == 22 || n == 62))) (sym e) (refl, refl)
 
-spouse_sound : (us : List Object) (r : FrameRef) (f : Frame) (header : ℕ) → nil_of us ≡ nil → is_reference us (link_word r) ≡ true → is_reference us nil ≡ true → is_reference us f.method ≡ true → is_reference us f.closure ≡ true
+spouse_sound : (us : List Object) (r : FrameRef) (f : Frame) (header : ℕ) → nil_of us ≡ nil → is_reference us nil ≡ true → is_method_address us f.method ≡ true → is_nil_or closure_class us f.closure ≡ true
     → is_reference us f.receiver ≡ true → IsSoundObject us (new_spouse r (context_size header) f)
-spouse_sound us r f header nil_is link nil_named method closure receiver =
+spouse_sound us r f header nil_is nil_named method closure receiver =
     let named : ℕ → Type 0 = λ v. is_reference us v ≡ true in
     let rest : List ℕ = replicate (context_size header) nil in
     let y = new_spouse r (context_size header) f in
     let long : length y.words ≡ 6 + context_size header = omega (arith, length-replicate (context_size header) nil) in
     let allowed = sizes_allowed header y.words long in
     record {
+      kind = refl;
+      plain = refl;
       shape = allowed.0;
       references =
-          All-cons named (link_word r) (nil ∷ nil ∷ f.method ∷ f.closure ∷ f.receiver ∷ rest) link
-          (All-cons named nil (nil ∷ f.method ∷ f.closure ∷ f.receiver ∷ rest) nil_named
+          All-cons named nil (nil ∷ f.method ∷ f.closure ∷ f.receiver ∷ rest) nil_named
           (All-cons named nil (f.method ∷ f.closure ∷ f.receiver ∷ rest) nil_named
-          (All-cons named f.method (f.closure ∷ f.receiver ∷ rest) method
-          (All-cons named f.closure (f.receiver ∷ rest) closure
-          (All-cons named f.receiver rest receiver (All-replicate named (context_size header) nil nil_named))))));
+          (All-cons named f.method (f.closure ∷ f.receiver ∷ rest) (is_reference-object us f.method (both_true (is_object us f.method) (is_method (format_of us f.method)) method).0)
+          (All-cons named f.closure (f.receiver ∷ rest) (nil_or_named closure_class us f.closure closure)
+          (All-cons named f.receiver rest receiver (All-replicate named (context_size header) nil nil_named)))));
       context = λ _. record {
         format = refl;
         slots = allowed.1;
+        sender = place_sender us (link_word r) (link_names r);
         pc = ap (λ b. b || is_some (count_of nil)) (eq-eqb nil (nil_of us) (sym nil_is));
         stackp = ap (λ b. b || is_some (count_of nil)) (eq-eqb nil (nil_of us) (sym nil_is));
         depth = omega (arith, ap (λ n. unwrap_or n 0) nil_counts);
+        method = or_right (f.method == nil_of us) (is_method_address us f.method) method;
+        closure = closure_sound us f.closure nil_is closure;
       };
       method = λ m. absurd (cc);
     }
@@ -334,7 +337,7 @@ module _ (w : Parts) (good : IsGood w) (r : FrameRef) (is : IsFrame w.frames r) 
   -- ---- frames as contexts
 
   sender_same : (f : Frame) (gs : List Frame) → FrameFits os next f gs → frame_sender us (wed b a f) (wed_page b a gs) ≡ frame_sender os f gs
-  sender_same f [] fits = ap (ref_of us) (wed_keeps (λ g. g.caller) b a f refl) ∙ refer f.caller fits.sender
+  sender_same f [] fits = ap (ref_of us) (wed_keeps (λ g. g.caller) b a f refl) ∙ refer f.caller (nil_or_named context_class os f.caller fits.sender)
   sender_same f (g ∷ gs) fits = ap (λ n. ref.Obj n) (wed_keeps (λ h. h.birth) b a g refl)
 
   context_same : {f : Frame} {gs : List Frame} (p : ℕ) → IsOn f gs (frames_of w.frames p) → frame_context us (wed b a f) (wed_page b a gs) ≡ frame_context os f gs
@@ -347,7 +350,7 @@ module _ (w : Parts) (good : IsGood w) (r : FrameRef) (is : IsFrame w.frames r) 
       let sender = sender_same f gs fits in
       let pc = ap count_of (wed_keeps (λ g. g.saved_pc) b a f refl) in
       let method = ap (ref_of us) (wed_keeps (λ g. g.method) b a f refl) ∙ refer f.method (is_reference-object os f.method (method_named p on)) in
-      let closure = ap (ref_of us) (wed_keeps (λ g. g.closure) b a f refl) ∙ refer f.closure fits.names.closure in
+      let closure = ap (ref_of us) (wed_keeps (λ g. g.closure) b a f refl) ∙ refer f.closure (nil_or_named closure_class os f.closure fits.names.closure) in
       let receiver = ap (ref_of us) (wed_keeps (λ g. g.receiver) b a f refl) ∙ refer f.receiver fits.names.receiver in
       let stack = ap (map (ref_of us)) (wed_keeps (λ g. g.stack) b a f refl) ∙ map_alike (is_reference os) (ref_of us) (ref_of os) refer f.stack fits.names.stack in
       λ i. record {
@@ -539,42 +542,56 @@ module _ (w : Parts) (good : IsGood w) (r : FrameRef) (is : IsFrame w.frames r) 
         is = ap (ref_of us) e ∙ ref_of-object us a there ∙ ap (λ n. ref.Obj n) (field_of-new (λ x. x.birth) os y a at_end);
       }
 
-  page_few : r.page < 64
-  page_few = omega (arith, page-IsFrame w.frames r is, good.agree.few)
-
-  at_few : r.at < 4096
-  at_few = (good.agree.frames r is).within
+  -- the method of the frame is one in the new heap
+  method_new : is_method_address us fr.method ≡ true
+  method_new = let m = (good.agree.frames r is).method in
+      ap₂ (λ (c : Bool) (n : ℕ). c && is_method n) (is_object-old os y fr.method (method_named r.page on_r)) (field_of-old (λ x. x.format) os y fr.method (method_named r.page on_r)) ∙ m.format
 
   sound_new : IsSoundObject us y
   sound_new =
-      spouse_sound us r fr (header_at os fr.method) (nil_of-push os y (omega (arith, good.whole.first)) ∙ good.whole.nil) (link_named us r page_few at_few)
+      spouse_sound us r fr (header_at os fr.method) (nil_of-push os y (omega (arith, good.whole.first)) ∙ good.whole.nil)
       (is_reference-object us nil (is_object-old os y nil good.agree.nil_there))
-      (refers fr.method (is_reference-object os fr.method (method_named r.page on_r))) (refers fr.closure fits_r.names.closure) (refers fr.receiver fits_r.names.receiver)
-
-  used_page : Contains w.pages.recent r.page
-  used_page = (good.used_pages r.page).1 (omega (arith, is))
-
-  entry : is_some (get w.classes context_class) ≡ true
-  entry = good.entry (omega (arith, used_page.1))
+      method_new (nil_or-push closure_class os y fr.closure fits_r.names.closure) (refers fr.receiver fits_r.names.receiver)
 
   whole : IsWhole us w.classes w.roots
   whole = record {
     heap = sound-push os y good.whole.heap fresh sound_new;
     first = omega (arith, good.whole.first, length-append os (y ∷ []));
     nil = nil_of-push os y (omega (arith, good.whole.first)) ∙ good.whole.nil;
+    singles = λ k x h l. singles k x l (slice_get-push os y k x h);
     births = λ k x h. births k x (slice_get-push os y k x h);
     indices = λ k x h. indices k x (slice_get-push os y k x h);
     classes = λ i c e. is_object-old os y c (good.whole.classes i c e);
+    entries = record {
+      within = good.whole.entries.within;
+      zero = good.whole.entries.zero;
+      hidden = good.whole.entries.hidden;
+      integers = good.whole.entries.integers;
+      characters = good.whole.entries.characters;
+      contexts = good.whole.entries.contexts;
+      closures = good.whole.entries.closures;
+      second = good.whole.entries.second;
+      class = λ index c x e three h. good.whole.entries.class index c x e three (sym (object_at-old os y c (good.whole.classes index c e)) ∙ h);
+    };
     special = is_object-old os y w.roots.special.0 good.whole.special;
+    array = record {
+      format = field_of-old (λ x. x.format) os y w.roots.special.0 good.whole.special ∙ good.whole.array.format;
+      slots = omega (arith, good.whole.array.slots, field_of-old (λ x. length x.words) os y w.roots.special.0 good.whole.special);
+    };
+    last_hash = good.whole.last_hash;
   }
     where
+      singles : (k : ℕ) (x : Object) → k < 3 → (slice_get os k ≡ Some x) ⊎ ((k ≡ length os) × (y ≡ x)) → x.format ≡ 0
+      singles k x l (inl h) = good.whole.singles k x h l
+      singles k x l (inr h) = absurd (omega (arith, l, h.0, good.whole.first))
+
       births : (k : ℕ) (x : Object) → (slice_get os k ≡ Some x) ⊎ ((k ≡ length os) × (y ≡ x)) → x.birth < w.roots.next_birth
       births k x (inl h) = good.whole.births k x h
       births k x (inr h) = omega (arith, fits_r.birth, ap (λ (z : Object). z.birth) h.1)
 
       indices : (k : ℕ) (x : Object) → (slice_get os k ≡ Some x) ⊎ ((k ≡ length os) × (y ≡ x)) → is_some (get w.classes x.class) ≡ true
       indices k x (inl h) = good.whole.indices k x h
-      indices k x (inr h) = subst (λ (z : Object). is_some (get w.classes z.class) ≡ true) h.1 entry
+      indices k x (inr h) = subst (λ (z : Object). is_some (get w.classes z.class) ≡ true) h.1 good.whole.entries.contexts
 
   pcs : (k : ℕ) (x : Object) → slice_get us k ≡ Some x → is_context x ≡ true → PcFits us x
   pcs k x h context = go (slice_get-push os y k x h)
@@ -582,6 +599,13 @@ module _ (w : Parts) (good : IsGood w) (r : FrameRef) (is : IsFrame w.frames r) 
       go : (slice_get os k ≡ Some x) ⊎ ((k ≡ length os) × (y ≡ x)) → PcFits us x
       go (inl e) = live_pushed os y (slice_index x.words 3) (count_of (slice_index x.words 1)) good.whole.heap (good.pcs k x e context)
       go (inr e) = subst (PcFits us) e.1 (ap (lies_if_live (meaning_at us fr.method)) nil_counts)
+
+  senders : (k : ℕ) (x : Object) → slice_get us k ≡ Some x → is_context x ≡ true → SenderFits us x
+  senders k x h context = go (slice_get-push os y k x h)
+    where
+      go : (slice_get os k ≡ Some x) ⊎ ((k ≡ length os) × (y ≡ x)) → SenderFits us x
+      go (inl e) = sender_fits-push os y x (good.senders k x e context)
+      go (inr e) = subst (SenderFits us) e.1 (sender_fits-place us y (link_names r))
 
   links : (k : ℕ) (x : Object) → slice_get us k ≡ Some x → is_linked x ≡ true → LinkFits x
   links k x h linked = go (slice_get-push os y k x h)
@@ -618,7 +642,7 @@ module _ (w : Parts) (good : IsGood w) (r : FrameRef) (is : IsFrame w.frames r) 
       let birth = wed_keeps (λ g. g.birth) b a f refl in
       record {
         names = record {
-          closure = ap (is_reference us) (wed_keeps (λ g. g.closure) b a f refl) ∙ refers f.closure fits.names.closure;
+          closure = ap (is_nil_or closure_class us) (wed_keeps (λ g. g.closure) b a f refl) ∙ nil_or-push closure_class os y f.closure fits.names.closure;
           receiver = ap (is_reference us) (wed_keeps (λ g. g.receiver) b a f refl) ∙ refers f.receiver fits.names.receiver;
           stack = subst (AllPass (is_reference us)) (sym stack) (λ k d l. refers _ (fits.names.stack k d l));
         };
@@ -633,7 +657,7 @@ module _ (w : Parts) (good : IsGood w) (r : FrameRef) (is : IsFrame w.frames r) 
       }
     where
       sender_still : (hs : List Frame) → FrameFits os next f hs → HasSender us (wed b a f) (wed_page b a hs)
-      sender_still [] fits = ap (is_reference us) (wed_keeps (λ g. g.caller) b a f refl) ∙ refers f.caller fits.sender
+      sender_still [] fits = ap (is_nil_or context_class us) (wed_keeps (λ g. g.caller) b a f refl) ∙ nil_or-push context_class os y f.caller fits.sender
       sender_still (h ∷ hs) fits = tt
 
   frames_fit : (p : ℕ) (fs : List Frame) → ((f : Frame) (gs : List Frame) → IsOn f gs fs → IsOn f gs (frames_of w.frames p)) → FramesFit us next (wed_page b a fs)
@@ -664,6 +688,7 @@ module _ (w : Parts) (good : IsGood w) (r : FrameRef) (is : IsFrame w.frames r) 
     most = good.most;
     births = good.births;
     pcs = pcs;
+    senders = senders;
     links = links;
     agree = agrees;
     frames = λ p. subst (FramesFit us next) (sym (page_is p)) (frames_fit p (frames_of w.frames p) (λ f gs on. on));
@@ -672,8 +697,6 @@ module _ (w : Parts) (good : IsGood w) (r : FrameRef) (is : IsFrame w.frames r) 
     order = good.order;
     used_pages = λ p. subst (λ n. Contains w.pages.recent p ↔ (0 < n)) (sym (length_alike (frames_of qs p) (frames_of w.frames p) (page_births p))) (good.used_pages p);
     chain = chain_still w.pages.recent good.chain;
-    entry = good.entry;
-    closures = good.closures;
   }
 
 -- ---- the call

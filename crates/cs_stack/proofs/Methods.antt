@@ -30,6 +30,9 @@ use Rattle.cs_stack.proofs.Tops.{Opened}
 use Rattle.cs_stack.proofs.Entries.{Entry, code_there, entry}
 use Rattle.cs_stack.proofs.Copies.{take_none}
 use Rattle.cs_stack.proofs.Entering.{depth_read, value_name, value_named}
+use Rattle.std.proofs.lemmas.Bool.{eq-eqb, or_left}
+use Rattle.cs_model.specs.Context.{closure_class, has_class_index}
+use Rattle.cs_model.specs.State.{is_nil}
 
 -- this frame can be made, and this is the state then
 pub record Begins (w : Parts) (new : NewFrame) (pc : Oop) (copies : ℕ) (t : Kept) : Type 0 where
@@ -108,6 +111,8 @@ module _ {w : Parts} (ready : IsReady (stored_of w) (view_of w)) (o : Opened w) 
       can = record {
         method = named;
         closure = (nil_names (stored_of w) k (record { 0 = nil }) ready.sound refl).sound;
+        kind = or_left (is_nil k (name_of (stored_of w) (record { 0 = nil }))) (has_class_index closure_class (object_of k (name_of (stored_of w) (record { 0 = nil }))))
+            (ap (is_nil k) nil_name ∙ eq-eqb k.rest.nil k.rest.nil refl);
         receiver = ap (is_reference os) received ∙ value_named o (length o.f.stack - (args + 1)) (omega (arith, enough));
         code = can.method;
         lies = ap (lies_if_index (object_of k x)) pc_is ∙ e.lies;

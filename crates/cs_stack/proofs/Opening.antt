@@ -1,10 +1,10 @@
 -- Opening an image: a loaded image is a good world without frames.
 use Rattle.std.proofs.Common.{◌≡◌, ◌≢◌, ◌↔◌, ℕ, zero, suc, ◌<◌, ◌≤◌, true, false, refl, sym, ap, subst, ◌∙◌, Option, Some, None, is_some, List, [], length, option_map, replicate, arith}
-use Rattle.std.specs.Prelude.{Contains, slice_get, slice_index, unwrap_or, if◌then◌else◌, ◌&&◌, Bool}
+use Rattle.std.specs.Prelude.{Contains, slice_get, slice_index, unwrap_or, if◌then◌else◌, ◌&&◌, ◌||◌, ◌==◌, Bool}
 use Rattle.std.specs.Option.{option_map_or}
 use Rattle.std.specs.Ordering.{nat_cmp}
 use Rattle.std.specs.FinMap.{FinMap, get}
-use Rattle.std.proofs.lemmas.Bool.{eq-eqb}
+use Rattle.std.proofs.lemmas.Bool.{eq-eqb, or_right}
 use Rattle.std.proofs.lemmas.List.{length-replicate}
 use Rattle.cs_word.specs.declared.Kind.{Kind}
 use Rattle.cs_word.specs.declared.Kind.TheVariants as kind
@@ -15,7 +15,7 @@ use Rattle.cs_classes.specs.declared.Loaded.{Loaded}
 use Rattle.cs_classes.specs.declared.Roots.{Roots}
 use Rattle.cs_classes.specs.Meaning.{context_of, count_of, is_context, kept_of, meaning_at, objects_of, ref_of, ref_of_kind}
 use Rattle.cs_classes.specs.Senders.{SendersStand}
-use Rattle.cs_classes.specs.Sound.{IsSound, IsWhole, is_reference, is_reference_kind}
+use Rattle.cs_classes.specs.Sound.{IsSound, IsSoundContext, IsWhole, is_reference, is_reference_kind, is_sender, is_sender_kind, nil_of}
 use Rattle.cs_classes.proofs.Heaps.{element_within}
 use Rattle.cs_classes.proofs.Objects.{get-objects_of, get-objects_of-element}
 use Rattle.cs_classes.proofs.Sorts.{obj_of-context}
@@ -27,7 +27,6 @@ use Rattle.cs_marriage.specs.Place.{names_place}
 use Rattle.cs_marriage.proofs.Laws.{agree_empty}
 use Rattle.cs_pages.specs.Order.{Order}
 use Rattle.cs_pages.specs.Order as pages
-use Rattle.cs_model.specs.Context.{closure_class}
 use Rattle.cs_model.specs.Ref.{Ref}
 use Rattle.cs_model.specs.Obj.{Context, Ctx, context_class, is_context_at, lies_in}
 use Rattle.cs_model.specs.Context.{lies_if_live}
@@ -38,7 +37,7 @@ use Rattle.cs_model.specs.Due.{is_idle, is_idle_at}
 use Rattle.cs_model.specs.Settle.{open_if, open_kept}
 use Rattle.cs_stack.specs.declared.parts.Parts.{Parts}
 use Rattle.cs_stack.specs.View.{active_in, bare, first_of, is_linked, loaded_kept, unframed, view_of}
-use Rattle.cs_stack.specs.Good.{AreApart, FramesFit, IsChain, IsGood, LinkFits, PcFits}
+use Rattle.cs_stack.specs.Good.{AreApart, FramesFit, IsChain, IsGood, LinkFits, PcFits, SenderFits, is_nil_or}
 use Rattle.cs_stack.specs.Moved.{taken_of}
 use Rattle.cs_stack.proofs.Bare.{bare_get, bare_loaded}
 use Rattle.cs_stack.proofs.Dying.{dead_sender, unframed_linked}
@@ -74,7 +73,7 @@ pcs_fit os table roots whole pcs j x h is = go (count_of (slice_index x.words 1)
     found = get-objects_of-element os j x whole.heap.apart h ∙ ap (λ o. Some o) (obj_of-context (ref_of os) x is)
 
     named : is_reference os (slice_index x.words 3) ≡ true
-    named = let c = whole_context os x (whole.heap.each j x h) is in c.references 3 0 (omega (arith, c.fields))
+    named = let c = whole_context os x (whole.heap.each j x h) is in c.references 3 (omega arith) (omega (arith, c.fields))
 
     go : (p : Option ℕ) → count_of (slice_index x.words 1) ≡ p → lies_if_live (meaning_at os (slice_index x.words 3)) p ≡ true
     go None e = refl
@@ -131,6 +130,39 @@ no_link os table roots whole same j x h linked = absurd (
     unframed_word : (x : Object) → Some (unframed x) ≡ Some x → slice_index (unframed x).words 0 ≡ slice_index x.words 0
     unframed_word x e = ap (λ (o : Option Object). option_map_or (λ (y : Object). slice_index y.words 0) o 0) e
 
+-- ---- senders
+
+-- where senders are nil or contexts, their words are the addresses of such
+senders_fit : (l : Loaded) → IsWhole l.heap.objects l.classes l.roots → SendersStand (loaded_kept l) → (j : ℕ) (x : Object) → slice_get l.heap.objects j ≡ Some x → is_context x ≡ true → SenderFits l.heap.objects x
+unfolding context_of is_sender ref_of
+senders_fit l whole stand j x h is =
+    or_right (names_place word) (is_nil_or context_class os word) (go (kind_of word) refl sound.sender (stand x.birth (context_of (ref_of os) x.hash x.words) found))
+  where
+    os : List Object
+    os = l.heap.objects
+
+    word : ℕ
+    word = slice_index x.words 0
+
+    k : Kept
+    k = loaded_kept l
+
+    sound : IsSoundContext os x
+    sound = (whole.heap.each j x h).context is
+
+    found : get (objects_of os) x.birth ≡ Some (Ctx (context_of (ref_of os) x.hash x.words))
+    found = get-objects_of-element os j x whole.heap.apart h ∙ ap (λ o. Some o) (obj_of-context (ref_of os) x is)
+
+    go : (q : Kind) → kind_of word ≡ q → is_sender_kind os (kind_of word) ≡ true → (is_nil k (ref_of_kind os (kind_of word)) || is_context_at (object_of k (ref_of_kind os (kind_of word)))) ≡ true
+        → is_nil_or context_class os word ≡ true
+    go (kind.Small z) e s n = absurd (let no : false ≡ true = ap (λ q. is_nil k (ref_of_kind os q) || is_context_at (object_of k (ref_of_kind os q))) (sym e) ∙ n in cc)
+    go (kind.Character code) e s n = absurd (let no : false ≡ true = ap (is_sender_kind os) (sym e) ∙ s in cc)
+    go (kind.Link v) e s n = absurd (let no : false ≡ true = ap (λ q. is_nil k (ref_of_kind os q) || is_context_at (object_of k (ref_of_kind os q))) (sym e) ∙ n in cc)
+    go (kind.Object a) e s n =
+        let same : a ≡ word = kind_address word a e in
+        let there : (is_object os a && (a == nil_of os || class_of os a == context_class)) ≡ true = ap (is_sender_kind os) (sym e) ∙ s in
+        subst (λ b. is_nil_or context_class os b ≡ true) same (ap (λ n. is_object os a && (a == n || class_of os a == context_class)) (sym whole.nil) ∙ there)
+
 -- ---- the world
 
 none_of : (n p : ℕ) → frames_of (replicate n []) p ≡ []
@@ -161,8 +193,7 @@ module _ (l : Loaded) (n : ℕ) (order : Order) (frames : List (List Frame)) (wh
 
   module _ (few : n ≤ 64) (within : used l.heap.objects ≤ l.heap.limit) (most : l.heap.limit ≤ 67108864) (births : l.roots.next_birth ≤ 4611686018427387904)
       (pcs : (i : ℕ) (c : Context) → state.object_at (loaded_kept l) i ≡ Some (Ctx c) → PcLies (loaded_kept l) c)
-      (plain : is_context_at (state.object_at (loaded_kept l) (loaded_kept l).rest.nil) ≡ false) (sound : pages.IsSound order)
-      (closures : is_some (get l.classes closure_class) ≡ true) where
+      (plain : is_context_at (state.object_at (loaded_kept l) (loaded_kept l).rest.nil) ≡ false) (sound : pages.IsSound order) where
     pub made_good : IsGood made
     made_good = record {
       whole = whole;
@@ -170,6 +201,7 @@ module _ (l : Loaded) (n : ℕ) (order : Order) (frames : List (List Frame)) (wh
       most = most;
       births = births;
       pcs = pcs_fit l.heap.objects l.classes l.roots whole pcs;
+      senders = senders_fit l whole senders;
       links = no_link l.heap.objects l.classes l.roots whole (bare_loaded l whole senders);
       agree = subst (Agree l.heap.objects) (sym frames_are) (agree_empty l.heap.objects n few (first_there l.heap.objects l.classes l.roots whole).is (nil_apart l.heap.objects l.classes l.roots whole plain));
       frames = λ p. subst (FramesFit l.heap.objects l.roots.next_birth) (sym (empty p)) tt;
@@ -178,8 +210,6 @@ module _ (l : Loaded) (n : ℕ) (order : Order) (frames : List (List Frame)) (wh
       order = sound;
       used_pages = used_none;
       chain = subst (IsChain frames) (sym recent) tt;
-      entry = λ some. absurd (omega (arith, some, ap length recent));
-      closures = closures;
     }
 
     -- the state is that of the image

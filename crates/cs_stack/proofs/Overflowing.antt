@@ -1,6 +1,6 @@
 -- A new frame where no room is left on the page: the caller is married first, and a call that is refused has its cause.
 use Rattle.std.proofs.Common.{◌≡◌, ◌≢◌, ℕ, ◌+◌, ◌<◌, ◌≤◌, Bool, true, false, refl, sym, ap, ap₂, subst, ◌∙◌, arith, Option, Some, None, List, [], ◌∷◌, ◌++◌, length, take, replicate, zero, suc, inl, inr}
-use Rattle.std.specs.Prelude.{◌==◌, nat_le, if◌then◌else◌}
+use Rattle.std.specs.Prelude.{◌==◌, nat_le, if◌then◌else◌, ◌||◌}
 use Rattle.std.specs.FinMap.{get, insert}
 use Rattle.std.proofs.lemmas.Bool.Decides.{eqb_tells}
 use Rattle.cs_word.specs.declared.Oop.{Oop}
@@ -41,6 +41,8 @@ use Rattle.cs_stack.proofs.Tops.{Opened, good_ready, opened, opened_at, ready_ag
 use Rattle.cs_stack.proofs.Entering.{pages_are, words_used}
 use Rattle.cs_stack.proofs.Called.{number_is, top_frame, top_ref}
 use Rattle.cs_stack.proofs.Begun.{at_least, begun_good, begun_layout, begun_view}
+use Rattle.cs_model.specs.Context.{closure_class, has_class_index}
+use Rattle.cs_model.specs.State.{is_nil}
 
 -- ---- the words of a state in which a context is entered
 
@@ -136,6 +138,7 @@ module _ {s t : Store} {k l : Kept} (names : KeepsNames s t) (view : l ≡ k) {n
   can_begin_still = subst (λ j. CanBegin t j new pc copies) (sym view) (record {
     method = (names new.method can.method).sound;
     closure = (names new.closure can.closure).sound;
+    kind = ap (λ x. is_nil k x || has_class_index closure_class (object_of k x)) (names new.closure can.closure).is ∙ can.kind;
     receiver = (names new.receiver can.receiver).sound;
     code = ap (λ x. is_method (object_of k x)) (names new.method can.method).is ∙ can.code;
     lies = ap (λ x. lies_if_index (object_of k x) (count_of pc.0)) (names new.method can.method).is ∙ can.lies;

@@ -5,7 +5,7 @@ use Rattle.std.specs.Option.{option_map_or}
 use Rattle.std.specs.Ordering.{nat_cmp}
 use Rattle.std.specs.FinMap.{FinMap, get, same_map, nat_cmp-IsAntisymmetric}
 use Rattle.std.specs.Cmp.{nat_cmp_total}
-use Rattle.std.proofs.lemmas.Bool.{eqb-true}
+use Rattle.std.proofs.lemmas.Bool.{eqb-true, or_right}
 use Rattle.cs_heap.specs.Object.{Object, birth_of, is_object, object_at, slot_count_of, slot_of}
 use Rattle.cs_classes.specs.Meaning.{context_of, count_of, is_context, meaning_at, obj_of, objects_of, ref_of}
 use Rattle.cs_word.specs.Word.{kind_of}
@@ -21,16 +21,17 @@ use Rattle.cs_frame.specs.Page.{frames_of}
 use Rattle.cs_marriage.specs.Agree.{IsContextAt, IsMethodAt}
 use Rattle.cs_marriage.specs.Marriage.{CanBase}
 use Rattle.cs_marriage.specs.Place.{names_place}
-use Rattle.cs_model.specs.Obj.{Context, Ctx}
+use Rattle.cs_model.specs.Obj.{Context, Ctx, context_class}
 use Rattle.cs_model.specs.Context.{lies_if_live}
 use Rattle.cs_stack.specs.declared.parts.Parts.{Parts}
 use Rattle.cs_stack.specs.View.{bare, is_linked, unframed, view_of}
-use Rattle.cs_stack.specs.Good.{IsGood, Lacks, PcFits}
+use Rattle.cs_stack.specs.Good.{IsGood, Lacks, PcFits, SenderFits, is_nil_or}
 use Rattle.cs_stack.proofs.Bare.{bare_element, unframed_context, unlinked}
 use Rattle.cs_stack.proofs.Dying.{dead_pc, unframed_linked}
 use Rattle.cs_stack.proofs.Framed.{onto_bare}
 use Rattle.cs_stack.proofs.Linking.{nil_counts}
 use Rattle.cs_stack.proofs.Lives.{lives_if_live}
+use Rattle.cs_stack.proofs.Addresses.{sender_single, word_there}
 
 -- a reference is no link
 reference_value : (os : List Object) (w : ℕ) → is_reference os w ≡ true → IsValue w
@@ -65,12 +66,14 @@ pub record IsLive (os : List Object) (s : ℕ) : Type 0 where
   pub there : object_at os s ≡ Some object
   pub context : is_context object ≡ true
   pub single : is_linked object ≡ false
+  pub sender : is_nil_or context_class os (slice_index object.words 0) ≡ true
   pub live : IsSome (count_of (slice_index object.words 1))
 
-pub live_at : (os : List Object) (table : FinMap nat_cmp ℕ) (roots : Roots) (s t : ℕ) (c : Context) → IsWhole os table roots → is_object os s ≡ true → birth_of os s ≡ t
+pub live_at : (os : List Object) (table : FinMap nat_cmp ℕ) (roots : Roots) (s t : ℕ) (c : Context) → IsWhole os table roots
+    → ((j : ℕ) (x : Object) → slice_get os j ≡ Some x → is_context x ≡ true → SenderFits os x) → is_object os s ≡ true → birth_of os s ≡ t
     → get (objects_of (bare os)) t ≡ Some (Ctx c) → is_some c.pc ≡ true → IsLive os s
 unfolding context_of
-live_at os table roots s t c heap is birth found live =
+live_at os table roots s t c heap senders is birth found live =
     let y = object_there os s is in
     let k = stands os s y.0 y.1 in
     let same : Some (obj_of (ref_of os) (unframed y.0)) ≡ Some (Ctx c) =
@@ -85,6 +88,7 @@ live_at os table roots s t c heap is birth found live =
       there = y.1;
       context = class;
       single = alone;
+      sender = sender_single os y.0 (senders k.0 y.0 k.1.element class) (sym (ap (λ b. b && names_place (slice_index y.0.words 0)) class) ∙ alone);
       live = ap (λ (z : Object). is_some (count_of (slice_index z.words 1))) (sym (unlinked y.0 alone)) ∙ ap is_some pc ∙ live;
     }
   where
@@ -115,7 +119,12 @@ module _ {os : List Object} {table : FinMap nat_cmp ℕ} {roots : Roots} {s : �
   live_below = let k = stands os s at.object at.there in subst (λ n. n < roots.next_birth) (sym live_birth) (heap.births k.0 at.object k.1.element)
 
   pub live_named : (i : ℕ) → i < slot_count_of os s → is_reference os (slot_of os s i) ≡ true
-  live_named i h = ap (is_reference os) (live_slot i) ∙ live_whole.references i 0 (omega (arith, h, live_count))
+  live_named i h =
+      ap (is_reference os) (live_slot i)
+      ∙ word_there os at.object live_whole (or_right (names_place (slice_index at.object.words 0)) (is_nil_or context_class os (slice_index at.object.words 0)) at.sender) i (omega (arith, h, live_count))
+
+  pub live_sender : is_nil_or context_class os (slot_of os s 0) ≡ true
+  live_sender = ap (is_nil_or context_class os) (live_slot 0) ∙ at.sender
 
   pub live_lies : lies_if_live (meaning_at os (slot_of os s 3)) (count_of (slot_of os s 1)) ≡ true
   live_lies = let k = stands os s at.object at.there in

@@ -16,6 +16,10 @@ use Rattle.cs_frame.specs.Page as page
 use Rattle.cs_frame.specs.Page.{frame}
 use Rattle.cs_marriage.specs.Agree.{HasContext, IsContextAt}
 use Rattle.cs_marriage.specs.Place.{names_place}
+use Rattle.cs_marriage.proofs.Places.{place_small}
+use Rattle.cs_word.specs.declared.Kind.TheVariants as kind
+use Rattle.cs_word.specs.Word.{small_value}
+use Rattle.cs_word.proofs.Words.{kind_of-object}
 use Rattle.cs_model.specs.Ref.{Ref}
 use Rattle.cs_model.specs.Ref as ref
 use Rattle.cs_model.specs.Obj.{Context, Obj, context_class, context_in}
@@ -178,7 +182,7 @@ place_no_object : (os : List Object) (v : ℕ) → names_place v ≡ true → is
 place_no_object os v h = go (is_object os v) refl
   where
     go : (b : Bool) → is_object os v ≡ b → is_object os v ≡ false
-    go true e = elim (eqb_tells (v % 2) 1) [ inl t ↦ absurd (omega (arith, t.1, (object_placed os v e).aligned)) | inr t ↦ absurd (let no : true ≡ false = sym h ∙ t.0 in cc) ]
+    go true e = absurd (let no : kind.Small (small_value v) ≡ kind.Object v = sym (place_small v h) ∙ kind_of-object v (object_placed os v e).aligned in cc)
     go false e = e
 
 nil_no_context : (w : Parts) → IsGood w → reading.is_context_at w.heap.objects nil ≡ false

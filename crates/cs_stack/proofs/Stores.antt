@@ -11,8 +11,8 @@ use Rattle.cs_word.specs.declared.Kind.{Kind}
 use Rattle.cs_word.specs.declared.Kind.TheVariants as kind
 use Rattle.cs_word.specs.Word.{kind_of, small_value}
 use Rattle.cs_heap.specs.Format.{is_method}
-use Rattle.cs_heap.specs.Writes.{slot_stored, slots_stored}
 use Rattle.cs_heap.specs.Object.{Memory, Object, at_index, birth_of, class_of, format_of, index_of, is_object, object_at, set_word, slot_count_of, with_slot}
+use Rattle.cs_heap.specs.Writes.{slot_stored, slots_stored}
 use Rattle.cs_heap.proofs.Laws.{hash_of-with_slot, object_at-with_object_other, object_at-with_object_same, slot_count_of-with_slot, slot_of-with_slot_other_object, slot_of-with_slot_other_slot, used-with_slot}
 use Rattle.cs_classes.specs.Meaning.{code_in, count_of, header_in, is_context, kept_of, literals_in, meaning_at, method_of, obj_of, objects_of, ref_of, ref_of_kind, used_bytes}
 use Rattle.cs_classes.specs.Sound.{IsWhole, is_reference, is_reference_kind}
@@ -24,9 +24,9 @@ use Rattle.cs_classes.proofs.Sorts.{AContext, AMethod, Bytes, Pointers, Sort, no
 use Rattle.cs_classes.proofs.Writes.{Does, does-set_literal, does-set_slot}
 use Rattle.cs_model.specs.Ref.{Ref}
 use Rattle.cs_model.specs.Ref as ref
-use Rattle.cs_model.specs.Obj.{Context, Ctx, Method, Obj, Ptr, Raw, first_pc, is_context_at, lies_in, literal_count}
+use Rattle.cs_model.specs.Obj.{Context, Ctx, Method, Obj, Ptr, Raw, context_class, first_pc, is_context_at, lies_in, literal_count}
 use Rattle.cs_model.specs.Obj as obj
-use Rattle.cs_model.specs.Context.{lies_if_index, lies_if_live}
+use Rattle.cs_model.specs.Context.{closure_class, lies_if_index, lies_if_live}
 use Rattle.cs_model.specs.State as state
 use Rattle.cs_model.specs.State.{Kept, object_of, put}
 use Rattle.cs_model.specs.Operation.{edit_found, edit_object, store_of}
@@ -41,7 +41,7 @@ use Rattle.cs_marriage.proofs.Laws.{agree_stored}
 use Rattle.cs_acts.specs.Made.{contexts_in}
 use Rattle.cs_stack.specs.declared.parts.Parts.{Parts}
 use Rattle.cs_stack.specs.View.{active_in, active_page, bare, frame_context, frame_hash, frame_sender, frames_onto, is_linked, pages_onto, stored_of, unframed, view_of}
-use Rattle.cs_stack.specs.Good.{FrameFits, FramesFit, HasSender, IsGood, Lacks, LinkFits, PcFits}
+use Rattle.cs_stack.specs.Good.{FrameFits, FramesFit, HasSender, IsGood, Lacks, LinkFits, PcFits, SenderFits}
 use Rattle.cs_stack.proofs.Maps.{Objects, get_apart}
 use Rattle.cs_stack.proofs.Bare.{bare_apart, bare_at, bare_ref, bare_rest, bare_with_object, meaning_there, no_context, plain_unlinked, unlinked}
 use Rattle.cs_stack.proofs.Framed.{insert_below}
@@ -49,6 +49,7 @@ use Rattle.cs_stack.proofs.Places.{plain_lacks}
 use Rattle.cs_stack.proofs.Lives.{Lives, lives}
 use Rattle.cs_stack.proofs.Closed.{good_sound, plain_there}
 use Rattle.cs_stack.proofs.Writing.{rest-store}
+use Rattle.cs_stack.proofs.Addresses.{nil_or-with_object, sender_fits-with_object}
 
 -- an object that may be stored into, where it stands, and what the store does
 pub record Storable (s : Store) (o : ℕ) (i v : ℕ) : Type 0 where
@@ -257,7 +258,7 @@ module _ (s : Store) (o i v : ℕ) (can : Storable s o i v) (whole : IsWhole s.m
       ap (λ (m : Objects). get m birth) objects_new ∙ get_apart (objects_of old) can.x.birth birth _ apart ∙ h
 
   has_sender : (f : Frame) (fs : List Frame) → HasSender old f fs → HasSender new f fs
-  has_sender f [] h = ap (λ p. p f.caller) sound ∙ h
+  has_sender f [] h = ap (λ p. p f.caller) (nil_or-with_object context_class old o (set_word i v) (set_word-IsEdit i v)) ∙ h
   has_sender f (g ∷ gs) h = tt
 
   pub fits_kept : (next : ℕ) (fs : List Frame) → FramesFit old next fs → FramesFit new next fs
@@ -266,7 +267,7 @@ module _ (s : Store) (o i v : ℕ) (can : Storable s o i v) (whole : IsWhole s.m
       let h = fit.0 in (
         record {
           names = record {
-            closure = ap (λ p. p f.closure) sound ∙ h.names.closure;
+            closure = ap (λ p. p f.closure) (nil_or-with_object closure_class old o (set_word i v) (set_word-IsEdit i v)) ∙ h.names.closure;
             receiver = ap (λ p. p f.receiver) sound ∙ h.names.receiver;
             stack = subst (λ p. AllPass p f.stack) (sym sound) h.names.stack;
           };
@@ -298,6 +299,9 @@ module _ (s : Store) (o i v : ℕ) (can : Storable s o i v) (whole : IsWhole s.m
 
   pub pcs_kept : ((j : ℕ) (y : Object) → slice_get old j ≡ Some y → is_context y ≡ true → PcFits old y) → (j : ℕ) (y : Object) → slice_get new j ≡ Some y → is_context y ≡ true → PcFits new y
   pcs_kept pcs j y e c = live_kept (slice_index y.words 3) (count_of (slice_index y.words 1)) ∙ pcs j y (context_old j y e c) c
+
+  pub senders_kept : ((j : ℕ) (y : Object) → slice_get old j ≡ Some y → is_context y ≡ true → SenderFits old y) → (j : ℕ) (y : Object) → slice_get new j ≡ Some y → is_context y ≡ true → SenderFits new y
+  senders_kept senders j y e c = sender_fits-with_object old o (set_word i v) y (set_word-IsEdit i v) (senders j y (context_old j y e c) c)
 
   pub links_kept : ((j : ℕ) (y : Object) → slice_get old j ≡ Some y → is_linked y ≡ true → LinkFits y) → (j : ℕ) (y : Object) → slice_get new j ≡ Some y → is_linked y ≡ true → LinkFits y
   links_kept links j y e l = links j y (context_old j y e (linked_context y l)) l
@@ -390,6 +394,7 @@ module _ (w : Parts) (good : IsGood w) (o i x : ℕ) (can : Storable (stored_of 
           most = good.most;
           births = good.births;
           pcs = pcs_kept (stored_of w) o i x can good.whole good.pcs;
+          senders = senders_kept (stored_of w) o i x can good.whole good.senders;
           links = links_kept (stored_of w) o i x can good.whole good.links;
           agree = agree_kept (stored_of w) o i x can good.whole ps good.agree;
           frames = λ p. fits_kept (stored_of w) o i x can good.whole w.roots.next_birth (frames_of ps p) (good.frames p);
@@ -398,8 +403,6 @@ module _ (w : Parts) (good : IsGood w) (o i x : ℕ) (can : Storable (stored_of 
           order = good.order;
           used_pages = good.used_pages;
           chain = good.chain;
-          entry = good.entry;
-          closures = good.closures;
         };
         view = ap (λ m. at m (kept_of (bare us) w.classes w.roots active).rest) map_is
             ∙ ap (at (insert (pages_onto w.heap.objects ps (objects_of (bare w.heap.objects))) can.x.birth (changed was))) rest ∙ sym store_is;

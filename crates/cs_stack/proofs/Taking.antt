@@ -103,7 +103,7 @@ module _ (w v : Parts) (closed : w.pages.recent ≡ []) (process nil context : O
   found = sym (ap (λ m. get m given.i) (bare_objects good bare_pages)) ∙ runs.found
 
   live : IsLive os context.0
-  live = live_at os v.classes v.roots context.0 given.i (active_context k) good.whole address.0 address.1 found (ap is_some runs.live)
+  live = live_at os v.classes v.roots context.0 given.i (active_context k) good.whole good.senders address.0 address.1 found (ap is_some runs.live)
 
   pub can_take : CanBase os context.0
   can_take = can_base good.whole live good.pcs good.births

@@ -83,7 +83,7 @@ opened w good ready = opened_at w _ good ready.running.known
 
 -- where a context is active, contexts have a class
 pub contexts_known : (w : Parts) → IsGood w → Opened w → is_some (get w.classes context_class) ≡ true
-contexts_known w good o = good.entry (subst (λ ns. 0 < length ns) (sym o.recent) (omega arith))
+contexts_known w good o = good.whole.entries.contexts
 
 pub good_ready : (w : Parts) → IsGood w → Opened w → IsReady (stored_of w) (view_of w)
 unfolding method_of frame_context frames_onto
@@ -153,6 +153,7 @@ module _ (w : Parts) (good : IsGood w) (o : Opened w) (e : Frame) (h : Context �
     most = good.most;
     births = good.births;
     pcs = good.pcs;
+    senders = good.senders;
     links = good.links;
     agree = agrees;
     frames = frames;
@@ -161,8 +162,6 @@ module _ (w : Parts) (good : IsGood w) (o : Opened w) (e : Frame) (h : Context �
     order = good.order;
     used_pages = used_pages;
     chain = chain_alike w.frames new (λ q. alike_back (alike q)) w.pages.recent good.chain;
-    entry = good.entry;
-    closures = good.closures;
   }
 
   abbrev below : Objects

@@ -20,7 +20,7 @@ use Rattle.cs_marriage.proofs.Laws.{agree_dropped, top_fits}
 use Rattle.cs_pages.specs.Order.{IsFree, IsSound, Order, without}
 use Rattle.cs_pages.proofs.Lists.{Lacks as Off, without-lacking}
 use Rattle.cs_model.specs.Ref as ref
-use Rattle.cs_model.specs.Obj.{Ctx, dead}
+use Rattle.cs_model.specs.Obj.{Ctx, context_class, dead}
 use Rattle.cs_model.specs.State as state
 use Rattle.cs_model.specs.State.{Kept}
 use Rattle.cs_model.specs.Read.{active_birth, active_context}
@@ -39,7 +39,8 @@ use Rattle.cs_stack.proofs.Framed.{AllFit, IsOn, all_fit, here}
 use Rattle.cs_stack.proofs.Laid.{off_births}
 use Rattle.cs_stack.proofs.Leaving.{Next}
 use Rattle.cs_stack.proofs.Places.{good_stacked, married_on}
-use Rattle.cs_stack.proofs.Tops.{Opened, contexts_known}
+use Rattle.cs_stack.proofs.Tops.{Opened}
+use Rattle.cs_stack.proofs.Addresses.{nil_or_named}
 
 -- ---- words that name objects
 
@@ -100,6 +101,7 @@ module _ {w : Parts} (good : IsGood w) (ready : IsReady (stored_of w) (view_of w
         most = good.most;
         births = good.births;
         pcs = good.pcs;
+        senders = good.senders;
         links = good.links;
         agree = agree_dropped os w.frames o.p good.agree o.within (good_stacked w good o.p);
         frames = all.frames;
@@ -108,8 +110,6 @@ module _ {w : Parts} (good : IsGood w) (ready : IsReady (stored_of w) (view_of w
         order = ordered.order;
         used_pages = ordered.used_pages;
         chain = ordered.chain;
-        entry = λ _. contexts_known w good o;
-        closures = good.closures;
       }
 
   nil_name : ref_of os nil ≡ ref.Obj (view_of w).rest.nil
@@ -245,7 +245,7 @@ module _ {w : Parts} (good : IsGood w) (ready : IsReady (stored_of w) (view_of w
           ∙ ap (λ ns. Some (record { most = w.pages.total; pages = ns })) (laid_apart w.frames o.p rest_of o.qs off)
 
       caller_names : is_reference os o.f.caller ≡ true
-      caller_names = (subst (good_specs.FrameFits os w.roots.next_birth o.f) alone o.fits).sender
+      caller_names = nil_or_named context_class os o.f.caller (subst (good_specs.FrameFits os w.roots.next_birth o.f) alone o.fits).sender
 
       pub sender_at : (is_object os o.f.caller ≡ true) × (birth_of os o.f.caller ≡ g.t)
       sender_at = address_of-object os o.f.caller g.t caller_names (sym (sender_is ∙ ap (frame_sender os o.f) alone))

@@ -1,14 +1,15 @@
 -- When heap, frames and the order of the pages agree.
-use Rattle.std.specs.Prelude.{◌≡◌, ◌≢◌, ◌↔◌, ℕ, ◌+◌, ◌<◌, ◌≤◌, true, List, [], ◌∷◌, length, slice_index, slice_get, Some, None, is_some, Contains}
+use Rattle.std.specs.Prelude.{◌≡◌, ◌≢◌, ◌↔◌, ℕ, ◌+◌, ◌<◌, ◌≤◌, ◌==◌, ◌&&◌, ◌||◌, Bool, true, List, [], ◌∷◌, length, slice_index, slice_get, Some, None, Contains}
 use Rattle.std.specs.List.{AllPass}
 use Rattle.std.specs.FinMap.{get}
-use Rattle.cs_heap.specs.Object.{Object, used}
+use Rattle.cs_heap.specs.Object.{Object, class_of, is_object, used}
 use Rattle.cs_classes.specs.Meaning.{count_of, is_context, meaning_at, objects_of}
 use Rattle.cs_classes.specs.Sound.{IsWhole, is_reference}
 use Rattle.cs_frame.specs.Frame.{Frame, blank, nil}
 use Rattle.cs_frame.specs.Page as page
 use Rattle.cs_frame.specs.Page.{frames_of, top}
 use Rattle.cs_marriage.specs.Agree.{Agree, frame_size}
+use Rattle.cs_marriage.specs.Place.{names_place}
 use Rattle.cs_model.specs.Obj.{context_class}
 use Rattle.cs_model.specs.Context.{closure_class, lies_if_index, lies_if_live}
 use Rattle.cs_pages.specs.Order.{IsSound}
@@ -25,15 +26,19 @@ abbrev pub AreApart : List Frame → List Frame → Type 0
 AreApart [] gs = Unit {0}
 AreApart (f ∷ fs) gs = Lacks f.birth gs × AreApart fs gs
 
--- what the frame names is there
+-- a word is the address of nil, or of an object of this class
+abbrev pub is_nil_or : ℕ → List Object → ℕ → Bool
+is_nil_or class os word = is_object os word && (word == nil || class_of os word == class)
+
+-- what the frame names is there, and its closure is nil or a closure
 pub record FrameNames (os : List Object) (f : Frame) : Type 0 where
-  pub closure : is_reference os f.closure ≡ true
+  pub closure : is_nil_or closure_class os f.closure ≡ true
   pub receiver : is_reference os f.receiver ≡ true
   pub stack : AllPass (is_reference os) f.stack
 
--- the base frame of a page has a sender of its own; that of any other is the frame below
+-- the base frame of a page has a sender of its own, nil or a context; that of any other is the frame below
 abbrev pub HasSender : List Object → Frame → List Frame → Type 0
-HasSender os f [] = is_reference os f.caller ≡ true
+HasSender os f [] = is_nil_or context_class os f.caller ≡ true
 HasSender os f (g ∷ gs) = Unit {0}
 
 -- A frame above these: it is live in a method of the heap, its stack fits, and it began where 66 words were free. While it has no
@@ -56,6 +61,10 @@ FramesFit os next (f ∷ fs) = FrameFits os next f fs × FramesFit os next fs
 -- a live context of the heap has a pc that lies in its method
 abbrev pub PcFits : List Object → Object → Type 0
 PcFits os x = lies_if_live (meaning_at os (slice_index x.words 3)) (count_of (slice_index x.words 1)) ≡ true
+
+-- the sender of a context is nil or a context, where its word names no place
+abbrev pub SenderFits : List Object → Object → Type 0
+SenderFits os x = (names_place (slice_index x.words 0) || is_nil_or context_class os (slice_index x.words 0)) ≡ true
 
 -- The words of a context that is married or widowed say nothing of its pc and its stack.
 abbrev pub LinkFits : Object → Type 0
@@ -81,6 +90,7 @@ pub record IsGood (w : Parts) : Type 0 where
   pub most : w.heap.limit ≤ 67108864
   pub births : w.roots.next_birth ≤ 4611686018427387904
   pub pcs : (j : ℕ) (x : Object) → slice_get w.heap.objects j ≡ Some x → is_context x ≡ true → PcFits w.heap.objects x
+  pub senders : (j : ℕ) (x : Object) → slice_get w.heap.objects j ≡ Some x → is_context x ≡ true → SenderFits w.heap.objects x
   pub links : (j : ℕ) (x : Object) → slice_get w.heap.objects j ≡ Some x → is_linked x ≡ true → LinkFits x
   pub agree : Agree w.heap.objects w.frames
   pub frames : (p : ℕ) → FramesFit w.heap.objects w.roots.next_birth (frames_of w.frames p)
@@ -89,6 +99,3 @@ pub record IsGood (w : Parts) : Type 0 where
   pub order : IsSound w.pages
   pub used_pages : (p : ℕ) → Contains w.pages.recent p ↔ (0 < length (frames_of w.frames p))
   pub chain : IsChain w.frames w.pages.recent
-  -- a frame may become an object: contexts have a class
-  pub entry : 0 < length w.pages.recent → is_some (get w.classes context_class) ≡ true
-  pub closures : is_some (get w.classes closure_class) ≡ true

@@ -1,9 +1,9 @@
 -- What entering and leaving make of the parts.
-use Rattle.std.specs.Prelude.{◌≡◌, ◌≢◌, ◌⊎◌, ℕ, ◌+◌, ◌-◌, ◌*◌, ◌<◌, ◌≤◌, Bool, true, if◌then◌else◌, List, [], ◌∷◌, ◌++◌, length, take, drop, replicate, slice_index, Option, Some, None, option_and_then}
+use Rattle.std.specs.Prelude.{◌≡◌, ◌≢◌, ◌⊎◌, ℕ, ◌+◌, ◌-◌, ◌*◌, ◌<◌, ◌≤◌, ◌||◌, Bool, true, if◌then◌else◌, List, [], ◌∷◌, ◌++◌, length, take, drop, replicate, slice_index, Option, Some, None, option_and_then}
 use Rattle.std.specs.Option.{option_map_or}
 use Rattle.cs_word.specs.declared.Oop.{Oop}
-use Rattle.cs_heap.specs.Writes.{slots_stored}
 use Rattle.cs_heap.specs.Object.{Object, object_at, with_object}
+use Rattle.cs_heap.specs.Writes.{slots_stored}
 use Rattle.cs_classes.specs.Meaning.{count_of}
 use Rattle.cs_frame.specs.declared.FrameRef.{FrameRef}
 use Rattle.cs_frame.specs.declared.NewFrame.{NewFrame}
@@ -14,11 +14,11 @@ use Rattle.cs_model.specs.Ref.{Ref}
 use Rattle.cs_model.specs.Ref as ref
 use Rattle.cs_model.specs.Obj.{Context, Ctx, context_in, context_size, dead, header_in, is_method, literal_count}
 use Rattle.cs_model.specs.State as state
-use Rattle.cs_model.specs.State.{Kept, object_of}
+use Rattle.cs_model.specs.State.{Kept, is_nil, object_of}
 use Rattle.cs_model.specs.Read.{active_birth, active_context, depth_of, stack_of}
 use Rattle.cs_model.specs.Operation.{activate, enter_with, last_values, nil_of}
 use Rattle.cs_model.specs.Enter.{copied_values}
-use Rattle.cs_model.specs.Context.{context_get, lies_if_index}
+use Rattle.cs_model.specs.Context.{closure_class, context_get, has_class_index, lies_if_index}
 use Rattle.cs_model.specs.Settle.{context_kept, open_at}
 use Rattle.cs_acts.specs.Layout.{LaidBy, left}
 use Rattle.cs_acts.specs.Names.{IsNamed, KeepsNames, Store, name_of}
@@ -97,11 +97,12 @@ begun_parts page sender new pc copies w = record (given_birth w) {
 abbrev pub begun_stack : Store → Kept → NewFrame → ℕ → List Ref
 begun_stack s k new copies = replicate new.fill (nil_of k) ++ take copies (copied_values k (name_of s new.closure))
 
--- A new frame can be made with so many copied values: what it names is there, its pc lies in its method, the active stack has receiver
+-- A new frame can be made with so many copied values: what it names is there, its closure is nil or a closure, its pc lies in its method, the active stack has receiver
 -- and arguments, and its own fits.
 pub record CanBegin (s : Store) (k : Kept) (new : NewFrame) (pc : Oop) (copies : ℕ) : Type 0 where
   pub method : IsNamed s new.method
   pub closure : IsNamed s new.closure
+  pub kind : (is_nil k (name_of s new.closure) || has_class_index closure_class (object_of k (name_of s new.closure))) ≡ true
   pub receiver : IsNamed s new.receiver
   pub code : is_method (object_of k (name_of s new.method)) ≡ true
   pub lies : lies_if_index (object_of k (name_of s new.method)) (count_of pc.0) ≡ true

@@ -20,8 +20,10 @@ pub(crate) fn copy_arguments(frames: &mut Frames, caller: FrameRef, callee: Fram
     requires apart { caller.page ≢ callee.page }
     requires there { args ≤ length (frame frames.old caller).stack }
     requires room { used (frames_of frames.old callee.page) + args ≤ 4096 }
-    requires values { (i : ℕ) → i < length (frame frames.old caller).stack → IsValue (slice_index (frame frames.old caller).stack i) }
-    ensures copied { frames.new ≡ on_page frames.old callee.page (on_top (with_stack ((top (frames_of frames.old callee.page)).stack
+    requires values { (i : ℕ) → i < length (frame frames.old caller).stack
+        → IsValue (slice_index (frame frames.old caller).stack i) }
+    ensures copied { frames.new ≡ on_page frames.old callee.page (on_top (with_stack (
+        (top (frames_of frames.old callee.page)).stack
         ++ drop (length (frame frames.old caller).stack - args) (frame frames.old caller).stack))) }
 {
     let first = frames.depth(caller) - args;
@@ -34,7 +36,8 @@ pub(crate) fn copy_arguments(frames: &mut Frames, caller: FrameRef, callee: Fram
 pub(crate) fn push_nils(frames: &mut Frames, f: FrameRef, count: u32)
     requires top { IsTop frames.old f }
     requires room { used (frames_of frames.old f.page) + count ≤ 4096 }
-    ensures pushed { frames.new ≡ on_page frames.old f.page (on_top (with_stack ((top (frames_of frames.old f.page)).stack ++ replicate count nil))) }
+    ensures pushed { frames.new ≡ on_page frames.old f.page (on_top (with_stack
+        ((top (frames_of frames.old f.page)).stack ++ replicate count nil))) }
 {
     for _ in 0..count {
         frames.push(f, NIL);
@@ -47,7 +50,8 @@ pub(crate) fn push_copied(frames: &mut Frames, f: FrameRef, heap: &Heap, closure
     requires there { count ≤ slot_count_of heap.now.objects closure.0 - 3 }
     requires room { used (frames_of frames.old f.page) + count ≤ 4096 }
     requires values { (i : ℕ) → i < count → IsValue (slot_of heap.now.objects closure.0 (3 + i)) }
-    ensures pushed { frames.new ≡ on_page frames.old f.page (on_top (with_stack ((top (frames_of frames.old f.page)).stack ++ copied_at heap.now.objects closure.0 count))) }
+    ensures pushed { frames.new ≡ on_page frames.old f.page (on_top (with_stack
+        ((top (frames_of frames.old f.page)).stack ++ copied_at heap.now.objects closure.0 count))) }
 {
     for i in 0..count {
         frames.push(f, heap.slot(closure, FIRST_COPIED + i));
@@ -58,7 +62,9 @@ pub(crate) fn push_copied(frames: &mut Frames, f: FrameRef, heap: &Heap, closure
 pub(crate) fn drop_values(frames: &mut Frames, f: FrameRef, count: u32)
     requires top { IsTop frames.old f }
     requires there { count ≤ length (top (frames_of frames.old f.page)).stack }
-    ensures dropped { frames.new ≡ on_page frames.old f.page (on_top (with_stack (take (length (top (frames_of frames.old f.page)).stack - count) (top (frames_of frames.old f.page)).stack))) }
+    ensures dropped { frames.new ≡ on_page frames.old f.page (on_top (with_stack
+        (take (length (top (frames_of frames.old f.page)).stack - count)
+        (top (frames_of frames.old f.page)).stack))) }
 {
     for _ in 0..count {
         frames.pop(f);

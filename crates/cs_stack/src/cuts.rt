@@ -24,19 +24,27 @@ use cs_acts::Act;
 use cs_heap::Heap;
 use cs_word::Oop;
 
-/// How many contexts are looked at: the active one, the 1,048,576 that a search of senders follows, and the sender of the last.
+/// How many contexts are looked at: the active one, the 1,048,576 that a search of senders follows, and the sender of
+/// the last.
 const WAY_LIMIT: u32 = 1_048_578;
 
 impl Parts {
-    /// All contexts from the active one along the senders to the home die, the home's sender is active, and the value is pushed there.
+    /// All contexts from the active one along the senders to the home die, the home's sender is active, and the value
+    /// is pushed there.
     pub(crate) fn cut_to(&mut self, home: Act, v: Oop)
         requires good { IsGood self.old }
         requires ready { IsReady (stored_of self.old) (view_of self.old) }
         requires named { IsNamed (stored_of self.old) v }
-        requires target { IsSomeAnd (act_of self.old home) (λ birth. IsSomeAnd (sender_birth (view_of self.old) birth) (CanCut (view_of self.old) birth)) }
+        requires target { IsSomeAnd (act_of self.old home) (λ birth. IsSomeAnd (sender_birth (view_of self.old) birth)
+            (CanCut (view_of self.old) birth)) }
         ensures good { IsGood self.new }
-        ensures state { IfSome (act_of self.old home) (λ birth. IfSome (sender_birth (view_of self.old) birth) (λ target. (m : Kept) → Keeps (view_of self.old) m → Keeps (view_of self.new) (cut_to_of m (dying_to (view_of self.old) birth) target (name_of (stored_of self.old) v)))) }
-        ensures layout { IfSome (act_of self.old home) (λ birth. IfSome (sender_birth (view_of self.old) birth) (λ target. LaidBy (cut (dying_to (view_of self.old) birth) target) (layout_of self.old) (layout_of self.new))) }
+        ensures state { IfSome (act_of self.old home) (λ birth. IfSome (sender_birth (view_of self.old) birth)
+            (λ target. (m : Kept) → Keeps (view_of self.old) m
+            → Keeps (view_of self.new) (cut_to_of m (dying_to (view_of self.old) birth) target
+            (name_of (stored_of self.old) v)))) }
+        ensures layout { IfSome (act_of self.old home) (λ birth. IfSome (sender_birth (view_of self.old) birth)
+            (λ target. LaidBy (cut (dying_to (view_of self.old) birth) target) (layout_of self.old)
+            (layout_of self.new))) }
         ensures limit { self.new.heap.limit ≡ self.old.heap.limit }
         ensures contexts { MakesAtMost 0 (layout_of self.old) (stored_of self.old) (stored_of self.new) }
         ensures ready { IsReady (stored_of self.new) (view_of self.new) }
@@ -50,10 +58,12 @@ impl Parts {
     fn cut_past(&mut self, home: Act)
         requires good { IsGood self.old }
         requires ready { IsReady (stored_of self.old) (view_of self.old) }
-        requires target { IsSomeAnd (act_of self.old home) (λ birth. IsSomeAnd (sender_birth (view_of self.old) birth) (CanCut (view_of self.old) birth)) }
+        requires target { IsSomeAnd (act_of self.old home) (λ birth. IsSomeAnd (sender_birth (view_of self.old) birth)
+            (CanCut (view_of self.old) birth)) }
         ensures limit { self.new.heap.limit ≡ self.old.heap.limit }
         ensures contexts { MakesAtMost 0 (layout_of self.old) (stored_of self.old) (stored_of self.new) }
-        ensures past { IfSome (act_of self.old home) (λ birth. IfSome (sender_birth (view_of self.old) birth) (CutPast self.old self.new (dying_to (view_of self.old) birth))) }
+        ensures past { IfSome (act_of self.old home) (λ birth. IfSome (sender_birth (view_of self.old) birth)
+            (CutPast self.old self.new (dying_to (view_of self.old) birth))) }
     {
         let target = self.sender_act(home);
         let birth = self.act_birth(target);
@@ -62,8 +72,8 @@ impl Parts {
         }
     }
 
-    /// All contexts from the active one along the senders die, up to the one of this birth. Tells what stands for that: the active frame,
-    /// or where no frame is left a context of the heap.
+    /// All contexts from the active one along the senders die, up to the one of this birth. Tells what stands for that:
+    /// the active frame, or where no frame is left a context of the heap.
     fn kill_to(&mut self, birth: u64) -> Act
         requires good { IsGood self.old }
         requires way { Leads self.old birth }
@@ -79,7 +89,8 @@ impl Parts {
         unreachable!()
     }
 
-    /// A context dies that is the active frame, or one of the heap where no frame is left. Tells what stands for its sender.
+    /// A context dies that is the active frame, or one of the heap where no frame is left. Tells what stands for its
+    /// sender.
     fn kill(&mut self, at: Act) -> Act
         requires good { IsGood self.old }
         requires steps { Steps self.old at }

@@ -1,9 +1,9 @@
 //! A world that keeps activations as frames on stack pages.
 //!
-//! A context that the machine enters is a frame, and has no object in the heap until code looks at it, or until a method or block that it
-//! calls finds no room on its page and begins another one. Then frame and context are married, and the frame goes on as its body. The
-//! context that was active when the machine was opened, and a single one into which it returns later, become the base frame of a page.
-//! All other contexts stay in the heap.
+//! A context that the machine enters is a frame, and has no object in the heap until code looks at it, or until a
+//! method or block that it calls finds no room on its page and begins another one. Then frame and context are married,
+//! and the frame goes on as its body. The context that was active when the machine was opened, and a single one into
+//! which it returns later, become the base frame of a page. All other contexts stay in the heap.
 #![tactic(auto)]
 
 ghost use Rattle.std.specs.Prelude.{◌≡◌};
@@ -54,8 +54,7 @@ impl Model for StackWorld {
 const PROCESS_SLOTS: u32 = 4;
 
 impl StackWorld {
-    ghost use Rattle.std.specs.Prelude.{◌≤◌, ◌<◌, length, ℕ, IfOk, false, true, is_some, None, Some, [], option_map};
-    ghost use Rattle.std.specs.FinMap.{get};
+    ghost use Rattle.std.specs.Prelude.{◌≤◌, ◌<◌, length, ℕ, IfOk, false, None, Some, [], option_map};
     ghost use Rattle.cs_classes.specs.Sound.{IsWhole};
     ghost use Rattle.cs_classes.specs.Senders.{SendersStand};
     ghost use Rattle.cs_model.specs.Due.{is_idle};
@@ -71,19 +70,19 @@ impl StackWorld {
     ghost use Rattle.cs_stack.specs.Moved.{taken_of};
     ghost use Rattle.cs_stack.specs.View.{active_page, layout_of, loaded_kept, stored_of, view_of};
 
-    /// Opens a loaded image on so many stack pages, 2 to 64 of 4,096 words each: the active process gives its context to the machine.
-    /// With no active process none is active. The only error is that memory is refused.
+    /// Opens a loaded image on so many stack pages, 2 to 64 of 4,096 words each: the active process gives its context
+    /// to the machine. With no active process none is active. The only error is that memory is refused.
     ///
-    /// Births are below 2^62, nil is no context, closures have a class, the pc of each context is nil or lies in its method, and its sender is nil or a context.
-    /// Where a process is active, the context that it gives must be live.
+    /// Births are below 2^62, nil is no context, the pc of each context is nil or lies in its method, and its sender is
+    /// nil or a context. Where a process is active, the context that it gives must be live.
     pub fn new(alloc: Global, loaded: Loaded, pages: u32) -> Result<StackWorld, AllocError>
         requires few { (2 ≤ pages) × (pages ≤ 64) }
         requires whole { IsWhole loaded.heap.objects loaded.classes loaded.roots }
         requires births { loaded.roots.next_birth ≤ 4611686018427387904 }
-        requires pcs { (i : ℕ) (c : Context) → object_at (loaded_kept loaded) i ≡ Some (Ctx c) → PcLies (loaded_kept loaded) c }
+        requires pcs { (i : ℕ) (c : Context) → object_at (loaded_kept loaded) i ≡ Some (Ctx c)
+            → PcLies (loaded_kept loaded) c }
         requires senders { SendersStand (loaded_kept loaded) }
         requires nil { is_context_at (object_at (loaded_kept loaded) (loaded_kept loaded).rest.nil) ≡ false }
-        requires closures { is_some (get loaded.classes 37) ≡ true }
         requires running { is_idle (loaded_kept loaded) ≡ false → IsRunning (open_kept (loaded_kept loaded)) }
         ensures view { IfOk result (λ w. view_of w ≡ open_kept (loaded_kept loaded)) }
         ensures sound { IfOk result (λ w. IsSound (stored_of w) (view_of w)) }

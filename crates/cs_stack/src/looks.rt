@@ -15,10 +15,10 @@ ghost use Rattle.cs_stack.specs.Moved.{IsContextOf, field_at};
 ghost use Rattle.cs_stack.specs.View.{act_of, layout_of, stored_of, view_of};
 
 use crate::parts::{CLOSURE, METHOD, NIL, PC, Parts, RECEIVER, SENDER, STACK, STACKP};
-use crate::words::{count, count_word, names_place};
+use crate::words::{count, count_word};
 use cs_acts::{Act, Full};
 use cs_frame::FrameRef;
-use cs_marriage::marry;
+use cs_marriage::{marry, names_place};
 use cs_word::Oop;
 
 impl Parts {
@@ -29,14 +29,16 @@ impl Parts {
         ensures good { IsGood self.new }
         ensures view { view_of self.new ≡ view_of self.old }
         ensures context { IfOk result (λ o. IsContextOf self.new f o.0) }
-        ensures value { IfOk result (λ o. IfSome (act_of self.old (Act.Frame f.page f.at)) (λ birth. Names (stored_of self.new) o (ref.Obj birth))) }
+        ensures value { IfOk result (λ o. IfSome (act_of self.old (Act.Frame f.page f.at))
+            (λ birth. Names (stored_of self.new) o (ref.Obj birth))) }
         ensures acts { (a : Act) → act_of self.new a ≡ act_of self.old a }
         ensures rest { self.new ≡ record self.old { heap = self.new.heap; frames = self.new.frames } }
         ensures layout { layout_of self.new ≡ layout_of self.old }
         ensures limit { self.new.heap.limit ≡ self.old.heap.limit }
         ensures contexts { MakesAtMost 1 (layout_of self.old) (stored_of self.old) (stored_of self.new) }
         ensures names { KeepsNames (stored_of self.old) (stored_of self.new) }
-        ensures full { IfErr result (λ why. (why ≡ full.Heap) × CausesFull (stored_of self.new) (layout_of self.old) (view_of self.old) 0 (view_of self.old) why) }
+        ensures full { IfErr result (λ why. (why ≡ full.Heap) × CausesFull (stored_of self.new) (layout_of self.old)
+            (view_of self.old) 0 (view_of self.old) why) }
     {
         match marry(&mut self.heap, &mut self.frames, f) {
             Ok(context) => Ok(context),
@@ -55,7 +57,8 @@ impl Parts {
         ensures limit { self.new.heap.limit ≡ self.old.heap.limit }
         ensures contexts { MakesAtMost 1 (layout_of self.old) (stored_of self.old) (stored_of self.new) }
         ensures names { KeepsNames (stored_of self.old) (stored_of self.new) }
-        ensures full { IfErr result (λ why. (why ≡ full.Heap) × CausesFull (stored_of self.new) (layout_of self.old) (view_of self.old) 0 (view_of self.old) why) }
+        ensures full { IfErr result (λ why. (why ≡ full.Heap) × CausesFull (stored_of self.new) (layout_of self.old)
+            (view_of self.old) 0 (view_of self.old) why) }
     {
         let top = self.top();
         self.context_of(top)
@@ -67,12 +70,14 @@ impl Parts {
         requires stands { IsSome (act_of self.old a) }
         ensures good { IsGood self.new }
         ensures view { view_of self.new ≡ view_of self.old }
-        ensures value { IfOk result (λ o. IfSome (act_of self.old a) (λ birth. Names (stored_of self.new) o (ref.Obj birth))) }
+        ensures value { IfOk result (λ o. IfSome (act_of self.old a)
+            (λ birth. Names (stored_of self.new) o (ref.Obj birth))) }
         ensures layout { layout_of self.new ≡ layout_of self.old }
         ensures limit { self.new.heap.limit ≡ self.old.heap.limit }
         ensures contexts { MakesAtMost 1 (layout_of self.old) (stored_of self.old) (stored_of self.new) }
         ensures names { KeepsNames (stored_of self.old) (stored_of self.new) }
-        ensures full { IfErr result (λ why. (why ≡ full.Heap) × CausesFull (stored_of self.new) (layout_of self.old) (view_of self.old) 0 (view_of self.old) why) }
+        ensures full { IfErr result (λ why. (why ≡ full.Heap) × CausesFull (stored_of self.new) (layout_of self.old)
+            (view_of self.old) 0 (view_of self.old) why) }
     {
         match a {
             Act::Frame { page, at } => self.context_of(FrameRef { page, at }),
@@ -88,12 +93,15 @@ impl Parts {
         requires there { IsSome (field_of (view_of self.old) (name_of (stored_of self.old) ctx) i) }
         ensures good { IsGood self.new }
         ensures view { view_of self.new ≡ view_of self.old }
-        ensures value { IfOk result (λ o. NamesOption (stored_of self.new) (Some o) (field_of (view_of self.old) (name_of (stored_of self.old) ctx) i)) }
+        ensures value { IfOk result (λ o. NamesOption (stored_of self.new) (Some o)
+            (field_of (view_of self.old) (name_of (stored_of self.old) ctx) i)) }
         ensures layout { layout_of self.new ≡ layout_of self.old }
         ensures limit { self.new.heap.limit ≡ self.old.heap.limit }
-        ensures contexts { MakesAtMost (made_by_reading i) (layout_of self.old) (stored_of self.old) (stored_of self.new) }
+        ensures contexts { MakesAtMost (made_by_reading i) (layout_of self.old) (stored_of self.old)
+            (stored_of self.new) }
         ensures names { KeepsNames (stored_of self.old) (stored_of self.new) }
-        ensures full { IfErr result (λ why. (i ≡ 0) × (why ≡ full.Heap) × CausesFull (stored_of self.new) (layout_of self.old) (view_of self.old) 0 (view_of self.old) why) }
+        ensures full { IfErr result (λ why. (i ≡ 0) × (why ≡ full.Heap)
+            × CausesFull (stored_of self.new) (layout_of self.old) (view_of self.old) 0 (view_of self.old) why) }
     {
         match self.act_of(ctx) {
             Act::Frame { page, at } => self.frame_get(FrameRef { page, at }, i),
@@ -108,12 +116,15 @@ impl Parts {
         requires there { IsSome (field_at (view_of self.old) (act_of self.old (Act.Frame f.page f.at)) i) }
         ensures good { IsGood self.new }
         ensures view { view_of self.new ≡ view_of self.old }
-        ensures value { IfOk result (λ o. NamesOption (stored_of self.new) (Some o) (field_at (view_of self.old) (act_of self.old (Act.Frame f.page f.at)) i)) }
+        ensures value { IfOk result (λ o. NamesOption (stored_of self.new) (Some o)
+            (field_at (view_of self.old) (act_of self.old (Act.Frame f.page f.at)) i)) }
         ensures layout { layout_of self.new ≡ layout_of self.old }
         ensures limit { self.new.heap.limit ≡ self.old.heap.limit }
-        ensures contexts { MakesAtMost (made_by_reading i) (layout_of self.old) (stored_of self.old) (stored_of self.new) }
+        ensures contexts { MakesAtMost (made_by_reading i) (layout_of self.old) (stored_of self.old)
+            (stored_of self.new) }
         ensures names { KeepsNames (stored_of self.old) (stored_of self.new) }
-        ensures full { IfErr result (λ why. (i ≡ 0) × (why ≡ full.Heap) × CausesFull (stored_of self.new) (layout_of self.old) (view_of self.old) 0 (view_of self.old) why) }
+        ensures full { IfErr result (λ why. (i ≡ 0) × (why ≡ full.Heap)
+            × CausesFull (stored_of self.new) (layout_of self.old) (view_of self.old) 0 (view_of self.old) why) }
     {
         match i {
             SENDER => self.sender_of(f),
@@ -132,12 +143,14 @@ impl Parts {
         requires frame { IsFrame self.old.frames f }
         ensures good { IsGood self.new }
         ensures view { view_of self.new ≡ view_of self.old }
-        ensures value { IfOk result (λ o. NamesOption (stored_of self.new) (Some o) (field_at (view_of self.old) (act_of self.old (Act.Frame f.page f.at)) 0)) }
+        ensures value { IfOk result (λ o. NamesOption (stored_of self.new) (Some o)
+            (field_at (view_of self.old) (act_of self.old (Act.Frame f.page f.at)) 0)) }
         ensures layout { layout_of self.new ≡ layout_of self.old }
         ensures limit { self.new.heap.limit ≡ self.old.heap.limit }
         ensures contexts { MakesAtMost 1 (layout_of self.old) (stored_of self.old) (stored_of self.new) }
         ensures names { KeepsNames (stored_of self.old) (stored_of self.new) }
-        ensures full { IfErr result (λ why. (why ≡ full.Heap) × CausesFull (stored_of self.new) (layout_of self.old) (view_of self.old) 0 (view_of self.old) why) }
+        ensures full { IfErr result (λ why. (why ≡ full.Heap) × CausesFull (stored_of self.new) (layout_of self.old)
+            (view_of self.old) 0 (view_of self.old) why) }
     {
         match self.frames.caller(f) {
             Some(caller) => self.context_of(caller),
@@ -145,12 +158,14 @@ impl Parts {
         }
     }
 
-    /// The same of a context that has no frame: what stands in its words. A widowed one still names a place, and reads as dead.
+    /// The same of a context that has no frame: what stands in its words. A widowed one still names a place, and reads
+    /// as dead.
     fn word_get(&self, ctx: Oop, i: u32) -> Oop
         requires good { IsGood self.now }
         requires stands { IsSome (act_of self.now (Act.Context ctx)) }
         requires there { IsSome (field_at (view_of self.now) (act_of self.now (Act.Context ctx)) i) }
-        ensures { NamesOption (stored_of self.now) (Some result) (field_at (view_of self.now) (act_of self.now (Act.Context ctx)) i) }
+        ensures { NamesOption (stored_of self.now) (Some result) (field_at (view_of self.now)
+            (act_of self.now (Act.Context ctx)) i) }
     {
         let word = self.heap.slot(ctx, i);
         match i {

@@ -17,16 +17,17 @@ ghost use Rattle.cs_acts.specs.Names.{IsNamed, KeepsNames, Names, NamesOption, n
 ghost use Rattle.cs_acts.specs.Ready.{IsReady};
 ghost use Rattle.cs_acts.specs.Targets.{CanArrive, CanEnter, CanEnterBlock};
 ghost use Rattle.cs_stack.specs.Good.{IsGood};
-ghost use Rattle.cs_stack.specs.Moved.{CanBegin, Takes, Unwound, active_number, based_parts, begun_parts, begun_state, called_parts, entry_of, taken_of};
+ghost use Rattle.cs_stack.specs.Moved.{CanBegin, Takes, Unwound, active_number, based_parts, begun_parts, begun_state};
+ghost use Rattle.cs_stack.specs.Moved.{called_parts, entry_of, taken_of};
 ghost use Rattle.cs_stack.specs.View.{active_page, layout_of, stored_of, view_of};
 
 use crate::arguments::{FIRST_COPIED, copy_arguments, drop_values, push_copied, push_nils};
 use crate::parts::{METHOD, NIL, Parts, RECEIVER, SUSPENDED_CONTEXT};
-use crate::words::{count_word, header, literal_count, temporary_count};
+use crate::words::{count_word, header};
 use cs_acts::Full;
 use cs_frame::{FrameRef, NewFrame};
 use cs_marriage::{base, marry};
-use cs_word::Oop;
+use cs_word::{MethodHeader, Oop};
 
 /// The words that must be free where a frame is made: its ten, and those of 56 values.
 const FRAME_ROOM: u32 = 66;
@@ -47,7 +48,8 @@ impl Parts {
         requires some { 0 < length self.old.frames }
         requires named { IsNamed (stored_of self.old) process }
         requires nil { Names (stored_of self.old) nil (nil_of (view_of self.old)) }
-        requires kept { NamesOption (stored_of self.old) (Some context) (context_kept (view_of self.old) (name_of (stored_of self.old) process)) }
+        requires kept { NamesOption (stored_of self.old) (Some context) (context_kept (view_of self.old)
+            (name_of (stored_of self.old) process)) }
         requires running { IsRunning (taken_of (view_of self.old) (name_of (stored_of self.old) process)) }
         ensures good { IsGood self.new }
         ensures view { view_of self.new ≡ taken_of (view_of self.old) (name_of (stored_of self.old) process) }
@@ -60,19 +62,24 @@ impl Parts {
         self.rebase(context);
     }
 
-    /// Enters a method on a frame of its own: above the active one, or where 66 words aren't free there, on a page of its own.
+    /// Enters a method on a frame of its own: above the active one, or where 66 words aren't free there, on a page of
+    /// its own.
     pub(crate) fn enter(&mut self, method: Oop, args: u32, skip: bool) -> Result<(), Full>
         requires good { IsGood self.old }
         requires ready { IsReady (stored_of self.old) (view_of self.old) }
         requires named { IsNamed (stored_of self.old) method }
         requires fits { CanEnter (view_of self.old) (name_of (stored_of self.old) method) args skip }
         ensures good { IsGood self.new }
-        ensures view { OnOk result (view_of self.new ≡ enter_of (view_of self.old) (name_of (stored_of self.old) method) args skip) }
-        ensures layout { OnOk result (LaidBy (entered (view_of self.old) (view_of self.old).rest.next) (layout_of self.old) (layout_of self.new)) }
+        ensures view { OnOk result (view_of self.new ≡ enter_of (view_of self.old)
+            (name_of (stored_of self.old) method) args skip) }
+        ensures layout { OnOk result (LaidBy (entered (view_of self.old) (view_of self.old).rest.next)
+            (layout_of self.old) (layout_of self.new)) }
         ensures limit { self.new.heap.limit ≡ self.old.heap.limit }
-        ensures contexts { OnOk result (MakesAtMost (made_by_entering (view_of self.old) (layout_of self.old)) (layout_of self.old) (stored_of self.old) (stored_of self.new)) }
+        ensures contexts { OnOk result (MakesAtMost (made_by_entering (view_of self.old) (layout_of self.old))
+            (layout_of self.old) (stored_of self.old) (stored_of self.new)) }
         ensures names { OnOk result (KeepsNames (stored_of self.old) (stored_of self.new)) }
-        ensures full { IfErr result (CausesFull (stored_of self.new) (layout_of self.old) (view_of self.old) 0 (enter_of (view_of self.old) (name_of (stored_of self.old) method) args skip)) }
+        ensures full { IfErr result (CausesFull (stored_of self.new) (layout_of self.old) (view_of self.old) 0
+            (enter_of (view_of self.old) (name_of (stored_of self.old) method) args skip)) }
     {
         let head = header(&self.heap, method);
         let top = self.top();
@@ -83,7 +90,7 @@ impl Parts {
             receiver,
             birth: self.roots.next_birth,
             args,
-            fill: temporary_count(head) - args,
+            fill: head.temporaries() - args,
         };
         self.begin(new, count_word(entry_pc(head, skip)), 0)
     }
@@ -95,12 +102,16 @@ impl Parts {
         requires named { IsNamed (stored_of self.old) closure }
         requires fits { CanEnterBlock (view_of self.old) (name_of (stored_of self.old) closure) args }
         ensures good { IsGood self.new }
-        ensures view { OnOk result (view_of self.new ≡ enter_block_of (view_of self.old) (name_of (stored_of self.old) closure) args) }
-        ensures layout { OnOk result (LaidBy (entered (view_of self.old) (view_of self.old).rest.next) (layout_of self.old) (layout_of self.new)) }
+        ensures view { OnOk result (view_of self.new ≡ enter_block_of (view_of self.old)
+            (name_of (stored_of self.old) closure) args) }
+        ensures layout { OnOk result (LaidBy (entered (view_of self.old) (view_of self.old).rest.next)
+            (layout_of self.old) (layout_of self.new)) }
         ensures limit { self.new.heap.limit ≡ self.old.heap.limit }
-        ensures contexts { OnOk result (MakesAtMost (made_by_entering (view_of self.old) (layout_of self.old)) (layout_of self.old) (stored_of self.old) (stored_of self.new)) }
+        ensures contexts { OnOk result (MakesAtMost (made_by_entering (view_of self.old) (layout_of self.old))
+            (layout_of self.old) (stored_of self.old) (stored_of self.new)) }
         ensures names { OnOk result (KeepsNames (stored_of self.old) (stored_of self.new)) }
-        ensures full { IfErr result (CausesFull (stored_of self.new) (layout_of self.old) (view_of self.old) 0 (enter_block_of (view_of self.old) (name_of (stored_of self.old) closure) args)) }
+        ensures full { IfErr result (CausesFull (stored_of self.new) (layout_of self.old) (view_of self.old) 0
+            (enter_block_of (view_of self.old) (name_of (stored_of self.old) closure) args)) }
     {
         // its words keep method and receiver, also where it has a frame or had one
         let outer = self.heap.slot(closure, OUTER_CONTEXT);
@@ -117,19 +128,23 @@ impl Parts {
         self.begin(new, pc, copies)
     }
 
-    /// Makes a frame above the active one, or where 66 words aren't free there, on a page of its own. So many values that its closure has
-    /// copied follow its arguments.
+    /// Makes a frame above the active one, or where 66 words aren't free there, on a page of its own. So many values
+    /// that its closure has copied follow its arguments.
     fn begin(&mut self, new: NewFrame, pc: Oop, copies: u32) -> Result<(), Full>
         requires good { IsGood self.old }
         requires ready { IsReady (stored_of self.old) (view_of self.old) }
         requires can { CanBegin (stored_of self.old) (view_of self.old) new pc copies }
         ensures good { IsGood self.new }
-        ensures view { OnOk result (view_of self.new ≡ begun_state (stored_of self.old) (view_of self.old) new pc copies) }
-        ensures layout { OnOk result (LaidBy (entered (view_of self.old) (view_of self.old).rest.next) (layout_of self.old) (layout_of self.new)) }
+        ensures view { OnOk result (view_of self.new ≡ begun_state (stored_of self.old) (view_of self.old) new pc
+            copies) }
+        ensures layout { OnOk result (LaidBy (entered (view_of self.old) (view_of self.old).rest.next)
+            (layout_of self.old) (layout_of self.new)) }
         ensures limit { self.new.heap.limit ≡ self.old.heap.limit }
-        ensures contexts { OnOk result (MakesAtMost (made_by_entering (view_of self.old) (layout_of self.old)) (layout_of self.old) (stored_of self.old) (stored_of self.new)) }
+        ensures contexts { OnOk result (MakesAtMost (made_by_entering (view_of self.old) (layout_of self.old))
+            (layout_of self.old) (stored_of self.old) (stored_of self.new)) }
         ensures names { OnOk result (KeepsNames (stored_of self.old) (stored_of self.new)) }
-        ensures full { IfErr result (CausesFull (stored_of self.new) (layout_of self.old) (view_of self.old) 0 (begun_state (stored_of self.old) (view_of self.old) new pc copies)) }
+        ensures full { IfErr result (CausesFull (stored_of self.new) (layout_of self.old) (view_of self.old) 0
+            (begun_state (stored_of self.old) (view_of self.old) new pc copies)) }
     {
         let room = self.frames.room(self.pages.order(0));
         if room < FRAME_ROOM {
@@ -161,12 +176,15 @@ impl Parts {
         requires can { CanBegin (stored_of self.old) (view_of self.old) new pc copies }
         requires full { 4096 < used (active_page self.old) + 66 }
         ensures good { IsGood self.new }
-        ensures view { OnOk result (view_of self.new ≡ begun_state (stored_of self.old) (view_of self.old) new pc copies) }
-        ensures layout { OnOk result (LaidBy (entered (view_of self.old) (view_of self.old).rest.next) (layout_of self.old) (layout_of self.new)) }
+        ensures view { OnOk result (view_of self.new ≡ begun_state (stored_of self.old) (view_of self.old) new pc
+            copies) }
+        ensures layout { OnOk result (LaidBy (entered (view_of self.old) (view_of self.old).rest.next)
+            (layout_of self.old) (layout_of self.new)) }
         ensures limit { self.new.heap.limit ≡ self.old.heap.limit }
         ensures contexts { OnOk result (MakesAtMost 1 (layout_of self.old) (stored_of self.old) (stored_of self.new)) }
         ensures names { OnOk result (KeepsNames (stored_of self.old) (stored_of self.new)) }
-        ensures full { IfErr result (CausesFull (stored_of self.new) (layout_of self.old) (view_of self.old) 0 (begun_state (stored_of self.old) (view_of self.old) new pc copies)) }
+        ensures full { IfErr result (CausesFull (stored_of self.new) (layout_of self.old) (view_of self.old) 0
+            (begun_state (stored_of self.old) (view_of self.old) new pc copies)) }
     {
         if self.pages.used() == self.pages.len() {
             return Err(Full::Stack);
@@ -211,10 +229,13 @@ impl Parts {
         requires good { IsGood self.old }
         requires ready { IsReady (stored_of self.old) (view_of self.old) }
         requires named { IsNamed (stored_of self.old) v }
-        requires target { IsSomeAnd (sender_birth (view_of self.old) (active_birth (view_of self.old))) (CanArrive (view_of self.old)) }
+        requires target { IsSomeAnd (sender_birth (view_of self.old) (active_birth (view_of self.old)))
+            (CanArrive (view_of self.old)) }
         ensures good { IsGood self.new }
-        ensures state { (m : Kept) → Keeps (view_of self.old) m → Keeps (view_of self.new) (leave_of m (name_of (stored_of self.old) v)) }
-        ensures layout { IfSome (sender_birth (view_of self.old) (active_birth (view_of self.old))) (λ target. LaidBy (left target) (layout_of self.old) (layout_of self.new)) }
+        ensures state { (m : Kept) → Keeps (view_of self.old) m → Keeps (view_of self.new)
+            (leave_of m (name_of (stored_of self.old) v)) }
+        ensures layout { IfSome (sender_birth (view_of self.old) (active_birth (view_of self.old)))
+            (λ target. LaidBy (left target) (layout_of self.old) (layout_of self.new)) }
         ensures limit { self.new.heap.limit ≡ self.old.heap.limit }
         ensures contexts { MakesAtMost 0 (layout_of self.old) (stored_of self.old) (stored_of self.new) }
         ensures ready { IsReady (stored_of self.new) (view_of self.new) }
@@ -228,10 +249,12 @@ impl Parts {
     fn unwind(&mut self)
         requires good { IsGood self.old }
         requires ready { IsReady (stored_of self.old) (view_of self.old) }
-        requires target { IsSomeAnd (sender_birth (view_of self.old) (active_birth (view_of self.old))) (CanArrive (view_of self.old)) }
+        requires target { IsSomeAnd (sender_birth (view_of self.old) (active_birth (view_of self.old)))
+            (CanArrive (view_of self.old)) }
         ensures limit { self.new.heap.limit ≡ self.old.heap.limit }
         ensures contexts { MakesAtMost 0 (layout_of self.old) (stored_of self.old) (stored_of self.new) }
-        ensures unwound { IfSome (sender_birth (view_of self.old) (active_birth (view_of self.old))) (Unwound self.old self.new) }
+        ensures unwound { IfSome (sender_birth (view_of self.old) (active_birth (view_of self.old)))
+            (Unwound self.old self.new) }
     {
         let top = self.top();
         match self.frames.caller(top) {
@@ -240,17 +263,20 @@ impl Parts {
         }
     }
 
-    /// The base frame of the first page dies, which was its last one, and the page is given back. Its sender is the last frame of the page
-    /// behind it; where no other page is used it is a single context, which becomes the base frame of one.
+    /// The base frame of the first page dies, which was its last one, and the page is given back. Its sender is the
+    /// last frame of the page behind it; where no other page is used it is a single context, which becomes the base
+    /// frame of one.
     fn leave_page(&mut self, frame: FrameRef)
         requires good { IsGood self.old }
         requires ready { IsReady (stored_of self.old) (view_of self.old) }
-        requires target { IsSomeAnd (sender_birth (view_of self.old) (active_birth (view_of self.old))) (CanArrive (view_of self.old)) }
+        requires target { IsSomeAnd (sender_birth (view_of self.old) (active_birth (view_of self.old)))
+            (CanArrive (view_of self.old)) }
         requires top { frame ≡ ref_of (active_number self.old) (top (active_page self.old)) }
         requires base { IsBase self.old.frames frame }
         ensures limit { self.new.heap.limit ≡ self.old.heap.limit }
         ensures contexts { MakesAtMost 0 (layout_of self.old) (stored_of self.old) (stored_of self.new) }
-        ensures unwound { IfSome (sender_birth (view_of self.old) (active_birth (view_of self.old))) (Unwound self.old self.new) }
+        ensures unwound { IfSome (sender_birth (view_of self.old) (active_birth (view_of self.old)))
+            (Unwound self.old self.new) }
     {
         let sender = self.frames.sender(frame);
         self.frames.drop_top(frame.page);
@@ -274,11 +300,11 @@ impl Parts {
     }
 }
 
-/// The pc at which a method is entered: behind the header and the literals of four bytes each, and behind a primitive that
-/// failed.
-fn entry_pc(header: u32, skip: bool) -> u32
-    ensures { result ≡ entry_of header skip }
+/// The pc at which a method is entered: behind the header and the literals of four bytes each, and behind a primitive
+/// that failed.
+fn entry_pc(header: MethodHeader, skip: bool) -> u32
+    ensures { result ≡ entry_of header.0 skip }
 {
-    let first = 4 * (literal_count(header) + 1) + 1;
+    let first = 4 * (header.literals() + 1) + 1;
     if skip { first + PRIMITIVE_BYTES } else { first }
 }

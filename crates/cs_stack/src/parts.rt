@@ -1,9 +1,11 @@
 //! What a world of frames keeps, and how its parts change.
-ghost use Rattle.std.specs.Prelude.{◌≡◌, ◌<◌, ◌≤◌, ◌-◌, length, nat_lt, Some, IfSome, IfErr, IfOk, OnOk, false, IsSome, is_some, not, true, slice_get, unwrap_or};
+ghost use Rattle.std.specs.Prelude.{◌≡◌, ◌<◌, ◌≤◌, ◌-◌, length, nat_lt, Some, IfSome, IfErr, IfOk, OnOk, false, IsSome};
+ghost use Rattle.std.specs.Prelude.{is_some, not, true, slice_get, unwrap_or};
 ghost use Rattle.cs_frame.specs.Page.{IsFrame, IsTop, frame, ref_of, top};
 ghost use Rattle.cs_marriage.specs.Agree.{frame_size as size_of_frame};
 ghost use Rattle.cs_model.specs.Obj.{context_in, lies_in};
-ghost use Rattle.cs_model.specs.Operation.{add_of, next_ref, nil_of, pop_of, push_of, set_pc_of, set_stack_of, store_of};
+ghost use Rattle.cs_model.specs.Operation.{add_of, next_ref, nil_of, pop_of, push_of, set_pc_of, set_stack_of};
+ghost use Rattle.cs_model.specs.Operation.{store_of};
 ghost use Rattle.cs_model.specs.Read.{active_context, depth_of, method_of, pc_of, receiver_of, size_of, stack_of};
 ghost use Rattle.cs_model.specs.Return.{closure_at, context_birth, has_room, is_live, sender_birth};
 ghost use Rattle.cs_model.specs.State.{object_at, object_of};
@@ -19,7 +21,7 @@ ghost use Rattle.cs_stack.specs.View.{act_of, active_page, layout_of, stored_of,
 ghost use Rattle.cs_stack.specs.Moved.{active_number};
 ghost use Rattle.cs_stack.specs.Good.{IsGood};
 
-use crate::words::{context_size, count, count_word, header, is_context, is_count};
+use crate::words::{count, count_word, header, is_context, is_count};
 use cs_acts::{Act, Full, Roots};
 use cs_classes::Classes;
 use cs_frame::{FrameRef, Frames};
@@ -43,7 +45,8 @@ pub struct Parts {
     pub frames: Frames,
 }
 
-/// The slots of a context, in the order of the Blue Book: sender, pc, stackp, method, closure, receiver, and then its stack.
+/// The slots of a context, in the order of the Blue Book: sender, pc, stackp, method, closure, receiver, and then its
+/// stack.
 pub(crate) const SENDER: u32 = 0;
 
 pub(crate) const PC: u32 = 1;
@@ -111,7 +114,8 @@ impl Parts {
         requires good { IsGood self.now }
         requires named { IsNamed (stored_of self.now) context }
         requires context { is_context_ref (view_of self.now) (name_of (stored_of self.now) context) ≡ true }
-        ensures value { act_of self.now result ≡ context_birth (view_of self.now) (name_of (stored_of self.now) context) }
+        ensures value { act_of self.now result ≡ context_birth (view_of self.now)
+            (name_of (stored_of self.now) context) }
         ensures gone { is_gone result ≡ false }
     {
         match spouse(&self.heap, &self.frames, context) {
@@ -128,7 +132,7 @@ impl Parts {
     {
         let context = self.frames.context(f);
         if context == NIL {
-            context_size(header(&self.heap, self.frames.method(f)))
+            header(&self.heap, self.frames.method(f)).context_size()
         } else {
             self.heap.slot_count(context) - STACK
         }
@@ -151,7 +155,8 @@ impl Parts {
     pub(crate) fn act_closure(&self, a: Act) -> Oop
         requires good { IsGood self.now }
         requires stands { IsSome (act_of self.now a) }
-        ensures { IfSome (act_of self.now a) (λ birth. Names (stored_of self.now) result (closure_at (view_of self.now) birth)) }
+        ensures { IfSome (act_of self.now a) (λ birth. Names (stored_of self.now) result
+            (closure_at (view_of self.now) birth)) }
     {
         match a {
             Act::Frame { page, at } => self.frames.closure(FrameRef { page, at }),
@@ -164,7 +169,8 @@ impl Parts {
     pub(crate) fn act_method(&self, a: Act) -> Oop
         requires good { IsGood self.now }
         requires stands { IsSome (act_of self.now a) }
-        ensures { IfSome (act_of self.now a) (λ birth. Names (stored_of self.now) result (method_in (nil_of (view_of self.now)) (context_in (object_at (view_of self.now) birth)))) }
+        ensures { IfSome (act_of self.now a) (λ birth. Names (stored_of self.now) result
+            (method_in (nil_of (view_of self.now)) (context_in (object_at (view_of self.now) birth)))) }
     {
         match a {
             Act::Frame { page, at } => self.frames.method(FrameRef { page, at }),
@@ -190,7 +196,8 @@ impl Parts {
     pub(crate) fn act_full(&self, a: Act) -> bool
         requires good { IsGood self.now }
         requires stands { IsSome (act_of self.now a) }
-        ensures { IfSome (act_of self.now a) (λ birth. not result ≡ has_room (context_in (object_at (view_of self.now) birth))) }
+        ensures { IfSome (act_of self.now a) (λ birth. not result ≡ has_room
+            (context_in (object_at (view_of self.now) birth))) }
     {
         match a {
             Act::Frame { page, at } => self.is_full(FrameRef { page, at }),
@@ -205,7 +212,8 @@ impl Parts {
     fn is_full(&self, f: FrameRef) -> bool
         requires good { IsGood self.now }
         requires frame { IsFrame self.now.frames f }
-        ensures { not result ≡ nat_lt (length (frame self.now.frames f).stack) (size_of_frame self.now.heap.objects (frame self.now.frames f)) }
+        ensures { not result ≡ nat_lt (length (frame self.now.frames f).stack)
+            (size_of_frame self.now.heap.objects (frame self.now.frames f)) }
     {
         self.frames.depth(f) >= self.frame_size(f)
     }
@@ -214,7 +222,8 @@ impl Parts {
     pub(crate) fn sender_act(&self, a: Act) -> Act
         requires good { IsGood self.now }
         requires stands { IsSome (act_of self.now a) }
-        ensures value { IfSome (act_of self.now a) (λ birth. act_of self.now result ≡ sender_birth (view_of self.now) birth) }
+        ensures value { IfSome (act_of self.now a) (λ birth. act_of self.now result ≡ sender_birth (view_of self.now)
+            birth) }
         ensures gone { is_gone result ≡ not (is_some (act_of self.now result)) }
     {
         match a {
@@ -228,7 +237,8 @@ impl Parts {
     fn frame_sender(&self, f: FrameRef) -> Act
         requires good { IsGood self.now }
         requires stands { IsSome (act_of self.now (Act.Frame f.page f.at)) }
-        ensures value { IfSome (act_of self.now (Act.Frame f.page f.at)) (λ birth. act_of self.now result ≡ sender_birth (view_of self.now) birth) }
+        ensures value { IfSome (act_of self.now (Act.Frame f.page f.at)) (λ birth. act_of self.now result ≡ sender_birth
+            (view_of self.now) birth) }
         ensures gone { is_gone result ≡ not (is_some (act_of self.now result)) }
     {
         match self.frames.caller(f) {
@@ -288,7 +298,8 @@ impl Parts {
         requires good { IsGood self.now }
         requires ready { IsReady (stored_of self.now) (view_of self.now) }
         requires there { i < depth_of (view_of self.now) }
-        ensures { Names (stored_of self.now) result (unwrap_or (slice_get (stack_of (view_of self.now)) i) (nil_of (view_of self.now))) }
+        ensures { Names (stored_of self.now) result (unwrap_or (slice_get (stack_of (view_of self.now)) i)
+            (nil_of (view_of self.now))) }
     {
         self.frames.slot(self.top(), i)
     }
@@ -331,7 +342,8 @@ impl Parts {
         requires object { IsNamed (stored_of self.old) o }
         requires named { IsNamed (stored_of self.old) v }
         ensures good { IsGood self.new }
-        ensures view { view_of self.new ≡ store_of (view_of self.old) (name_of (stored_of self.old) o) i (name_of (stored_of self.old) v) }
+        ensures view { view_of self.new ≡ store_of (view_of self.old) (name_of (stored_of self.old) o) i
+            (name_of (stored_of self.old) v) }
         ensures names { KeepsNames (stored_of self.old) (stored_of self.new) }
         ensures contexts { MakesAtMost 0 (layout_of self.old) (stored_of self.old) (stored_of self.new) }
         ensures layout { layout_of self.new ≡ layout_of self.old }
@@ -346,13 +358,16 @@ impl Parts {
         requires good { IsGood self.old }
         requires fits { CanAllocate (view_of self.old) class format slots }
         ensures good { IsGood self.new }
-        ensures view { OnOk result (view_of self.new ≡ add_of (view_of self.old) (blank_of (view_of self.old) class format slots)) }
+        ensures view { OnOk result (view_of self.new ≡ add_of (view_of self.old)
+            (blank_of (view_of self.old) class format slots)) }
         ensures value { IfOk result (λ o. Names (stored_of self.new) o (next_ref (view_of self.old))) }
         ensures layout { layout_of self.new ≡ layout_of self.old }
         ensures limit { self.new.heap.limit ≡ self.old.heap.limit }
         ensures contexts { MakesAtMost 0 (layout_of self.old) (stored_of self.old) (stored_of self.new) }
         ensures names { OnOk result (KeepsNames (stored_of self.old) (stored_of self.new)) }
-        ensures full { IfErr result (λ why. (why ≡ full.Heap) × CausesFull (stored_of self.new) (layout_of self.old) (view_of self.old) (size slots) (add_of (view_of self.old) (blank_of (view_of self.old) class format slots)) why) }
+        ensures full { IfErr result (λ why. (why ≡ full.Heap) × CausesFull (stored_of self.new) (layout_of self.old)
+            (view_of self.old) (size slots) (add_of (view_of self.old)
+            (blank_of (view_of self.old) class format slots)) why) }
     {
         // for what its clauses say: no class index from there on has an entry
         let _entries = self.classes.len();
@@ -388,7 +403,8 @@ impl Parts {
         requires ready { IsReady (stored_of self.old) (view_of self.old) }
         requires there { 0 < depth_of (view_of self.old) }
         ensures good { IsGood self.new }
-        ensures value { Names (stored_of self.old) result (unwrap_or (slice_get (stack_of (view_of self.old)) (depth_of (view_of self.old) - 1)) (nil_of (view_of self.old))) }
+        ensures value { Names (stored_of self.old) result (unwrap_or (slice_get (stack_of (view_of self.old))
+            (depth_of (view_of self.old) - 1)) (nil_of (view_of self.old))) }
         ensures view { view_of self.new ≡ pop_of (view_of self.old) }
         ensures stored { stored_of self.new ≡ stored_of self.old }
         ensures layout { layout_of self.new ≡ layout_of self.old }

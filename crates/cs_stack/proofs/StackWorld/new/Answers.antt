@@ -16,7 +16,7 @@ invariant_of-world c =
     made_good c.args.loaded c.args.pages c.in_ok-order.order c.in_ok-frames.frames c.requires.whole c.requires.senders c.in_ok-order.ensures.free c.in_ok-frames.ensures.empty c.requires.few.1
     (subst (λ n. n ≤ heap.limit) c.used_words-used.ensures.value c.used_words-used.ensures.within)
     (subst (λ n. n ≤ 67108864) c.limit_words-limit.ensures.value c.limit_words-limit.ensures.most)
-    c.requires.births c.requires.pcs c.requires.nil c.in_ok-order.ensures.sound c.requires.closures
+    c.requires.births c.requires.pcs c.requires.nil c.in_ok-order.ensures.sound
 
 pub open-requires-clause-sound : goal.open-requires-clause-sound
 open-requires-clause-sound c =
@@ -24,7 +24,7 @@ open-requires-clause-sound c =
     good_sound _ (made_good c.args.loaded c.args.pages c.in_ok-order.order c.in_ok-frames.frames c.requires.whole c.requires.senders c.in_ok-order.ensures.free c.in_ok-frames.ensures.empty c.requires.few.1
     (subst (λ n. n ≤ heap.limit) c.used_words-used.ensures.value c.used_words-used.ensures.within)
     (subst (λ n. n ≤ 67108864) c.limit_words-limit.ensures.value c.limit_words-limit.ensures.most)
-    c.requires.births c.requires.pcs c.requires.nil c.in_ok-order.ensures.sound c.requires.closures)
+    c.requires.births c.requires.pcs c.requires.nil c.in_ok-order.ensures.sound)
 
 pub open-requires-clause-running : goal.open-requires-clause-running
 open-requires-clause-running c =
@@ -32,7 +32,7 @@ open-requires-clause-running c =
     made_runs c.args.loaded c.args.pages c.in_ok-order.order c.in_ok-frames.frames c.requires.whole c.requires.senders c.in_ok-order.ensures.free c.in_ok-frames.ensures.empty c.requires.few.1
     (subst (λ n. n ≤ heap.limit) c.used_words-used.ensures.value c.used_words-used.ensures.within)
     (subst (λ n. n ≤ 67108864) c.limit_words-limit.ensures.value c.limit_words-limit.ensures.most)
-    c.requires.births c.requires.pcs c.requires.nil c.in_ok-order.ensures.sound c.requires.closures c.requires.running
+    c.requires.births c.requires.pcs c.requires.nil c.in_ok-order.ensures.sound c.requires.running
 
 pub returns-clause-view : goal.returns-clause-view
 returns-clause-view c =
@@ -40,7 +40,7 @@ returns-clause-view c =
     c.open.ensures.view ∙ ap open_kept (made_view c.args.loaded c.args.pages c.in_ok-order.order c.in_ok-frames.frames c.requires.whole c.requires.senders c.in_ok-order.ensures.free c.in_ok-frames.ensures.empty c.requires.few.1
     (subst (λ n. n ≤ heap.limit) c.used_words-used.ensures.value c.used_words-used.ensures.within)
     (subst (λ n. n ≤ 67108864) c.limit_words-limit.ensures.value c.limit_words-limit.ensures.most)
-    c.requires.births c.requires.pcs c.requires.nil c.in_ok-order.ensures.sound c.requires.closures)
+    c.requires.births c.requires.pcs c.requires.nil c.in_ok-order.ensures.sound)
 
 pub returns-clause-idle : goal.returns-clause-idle
 returns-clause-idle c = ap is_idle (returns-clause-view c) ∙ (scheduled (loaded_kept c.args.loaded) refl c.requires.running).idle

@@ -1,8 +1,7 @@
-use Rattle.std.proofs.Common.{List, ap, ◌∙◌}
+use Rattle.std.proofs.Common.{◌∙◌, ap, List}
 use Rattle.cs_heap.specs.Object.{Memory, Object, with_slot}
 use Rattle.cs_heap.specs.Writes.{slot_stored, slots_stored}
 use Rattle.cs_heap.proofs.Writes.{slots_stored-twice}
-use Rattle.cs_marriage.specs.Marriage.{buried}
 use Rattle.cs_stack.proofs.cuts.bury_words.Goals as goal
 
 pub returns : goal.returns
@@ -11,8 +10,8 @@ returns c =
     let a = c.args.context.0 in
     let one : List Object = with_slot m.objects a 0 65536 in
     let two : List Object = with_slot one a 1 65536 in
-    let three : List Object = buried m.objects a in
+    let three : List Object = with_slot two a 2 1 in
     c.set_slot-3.ensures
-    ∙ ap (slot_stored c.set_slot-2.new.self a 2) c.count_word.ensures
+    ∙ ap (λ v. slot_stored c.set_slot-2.new.self a 2 v) c.count_word.ensures
     ∙ ap (λ (h : Memory). slot_stored h a 2 1) (c.set_slot-2.ensures ∙ ap (λ (h : Memory). slot_stored h a 1 65536) c.set_slot.ensures)
     ∙ slots_stored-twice (slots_stored m a one) a two three ∙ slots_stored-twice m a one three

@@ -1,10 +1,12 @@
-use Rattle.std.proofs.Common.{◌<◌, ◌-◌, ℕ, length, length-drop, subst, sym, ap, ap₂, arith, drop, replicate, List}
+use Rattle.std.proofs.Common.{◌<◌, ◌-◌, ℕ, length, length-drop, subst, sym, ap, ap₂, arith, drop, refl, replicate, List}
 use Rattle.std.specs.Prelude.{slice_index}
 use Rattle.std.proofs.lemmas.List.{length-append, length-replicate}
 use Rattle.cs_frame.specs.Frame.{Frame, IsValue, nil}
-use Rattle.cs_frame.specs.Page.{top, used}
+use Rattle.cs_frame.specs.Page.{CanCall, top, used}
 use Rattle.cs_stack.specs.declared.parts.Parts.{Parts}
 use Rattle.cs_stack.specs.Moved.{copied_at, given_birth}
+use Rattle.cs_model.specs.Obj.{context_class}
+use Rattle.cs_stack.proofs.Addresses.{nil_or_named}
 use Rattle.cs_stack.proofs.Tops.{opened}
 use Rattle.cs_stack.proofs.Entering.{copied, copied_values_hold, few, new_pc, new_values, reference_value, there, value_named}
 use Rattle.cs_stack.proofs.Begun.{begun_arguments, begun_empty, begun_made, caller_frames, caller_same, caller_stands, caller_top, free_empty, free_other, sender_named, stage_base, stage_built, stage_longer, stage_top, stage_used}
@@ -17,6 +19,9 @@ build-frame-requires-clause-room c =
     let p : ℕ = c.in-Some.page in
     let free = c.in-Some.ensures.was_free in
     omega (arith, ap used (free_empty w c.requires.good p free))
+
+pub build-frame-requires-clause-caller : goal.build-frame-requires-clause-caller
+build-frame-requires-clause-caller c = subst (CanCall 0) (sym (free_empty c.args.self.now c.requires.good c.in-Some.page c.in-Some.ensures.was_free)) refl
 
 pub build-frame-requires-clause-values : goal.build-frame-requires-clause-values
 build-frame-requires-clause-values c =
@@ -41,7 +46,7 @@ set_sender-requires-clause-value c =
     let o = opened w c.requires.good c.requires.ready in
     let p : ℕ = c.in-Some.page in
     let free = c.in-Some.ensures.was_free in
-    reference_value w.heap.objects c.args.sender.0 (sender_named c.requires.good c.requires.ready o c.requires.can p free c.args.sender.0 c.requires.sender c.requires.married)
+    reference_value w.heap.objects c.args.sender.0 (nil_or_named context_class w.heap.objects c.args.sender.0 (sender_named c.requires.good c.requires.ready o c.requires.can p free c.args.sender.0 c.requires.sender c.requires.married))
 
 pub set_saved_pc-requires-clause-pc : goal.set_saved_pc-requires-clause-pc
 set_saved_pc-requires-clause-pc c =

@@ -1,4 +1,5 @@
-use Rattle.cs_acts.specs.Names.{name_of}
+use Rattle.std.proofs.Common.{subst, sym}
+use Rattle.cs_acts.specs.Names.{KeepsNames, name_of}
 use Rattle.cs_stack.specs.Moved.{Unwound}
 use Rattle.cs_stack.specs.View.{stored_of, view_of}
 use Rattle.cs_stack.proofs.Leaving.{left_ready, left_state, target, told, unwound_fits, unwound_ready}
@@ -28,3 +29,8 @@ pub returns-clause-ready : goal.returns-clause-ready
 returns-clause-ready c =
     let g = target c.args.self.now c.requires.ready c.requires.target in
     left_ready c.requires.ready g (told g (Unwound c.args.self.now c.unwind.new.self) c.unwind.ensures.unwound) c.push.new.self (name_of (stored_of c.unwind.new.self) c.args.v) c.push.ensures.good c.push.ensures.view
+
+pub returns-clause-names : goal.returns-clause-names
+returns-clause-names c =
+    let g = target c.args.self.now c.requires.ready c.requires.target in
+    subst (KeepsNames (stored_of c.args.self.now)) (sym c.push.ensures.stored) (told g (Unwound c.args.self.now c.unwind.new.self) c.unwind.ensures.unwound).names
