@@ -15,7 +15,7 @@ use Rattle.cs_word.specs.Word.{kind_of, small_value}
 use Rattle.cs_word.specs.Header.{bit, flag_bits}
 use Rattle.cs_word.proofs.Words.{kind_of-object}
 use Rattle.cs_heap.specs.Format.{is_pointers, is_method}
-use Rattle.cs_heap.specs.Object.{Memory, Object, birth_of, class_of, field_of, flags_of, format_of, index_of, is_fixed, is_object, object_at, slot_count_of, slot_of}
+use Rattle.cs_heap.specs.Object.{Memory, Object, birth_of, class_of, field_of, format_of, index_of, is_fixed, is_object, object_at, slot_count_of, slot_of}
 use Rattle.cs_heap.proofs.Laws.{object_placed}
 use Rattle.cs_classes.specs.declared.Roots.{Roots}
 use Rattle.cs_classes.proofs.Wholes.{get-classes_of}

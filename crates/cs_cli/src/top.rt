@@ -9,7 +9,8 @@ ghost use Rattle.cs_acts.specs.Ready.{IsSound};
 ghost use Rattle.cs_core.specs.Deep.{most_of};
 ghost use Rattle.cs_core.specs.Running.{ending_of};
 ghost use Rattle.cs_shelf.specs.Outside.{Appends, AppendsPart, Rose};
-ghost use Rattle.cs_cli.specs.Answer.{Answered, Begun, Printed, Reported, answering, failed_read, heap_limit, read_text, run_status, stack_pages};
+ghost use Rattle.cs_cli.specs.Answer.{Answered, Begun, Printed, Reported, answering, failed_read, heap_limit};
+ghost use Rattle.cs_cli.specs.Answer.{read_text, run_status, stack_pages};
 ghost use Rattle.cs_cli.specs.Opening.{Opens};
 
 use crate::line::parse;
@@ -67,8 +68,18 @@ pub fn cogstack<S: Shelf, K: Sink>(
     out: &mut K,
 ) -> u8
     ensures answered { Answered (line_of (map string_bytes words.now))
-        (record { content = S.content shelf.old; before = S.fault_count shelf.old; behind = S.fault_count shelf.new; last = S.last_fault shelf.new })
-        (record { old = K.taken out.old; new = K.taken out.new; before = K.fault_count out.old; behind = K.fault_count out.new }) result }
+        (record {
+          content = S.content shelf.old;
+          before = S.fault_count shelf.old;
+          behind = S.fault_count shelf.new;
+          last = S.last_fault shelf.new;
+        })
+        (record {
+          old = K.taken out.old;
+          new = K.taken out.new;
+          before = K.fault_count out.old;
+          behind = K.fault_count out.new;
+        }) result }
     ensures contents { (name : List ℕ) → S.content shelf.new name ≡ S.content shelf.old name }
 {
     let Some(line) = parse(words) else {
@@ -85,7 +96,12 @@ pub fn cogstack<S: Shelf, K: Sink>(
 /// Writes a text, and gives the status, or that of a failed write.
 fn print<K: Sink>(out: &mut K, status: u8, text: &str) -> u8
     ensures printed { Printed (answering status text.now)
-        (record { old = K.taken out.old; new = K.taken out.new; before = K.fault_count out.old; behind = K.fault_count out.new }) result }
+        (record {
+          old = K.taken out.old;
+          new = K.taken out.new;
+          before = K.fault_count out.old;
+          behind = K.fault_count out.new;
+        }) result }
     ensures never_falls { K.fault_count out.old ≤ K.fault_count out.new }
 {
     match write_whole(out, text.as_bytes()) {
@@ -97,7 +113,12 @@ fn print<K: Sink>(out: &mut K, status: u8, text: &str) -> u8
 /// Says that a name couldn't be read.
 fn print_read<K: Sink>(out: &mut K, name: &str) -> u8
     ensures { Printed (failed_read name.now)
-        (record { old = K.taken out.old; new = K.taken out.new; before = K.fault_count out.old; behind = K.fault_count out.new }) result }
+        (record {
+          old = K.taken out.old;
+          new = K.taken out.new;
+          before = K.fault_count out.old;
+          behind = K.fault_count out.new;
+        }) result }
 {
     match write_read(out, name) {
         Ok(()) => READ_FAILED,
@@ -119,7 +140,13 @@ fn write_read<K: Sink>(out: &mut K, name: &str) -> Result<(), Failed>
 /// Reads, loads and opens an image.
 fn open<S: Shelf>(alloc: Global, shelf: &mut S, file: &str) -> Result<StackWorld, Refusal>
     requires name { length file.now ≤ 4096 }
-    ensures opens { Opens file.now (record { content = S.content shelf.old; before = S.fault_count shelf.old; behind = S.fault_count shelf.new; last = S.last_fault shelf.new }) result }
+    ensures opens { Opens file.now (record {
+      content = S.content shelf.old;
+      before = S.fault_count shelf.old;
+      behind = S.fault_count
+          shelf.new;
+      last = S.last_fault shelf.new;
+    }) result }
     ensures contents { (name : List ℕ) → S.content shelf.new name ≡ S.content shelf.old name }
 {
     let bytes = match read_whole(alloc, shelf, file, LONGEST_IMAGE) {
@@ -148,7 +175,12 @@ fn begin<W: World + Drop, K: Sink>(alloc: Global, world: W, steps: u64, out: &mu
     requires pages { most_of (W.layout world) ≡ Some stack_pages }
     requires limit { (W.stored world).memory.limit ≡ heap_limit }
     ensures { Begun (W.view world) steps
-        (record { old = K.taken out.old; new = K.taken out.new; before = K.fault_count out.old; behind = K.fault_count out.new }) result }
+        (record {
+          old = K.taken out.old;
+          new = K.taken out.new;
+          before = K.fault_count out.old;
+          behind = K.fault_count out.new;
+        }) result }
 {
     match Sender::new(alloc) {
         Ok(sender) => run_and_report(world, sender, steps, out),
@@ -164,7 +196,12 @@ fn run_and_report<W: World + Drop, K: Sink>(world: W, sender: Sender, steps: u64
     requires pages { most_of (W.layout world) ≡ Some stack_pages }
     requires limit { (W.stored world).memory.limit ≡ heap_limit }
     ensures { Reported (W.view world) steps
-        (record { old = K.taken out.old; new = K.taken out.new; before = K.fault_count out.old; behind = K.fault_count out.new }) result }
+        (record {
+          old = K.taken out.old;
+          new = K.taken out.new;
+          before = K.fault_count out.old;
+          behind = K.fault_count out.new;
+        }) result }
 {
     let mut world = world;
     let mut sender = sender;

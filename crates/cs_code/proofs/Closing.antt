@@ -182,7 +182,7 @@ can-make s k slots sound births = record {
   shape = refl;
   plain = refl;
   entry = ap (λ (r : Rest). is_some (get r.classes closure_class)) (sym sound.holds.rest) ∙ ap is_some (get-classes_of s.memory.objects s.table closure_class)
-      ∙ there (get s.table closure_class) sound.closures;
+      ∙ there (get s.table closure_class) sound.holds.whole.entries.closures;
   common = refl;
   births = births;
 }

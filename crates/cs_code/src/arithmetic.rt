@@ -27,7 +27,8 @@ use cs_word::{Kind, Oop, add, div, mul, rem, shift, sub};
 #[tactic(auto, unfolding(cs_model::specs::Exec::special_out))]
 pub fn special<W: World>(w: &mut W, i: u8) -> CodeEnd
     requires { IsReady (W.stored w.old) (W.view w.old) }
-    ensures gives { Gives (W.stored w.old) (W.stored w.new) (W.layout w.old) (W.view w.new) result (special_out (W.view w.old) i) }
+    ensures gives { Gives (W.stored w.old) (W.stored w.new) (W.layout w.old) (W.view w.new) result
+        (special_out (W.view w.old) i) }
     ensures layout { W.layout w.new ≡ W.layout w.old }
     ensures limit { (W.stored w.new).memory.limit ≡ (W.stored w.old).memory.limit }
     ensures contexts { MakesAtMost 0 (W.layout w.old) (W.stored w.old) (W.stored w.new) }
@@ -42,7 +43,8 @@ pub fn special<W: World>(w: &mut W, i: u8) -> CodeEnd
 #[tactic(auto, unfolding(cs_model::specs::Exec::common_out))]
 pub fn common<W: World>(w: &mut W, i: u8) -> CodeEnd
     requires { IsReady (W.stored w.old) (W.view w.old) }
-    ensures gives { Gives (W.stored w.old) (W.stored w.new) (W.layout w.old) (W.view w.new) result (common_out (W.view w.old) i) }
+    ensures gives { Gives (W.stored w.old) (W.stored w.new) (W.layout w.old) (W.view w.new) result
+        (common_out (W.view w.old) i) }
     ensures layout { W.layout w.new ≡ W.layout w.old }
     ensures limit { (W.stored w.new).memory.limit ≡ (W.stored w.old).memory.limit }
     ensures contexts { MakesAtMost 0 (W.layout w.old) (W.stored w.old) (W.stored w.new) }
@@ -58,7 +60,8 @@ pub fn common<W: World>(w: &mut W, i: u8) -> CodeEnd
 #[tactic(auto, unfolding(cs_model::specs::Exec::same_out))]
 fn compare<W: World>(w: &mut W) -> CodeEnd
     requires { IsReady (W.stored w.old) (W.view w.old) }
-    ensures gives { Gives (W.stored w.old) (W.stored w.new) (W.layout w.old) (W.view w.new) result (same_out (W.view w.old)) }
+    ensures gives { Gives (W.stored w.old) (W.stored w.new) (W.layout w.old) (W.view w.new) result
+        (same_out (W.view w.old)) }
     ensures layout { W.layout w.new ≡ W.layout w.old }
     ensures limit { (W.stored w.new).memory.limit ≡ (W.stored w.old).memory.limit }
     ensures contexts { MakesAtMost 0 (W.layout w.old) (W.stored w.old) (W.stored w.new) }
@@ -78,7 +81,8 @@ fn compare<W: World>(w: &mut W) -> CodeEnd
 #[tactic(auto, unfolding(cs_model::specs::Exec::class_out))]
 fn push_class<W: World>(w: &mut W) -> CodeEnd
     requires { IsReady (W.stored w.old) (W.view w.old) }
-    ensures gives { Gives (W.stored w.old) (W.stored w.new) (W.layout w.old) (W.view w.new) result (class_out (W.view w.old)) }
+    ensures gives { Gives (W.stored w.old) (W.stored w.new) (W.layout w.old) (W.view w.new) result
+        (class_out (W.view w.old)) }
     ensures layout { W.layout w.new ≡ W.layout w.old }
     ensures limit { (W.stored w.new).memory.limit ≡ (W.stored w.old).memory.limit }
     ensures contexts { MakesAtMost 0 (W.layout w.old) (W.stored w.old) (W.stored w.new) }
@@ -96,7 +100,8 @@ fn push_class<W: World>(w: &mut W) -> CodeEnd
 fn class_or_nil<W: World>(w: &W, x: Oop) -> Oop
     requires sound { IsSound (W.stored w.now) (W.view w.now) }
     requires named { IsNamed (W.stored w.now) x }
-    ensures { Names (W.stored w.now) result (unwrap_or (class_of (W.view w.now) (name_of (W.stored w.now) x)) (nil_of (W.view w.now))) }
+    ensures { Names (W.stored w.now) result
+        (unwrap_or (class_of (W.view w.now) (name_of (W.stored w.now) x)) (nil_of (W.view w.now))) }
 {
     match class_of(w, x) {
         Some(class) => class,
@@ -109,7 +114,8 @@ fn replace_two<W: World>(w: &mut W, x: Oop) -> CodeEnd
     requires ready { IsReady (W.stored w.old) (W.view w.old) }
     requires there { 2 ≤ depth_of (W.view w.old) }
     requires named { IsNamed (W.stored w.old) x }
-    ensures gives { Gives (W.stored w.old) (W.stored w.new) (W.layout w.old) (W.view w.new) result (done (push_of (drop_of (W.view w.old) 2) (name_of (W.stored w.old) x))) }
+    ensures gives { Gives (W.stored w.old) (W.stored w.new) (W.layout w.old) (W.view w.new) result
+        (done (push_of (drop_of (W.view w.old) 2) (name_of (W.stored w.old) x))) }
     ensures layout { W.layout w.new ≡ W.layout w.old }
     ensures limit { (W.stored w.new).memory.limit ≡ (W.stored w.old).memory.limit }
     ensures contexts { MakesAtMost 0 (W.layout w.old) (W.stored w.old) (W.stored w.new) }
@@ -205,7 +211,8 @@ fn comparison(i: u8, a: i32, b: i32) -> bool
     }
 }
 
-/// What special selector `i` computes: `+` `-` `*` `/` `\\` `bitShift:` `//` `bitAnd:` `bitOr:`, where the result is a SmallInteger.
+/// What special selector `i` computes: `+` `-` `*` `/` `\\` `bitShift:` `//` `bitAnd:` `bitOr:`, where the result is a
+/// SmallInteger.
 fn computation(i: u8, a: i32, b: i32) -> Option<i32>
     requires a_small { IsSmall a }
     requires b_small { IsSmall b }

@@ -44,11 +44,14 @@ const FIRST_COPIED: u32 = 3;
 pub fn make_closure<W: World>(w: &mut W, copied: u8, args: u8, size: u16) -> CodeEnd
     requires ready { IsReady (W.stored w.old) (W.view w.old) }
     requires births { (W.view w.old).rest.next < 4611686018427387904 }
-    ensures gives { is_refused result ≡ false → Gives (W.stored w.old) (W.stored w.new) (W.layout w.old) (W.view w.new) result (closure_out (W.view w.old) copied args size) }
-    ensures full { (why : Full) → result ≡ ends.Full why → Refuses (W.stored w.new) (W.layout w.old) (W.view w.old) (closure_out (W.view w.old) copied args size) why }
+    ensures gives { is_refused result ≡ false → Gives (W.stored w.old) (W.stored w.new) (W.layout w.old) (W.view w.new)
+        result (closure_out (W.view w.old) copied args size) }
+    ensures full { (why : Full) → result ≡ ends.Full why → Refuses (W.stored w.new) (W.layout w.old) (W.view w.old)
+        (closure_out (W.view w.old) copied args size) why }
     ensures layout { is_refused result ≡ false → W.layout w.new ≡ W.layout w.old }
     ensures limit { (W.stored w.new).memory.limit ≡ (W.stored w.old).memory.limit }
-    ensures contexts { is_refused result ≡ false → MakesAtMost (closure_out (W.view w.old) copied args size).count.looks (W.layout w.old) (W.stored w.old) (W.stored w.new) }
+    ensures contexts { is_refused result ≡ false → MakesAtMost (closure_out (W.view w.old) copied args size).count.looks
+        (W.layout w.old) (W.stored w.old) (W.stored w.new) }
 {
     let Some(pc) = pc_after(w, i32::from(size)) else {
         return CodeEnd::Stop(Stop::BadCode);
@@ -69,16 +72,19 @@ pub fn make_closure<W: World>(w: &mut W, copied: u8, args: u8, size: u16) -> Cod
     CodeEnd::Done
 }
 
-/// Makes a closure over the active context, with so many of the topmost values as its copied ones. These stay where they are.
+/// Makes a closure over the active context, with so many of the topmost values as its copied ones. These stay where
+/// they are.
 fn make<W: World>(w: &mut W, copied: u8, args: u8) -> Result<Oop, Full>
     requires ready { IsReady (W.stored w.old) (W.view w.old) }
     requires births { (W.view w.old).rest.next < 4611686018427387904 }
     requires there { copied ≤ depth_of (W.view w.old) }
     ensures value { IfOk result (λ o. Names (W.stored w.new) o (next_ref (W.view w.old))) }
-    ensures leads { OnOk result (Leads (W.stored w.old) (W.stored w.new) (W.layout w.old) (W.layout w.new) (W.view w.new) (add_of (W.view w.old) (new_closure (W.view w.old) copied args)) 1) }
+    ensures leads { OnOk result (Leads (W.stored w.old) (W.stored w.new) (W.layout w.old) (W.layout w.new)
+        (W.view w.new) (add_of (W.view w.old) (new_closure (W.view w.old) copied args)) 1) }
     ensures limit { (W.stored w.new).memory.limit ≡ (W.stored w.old).memory.limit }
     ensures heap_alone { IfErr result (λ why. why ≡ full.Heap) }
-    ensures full { IfErr result (CausesFull (W.stored w.new) (W.layout w.old) (W.view w.old) (words_of_slots (3 + copied)) (add_of (W.view w.old) (new_closure (W.view w.old) copied args))) }
+    ensures full { IfErr result (CausesFull (W.stored w.new) (W.layout w.old) (W.view w.old)
+        (words_of_slots (3 + copied)) (add_of (W.view w.old) (new_closure (W.view w.old) copied args))) }
 {
     let closure = match begin(w, copied, args) {
         Ok(closure) => closure,
@@ -97,10 +103,12 @@ fn begin<W: World>(w: &mut W, copied: u8, args: u8) -> Result<Oop, Full>
     requires ready { IsReady (W.stored w.old) (W.view w.old) }
     requires births { (W.view w.old).rest.next < 4611686018427387904 }
     ensures value { IfOk result (λ o. Names (W.stored w.new) o (next_ref (W.view w.old))) }
-    ensures leads { OnOk result (Leads (W.stored w.old) (W.stored w.new) (W.layout w.old) (W.layout w.new) (W.view w.new) (add_of (W.view w.old) (bare_closure (W.view w.old) copied args)) 1) }
+    ensures leads { OnOk result (Leads (W.stored w.old) (W.stored w.new) (W.layout w.old) (W.layout w.new)
+        (W.view w.new) (add_of (W.view w.old) (bare_closure (W.view w.old) copied args)) 1) }
     ensures limit { (W.stored w.new).memory.limit ≡ (W.stored w.old).memory.limit }
     ensures heap_alone { IfErr result (λ why. why ≡ full.Heap) }
-    ensures full { IfErr result (CausesFull (W.stored w.new) (W.layout w.old) (W.view w.old) (words_of_slots (3 + copied)) (add_of (W.view w.old) (bare_closure (W.view w.old) copied args))) }
+    ensures full { IfErr result (CausesFull (W.stored w.new) (W.layout w.old) (W.view w.old)
+        (words_of_slots (3 + copied)) (add_of (W.view w.old) (bare_closure (W.view w.old) copied args))) }
 {
     let context = match w.this_context() {
         Ok(context) => context,
@@ -131,7 +139,8 @@ fn pc_word<W: World>(w: &W) -> Oop
 fn drop_values<W: World>(w: &mut W, count: u8)
     requires ready { IsReady (W.stored w.old) (W.view w.old) }
     requires there { count ≤ depth_of (W.view w.old) }
-    ensures { Leads (W.stored w.old) (W.stored w.new) (W.layout w.old) (W.layout w.new) (W.view w.new) (drop_of (W.view w.old) count) 0 }
+    ensures { Leads (W.stored w.old) (W.stored w.new) (W.layout w.old) (W.layout w.new) (W.view w.new)
+        (drop_of (W.view w.old) count) 0 }
 {
     for _ in 0..u32::from(count) {
         w.pop();

@@ -29,11 +29,14 @@ const STACKP: u32 = 2;
 #[tactic(auto, unfolding(cs_model::specs::Exec::this_context_out))]
 pub fn push_this<W: World>(w: &mut W) -> CodeEnd
     requires { IsReady (W.stored w.old) (W.view w.old) }
-    ensures gives { is_refused result ≡ false → Gives (W.stored w.old) (W.stored w.new) (W.layout w.old) (W.view w.new) result (this_context_out (W.view w.old)) }
-    ensures full { (why : Full) → result ≡ ends.Full why → Refuses (W.stored w.new) (W.layout w.old) (W.view w.old) (this_context_out (W.view w.old)) why }
+    ensures gives { is_refused result ≡ false → Gives (W.stored w.old) (W.stored w.new) (W.layout w.old) (W.view w.new)
+        result (this_context_out (W.view w.old)) }
+    ensures full { (why : Full) → result ≡ ends.Full why → Refuses (W.stored w.new) (W.layout w.old) (W.view w.old)
+        (this_context_out (W.view w.old)) why }
     ensures layout { is_refused result ≡ false → W.layout w.new ≡ W.layout w.old }
     ensures limit { (W.stored w.new).memory.limit ≡ (W.stored w.old).memory.limit }
-    ensures contexts { is_refused result ≡ false → MakesAtMost (this_context_out (W.view w.old)).count.looks (W.layout w.old) (W.stored w.old) (W.stored w.new) }
+    ensures contexts { is_refused result ≡ false → MakesAtMost (this_context_out (W.view w.old)).count.looks
+        (W.layout w.old) (W.stored w.old) (W.stored w.new) }
 {
     if !has_room(w) {
         return CodeEnd::Stop(Stop::StackOver);
@@ -52,11 +55,15 @@ pub fn push_context_field<W: World>(w: &mut W, context: Oop, i: u32) -> CodeEnd
     requires ready { IsReady (W.stored w.old) (W.view w.old) }
     requires named { IsNamed (W.stored w.old) context }
     requires context { is_context_ref (W.view w.old) (name_of (W.stored w.old) context) ≡ true }
-    ensures gives { is_refused result ≡ false → Gives (W.stored w.old) (W.stored w.new) (W.layout w.old) (W.view w.new) result (push_field (W.view w.old) i (object_of (W.view w.old) (name_of (W.stored w.old) context))) }
-    ensures full { (why : Full) → result ≡ ends.Full why → Refuses (W.stored w.new) (W.layout w.old) (W.view w.old) (push_field (W.view w.old) i (object_of (W.view w.old) (name_of (W.stored w.old) context))) why }
+    ensures gives { is_refused result ≡ false → Gives (W.stored w.old) (W.stored w.new) (W.layout w.old) (W.view w.new)
+        result (push_field (W.view w.old) i (object_of (W.view w.old) (name_of (W.stored w.old) context))) }
+    ensures full { (why : Full) → result ≡ ends.Full why → Refuses (W.stored w.new) (W.layout w.old) (W.view w.old)
+        (push_field (W.view w.old) i (object_of (W.view w.old) (name_of (W.stored w.old) context))) why }
     ensures layout { is_refused result ≡ false → W.layout w.new ≡ W.layout w.old }
     ensures limit { (W.stored w.new).memory.limit ≡ (W.stored w.old).memory.limit }
-    ensures contexts { is_refused result ≡ false → MakesAtMost (push_field (W.view w.old) i (object_of (W.view w.old) (name_of (W.stored w.old) context))).count.looks (W.layout w.old) (W.stored w.old) (W.stored w.new) }
+    ensures contexts { is_refused result ≡ false → MakesAtMost
+        (push_field (W.view w.old) i (object_of (W.view w.old) (name_of (W.stored w.old) context))).count.looks
+        (W.layout w.old) (W.stored w.old) (W.stored w.new) }
 {
     if !has_field(w, context, i) {
         return CodeEnd::Stop(Stop::BadField);

@@ -8,8 +8,8 @@ use cs_word::Oop;
 pub enum CodeEnd {
     /// All is done.
     Done,
-    /// A message is to be sent to the receiver below so many arguments, and looked up from the superclass of `above` on, if
-    /// given.
+    /// A message is to be sent to the receiver below so many arguments, and looked up from the superclass of `above`
+    /// on, if given.
     Send {
         selector: Oop,
         args: u32,

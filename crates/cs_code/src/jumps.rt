@@ -20,7 +20,8 @@ const MUST_BE_BOOLEAN: u32 = 25;
 #[tactic(auto, unfolding(cs_model::specs::Exec::jump_out))]
 pub fn jump<W: World>(w: &mut W, offset: i32) -> CodeEnd
     requires { IsReady (W.stored w.old) (W.view w.old) }
-    ensures gives { Gives (W.stored w.old) (W.stored w.new) (W.layout w.old) (W.view w.new) result (jump_out (W.view w.old) offset) }
+    ensures gives { Gives (W.stored w.old) (W.stored w.new) (W.layout w.old) (W.view w.new) result
+        (jump_out (W.view w.old) offset) }
     ensures layout { W.layout w.new ≡ W.layout w.old }
     ensures limit { (W.stored w.new).memory.limit ≡ (W.stored w.old).memory.limit }
     ensures contexts { MakesAtMost 0 (W.layout w.old) (W.stored w.old) (W.stored w.new) }
@@ -57,7 +58,8 @@ pub fn pc_after<W: World>(w: &W, offset: i32) -> Option<u32>
 #[tactic(auto, unfolding(cs_model::specs::Exec::jump_if_out))]
 pub fn jump_if<W: World>(w: &mut W, wanted: bool, offset: u16) -> CodeEnd
     requires { IsReady (W.stored w.old) (W.view w.old) }
-    ensures gives { Gives (W.stored w.old) (W.stored w.new) (W.layout w.old) (W.view w.new) result (jump_if_out (W.view w.old) wanted offset) }
+    ensures gives { Gives (W.stored w.old) (W.stored w.new) (W.layout w.old) (W.view w.new) result
+        (jump_if_out (W.view w.old) wanted offset) }
     ensures layout { W.layout w.new ≡ W.layout w.old }
     ensures limit { (W.stored w.new).memory.limit ≡ (W.stored w.old).memory.limit }
     ensures contexts { MakesAtMost 0 (W.layout w.old) (W.stored w.old) (W.stored w.new) }

@@ -1,6 +1,7 @@
 //! The instructions of the V3PlusClosures bytecodes, over any world.
 //!
-//! The pc has been moved past the instruction when it is done. Where it sends or returns, that is left to who asked for it.
+//! The pc has been moved past the instruction when it is done. Where it sends or returns, that is left to who asked for
+//! it.
 #![tactic(auto)]
 
 ghost use Rattle.std.specs.Prelude.{◌≡◌, ◌<◌, false};
@@ -33,11 +34,14 @@ pub use end::CodeEnd;
 pub fn exec<W: World>(i: &Instr, w: &mut W) -> CodeEnd
     requires ready { IsReady (W.stored w.old) (W.view w.old) }
     requires births { (W.view w.old).rest.next < 4611686018427387904 }
-    ensures gives { is_refused result ≡ false → Gives (W.stored w.old) (W.stored w.new) (W.layout w.old) (W.view w.new) result (built_exec i.now.op (W.view w.old)) }
-    ensures full { (why : Full) → result ≡ ends.Full why → Refuses (W.stored w.new) (W.layout w.old) (W.view w.old) (built_exec i.now.op (W.view w.old)) why }
+    ensures gives { is_refused result ≡ false → Gives (W.stored w.old) (W.stored w.new) (W.layout w.old) (W.view w.new)
+        result (built_exec i.now.op (W.view w.old)) }
+    ensures full { (why : Full) → result ≡ ends.Full why → Refuses (W.stored w.new) (W.layout w.old) (W.view w.old)
+        (built_exec i.now.op (W.view w.old)) why }
     ensures layout { is_refused result ≡ false → W.layout w.new ≡ W.layout w.old }
     ensures limit { (W.stored w.new).memory.limit ≡ (W.stored w.old).memory.limit }
-    ensures contexts { is_refused result ≡ false → MakesAtMost (built_exec i.now.op (W.view w.old)).count.looks (W.layout w.old) (W.stored w.old) (W.stored w.new) }
+    ensures contexts { is_refused result ≡ false → MakesAtMost (built_exec i.now.op (W.view w.old)).count.looks
+        (W.layout w.old) (W.stored w.old) (W.stored w.new) }
 {
     match i.op {
         Op::PushRcvr(k) => variables::push_field(w, k),

@@ -31,7 +31,8 @@ pub fn has_room<W: World>(w: &W) -> bool
 pub fn push<W: World>(w: &mut W, x: Oop) -> CodeEnd
     requires ready { IsReady (W.stored w.old) (W.view w.old) }
     requires named { IsNamed (W.stored w.old) x }
-    ensures gives { Gives (W.stored w.old) (W.stored w.new) (W.layout w.old) (W.view w.new) result (push_out (W.view w.old) (name_of (W.stored w.old) x)) }
+    ensures gives { Gives (W.stored w.old) (W.stored w.new) (W.layout w.old) (W.view w.new) result
+        (push_out (W.view w.old) (name_of (W.stored w.old) x)) }
     ensures layout { W.layout w.new ≡ W.layout w.old }
     ensures limit { (W.stored w.new).memory.limit ≡ (W.stored w.old).memory.limit }
     ensures contexts { MakesAtMost 0 (W.layout w.old) (W.stored w.old) (W.stored w.new) }
@@ -48,7 +49,8 @@ pub fn push<W: World>(w: &mut W, x: Oop) -> CodeEnd
 #[tactic(auto, unfolding(cs_model::specs::Exec::push_temp_out))]
 pub fn push_temporary<W: World>(w: &mut W, i: u8) -> CodeEnd
     requires { IsReady (W.stored w.old) (W.view w.old) }
-    ensures gives { Gives (W.stored w.old) (W.stored w.new) (W.layout w.old) (W.view w.new) result (push_temp_out (W.view w.old) i) }
+    ensures gives { Gives (W.stored w.old) (W.stored w.new) (W.layout w.old) (W.view w.new) result
+        (push_temp_out (W.view w.old) i) }
     ensures layout { W.layout w.new ≡ W.layout w.old }
     ensures limit { (W.stored w.new).memory.limit ≡ (W.stored w.old).memory.limit }
     ensures contexts { MakesAtMost 0 (W.layout w.old) (W.stored w.old) (W.stored w.new) }
@@ -63,7 +65,8 @@ pub fn push_temporary<W: World>(w: &mut W, i: u8) -> CodeEnd
 #[tactic(auto, unfolding(cs_model::specs::Exec::push_literal_out))]
 pub fn push_literal<W: World>(w: &mut W, i: u8) -> CodeEnd
     requires { IsReady (W.stored w.old) (W.view w.old) }
-    ensures gives { Gives (W.stored w.old) (W.stored w.new) (W.layout w.old) (W.view w.new) result (push_literal_out (W.view w.old) i) }
+    ensures gives { Gives (W.stored w.old) (W.stored w.new) (W.layout w.old) (W.view w.new) result
+        (push_literal_out (W.view w.old) i) }
     ensures layout { W.layout w.new ≡ W.layout w.old }
     ensures limit { (W.stored w.new).memory.limit ≡ (W.stored w.old).memory.limit }
     ensures contexts { MakesAtMost 0 (W.layout w.old) (W.stored w.old) (W.stored w.new) }
@@ -77,7 +80,8 @@ pub fn push_literal<W: World>(w: &mut W, i: u8) -> CodeEnd
 /// Pushes the receiver.
 pub fn push_receiver<W: World>(w: &mut W) -> CodeEnd
     requires { IsReady (W.stored w.old) (W.view w.old) }
-    ensures gives { Gives (W.stored w.old) (W.stored w.new) (W.layout w.old) (W.view w.new) result (push_out (W.view w.old) (receiver_of (W.view w.old))) }
+    ensures gives { Gives (W.stored w.old) (W.stored w.new) (W.layout w.old) (W.view w.new) result
+        (push_out (W.view w.old) (receiver_of (W.view w.old))) }
     ensures layout { W.layout w.new ≡ W.layout w.old }
     ensures limit { (W.stored w.new).memory.limit ≡ (W.stored w.old).memory.limit }
     ensures contexts { MakesAtMost 0 (W.layout w.old) (W.stored w.old) (W.stored w.new) }
@@ -89,7 +93,8 @@ pub fn push_receiver<W: World>(w: &mut W) -> CodeEnd
 /// Pushes true or false.
 pub fn push_boolean<W: World>(w: &mut W, truth: bool) -> CodeEnd
     requires { IsReady (W.stored w.old) (W.view w.old) }
-    ensures gives { Gives (W.stored w.old) (W.stored w.new) (W.layout w.old) (W.view w.new) result (push_out (W.view w.old) (boolean_of (W.view w.old) truth)) }
+    ensures gives { Gives (W.stored w.old) (W.stored w.new) (W.layout w.old) (W.view w.new) result
+        (push_out (W.view w.old) (boolean_of (W.view w.old) truth)) }
     ensures layout { W.layout w.new ≡ W.layout w.old }
     ensures limit { (W.stored w.new).memory.limit ≡ (W.stored w.old).memory.limit }
     ensures contexts { MakesAtMost 0 (W.layout w.old) (W.stored w.old) (W.stored w.new) }
@@ -101,7 +106,8 @@ pub fn push_boolean<W: World>(w: &mut W, truth: bool) -> CodeEnd
 /// Pushes nil.
 pub fn push_nil<W: World>(w: &mut W) -> CodeEnd
     requires { IsReady (W.stored w.old) (W.view w.old) }
-    ensures gives { Gives (W.stored w.old) (W.stored w.new) (W.layout w.old) (W.view w.new) result (push_out (W.view w.old) (nil_of (W.view w.old))) }
+    ensures gives { Gives (W.stored w.old) (W.stored w.new) (W.layout w.old) (W.view w.new) result
+        (push_out (W.view w.old) (nil_of (W.view w.old))) }
     ensures layout { W.layout w.new ≡ W.layout w.old }
     ensures limit { (W.stored w.new).memory.limit ≡ (W.stored w.old).memory.limit }
     ensures contexts { MakesAtMost 0 (W.layout w.old) (W.stored w.old) (W.stored w.new) }
@@ -113,7 +119,8 @@ pub fn push_nil<W: World>(w: &mut W) -> CodeEnd
 /// Pushes a SmallInteger.
 pub fn push_small<W: World>(w: &mut W, z: i8) -> CodeEnd
     requires { IsReady (W.stored w.old) (W.view w.old) }
-    ensures gives { Gives (W.stored w.old) (W.stored w.new) (W.layout w.old) (W.view w.new) result (push_out (W.view w.old) (ref.Small z)) }
+    ensures gives { Gives (W.stored w.old) (W.stored w.new) (W.layout w.old) (W.view w.new) result
+        (push_out (W.view w.old) (ref.Small z)) }
     ensures layout { W.layout w.new ≡ W.layout w.old }
     ensures limit { (W.stored w.new).memory.limit ≡ (W.stored w.old).memory.limit }
     ensures contexts { MakesAtMost 0 (W.layout w.old) (W.stored w.old) (W.stored w.new) }
@@ -138,7 +145,8 @@ pub fn small_word(z: i32) -> Oop
 #[tactic(auto, unfolding(cs_model::specs::Exec::pop_out))]
 pub fn pop<W: World>(w: &mut W) -> CodeEnd
     requires { IsReady (W.stored w.old) (W.view w.old) }
-    ensures gives { Gives (W.stored w.old) (W.stored w.new) (W.layout w.old) (W.view w.new) result (pop_out (W.view w.old)) }
+    ensures gives { Gives (W.stored w.old) (W.stored w.new) (W.layout w.old) (W.view w.new) result
+        (pop_out (W.view w.old)) }
     ensures layout { W.layout w.new ≡ W.layout w.old }
     ensures limit { (W.stored w.new).memory.limit ≡ (W.stored w.old).memory.limit }
     ensures contexts { MakesAtMost 0 (W.layout w.old) (W.stored w.old) (W.stored w.new) }
@@ -156,7 +164,8 @@ pub fn pop<W: World>(w: &mut W) -> CodeEnd
 #[tactic(auto, unfolding(cs_model::specs::Exec::dup_out))]
 pub fn dup<W: World>(w: &mut W) -> CodeEnd
     requires { IsReady (W.stored w.old) (W.view w.old) }
-    ensures gives { Gives (W.stored w.old) (W.stored w.new) (W.layout w.old) (W.view w.new) result (dup_out (W.view w.old)) }
+    ensures gives { Gives (W.stored w.old) (W.stored w.new) (W.layout w.old) (W.view w.new) result
+        (dup_out (W.view w.old)) }
     ensures layout { W.layout w.new ≡ W.layout w.old }
     ensures limit { (W.stored w.new).memory.limit ≡ (W.stored w.old).memory.limit }
     ensures contexts { MakesAtMost 0 (W.layout w.old) (W.stored w.old) (W.stored w.new) }

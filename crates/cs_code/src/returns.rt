@@ -24,7 +24,8 @@ fn is_local<W: World>(w: &W) -> bool
 /// Returns the receiver.
 pub fn return_receiver<W: World>(w: &W) -> CodeEnd
     requires { IsReady (W.stored w.now) (W.view w.now) }
-    ensures { Gives (W.stored w.now) (W.stored w.now) (W.layout w.now) (W.view w.now) result (return_out (W.view w.now) (receiver_of (W.view w.now)) (is_local (W.view w.now))) }
+    ensures { Gives (W.stored w.now) (W.stored w.now) (W.layout w.now) (W.view w.now) result
+        (return_out (W.view w.now) (receiver_of (W.view w.now)) (is_local (W.view w.now))) }
 {
     CodeEnd::Return {
         value: w.receiver(),
@@ -35,7 +36,8 @@ pub fn return_receiver<W: World>(w: &W) -> CodeEnd
 /// Returns true or false.
 pub fn return_boolean<W: World>(w: &W, truth: bool) -> CodeEnd
     requires { IsReady (W.stored w.now) (W.view w.now) }
-    ensures { Gives (W.stored w.now) (W.stored w.now) (W.layout w.now) (W.view w.now) result (return_out (W.view w.now) (boolean_of (W.view w.now) truth) (is_local (W.view w.now))) }
+    ensures { Gives (W.stored w.now) (W.stored w.now) (W.layout w.now) (W.view w.now) result
+        (return_out (W.view w.now) (boolean_of (W.view w.now) truth) (is_local (W.view w.now))) }
 {
     CodeEnd::Return {
         value: boolean(w, truth),
@@ -46,7 +48,8 @@ pub fn return_boolean<W: World>(w: &W, truth: bool) -> CodeEnd
 /// Returns nil.
 pub fn return_nil<W: World>(w: &W) -> CodeEnd
     requires { IsReady (W.stored w.now) (W.view w.now) }
-    ensures { Gives (W.stored w.now) (W.stored w.now) (W.layout w.now) (W.view w.now) result (return_out (W.view w.now) (nil_of (W.view w.now)) (is_local (W.view w.now))) }
+    ensures { Gives (W.stored w.now) (W.stored w.now) (W.layout w.now) (W.view w.now) result
+        (return_out (W.view w.now) (nil_of (W.view w.now)) (is_local (W.view w.now))) }
 {
     CodeEnd::Return {
         value: nil(w),
@@ -57,7 +60,8 @@ pub fn return_nil<W: World>(w: &W) -> CodeEnd
 /// Pops a value and returns it; from a block, to the sender of its home.
 pub fn return_top<W: World>(w: &mut W) -> CodeEnd
     requires { IsReady (W.stored w.old) (W.view w.old) }
-    ensures gives { Gives (W.stored w.old) (W.stored w.new) (W.layout w.old) (W.view w.new) result (with_top (W.view w.old) (λ x. return_out (pop_of (W.view w.old)) x (is_local (W.view w.old)))) }
+    ensures gives { Gives (W.stored w.old) (W.stored w.new) (W.layout w.old) (W.view w.new) result
+        (with_top (W.view w.old) (λ x. return_out (pop_of (W.view w.old)) x (is_local (W.view w.old)))) }
     ensures layout { W.layout w.new ≡ W.layout w.old }
     ensures limit { (W.stored w.new).memory.limit ≡ (W.stored w.old).memory.limit }
     ensures contexts { MakesAtMost 0 (W.layout w.old) (W.stored w.old) (W.stored w.new) }
@@ -69,7 +73,8 @@ pub fn return_top<W: World>(w: &mut W) -> CodeEnd
 /// Pops a value and returns it to the sender.
 pub fn return_to_sender<W: World>(w: &mut W) -> CodeEnd
     requires { IsReady (W.stored w.old) (W.view w.old) }
-    ensures gives { Gives (W.stored w.old) (W.stored w.new) (W.layout w.old) (W.view w.new) result (with_top (W.view w.old) (λ x. return_out (pop_of (W.view w.old)) x true)) }
+    ensures gives { Gives (W.stored w.old) (W.stored w.new) (W.layout w.old) (W.view w.new) result
+        (with_top (W.view w.old) (λ x. return_out (pop_of (W.view w.old)) x true)) }
     ensures layout { W.layout w.new ≡ W.layout w.old }
     ensures limit { (W.stored w.new).memory.limit ≡ (W.stored w.old).memory.limit }
     ensures contexts { MakesAtMost 0 (W.layout w.old) (W.stored w.old) (W.stored w.new) }
@@ -80,7 +85,8 @@ pub fn return_to_sender<W: World>(w: &mut W) -> CodeEnd
 /// Pops a value and returns it.
 fn pop_and_return<W: World>(w: &mut W, local: bool) -> CodeEnd
     requires { IsReady (W.stored w.old) (W.view w.old) }
-    ensures gives { Gives (W.stored w.old) (W.stored w.new) (W.layout w.old) (W.view w.new) result (with_top (W.view w.old) (λ x. return_out (pop_of (W.view w.old)) x local)) }
+    ensures gives { Gives (W.stored w.old) (W.stored w.new) (W.layout w.old) (W.view w.new) result
+        (with_top (W.view w.old) (λ x. return_out (pop_of (W.view w.old)) x local)) }
     ensures layout { W.layout w.new ≡ W.layout w.old }
     ensures limit { (W.stored w.new).memory.limit ≡ (W.stored w.old).memory.limit }
     ensures contexts { MakesAtMost 0 (W.layout w.old) (W.stored w.old) (W.stored w.new) }

@@ -1,6 +1,7 @@
 //! Sends, which are left to who asked for the instruction.
 ghost use Rattle.std.specs.Prelude.{◌≡◌};
-ghost use Rattle.cs_model.specs.Exec.{argument_count_in, send_literal_out, send_selector_out, send_super_out, special_send_out};
+ghost use Rattle.cs_model.specs.Exec.{argument_count_in, send_literal_out, send_selector_out, send_super_out};
+ghost use Rattle.cs_model.specs.Exec.{special_send_out};
 ghost use Rattle.cs_acts.specs.Names.{IsNamed, Store, name_of};
 ghost use Rattle.cs_acts.specs.Ready.{IsReady};
 ghost use Rattle.cs_code.specs.Gives.{Gives};
@@ -19,7 +20,8 @@ const SPECIAL_SELECTORS: u32 = 23;
 #[tactic(auto, unfolding(cs_model::specs::Exec::send_literal_out))]
 pub fn send<W: World>(w: &W, lit: u8, args: u8) -> CodeEnd
     requires { IsReady (W.stored w.now) (W.view w.now) }
-    ensures { Gives (W.stored w.now) (W.stored w.now) (W.layout w.now) (W.view w.now) result (send_literal_out (W.view w.now) lit args) }
+    ensures { Gives (W.stored w.now) (W.stored w.now) (W.layout w.now) (W.view w.now) result
+        (send_literal_out (W.view w.now) lit args) }
 {
     match literal(w, u32::from(lit)) {
         Some(selector) => CodeEnd::Send {
@@ -31,11 +33,13 @@ pub fn send<W: World>(w: &W, lit: u8, args: u8) -> CodeEnd
     }
 }
 
-/// Sends the selector that a literal is, looked up from the superclass of the method's class, which the last literal names.
+/// Sends the selector that a literal is, looked up from the superclass of the method's class, which the last literal
+/// names.
 #[tactic(auto, unfolding(cs_model::specs::Exec::send_super_out))]
 pub fn send_super<W: World>(w: &W, lit: u8, args: u8) -> CodeEnd
     requires { IsReady (W.stored w.now) (W.view w.now) }
-    ensures { Gives (W.stored w.now) (W.stored w.now) (W.layout w.now) (W.view w.now) result (send_super_out (W.view w.now) lit args) }
+    ensures { Gives (W.stored w.now) (W.stored w.now) (W.layout w.now) (W.view w.now) result
+        (send_super_out (W.view w.now) lit args) }
 {
     let Some(selector) = literal(w, u32::from(lit)) else {
         return CodeEnd::Stop(Stop::BadLiteral);
@@ -54,7 +58,8 @@ pub fn send_super<W: World>(w: &W, lit: u8, args: u8) -> CodeEnd
 #[tactic(auto, unfolding(cs_model::specs::Exec::special_send_out))]
 pub fn send_special<W: World>(w: &W, special: u32, args: u32) -> CodeEnd
     requires { IsReady (W.stored w.now) (W.view w.now) }
-    ensures { Gives (W.stored w.now) (W.stored w.now) (W.layout w.now) (W.view w.now) result (special_send_out (W.view w.now) special args) }
+    ensures { Gives (W.stored w.now) (W.stored w.now) (W.layout w.now) (W.view w.now) result
+        (special_send_out (W.view w.now) special args) }
 {
     match special_object(w, special) {
         Some(selector) => CodeEnd::Send {
@@ -70,7 +75,8 @@ pub fn send_special<W: World>(w: &W, special: u32, args: u32) -> CodeEnd
 #[tactic(auto, unfolding(cs_model::specs::Exec::send_selector_out, cs_model::specs::Exec::selector_pair))]
 pub fn send_selector<W: World>(w: &W, i: u16) -> CodeEnd
     requires { IsReady (W.stored w.now) (W.view w.now) }
-    ensures { Gives (W.stored w.now) (W.stored w.now) (W.layout w.now) (W.view w.now) result (send_selector_out (W.view w.now) i) }
+    ensures { Gives (W.stored w.now) (W.stored w.now) (W.layout w.now) (W.view w.now) result
+        (send_selector_out (W.view w.now) i) }
 {
     let i = u32::from(i);
     let Some(table) = special_object(w, SPECIAL_SELECTORS) else {

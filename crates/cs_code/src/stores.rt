@@ -6,7 +6,8 @@
 ghost use Rattle.std.specs.Prelude.{◌≡◌, ◌<◌, true, false, [], ◌∷◌};
 ghost use Rattle.cs_model.specs.declared.instruction.Op.{Op};
 ghost use Rattle.cs_model.specs.Context.{is_context_ref};
-ghost use Rattle.cs_model.specs.Exec.{push_all, refuse_store as refused_of, store_slot as slot_stored, store_temp_out, store_variable_out, store_vector_out, store_receiver_out, store_into, pop_into};
+ghost use Rattle.cs_model.specs.Exec.{push_all, refuse_store as refused_of, store_slot as slot_stored, store_temp_out};
+ghost use Rattle.cs_model.specs.Exec.{store_variable_out, store_vector_out, store_receiver_out, store_into, pop_into};
 ghost use Rattle.cs_model.specs.Read.{depth_of, receiver_of};
 ghost use Rattle.cs_model.specs.State.{object_of};
 ghost use Rattle.cs_acts.specs.Made.{MakesAtMost};
@@ -34,7 +35,9 @@ fn push_three<W: World>(w: &mut W, a: Oop, b: Oop, c: Oop) -> CodeEnd
     requires first { IsNamed (W.stored w.old) a }
     requires second { IsNamed (W.stored w.old) b }
     requires third { IsNamed (W.stored w.old) c }
-    ensures gives { Gives (W.stored w.old) (W.stored w.new) (W.layout w.old) (W.view w.new) result (push_all (name_of (W.stored w.old) a ∷ name_of (W.stored w.old) b ∷ name_of (W.stored w.old) c ∷ []) (W.view w.old)) }
+    ensures gives { Gives (W.stored w.old) (W.stored w.new) (W.layout w.old) (W.view w.new) result
+        (push_all (name_of (W.stored w.old) a ∷ name_of (W.stored w.old) b ∷ name_of (W.stored w.old) c ∷ [])
+        (W.view w.old)) }
     ensures layout { W.layout w.new ≡ W.layout w.old }
     ensures limit { (W.stored w.new).memory.limit ≡ (W.stored w.old).memory.limit }
     ensures contexts { MakesAtMost 0 (W.layout w.old) (W.stored w.old) (W.stored w.new) }
@@ -49,14 +52,15 @@ fn push_three<W: World>(w: &mut W, a: Oop, b: Oop, c: Oop) -> CodeEnd
     }
 }
 
-/// Tells a read-only object of a store into its slot `i`, counted from 0: pushes the object, the value and the number of
-/// the slot counted from 1, and sends `attemptToAssign:withIndex:`.
+/// Tells a read-only object of a store into its slot `i`, counted from 0: pushes the object, the value and the number
+/// of the slot counted from 1, and sends `attemptToAssign:withIndex:`.
 #[tactic(auto, unfolding(cs_model::specs::Exec::refuse_store))]
 fn refuse_store<W: World>(w: &mut W, target: Oop, i: u8, x: Oop) -> CodeEnd
     requires ready { IsReady (W.stored w.old) (W.view w.old) }
     requires object { IsNamed (W.stored w.old) target }
     requires named { IsNamed (W.stored w.old) x }
-    ensures gives { Gives (W.stored w.old) (W.stored w.new) (W.layout w.old) (W.view w.new) result (refused_of (W.view w.old) (name_of (W.stored w.old) target) i (name_of (W.stored w.old) x)) }
+    ensures gives { Gives (W.stored w.old) (W.stored w.new) (W.layout w.old) (W.view w.new) result
+        (refused_of (W.view w.old) (name_of (W.stored w.old) target) i (name_of (W.stored w.old) x)) }
     ensures layout { W.layout w.new ≡ W.layout w.old }
     ensures limit { (W.stored w.new).memory.limit ≡ (W.stored w.old).memory.limit }
     ensures contexts { MakesAtMost 0 (W.layout w.old) (W.stored w.old) (W.stored w.new) }
@@ -68,8 +72,8 @@ fn refuse_store<W: World>(w: &mut W, target: Oop, i: u8, x: Oop) -> CodeEnd
     }
 }
 
-/// Stores into slot `i` of a pointer object. A read-only one refuses: the value is popped then, where it is still on the
-/// stack, which `kept` says, and the object is told of it.
+/// Stores into slot `i` of a pointer object. A read-only one refuses: the value is popped then, where it is still on
+/// the stack, which `kept` says, and the object is told of it.
 #[tactic(auto, unfolding(cs_model::specs::Exec::store_slot))]
 fn store_slot<W: World>(w: &mut W, target: Oop, i: u8, x: Oop, kept: bool) -> CodeEnd
     requires ready { IsReady (W.stored w.old) (W.view w.old) }
@@ -77,7 +81,9 @@ fn store_slot<W: World>(w: &mut W, target: Oop, i: u8, x: Oop, kept: bool) -> Co
     requires object { IsNamed (W.stored w.old) target }
     requires named { IsNamed (W.stored w.old) x }
     requires on_top { kept ≡ true → 0 < depth_of (W.view w.old) }
-    ensures gives { Gives (W.stored w.old) (W.stored w.new) (W.layout w.old) (W.view w.new) result (slot_stored (W.view w.old) (bare_of kept (W.view w.old)) (name_of (W.stored w.old) target) i (name_of (W.stored w.old) x)) }
+    ensures gives { Gives (W.stored w.old) (W.stored w.new) (W.layout w.old) (W.view w.new) result
+        (slot_stored (W.view w.old) (bare_of kept (W.view w.old)) (name_of (W.stored w.old) target) i
+        (name_of (W.stored w.old) x)) }
     ensures layout { W.layout w.new ≡ W.layout w.old }
     ensures limit { (W.stored w.new).memory.limit ≡ (W.stored w.old).memory.limit }
     ensures contexts { MakesAtMost 0 (W.layout w.old) (W.stored w.old) (W.stored w.new) }
@@ -97,7 +103,8 @@ fn store_slot<W: World>(w: &mut W, target: Oop, i: u8, x: Oop, kept: bool) -> Co
 fn store_temporary<W: World>(w: &mut W, i: u8, x: Oop) -> CodeEnd
     requires ready { IsReady (W.stored w.old) (W.view w.old) }
     requires named { IsNamed (W.stored w.old) x }
-    ensures gives { Gives (W.stored w.old) (W.stored w.new) (W.layout w.old) (W.view w.new) result (store_temp_out (W.view w.old) i (name_of (W.stored w.old) x)) }
+    ensures gives { Gives (W.stored w.old) (W.stored w.new) (W.layout w.old) (W.view w.new) result
+        (store_temp_out (W.view w.old) i (name_of (W.stored w.old) x)) }
     ensures layout { W.layout w.new ≡ W.layout w.old }
     ensures limit { (W.stored w.new).memory.limit ≡ (W.stored w.old).memory.limit }
     ensures contexts { MakesAtMost 0 (W.layout w.old) (W.stored w.old) (W.stored w.new) }
@@ -117,7 +124,8 @@ fn store_variable<W: World>(w: &mut W, i: u8, x: Oop, kept: bool) -> CodeEnd
     requires ready { IsReady (W.stored w.old) (W.view w.old) }
     requires named { IsNamed (W.stored w.old) x }
     requires on_top { kept ≡ true → 0 < depth_of (W.view w.old) }
-    ensures gives { Gives (W.stored w.old) (W.stored w.new) (W.layout w.old) (W.view w.new) result (store_variable_out (W.view w.old) (bare_of kept (W.view w.old)) i (name_of (W.stored w.old) x)) }
+    ensures gives { Gives (W.stored w.old) (W.stored w.new) (W.layout w.old) (W.view w.new) result
+        (store_variable_out (W.view w.old) (bare_of kept (W.view w.old)) i (name_of (W.stored w.old) x)) }
     ensures layout { W.layout w.new ≡ W.layout w.old }
     ensures limit { (W.stored w.new).memory.limit ≡ (W.stored w.old).memory.limit }
     ensures contexts { MakesAtMost 0 (W.layout w.old) (W.stored w.old) (W.stored w.new) }
@@ -137,7 +145,8 @@ fn store_vector<W: World>(w: &mut W, k: u8, j: u8, x: Oop, kept: bool) -> CodeEn
     requires ready { IsReady (W.stored w.old) (W.view w.old) }
     requires named { IsNamed (W.stored w.old) x }
     requires on_top { kept ≡ true → 0 < depth_of (W.view w.old) }
-    ensures gives { Gives (W.stored w.old) (W.stored w.new) (W.layout w.old) (W.view w.new) result (store_vector_out (W.view w.old) (bare_of kept (W.view w.old)) k j (name_of (W.stored w.old) x)) }
+    ensures gives { Gives (W.stored w.old) (W.stored w.new) (W.layout w.old) (W.view w.new) result
+        (store_vector_out (W.view w.old) (bare_of kept (W.view w.old)) k j (name_of (W.stored w.old) x)) }
     ensures layout { W.layout w.new ≡ W.layout w.old }
     ensures limit { (W.stored w.new).memory.limit ≡ (W.stored w.old).memory.limit }
     ensures contexts { MakesAtMost 0 (W.layout w.old) (W.stored w.old) (W.stored w.new) }
@@ -158,7 +167,8 @@ fn store_field<W: World>(w: &mut W, i: u8, x: Oop, kept: bool) -> CodeEnd
     requires named { IsNamed (W.stored w.old) x }
     requires plain { is_context_ref (W.view w.old) (receiver_of (W.view w.old)) ≡ false }
     requires on_top { kept ≡ true → 0 < depth_of (W.view w.old) }
-    ensures gives { Gives (W.stored w.old) (W.stored w.new) (W.layout w.old) (W.view w.new) result (store_receiver_out (W.view w.old) (bare_of kept (W.view w.old)) i (name_of (W.stored w.old) x)) }
+    ensures gives { Gives (W.stored w.old) (W.stored w.new) (W.layout w.old) (W.view w.new) result
+        (store_receiver_out (W.view w.old) (bare_of kept (W.view w.old)) i (name_of (W.stored w.old) x)) }
     ensures layout { W.layout w.new ≡ W.layout w.old }
     ensures limit { (W.stored w.new).memory.limit ≡ (W.stored w.old).memory.limit }
     ensures contexts { MakesAtMost 0 (W.layout w.old) (W.stored w.old) (W.stored w.new) }
@@ -174,7 +184,8 @@ fn store_field<W: World>(w: &mut W, i: u8, x: Oop, kept: bool) -> CodeEnd
 #[tactic(auto, unfolding(cs_model::specs::Exec::store_into))]
 pub fn keep_temporary<W: World>(w: &mut W, i: u8) -> CodeEnd
     requires { IsReady (W.stored w.old) (W.view w.old) }
-    ensures gives { Gives (W.stored w.old) (W.stored w.new) (W.layout w.old) (W.view w.new) result (store_into (W.view w.old) (λ t bare x. store_temp_out t i x)) }
+    ensures gives { Gives (W.stored w.old) (W.stored w.new) (W.layout w.old) (W.view w.new) result
+        (store_into (W.view w.old) (λ t bare x. store_temp_out t i x)) }
     ensures layout { W.layout w.new ≡ W.layout w.old }
     ensures limit { (W.stored w.new).memory.limit ≡ (W.stored w.old).memory.limit }
     ensures contexts { MakesAtMost 0 (W.layout w.old) (W.stored w.old) (W.stored w.new) }
@@ -189,7 +200,8 @@ pub fn keep_temporary<W: World>(w: &mut W, i: u8) -> CodeEnd
 #[tactic(auto, unfolding(cs_model::specs::Exec::pop_into))]
 pub fn pop_temporary<W: World>(w: &mut W, i: u8) -> CodeEnd
     requires { IsReady (W.stored w.old) (W.view w.old) }
-    ensures gives { Gives (W.stored w.old) (W.stored w.new) (W.layout w.old) (W.view w.new) result (pop_into (W.view w.old) (λ t bare x. store_temp_out t i x)) }
+    ensures gives { Gives (W.stored w.old) (W.stored w.new) (W.layout w.old) (W.view w.new) result
+        (pop_into (W.view w.old) (λ t bare x. store_temp_out t i x)) }
     ensures layout { W.layout w.new ≡ W.layout w.old }
     ensures limit { (W.stored w.new).memory.limit ≡ (W.stored w.old).memory.limit }
     ensures contexts { MakesAtMost 0 (W.layout w.old) (W.stored w.old) (W.stored w.new) }
@@ -207,7 +219,8 @@ pub fn pop_temporary<W: World>(w: &mut W, i: u8) -> CodeEnd
 #[tactic(auto, unfolding(cs_model::specs::Exec::store_into))]
 pub fn keep_variable<W: World>(w: &mut W, i: u8) -> CodeEnd
     requires { IsReady (W.stored w.old) (W.view w.old) }
-    ensures gives { Gives (W.stored w.old) (W.stored w.new) (W.layout w.old) (W.view w.new) result (store_into (W.view w.old) (λ t bare x. store_variable_out t bare i x)) }
+    ensures gives { Gives (W.stored w.old) (W.stored w.new) (W.layout w.old) (W.view w.new) result
+        (store_into (W.view w.old) (λ t bare x. store_variable_out t bare i x)) }
     ensures layout { W.layout w.new ≡ W.layout w.old }
     ensures limit { (W.stored w.new).memory.limit ≡ (W.stored w.old).memory.limit }
     ensures contexts { MakesAtMost 0 (W.layout w.old) (W.stored w.old) (W.stored w.new) }
@@ -222,7 +235,8 @@ pub fn keep_variable<W: World>(w: &mut W, i: u8) -> CodeEnd
 #[tactic(auto, unfolding(cs_model::specs::Exec::pop_into))]
 pub fn pop_variable<W: World>(w: &mut W, i: u8) -> CodeEnd
     requires { IsReady (W.stored w.old) (W.view w.old) }
-    ensures gives { Gives (W.stored w.old) (W.stored w.new) (W.layout w.old) (W.view w.new) result (pop_into (W.view w.old) (λ t bare x. store_variable_out t bare i x)) }
+    ensures gives { Gives (W.stored w.old) (W.stored w.new) (W.layout w.old) (W.view w.new) result
+        (pop_into (W.view w.old) (λ t bare x. store_variable_out t bare i x)) }
     ensures layout { W.layout w.new ≡ W.layout w.old }
     ensures limit { (W.stored w.new).memory.limit ≡ (W.stored w.old).memory.limit }
     ensures contexts { MakesAtMost 0 (W.layout w.old) (W.stored w.old) (W.stored w.new) }
@@ -240,7 +254,8 @@ pub fn pop_variable<W: World>(w: &mut W, i: u8) -> CodeEnd
 #[tactic(auto, unfolding(cs_model::specs::Exec::store_into))]
 pub fn keep_vector<W: World>(w: &mut W, k: u8, j: u8) -> CodeEnd
     requires { IsReady (W.stored w.old) (W.view w.old) }
-    ensures gives { Gives (W.stored w.old) (W.stored w.new) (W.layout w.old) (W.view w.new) result (store_into (W.view w.old) (λ t bare x. store_vector_out t bare k j x)) }
+    ensures gives { Gives (W.stored w.old) (W.stored w.new) (W.layout w.old) (W.view w.new) result
+        (store_into (W.view w.old) (λ t bare x. store_vector_out t bare k j x)) }
     ensures layout { W.layout w.new ≡ W.layout w.old }
     ensures limit { (W.stored w.new).memory.limit ≡ (W.stored w.old).memory.limit }
     ensures contexts { MakesAtMost 0 (W.layout w.old) (W.stored w.old) (W.stored w.new) }
@@ -255,7 +270,8 @@ pub fn keep_vector<W: World>(w: &mut W, k: u8, j: u8) -> CodeEnd
 #[tactic(auto, unfolding(cs_model::specs::Exec::pop_into))]
 pub fn pop_vector<W: World>(w: &mut W, k: u8, j: u8) -> CodeEnd
     requires { IsReady (W.stored w.old) (W.view w.old) }
-    ensures gives { Gives (W.stored w.old) (W.stored w.new) (W.layout w.old) (W.view w.new) result (pop_into (W.view w.old) (λ t bare x. store_vector_out t bare k j x)) }
+    ensures gives { Gives (W.stored w.old) (W.stored w.new) (W.layout w.old) (W.view w.new) result
+        (pop_into (W.view w.old) (λ t bare x. store_vector_out t bare k j x)) }
     ensures layout { W.layout w.new ≡ W.layout w.old }
     ensures limit { (W.stored w.new).memory.limit ≡ (W.stored w.old).memory.limit }
     ensures contexts { MakesAtMost 0 (W.layout w.old) (W.stored w.old) (W.stored w.new) }
@@ -269,11 +285,13 @@ pub fn pop_vector<W: World>(w: &mut W, k: u8, j: u8) -> CodeEnd
     }
 }
 
-/// Stores the topmost value into field `i` of the receiver and leaves it on the stack, where the receiver is no context.
+/// Stores the topmost value into field `i` of the receiver and leaves it on the stack, where the receiver is no
+/// context.
 #[tactic(auto, unfolding(crate::specs::Built::built_exec, cs_model::specs::Exec::exec, cs_model::specs::Exec::store_into))]
 pub fn keep_field<W: World>(w: &mut W, i: u8) -> CodeEnd
     requires { IsReady (W.stored w.old) (W.view w.old) }
-    ensures gives { Gives (W.stored w.old) (W.stored w.new) (W.layout w.old) (W.view w.new) result (built_exec (Op.StoreRcvr i) (W.view w.old)) }
+    ensures gives { Gives (W.stored w.old) (W.stored w.new) (W.layout w.old) (W.view w.new) result
+        (built_exec (Op.StoreRcvr i) (W.view w.old)) }
     ensures layout { W.layout w.new ≡ W.layout w.old }
     ensures limit { (W.stored w.new).memory.limit ≡ (W.stored w.old).memory.limit }
     ensures contexts { MakesAtMost 0 (W.layout w.old) (W.stored w.old) (W.stored w.new) }
@@ -292,7 +310,8 @@ pub fn keep_field<W: World>(w: &mut W, i: u8) -> CodeEnd
 #[tactic(auto, unfolding(crate::specs::Built::built_exec, cs_model::specs::Exec::exec, cs_model::specs::Exec::pop_into))]
 pub fn pop_field<W: World>(w: &mut W, i: u8) -> CodeEnd
     requires { IsReady (W.stored w.old) (W.view w.old) }
-    ensures gives { Gives (W.stored w.old) (W.stored w.new) (W.layout w.old) (W.view w.new) result (built_exec (Op.PopRcvr i) (W.view w.old)) }
+    ensures gives { Gives (W.stored w.old) (W.stored w.new) (W.layout w.old) (W.view w.new) result
+        (built_exec (Op.PopRcvr i) (W.view w.old)) }
     ensures layout { W.layout w.new ≡ W.layout w.old }
     ensures limit { (W.stored w.new).memory.limit ≡ (W.stored w.old).memory.limit }
     ensures contexts { MakesAtMost 0 (W.layout w.old) (W.stored w.old) (W.stored w.new) }

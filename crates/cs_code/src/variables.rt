@@ -1,6 +1,7 @@
 //! Literal variables, receiver fields and vectors.
 ghost use Rattle.std.specs.Prelude.{◌≡◌, false, Some};
-ghost use Rattle.cs_model.specs.Exec.{push_variable_out, variable_value, push_vector_out, push_receiver_out, vector_slot};
+ghost use Rattle.cs_model.specs.Exec.{push_variable_out, variable_value, push_vector_out, push_receiver_out};
+ghost use Rattle.cs_model.specs.Exec.{vector_slot};
 ghost use Rattle.cs_acts.specs.Made.{MakesAtMost};
 ghost use Rattle.cs_acts.specs.Names.{IsNamed, NamesOption, name_of};
 ghost use Rattle.cs_acts.specs.Ready.{IsReady};
@@ -43,7 +44,8 @@ fn vector_slot<W: World>(w: &W, k: u8, j: u8) -> Option<Oop>
 #[tactic(auto, unfolding(cs_model::specs::Exec::push_variable_out))]
 pub fn push_variable<W: World>(w: &mut W, i: u8) -> CodeEnd
     requires { IsReady (W.stored w.old) (W.view w.old) }
-    ensures gives { Gives (W.stored w.old) (W.stored w.new) (W.layout w.old) (W.view w.new) result (push_variable_out (W.view w.old) i) }
+    ensures gives { Gives (W.stored w.old) (W.stored w.new) (W.layout w.old) (W.view w.new) result
+        (push_variable_out (W.view w.old) i) }
     ensures layout { W.layout w.new ≡ W.layout w.old }
     ensures limit { (W.stored w.new).memory.limit ≡ (W.stored w.old).memory.limit }
     ensures contexts { MakesAtMost 0 (W.layout w.old) (W.stored w.old) (W.stored w.new) }
@@ -58,7 +60,8 @@ pub fn push_variable<W: World>(w: &mut W, i: u8) -> CodeEnd
 #[tactic(auto, unfolding(cs_model::specs::Exec::push_vector_out))]
 pub fn push_vector<W: World>(w: &mut W, k: u8, j: u8) -> CodeEnd
     requires { IsReady (W.stored w.old) (W.view w.old) }
-    ensures gives { Gives (W.stored w.old) (W.stored w.new) (W.layout w.old) (W.view w.new) result (push_vector_out (W.view w.old) k j) }
+    ensures gives { Gives (W.stored w.old) (W.stored w.new) (W.layout w.old) (W.view w.new) result
+        (push_vector_out (W.view w.old) k j) }
     ensures layout { W.layout w.new ≡ W.layout w.old }
     ensures limit { (W.stored w.new).memory.limit ≡ (W.stored w.old).memory.limit }
     ensures contexts { MakesAtMost 0 (W.layout w.old) (W.stored w.old) (W.stored w.new) }
@@ -73,11 +76,14 @@ pub fn push_vector<W: World>(w: &mut W, k: u8, j: u8) -> CodeEnd
 #[tactic(auto, unfolding(cs_model::specs::Exec::push_receiver_out))]
 pub fn push_field<W: World>(w: &mut W, i: u8) -> CodeEnd
     requires { IsReady (W.stored w.old) (W.view w.old) }
-    ensures gives { is_refused result ≡ false → Gives (W.stored w.old) (W.stored w.new) (W.layout w.old) (W.view w.new) result (push_receiver_out (W.view w.old) i) }
-    ensures full { (why : Full) → result ≡ ends.Full why → Refuses (W.stored w.new) (W.layout w.old) (W.view w.old) (push_receiver_out (W.view w.old) i) why }
+    ensures gives { is_refused result ≡ false → Gives (W.stored w.old) (W.stored w.new) (W.layout w.old) (W.view w.new)
+        result (push_receiver_out (W.view w.old) i) }
+    ensures full { (why : Full) → result ≡ ends.Full why → Refuses (W.stored w.new) (W.layout w.old) (W.view w.old)
+        (push_receiver_out (W.view w.old) i) why }
     ensures layout { is_refused result ≡ false → W.layout w.new ≡ W.layout w.old }
     ensures limit { (W.stored w.new).memory.limit ≡ (W.stored w.old).memory.limit }
-    ensures contexts { is_refused result ≡ false → MakesAtMost (push_receiver_out (W.view w.old) i).count.looks (W.layout w.old) (W.stored w.old) (W.stored w.new) }
+    ensures contexts { is_refused result ≡ false → MakesAtMost (push_receiver_out (W.view w.old) i).count.looks
+        (W.layout w.old) (W.stored w.old) (W.stored w.new) }
 {
     let receiver = w.receiver();
     if is_context(w, receiver) {

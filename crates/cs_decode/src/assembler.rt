@@ -3,7 +3,10 @@
 ghost use Rattle.std.specs.Prelude.{◌≡◌, ◌+◌, ◌*◌, ◌/◌, ◌<◌, ◌≤◌, Some, length, IsTrue};
 ghost use Rattle.arrayvec.specs.ArrayVec.{array_vec_len};
 ghost use Rattle.cs_model.specs.Decode.{decode_at};
-ghost use Rattle.cs_model.specs.Assemble.{IsInstr, has_form, send_has_form, super_has_form, jump_has_form, jump_false_has_form, assembled, bytes_of, name_of, plain_code, variable_bytes, send_bytes, super_bytes, with_number, jump_bytes, jump_false_bytes};
+ghost use Rattle.cs_model.specs.Assemble.{IsInstr, has_form, send_has_form, super_has_form, jump_has_form};
+ghost use Rattle.cs_model.specs.Assemble.{jump_false_has_form, assembled, bytes_of, name_of, plain_code};
+ghost use Rattle.cs_model.specs.Assemble.{variable_bytes, send_bytes, super_bytes, with_number, jump_bytes};
+ghost use Rattle.cs_model.specs.Assemble.{jump_false_bytes};
 
 use arrayvec::ArrayVec;
 use cs_model::{Instr, Op};

@@ -1,7 +1,8 @@
 //! Which instructions there are.
 
 ghost use Rattle.std.specs.Prelude.{◌≡◌, IsTrue, ◌↔◌};
-ghost use Rattle.cs_model.specs.Assemble.{IsInstr, has_form, fits_within, send_has_form, super_has_form, jump_has_form, jump_false_has_form};
+ghost use Rattle.cs_model.specs.Assemble.{IsInstr, has_form, fits_within, send_has_form, super_has_form, jump_has_form};
+ghost use Rattle.cs_model.specs.Assemble.{jump_false_has_form};
 
 use cs_model::{Instr, Op};
 

@@ -7,6 +7,6 @@ mod decoder;
 mod forms;
 
 pub use assembler::{assemble, name};
+pub use cs_model::{Instr, Op};
 pub use decoder::{BadCode, decode};
 pub use forms::is_instr;
-

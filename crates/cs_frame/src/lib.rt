@@ -15,7 +15,8 @@
 ghost use Rattle.std.specs.Prelude.{◌≡◌, ℕ, zero, ◌+◌, ◌*◌, ◌/◌, ◌^◌, ◌<◌, ◌≤◌, ◌↔◌, List, [], ◌∷◌, ◌++◌};
 ghost use Rattle.std.specs.Prelude.{IfOk, IsNone, IfSome, replicate, length, slice_index};
 ghost use Rattle.cs_frame.specs.Frame.{Frame, IsValue, IsPc, pushed, popped, with_slot};
-ghost use Rattle.cs_frame.specs.Frame.{with_caller, with_saved_pc, with_method, with_closure, with_context, with_receiver};
+ghost use Rattle.cs_frame.specs.Frame.{with_caller, with_saved_pc, with_method, with_closure, with_context};
+ghost use Rattle.cs_frame.specs.Frame.{with_receiver};
 ghost use Rattle.cs_frame.specs.Page.{used, IsStacked, top, on_top, rest_of, frames_of, on_page, ref_of};
 ghost use Rattle.cs_frame.specs.Page.{IsFrame, frame, caller_of, on_frame, IsTop, IsBase, called, CanCall, HoldsValues};
 ghost use Rattle.cs_frame.specs.Layout.{part_of, with_part, CanHold, offset_of};
@@ -25,7 +26,6 @@ use cs_word::Oop;
 use cs_zone::Zone;
 use std::alloc::{AllocError as NoMemory, Global};
 use std::marker::Model;
-
 
 /// The words of a page.
 const PAGE_WORDS: u32 = 4096;

@@ -12,13 +12,16 @@
 
 mod rows;
 
-ghost use Rattle.std.specs.Prelude.{◌≡◌, ℕ, ◌+◌, ◌*◌, ◌<◌, ◌≤◌, ◌^◌, ◌↔◌, [], ◌∷◌, ◌++◌, IfOk, IsErr, IsTrue, OnErr, false, option_map};
+ghost use Rattle.std.specs.Prelude.{◌≡◌, ℕ, ◌+◌, ◌*◌, ◌<◌, ◌≤◌, ◌^◌, ◌↔◌, [], ◌∷◌, ◌++◌, IfOk, IsErr, IsTrue, OnErr};
+ghost use Rattle.std.specs.Prelude.{false, option_map};
 ghost use Rattle.std.specs.FinSet.{empty};
 ghost use Rattle.cs_word.specs.Header.{IsWritable};
 ghost use Rattle.cs_heap.specs.Format.{format_allows};
-ghost use Rattle.cs_heap.specs.Object.{address_of, birth_of, byte_of, class_of, format_of, hash_of, header_seen, is_fixed, is_watched};
+ghost use Rattle.cs_heap.specs.Object.{address_of, birth_of, byte_of, class_of, format_of, hash_of, header_seen};
+ghost use Rattle.cs_heap.specs.Object.{is_fixed, is_watched};
 ghost use Rattle.cs_heap.specs.Object.{is_object, next_address, next_of, size as size_of, slot_count_of, slot_of, used};
-ghost use Rattle.cs_heap.specs.Writes.{byte_stored, cleaned, fixed_stored, hash_stored, object_added, slot_stored, watch_begun};
+ghost use Rattle.cs_heap.specs.Writes.{byte_stored, cleaned, fixed_stored, hash_stored, object_added, slot_stored};
+ghost use Rattle.cs_heap.specs.Writes.{watch_begun};
 
 use bitflags::Flags as _;
 use cs_word::{Flags, Header, Oop};
@@ -38,7 +41,8 @@ const WATCHED: u8 = 2;
 ///
 /// It is seen as `limit`, the words that its objects may take, and `objects`, the list of them in
 /// the order of their addresses, each with class, flags, format, hash, birth and words; and beside
-/// them `watched`, the addresses of the watched ones, and `dirty`. A call that takes an object has the condition that it is one of this heap, which `is_object` tests, and one
+/// them `watched`, the addresses of the watched ones, and `dirty`. A call that takes an object has the condition that
+/// it is one of this heap, which `is_object` tests, and one
 /// that takes an index that it is in range, by `slot_count`.
 #[derive(Drop)]
 pub struct Heap {
@@ -351,4 +355,3 @@ impl Heap {
         self.dirty = false;
     }
 }
-

@@ -2,7 +2,8 @@
 //! again.
 #![tactic(auto)]
 
-ghost use Rattle.std.specs.Prelude.{◌≡◌, ℕ, ◌+◌, ◌*◌, ◌-◌, ◌/◌, ◌%◌, ◌<◌, ◌≤◌, ◌^◌, ◌++◌, option_map, length, replicate, vec_len, vec_capacity};
+ghost use Rattle.std.specs.Prelude.{◌≡◌, ℕ, ◌+◌, ◌*◌, ◌-◌, ◌/◌, ◌%◌, ◌<◌, ◌≤◌, ◌^◌, ◌++◌, option_map, length};
+ghost use Rattle.std.specs.Prelude.{replicate, vec_len, vec_capacity};
 ghost use Rattle.cs_word.specs.Header.{header_bits, IsWritable};
 ghost use Rattle.cs_heap.specs.Object.{body_units as body_units_of, byte_in as byte_of_word, new_slot as new_slot_of};
 ghost use Rattle.cs_heap.specs.Object.{size, units, units_before as units_before_of, with_byte_in as word_with_byte};

@@ -1,14 +1,16 @@
 -- What an object of a file means in memory.
-use Rattle.std.proofs.Common.{◌≡◌, ℕ, suc, ◌+◌, ◌*◌, ◌-◌, ◌/◌, ◌%◌, ◌^◌, ◌<◌, ◌≤◌, ◌==◌, ◌&&◌, ◌||◌, leb, Bool, true, false, cond, List, [], ◌∷◌, length, map, take, drop, get_or, Option, refl, ap, sym, ◌∙◌, arith, unwrap_or, length-drop}
+use Rattle.std.proofs.Common.{◌≡◌, ℕ, suc, ◌+◌, ◌*◌, ◌-◌, ◌/◌, ◌%◌, ◌^◌, ◌<◌, ◌≤◌, ◌==◌, ◌&&◌, ◌||◌, leb, Bool, true, false, cond, not, List, [], ◌∷◌, length, map, take, drop, get_or, Option, refl, ap, sym, ◌∙◌, arith, unwrap_or, length-drop}
 use Rattle.std.proofs.lemmas.List.{get_or-map, get_or-drop, get_or-take, ext_get_or, length-map, length-take}
 use Rattle.std.specs.List.{take-map, drop-map}
 use Rattle.std.proofs.lemmas.Bool.Decides.{nat_tests}
-use Rattle.cs_model.specs.Obj.{Ptr, Raw, Method, Ctx, context_class, literal_count}
-use Rattle.cs_model.specs.Words.{obj_by, context_by, ref_by, natural_in_word, is_pointer_format, is_method_format, plain_format, header_in_words, literals_in_words, bytecodes_in_words, bytes_in_words, stackp_in_words, unused_bytes, bytes_of_words}
+use Rattle.cs_model.specs.Obj.{Head, Ptr, Raw, Method, Ctx, context_class, literal_count}
+use Rattle.cs_model.specs.Image.{head_in}
+use Rattle.cs_model.specs.Words.{obj_by, plain, context_by, ref_by, natural_in_word, is_pointer_format, is_method_format, plain_format, header_in_words, literals_in_words, bytecodes_in_words, bytes_in_words, stackp_in_words, unused_bytes, bytes_of_words}
 use Rattle.cs_model.specs.ImageFile.{FileObject, File}
 use Rattle.cs_model.specs.ImageFault.{is_lost}
 use Rattle.cs_heap.specs.Object.{Object}
-use Rattle.cs_classes.specs.Meaning.{ref_of, count_of, bytes_of, obj_of, context_of, method_of, used_bytes, depth_in, code_in, literals_in, header_in}
+use Rattle.cs_classes.specs.Meaning.{head_of, ref_of, count_of, bytes_of, obj_of, context_of, method_of, used_bytes, depth_in, code_in, literals_in, header_in}
+use Rattle.cs_classes.proofs.Sorts.{obj_of-bytes, obj_of-method, obj_of-pointers}
 use Rattle.cs_image.specs.Loading.{translated, loaded}
 use Rattle.cs_image.proofs.Wording.{memory_of, meant, ref_translated, count_same, count_translated, loaded_words, length-loaded_words, get_loaded, words_pointers, words_raw, method_head, method_literals, IsMethodOf, word_stays}
 
@@ -28,9 +30,9 @@ none_lost_take f n ws h i g =
 pub none_lost_drop : (f : File) (n : ℕ) (ws : List ℕ) → NoneLost f ws → NoneLost f (drop n ws)
 none_lost_drop f n ws h i g = ap (is_lost f) (get_or-drop n ws i 0) ∙ h (n + i) (let l = length-drop n ws in omega (arith, l, g))
 
-pub refs_same : (f : File) (ws : List ℕ) → NoneLost f ws → map (ref_of (memory_of f)) (map (translated f) ws) ≡ map (ref_by (meant f)) ws
-refs_same f [] h = refl
-refs_same f (w ∷ ws) h = λ i. ref_translated f w (h 0 (omega arith)) i ∷ refs_same f ws (none_lost_tail f w ws h) i
+pub refs_same : (births : List ℕ) (f : File) (ws : List ℕ) → NoneLost f ws → map (ref_of (memory_of births f)) (map (translated f) ws) ≡ map (ref_by (meant births f)) ws
+refs_same births f [] h = refl
+refs_same births f (w ∷ ws) h = λ i. ref_translated births f w (h 0 (omega arith)) i ∷ refs_same births f ws (none_lost_tail f w ws h) i
 
 bytes_same : (ws : List ℕ) → bytes_of ws ≡ bytes_of_words ws
 unfolding bytes_of bytes_of_words
@@ -41,11 +43,29 @@ bytes_same (w ∷ ws) = ap (λ (bs : List ℕ). w / 256 ^ 0 % 256 ∷ w / 256 ^ 
 abbrev pub standing : File → ℕ → FileObject → Object
 standing f j o = loaded f j o
 
+-- its head: whether it is read-only is told of no context
+fixed_kept : (on : Bool) → (0 / 2 * 2 + cond on 1 0) / 2 ^ 0 % 2 == 1 ≡ on
+fixed_kept true = refl
+fixed_kept false = refl
+
+pub head_loaded : (f : File) (birth : ℕ) (o : FileObject) → (o.class == context_class) ≡ false → head_of (loaded f birth o) ≡ plain (head_in o)
+head_loaded f birth o other = λ i. record { class = o.class; format = plain_format o.format; hash = o.hash; fixed = fixed i }
+  where
+    unless_context : (on context : Bool) → context ≡ false → (on && not context) ≡ on
+    unless_context true context e = ap not e
+    unless_context false context e = refl
+
+    fixed : (head_of (loaded f birth o)).fixed ≡ o.fixed
+    fixed = fixed_kept (o.fixed && not (o.class == context_class)) ∙ unless_context o.fixed (o.class == context_class) other
+
+head_other : (f : File) (birth : ℕ) (o : FileObject) → (o.class == context_class) ≡ false → plain_format o.format ≡ o.format → head_of (loaded f birth o) ≡ head_in o
+head_other f birth o other same = head_loaded f birth o other ∙ ap (λ n. record (head_in o) { format = n }) same
+
 -- a context
-context_same : (f : File) (hash : ℕ) (ws : List ℕ) → 6 ≤ length ws → NoneLost f ws
-    → context_of (ref_of (memory_of f)) hash (map (translated f) ws) ≡ context_by (meant f) hash ws
+context_same : (births : List ℕ) (f : File) (hash : ℕ) (ws : List ℕ) → 6 ≤ length ws → NoneLost f ws
+    → context_of (ref_of (memory_of births f)) hash (map (translated f) ws) ≡ context_by (meant births f) hash ws
 unfolding context_of
-context_same f hash ws long fine = λ i. record {
+context_same births f hash ws long fine = λ i. record {
   hash = hash;
   sender = at 0 (omega (arith, long)) i;
   pc = count 1 (omega (arith, long)) i;
@@ -59,8 +79,8 @@ context_same f hash ws long fine = λ i. record {
     read : (k : ℕ) → k < length ws → get_or (map (translated f) ws) k 0 ≡ translated f (get_or ws k 0)
     read k h = get_or-map (translated f) ws k 0 0 h
 
-    at : (k : ℕ) → k < length ws → ref_of (memory_of f) (get_or (map (translated f) ws) k 0) ≡ ref_by (meant f) (get_or ws k 0)
-    at k h = ap (ref_of (memory_of f)) (read k h) ∙ ref_translated f (get_or ws k 0) (fine k h)
+    at : (k : ℕ) → k < length ws → ref_of (memory_of births f) (get_or (map (translated f) ws) k 0) ≡ ref_by (meant births f) (get_or ws k 0)
+    at k h = ap (ref_of (memory_of births f)) (read k h) ∙ ref_translated births f (get_or ws k 0) (fine k h)
 
     count : (k : ℕ) → k < length ws → count_of (get_or (map (translated f) ws) k 0) ≡ natural_in_word (get_or ws k 0)
     count k h = ap count_of (read k h) ∙ count_translated f (get_or ws k 0)
@@ -68,11 +88,11 @@ context_same f hash ws long fine = λ i. record {
     depth : depth_in (map (translated f) ws) ≡ stackp_in_words ws
     depth = ap (λ (n : Option ℕ). unwrap_or n 0) (count 2 (omega (arith, long)))
 
-    stack : map (ref_of (memory_of f)) (take (depth_in (map (translated f) ws)) (drop 6 (map (translated f) ws))) ≡ map (ref_by (meant f)) (take (stackp_in_words ws) (drop 6 ws))
-    stack = ap (λ n. map (ref_of (memory_of f)) (take n (drop 6 (map (translated f) ws)))) depth
-        ∙ ap (λ (xs : List ℕ). map (ref_of (memory_of f)) (take (stackp_in_words ws) xs)) (drop-map (translated f) 6 ws)
-        ∙ ap (map (ref_of (memory_of f))) (take-map (translated f) (stackp_in_words ws) (drop 6 ws))
-        ∙ refs_same f (take (stackp_in_words ws) (drop 6 ws)) (none_lost_take f (stackp_in_words ws) (drop 6 ws) (none_lost_drop f 6 ws fine))
+    stack : map (ref_of (memory_of births f)) (take (depth_in (map (translated f) ws)) (drop 6 (map (translated f) ws))) ≡ map (ref_by (meant births f)) (take (stackp_in_words ws) (drop 6 ws))
+    stack = ap (λ n. map (ref_of (memory_of births f)) (take n (drop 6 (map (translated f) ws)))) depth
+        ∙ ap (λ (xs : List ℕ). map (ref_of (memory_of births f)) (take (stackp_in_words ws) xs)) (drop-map (translated f) 6 ws)
+        ∙ ap (map (ref_of (memory_of births f))) (take-map (translated f) (stackp_in_words ws) (drop 6 ws))
+        ∙ refs_same births f (take (stackp_in_words ws) (drop 6 ws)) (none_lost_take f (stackp_in_words ws) (drop 6 ws) (none_lost_drop f 6 ws fine))
 
     size : length (map (translated f) ws) - 6 ≡ length ws - 6
     size = ap (λ n. n - 6) (length-map ws (translated f))
@@ -104,11 +124,11 @@ method_code f format words m = ext_get_or 0 (drop (1 + n) (loaded_words f format
 pub header_loaded : (f : File) (j : ℕ) (o : FileObject) → is_pointer_format o.format ≡ false → 0 < length o.words → header_in (loaded_words f o.format o.words) ≡ header_in_words o.words
 header_loaded f j o p h = ap (λ (n : Option ℕ). unwrap_or n 0) (ap count_of (method_head f o.format o.words p h) ∙ count_same (get_or o.words 0 0))
 
-method_same : (f : File) (j : ℕ) (o : FileObject) → IsMethodOf f o.format o.words → plain_format o.format ≡ o.format → NoneLost f (literals_in_words o.words)
-    → method_of (ref_of (memory_of f)) (loaded f j o)
-    ≡ Method o.class o.format o.hash (header_in_words o.words) (map (ref_by (meant f)) (literals_in_words o.words)) (bytecodes_in_words o.format o.words)
+method_same : (births : List ℕ) (f : File) (j : ℕ) (o : FileObject) → (o.class == context_class) ≡ false → IsMethodOf f o.format o.words → plain_format o.format ≡ o.format → NoneLost f (literals_in_words o.words)
+    → method_of (ref_of (memory_of births f)) (loaded f j o)
+    ≡ Method (head_in o) (header_in_words o.words) (map (ref_by (meant births f)) (literals_in_words o.words)) (bytecodes_in_words o.format o.words)
 unfolding method_of
-method_same f j o m plain fine = λ i. Method o.class (plain i) o.hash (header i) (literals i) (code i)
+method_same births f j o other m same fine = λ i. Method (head_other f j o other same i) (header i) (literals i) (code i)
   where
     ws : List ℕ
     ws = loaded_words f o.format o.words
@@ -116,15 +136,15 @@ method_same f j o m plain fine = λ i. Method o.class (plain i) o.hash (header i
     header : header_in ws ≡ header_in_words o.words
     header = ap (λ (n : Option ℕ). unwrap_or n 0) (ap count_of (method_head f o.format o.words m.pointers (omega (arith, m.fits))) ∙ count_same (get_or o.words 0 0))
 
-    literals : map (ref_of (memory_of f)) (literals_in ws) ≡ map (ref_by (meant f)) (literals_in_words o.words)
-    literals = ap (λ n. map (ref_of (memory_of f)) (take (literal_count n) (drop 1 ws))) header
-        ∙ ap (map (ref_of (memory_of f))) (method_literals f o.format o.words m) ∙ refs_same f (literals_in_words o.words) fine
+    literals : map (ref_of (memory_of births f)) (literals_in ws) ≡ map (ref_by (meant births f)) (literals_in_words o.words)
+    literals = ap (λ n. map (ref_of (memory_of births f)) (take (literal_count n) (drop 1 ws))) header
+        ∙ ap (map (ref_of (memory_of births f))) (method_literals f o.format o.words m) ∙ refs_same births f (literals_in_words o.words) fine
 
     words_code : code_in ws ≡ drop (1 + literal_count (header_in_words o.words)) o.words
     words_code = ap (λ n. drop (1 + literal_count n) ws) header ∙ method_code f o.format o.words m
 
     code : used_bytes (plain_format o.format) (code_in ws) ≡ bytecodes_in_words o.format o.words
-    code = ap (λ n. used_bytes n (code_in ws)) plain ∙ ap (used_bytes o.format) words_code
+    code = ap (λ n. used_bytes n (code_in ws)) same ∙ ap (used_bytes o.format) words_code
         ∙ ap (λ n. take (4 * n - unused_bytes o.format) (bytes_of (drop (1 + literal_count (header_in_words o.words)) o.words))) (length-drop (1 + literal_count (header_in_words o.words)) o.words)
         ∙ ap (take (4 * (length o.words - (1 + literal_count (header_in_words o.words))) - unused_bytes o.format)) (bytes_same (drop (1 + literal_count (header_in_words o.words)) o.words))
 
@@ -149,31 +169,40 @@ plain_others format h =
     let b : (format == 5) ≡ false = grind (arith, nat_tests, h) in
     rw (a, b) refl
 
-pub object_same : (f : File) (j : ℕ) (o : FileObject) → IsFine f o → obj_of (ref_of (memory_of f)) (loaded f j o) ≡ obj_by (meant f) o.class o.format o.hash o.words
-unfolding obj_of obj_by
-object_same f j o fine = go (o.class == context_class) (is_pointer_format o.format) (is_method_format o.format) refl refl refl
+pub object_same : (births : List ℕ) (f : File) (j : ℕ) (o : FileObject) → IsFine f o → obj_of (ref_of (memory_of births f)) (loaded f j o) ≡ obj_by (meant births f) (head_in o) o.words
+unfolding obj_of obj_by method_of
+object_same births f j o fine = go (o.class == context_class) (is_pointer_format o.format) (is_method_format o.format) refl refl refl
   where
     raw_bytes : (a b : ℕ) (xs ys : List ℕ) → a ≡ b → xs ≡ ys → used_bytes a xs ≡ bytes_in_words b ys
     raw_bytes a b xs ys e h = ap (λ n. used_bytes n xs) e ∙ ap (used_bytes b) h ∙ ap (take (4 * length ys - unused_bytes b)) (bytes_same ys)
 
     go : (b c d : Bool) → (o.class == context_class) ≡ b → is_pointer_format o.format ≡ c → is_method_format o.format ≡ d
-        → obj_of (ref_of (memory_of f)) (loaded f j o) ≡ obj_by (meant f) o.class o.format o.hash o.words
+        → obj_of (ref_of (memory_of births f)) (loaded f j o) ≡ obj_by (meant births f) (head_in o) o.words
     go true c d eb ec ed =
         let three = (fine.context eb).0 in
         let p : is_pointer_format o.format ≡ true = ap is_pointer_format three in
-        rw eb (ap (λ (ws : List ℕ). Ctx (context_of (ref_of (memory_of f)) o.hash ws)) (words_pointers f o.format o.words p)
-        ∙ ap Ctx (context_same f o.hash o.words (fine.context eb).1 (fine.pointers p)))
+        rw eb (ap (λ (ws : List ℕ). Ctx (context_of (ref_of (memory_of births f)) o.hash ws)) (words_pointers f o.format o.words p)
+        ∙ ap Ctx (context_same births f o.hash o.words (fine.context eb).1 (fine.pointers p)))
     go false true d eb ec ed =
-        rw (eb, plain_pointers o.format ec, ec) (ap (λ (ws : List ℕ). Ptr o.class (plain_format o.format) o.hash (map (ref_of (memory_of f)) ws)) (words_pointers f o.format o.words ec)
-        ∙ ap (Ptr o.class (plain_format o.format) o.hash) (refs_same f o.words (fine.pointers ec)))
+        let there : obj_by (meant births f) (head_in o) o.words ≡ Ptr (plain (head_in o)) (map (ref_by (meant births f)) o.words) = rw (eb, ec) refl in
+        obj_of-pointers (ref_of (memory_of births f)) (loaded f j o) eb (plain_pointers o.format ec)
+        ∙ ap (λ (ws : List ℕ). Ptr (head_of (loaded f j o)) (map (ref_of (memory_of births f)) ws)) (words_pointers f o.format o.words ec)
+        ∙ ap (λ (h : Head). Ptr h (map (ref_of (memory_of births f)) (map (translated f) o.words))) (head_loaded f j o eb)
+        ∙ ap (Ptr (plain (head_in o))) (refs_same births f o.words (fine.pointers ec)) ∙ sym there
     go false false true eb ec ed =
-        let plain = plain_others o.format ec in
-        let p : is_pointer_format (plain_format o.format) ≡ false = ap is_pointer_format plain ∙ ec in
-        let m : is_method_format (plain_format o.format) ≡ true = ap is_method_format plain ∙ ed in
-        rw (eb, p, m, ec, ed) (method_same f j o (fine.method ec ed).0 plain (fine.method ec ed).1)
+        let same = plain_others o.format ec in
+        let p : is_pointer_format (plain_format o.format) ≡ false = ap is_pointer_format same ∙ ec in
+        let m : is_method_format (plain_format o.format) ≡ true = ap is_method_format same ∙ ed in
+        let there : obj_by (meant births f) (head_in o) o.words
+        ≡ Method (head_in o) (header_in_words o.words) (map (ref_by (meant births f)) (literals_in_words o.words)) (bytecodes_in_words o.format o.words) = rw (eb, ec, ed) refl in
+        obj_of-method (ref_of (memory_of births f)) (loaded f j o) eb p m
+        ∙ method_same births f j o eb (fine.method ec ed).0 same (fine.method ec ed).1 ∙ sym there
     go false false false eb ec ed =
-        let plain = plain_others o.format ec in
-        let p : is_pointer_format (plain_format o.format) ≡ false = ap is_pointer_format plain ∙ ec in
-        let m : is_method_format (plain_format o.format) ≡ false = ap is_method_format plain ∙ ed in
+        let same = plain_others o.format ec in
+        let p : is_pointer_format (plain_format o.format) ≡ false = ap is_pointer_format same ∙ ec in
+        let m : is_method_format (plain_format o.format) ≡ false = ap is_method_format same ∙ ed in
         let words = words_raw f o.format o.words ec ed in
-        rw (eb, p, m, ec, ed) (λ i. Raw o.class (plain i) o.hash (raw_bytes (plain_format o.format) o.format (loaded_words f o.format o.words) o.words plain words i))
+        let there : obj_by (meant births f) (head_in o) o.words ≡ Raw (head_in o) (bytes_in_words o.format o.words) = rw (eb, ec, ed) refl in
+        obj_of-bytes (ref_of (memory_of births f)) (loaded f j o) eb p m
+        ∙ ap (Raw (head_of (loaded f j o))) (raw_bytes (plain_format o.format) o.format (loaded_words f o.format o.words) o.words same words)
+        ∙ ap (λ (h : Head). Raw h (bytes_in_words o.format o.words)) (head_other f j o eb same) ∙ sym there

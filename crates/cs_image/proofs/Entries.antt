@@ -1,5 +1,5 @@
 -- The classes that the machine makes objects of by their indices stand in the table of an image that loads.
-use Rattle.std.proofs.Common.{◌≡◌, ℕ, zero, suc, ◌<◌, ◌==◌, ◌&&◌, not, Bool, true, false, List, Some, is_some, refl, ap, sym, subst, ◌∙◌, arith, rules, inl, inr}
+use Rattle.std.proofs.Common.{◌≡◌, ℕ, zero, suc, ◌<◌, ◌==◌, ◌&&◌, not, Bool, true, false, List, is_some, refl, ap, sym, ◌∙◌, arith, rules, inl, inr}
 use Rattle.std.specs.FinMap.{FinMap, get, gets, insert}
 use Rattle.std.specs.Ordering.{nat_cmp}
 use Rattle.std.proofs.lemmas.Bool.Decides.{eqb_tells}
@@ -32,7 +32,7 @@ last_there f n i s e =
     ap (λ (m : FinMap nat_cmp ℕ). is_some (get m i)) here ∙ ap (λ (j : ℕ). is_some (get (insert (classes_at f n) n (address_named f (entry_in f n))) j)) s
     ∙ get_here (classes_at f n) n (address_named f (entry_in f n))
 
-entry_there : (f : File) (n i : ℕ) → i < n → is_nil f (entry_in f i) ≡ false → is_some (get (classes_at f n) i) ≡ true
+pub entry_there : (f : File) (n i : ℕ) → i < n → is_nil f (entry_in f i) ≡ false → is_some (get (classes_at f n) i) ≡ true
 entry_there f zero i lt e = absurd (omega (arith, lt))
 entry_there f (suc n) i lt e = elim (eqb_tells i n) [
   | inl s ↦ last_there f n i s.1 e

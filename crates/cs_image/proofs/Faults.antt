@@ -4,12 +4,12 @@ use Rattle.std.proofs.lemmas.Bool.Decides.{nat_tests}
 use Rattle.std.specs.Option.{option_or}
 use Rattle.cs_model.specs.ImageFault.{ImageFault}
 use Rattle.cs_model.specs.ImageFault as fault
-use Rattle.cs_model.specs.ImageFault.{is_too_long, is_short, is_bad_format, is_bad_header_size, is_bad_length, bad_object, is_over, is_bad_table, bad_ref, bad_class, bad_context, is_bad_roots, is_bad_births}
-use Rattle.cs_model.specs.ImageFile.{heap_size, old_base, has_births, words_in, cut_of, file_of, special_address, visible}
+use Rattle.cs_model.specs.ImageFault.{is_too_long, is_short, is_bad_format, is_bad_header_size, is_bad_profile, is_bad_length, bad_object, is_over, is_bad_table, bad_ref, bad_class, bad_context, is_bad_roots, is_bad_births}
+use Rattle.cs_model.specs.ImageFile.{heap_size, old_base, has_births, birth_count, words_in, cut_of, file_of, special_address, visible}
 use Rattle.cs_model.specs.Image.{at_word, when, first_of, fault_of}
 use Rattle.cs_image.specs.declared.error.ImageError.{ImageError}
 use Rattle.cs_image.specs.declared.error.ImageError.TheVariants as error
-use Rattle.cs_image.specs.Answer.{Told, Tells, header_fault, objects_fault}
+use Rattle.cs_image.specs.Answer.{Tells, header_fault, objects_fault}
 use Rattle.cs_image.proofs.Bytes.{length-u32s_at}
 
 first_of-append : (xs ys : List (Option ImageFault)) → first_of (xs ++ ys) ≡ option_or (first_of xs) (first_of ys)
@@ -26,7 +26,7 @@ pub fault_of-parts : (bytes : List ℕ) (limit : ℕ) → fault_of bytes limit �
 unfolding fault_of
 fault_of-parts bytes limit =
     first_of-append (when (is_too_long bytes) fault.TooLong ∷ when (is_short bytes) fault.Short ∷ when (is_bad_format bytes) fault.BadFormat
-    ∷ when (is_bad_header_size bytes) fault.BadHeaderSize ∷ when (is_bad_length bytes) fault.BadLength ∷ [])
+    ∷ when (is_bad_header_size bytes) fault.BadHeaderSize ∷ when (is_bad_profile bytes) fault.BadProfile ∷ when (is_bad_length bytes) fault.BadLength ∷ [])
     (at_word fault.BadObject (bad_object (cut_of (words_in bytes))) ∷ when (is_over (file_of bytes) limit) fault.OverLimit ∷ objects ++ births)
     ∙ ap (λ (r : Option ImageFault). option_or (header_fault bytes) (option_or (at_word fault.BadObject (bad_object (cut_of (words_in bytes))))
     (option_or (when (is_over (file_of bytes) limit) fault.OverLimit) r))) (first_of-append objects births)
@@ -38,29 +38,24 @@ fault_of-parts bytes limit =
     births : List (Option ImageFault)
     births = when (is_bad_births bytes (length (visible (file_of bytes)))) fault.BadBirths ∷ []
 
--- without a birth section the births have no fault
-pub births_none : (bytes : List ℕ) (n : ℕ) → has_births bytes ≡ false → option_or (when (is_bad_births bytes n) fault.BadBirths) None ≡ None
-unfolding is_bad_births
-births_none bytes n h = rw h refl
-
 -- what one part tells is told of the whole
-pub told_here : {X Y : Type 0} (B : Type 0) (P : X → Type 0) (Q : Y → Type 0) (first later : Option ImageFault) (e : ImageError)
-    → Tells first P (Err e) → Told B (option_or first later) Q (Err e)
-told_here B P Q first later error.TooLong h = ap (λ (r : Option ImageFault). option_or r later) h
-told_here B P Q first later error.Short h = ap (λ (r : Option ImageFault). option_or r later) h
-told_here B P Q first later error.BadFormat h = ap (λ (r : Option ImageFault). option_or r later) h
-told_here B P Q first later error.BadHeaderSize h = ap (λ (r : Option ImageFault). option_or r later) h
-told_here B P Q first later error.BadLength h = ap (λ (r : Option ImageFault). option_or r later) h
-told_here B P Q first later (error.BadObject at) h = ap (λ (r : Option ImageFault). option_or r later) h
-told_here B P Q first later error.OverLimit h = ap (λ (r : Option ImageFault). option_or r later) h
-told_here B P Q first later error.BadTable h = ap (λ (r : Option ImageFault). option_or r later) h
-told_here B P Q first later (error.BadRef at) h = ap (λ (r : Option ImageFault). option_or r later) h
-told_here B P Q first later (error.BadClass at) h = ap (λ (r : Option ImageFault). option_or r later) h
-told_here B P Q first later (error.BadContext at) h = ap (λ (r : Option ImageFault). option_or r later) h
-told_here B P Q first later error.BadRoots h = ap (λ (r : Option ImageFault). option_or r later) h
-told_here B P Q first later error.BadBirths h = ap (λ (r : Option ImageFault). option_or r later) h
-told_here B P Q first later error.HasBirths h = absurd h
-told_here B P Q first later error.NoMemory h = tt
+pub told_here : {X Y : Type 0} (P : X → Type 0) (Q : Y → Type 0) (first later : Option ImageFault) (e : ImageError)
+    → Tells first P (Err e) → Tells (option_or first later) Q (Err e)
+told_here P Q first later error.TooLong h = ap (λ (r : Option ImageFault). option_or r later) h
+told_here P Q first later error.Short h = ap (λ (r : Option ImageFault). option_or r later) h
+told_here P Q first later error.BadFormat h = ap (λ (r : Option ImageFault). option_or r later) h
+told_here P Q first later error.BadHeaderSize h = ap (λ (r : Option ImageFault). option_or r later) h
+told_here P Q first later error.BadProfile h = ap (λ (r : Option ImageFault). option_or r later) h
+told_here P Q first later error.BadLength h = ap (λ (r : Option ImageFault). option_or r later) h
+told_here P Q first later (error.BadObject at) h = ap (λ (r : Option ImageFault). option_or r later) h
+told_here P Q first later error.OverLimit h = ap (λ (r : Option ImageFault). option_or r later) h
+told_here P Q first later error.BadTable h = ap (λ (r : Option ImageFault). option_or r later) h
+told_here P Q first later (error.BadRef at) h = ap (λ (r : Option ImageFault). option_or r later) h
+told_here P Q first later (error.BadClass at) h = ap (λ (r : Option ImageFault). option_or r later) h
+told_here P Q first later (error.BadContext at) h = ap (λ (r : Option ImageFault). option_or r later) h
+told_here P Q first later error.BadRoots h = ap (λ (r : Option ImageFault). option_or r later) h
+told_here P Q first later error.BadBirths h = ap (λ (r : Option ImageFault). option_or r later) h
+told_here P Q first later error.NoMemory h = tt
 
 -- ---- what a header without a fault says
 
@@ -82,6 +77,8 @@ pub record IsHeader (bytes : List ℕ) : Type 0 where
   pub whole : heap_size bytes % 8 ≡ 0
   pub base : old_base bytes % 8 ≡ 0
   pub fits : old_base bytes + heap_size bytes ≤ 2 ^ 32
+  pub heap : 64 + heap_size bytes ≤ length bytes
+  pub section : has_births bytes ≡ true → length bytes ≡ 80 + heap_size bytes + 8 * birth_count bytes
 
 pub header_is : (bytes : List ℕ) → header_fault bytes ≡ None → IsHeader bytes
 header_is bytes e =
@@ -89,7 +86,8 @@ header_is bytes e =
     let b = or_none (when (is_short bytes) fault.Short) _ a.1 in
     let c = or_none (when (is_bad_format bytes) fault.BadFormat) _ b.1 in
     let d = or_none (when (is_bad_header_size bytes) fault.BadHeaderSize) _ c.1 in
-    let l = when_none (is_bad_length bytes) fault.BadLength (or_none (when (is_bad_length bytes) fault.BadLength) _ d.1).0 in
+    let f = or_none (when (is_bad_profile bytes) fault.BadProfile) _ d.1 in
+    let l = when_none (is_bad_length bytes) fault.BadLength (or_none (when (is_bad_length bytes) fault.BadLength) _ f.1).0 in
     let x = or_false _ (has_births bytes && not (length bytes == 80 + heap_size bytes + 8 * _)) l in
     let y = or_false _ (ltb (2 ^ 32) (old_base bytes + heap_size bytes)) x.0 in
     let z = or_false _ (not (old_base bytes % 8 == 0)) y.0 in
@@ -100,24 +98,33 @@ header_is bytes e =
       base = let s = z.1 in grind (arith, nat_tests, s);
       whole = let s = w.1 in grind (arith, nat_tests, s);
       fits = let s = y.1 in grind (arith, nat_tests, s);
+      heap = behind (has_births bytes) refl x.1;
+      section = λ h. ends (has_births bytes) h x.1;
     }
+  where
+    here : not (length bytes == 80 + heap_size bytes + 8 * birth_count bytes) ≡ false → length bytes ≡ 80 + heap_size bytes + 8 * birth_count bytes
+    here e = grind (arith, nat_tests, e)
+
+    ends : (b : Bool) → b ≡ true → (b && not (length bytes == 80 + heap_size bytes + 8 * birth_count bytes)) ≡ false → length bytes ≡ 80 + heap_size bytes + 8 * birth_count bytes
+    ends true h e = here e
+    ends false h e = absurd (cc)
+
+    behind : (b : Bool) → has_births bytes ≡ b → (b && not (length bytes == 80 + heap_size bytes + 8 * birth_count bytes)) ≡ false → 64 + heap_size bytes ≤ length bytes
+    behind true h e = let long = here e in omega (arith, long)
+    behind false h e = let long : length bytes ≡ 64 + heap_size bytes = grind (arith, nat_tests, h) in omega (arith, long)
 
 pub length-words_in : (bytes : List ℕ) → length (words_in bytes) ≡ heap_size bytes / 4
 unfolding words_in
 length-words_in bytes = length-u32s_at (heap_size bytes / 4) bytes 64
 
--- the heap follows the header, and without a birth section the file ends behind it
-pub heap_is : (bytes : List ℕ) → header_fault bytes ≡ None → has_births bytes ≡ false → 64 + heap_size bytes ≤ 536870912
-heap_is bytes e n = let h = header_is bytes e in let s = h.short in grind (arith, nat_tests, n, s)
-
 -- ---- from part to part
 
-pub told_as : {X Y : Type 0} (B : Type 0) (P : X → Type 0) (Q : Y → Type 0) (whole first later : Option ImageFault) (e x : ImageError) (r : Result Y ImageError)
-    → whole ≡ option_or first later → Tells first P (Err e) → r ≡ Err x → x ≡ e → Told B whole Q r
-told_as {X} {Y} B P Q whole first later e x r parts told is same =
-    let R : Option ImageFault → Type 0 = λ f. Told B f Q (Err e) in
-    let S : Result Y ImageError → Type 0 = λ s. Told B whole Q s in
-    subst S (ap Err (sym same) ∙ sym is) (subst R (sym parts) (told_here B P Q first later e told))
+pub told_as : {X Y : Type 0} (P : X → Type 0) (Q : Y → Type 0) (whole first later : Option ImageFault) (e x : ImageError) (r : Result Y ImageError)
+    → whole ≡ option_or first later → Tells first P (Err e) → r ≡ Err x → x ≡ e → Tells whole Q r
+told_as {X} {Y} P Q whole first later e x r parts told is same =
+    let R : Option ImageFault → Type 0 = λ f. Tells f Q (Err e) in
+    let S : Result Y ImageError → Type 0 = λ s. Tells whole Q s in
+    subst S (ap Err (sym same) ∙ sym is) (subst R (sym parts) (told_here P Q first later e told))
 
 pub after_header : (bytes : List ℕ) (limit : ℕ) → header_fault bytes ≡ None → fault_of bytes limit ≡
     option_or (at_word fault.BadObject (bad_object (cut_of (words_in bytes))))
@@ -147,9 +154,16 @@ after_room bytes limit h o m = after_objects bytes limit h o ∙ ap (λ (r : Opt
     (option_or (objects_fault (file_of bytes) (special_address bytes))
     (option_or (when (is_bad_births bytes (length (visible (file_of bytes)))) fault.BadBirths) None))) m
 
-pub no_fault : (bytes : List ℕ) (limit : ℕ) → header_fault bytes ≡ None → at_word fault.BadObject (bad_object (cut_of (words_in bytes))) ≡ None
-    → when (is_over (file_of bytes) limit) fault.OverLimit ≡ None → objects_fault (file_of bytes) (special_address bytes) ≡ None → has_births bytes ≡ false
-    → fault_of bytes limit ≡ None
-no_fault bytes limit h o m w b = after_room bytes limit h o m
+pub after_all : (bytes : List ℕ) (limit : ℕ) → header_fault bytes ≡ None → at_word fault.BadObject (bad_object (cut_of (words_in bytes))) ≡ None
+    → when (is_over (file_of bytes) limit) fault.OverLimit ≡ None → objects_fault (file_of bytes) (special_address bytes) ≡ None
+    → fault_of bytes limit ≡ option_or (when (is_bad_births bytes (length (visible (file_of bytes)))) fault.BadBirths) None
+after_all bytes limit h o m w = after_room bytes limit h o m
     ∙ ap (λ (r : Option ImageFault). option_or r (option_or (when (is_bad_births bytes (length (visible (file_of bytes)))) fault.BadBirths) None)) w
-    ∙ births_none bytes (length (visible (file_of bytes))) b
+
+pub no_fault : (bytes : List ℕ) (limit : ℕ) → header_fault bytes ≡ None → at_word fault.BadObject (bad_object (cut_of (words_in bytes))) ≡ None
+    → when (is_over (file_of bytes) limit) fault.OverLimit ≡ None → objects_fault (file_of bytes) (special_address bytes) ≡ None
+    → when (is_bad_births bytes (length (visible (file_of bytes)))) fault.BadBirths ≡ None → fault_of bytes limit ≡ None
+no_fault bytes limit h o m w b = after_all bytes limit h o m w ∙ ap (λ (r : Option ImageFault). option_or r None) b
+
+pub births_fine : (bytes : List ℕ) (n : ℕ) → when (is_bad_births bytes n) fault.BadBirths ≡ None → is_bad_births bytes n ≡ false
+births_fine bytes n e = when_none (is_bad_births bytes n) fault.BadBirths e

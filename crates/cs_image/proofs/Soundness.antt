@@ -254,6 +254,30 @@ names_class f i word h = go (named f word) refl h
         let g = and_true (is_visible x) _ d.0 in
         record { class = x; named_is = e; visible_is = g.0; plain = not_true (x.class == context_class) c.1 }
 
+-- a class as an entry names it
+pub record ClassAt (f : File) (i word : ℕ) : Type 0 where
+  pub class : FileObject
+  pub named_is : named f word ≡ Some class
+  pub visible_is : is_visible class ≡ true
+  pub low : leb 1 class.format ≡ true
+  pub high : leb class.format 5 ≡ true
+  pub plain : (class.class == context_class) ≡ false
+  pub slots : leb 3 (length class.words) ≡ true
+  pub hash : (class.hash == i) ≡ true
+
+class_named : (f : File) (i word : ℕ) → names f (is_class i) word ≡ true → ClassAt f i word
+class_named f i word h = go (named f word) refl h
+  where
+    go : (r : Option FileObject) → named f word ≡ r → option_map_or (is_class i) r false ≡ true → ClassAt f i word
+    go None e h = absurd (cc)
+    go (Some x) e h =
+        let a = and_true (is_visible x && leb 1 x.format && leb x.format 5 && not (x.class == context_class) && leb 3 (length x.words)) _ h in
+        let b = and_true (is_visible x && leb 1 x.format && leb x.format 5 && not (x.class == context_class)) _ a.0 in
+        let c = and_true (is_visible x && leb 1 x.format && leb x.format 5) _ b.0 in
+        let d = and_true (is_visible x && leb 1 x.format) _ c.0 in
+        let g = and_true (is_visible x) _ d.0 in
+        record { class = x; named_is = e; visible_is = g.0; low = g.1; high = d.1; plain = not_true (x.class == context_class) c.1; slots = b.1; hash = a.1 }
+
 or_third : (a b c : Bool) → (a || b || c) ≡ true → a ≡ false → b ≡ false → c ≡ true
 or_third true b c h x y = absurd (cc)
 or_third false true c h x y = absurd (cc)
@@ -263,9 +287,18 @@ other_entry : (f : File) (i : ℕ) → Table f → i < table_size → (i == 3) �
 other_entry f i t h three filled =
     names_class f i (entry_in f i) (or_third (i == 3) (is_nil f (entry_in f i)) _ (all_below_at table_size i (is_sound_entry f) t.entries h) three filled)
 
--- what is known of the entries of 16 and 3
+pub class_at : (f : File) (i : ℕ) → Table f → i < table_size → (i == 3) ≡ false → is_nil f (entry_in f i) ≡ false → ClassAt f i (entry_in f i)
+class_at f i t h three filled =
+    class_named f i (entry_in f i) (or_third (i == 3) (is_nil f (entry_in f i)) _ (all_below_at table_size i (is_sound_entry f) t.entries h) three filled)
+
+-- what is known of the entries of some indices
 pub record KnownClasses (f : File) : Type 0 where
+  pub zero : has_entry f 0 ≡ false
   pub free : has_entry f 16 ≡ false
+  pub integers : has_entry f 1 ≡ true
+  pub characters : has_entry f 2 ≡ true
+  pub contexts : has_entry f 36 ≡ true
+  pub closures : has_entry f 37 ≡ true
   pub same : entry_in f 3 ≡ entry_in f 1
 
 pub known_classes : (f : File) → Table f → KnownClasses f
@@ -276,7 +309,8 @@ known_classes f t =
     let d = and_true (not (has_entry f 0) && not (has_entry f 16) && has_entry f 1 && has_entry f 2) _ c.0 in
     let e = and_true (not (has_entry f 0) && not (has_entry f 16) && has_entry f 1) _ d.0 in
     let g = and_true (not (has_entry f 0) && not (has_entry f 16)) _ e.0 in
-    record { free = not_true (has_entry f 16) (and_true (not (has_entry f 0)) _ g.0).1; same = equal (entry_in f 3) (entry_in f 1) b.1 }
+    let k = and_true (not (has_entry f 0)) (not (has_entry f 16)) g.0 in
+    record { zero = not_true (has_entry f 0) k.0; free = not_true (has_entry f 16) k.1; integers = g.1; characters = e.1; contexts = d.1; closures = c.1; same = equal (entry_in f 3) (entry_in f 1) b.1 }
   where
     equal : (a b : ℕ) → (a == b) ≡ true → a ≡ b
     equal a b h = grind (arith, nat_tests, h)
@@ -292,14 +326,14 @@ entry_names f i t h filled = elim (eqb_tells i 3) [
 ]
 
 -- which stands
-pub entry_stands : (f : File) (i : ℕ) → Table f → i < table_size → is_nil f (entry_in f i) ≡ false → Stands f (entry_in f i)
-entry_stands f i t h filled = let c = entry_names f i t h filled in stands_named f (entry_in f i) c.class c.named_is c.visible_is
+pub entry_stands : (births : List ℕ) (f : File) (i : ℕ) → Table f → i < table_size → is_nil f (entry_in f i) ≡ false → Stands births f (entry_in f i)
+entry_stands births f i t h filled = let c = entry_names f i t h filled in stands_named births f (entry_in f i) c.class c.named_is c.visible_is
 
 -- ---- the roots
 
-pub special_stands : (f : File) (special : ℕ) → is_bad_roots f special ≡ false → Stands f special
+pub special_stands : (births : List ℕ) (f : File) (special : ℕ) → is_bad_roots f special ≡ false → Stands births f special
 unfolding is_bad_roots
-special_stands f special h = go (named f special) refl
+special_stands births f special h = go (named f special) refl
   where
     held : option_map_or (is_process f) (active_process_in f special) false ≡ true
     held = not_false (option_map_or (is_process f) (active_process_in f special) false) h
@@ -308,18 +342,18 @@ special_stands f special h = go (named f special) refl
     from array = option_and_then (λ special. option_and_then (λ link. option_map (λ scheduler. slice_index scheduler 1)
         (fields_in f 2 (slice_index link 1))) (fields_in f 2 (slice_index special 3))) array
 
-    dead : special_in f special ≡ None → Stands f special
+    dead : special_in f special ≡ None → Stands births f special
     dead e = let none : option_map_or (is_process f) (from (special_in f special)) false ≡ false = ap (λ (o : Option (List ℕ)). option_map_or (is_process f) (from o) false) e in absurd (cc (sym held ∙ none))
 
     hidden : (x : FileObject) → is_visible x ≡ false → (b : Bool) → cond b (fields_of 51 x) None ≡ None
     hidden x v true = rw v refl
     hidden x v false = refl
 
-    by_visible : (x : FileObject) → named f special ≡ Some x → (b : Bool) → is_visible x ≡ b → Stands f special
-    by_visible x e true v = stands_named f special x e v
+    by_visible : (x : FileObject) → named f special ≡ Some x → (b : Bool) → is_visible x ≡ b → Stands births f special
+    by_visible x e true v = stands_named births f special x e v
     by_visible x e false v = dead (ap (option_and_then (λ o. cond (o.format == 2) (fields_of 51 o) None)) e ∙ hidden x v (x.format == 2))
 
-    go : (r : Option FileObject) → named f special ≡ r → Stands f special
+    go : (r : Option FileObject) → named f special ≡ r → Stands births f special
     go None e = dead (ap (option_and_then (λ o. cond (o.format == 2) (fields_of 51 o) None)) e)
     go (Some x) e = by_visible x e (is_visible x) refl
 
@@ -331,6 +365,7 @@ pub record Firsts (f : File) : Type 0 where
   pub objects : f.objects ≡ nil ∷ rest
   pub oddball : is_oddball nil ≡ true
   pub three : 3 ≤ length (filter is_visible (nil ∷ rest))
+  pub singles : (k : ℕ) (x : FileObject) → slice_get (filter is_visible (nil ∷ rest)) k ≡ Some x → k < 3 → x.format ≡ 0
 
 firsts_in : (os : List FileObject) → option_map_or is_oddball (slice_get os 0) false ≡ true → option_map_or is_oddball (slice_get os 1) false ≡ true → option_map_or is_oddball (slice_get os 2) false ≡ true
     → 3 ≤ length (filter is_visible os)
@@ -342,6 +377,27 @@ firsts_in (x ∷ y ∷ z ∷ os) a b c =
     let q = (and_true (is_visible y) (y.format == 0) b).0 in
     let r = (and_true (is_visible z) (z.format == 0) c).0 in
     rw (p, q, r) (omega arith)
+
+singles_in : (os : List FileObject) → option_map_or is_oddball (slice_get os 0) false ≡ true → option_map_or is_oddball (slice_get os 1) false ≡ true → option_map_or is_oddball (slice_get os 2) false ≡ true
+    → (k : ℕ) (x : FileObject) → slice_get (filter is_visible os) k ≡ Some x → k < 3 → x.format ≡ 0
+singles_in [] a b c k w e h = absurd (cc)
+singles_in (x ∷ []) a b c k w e h = absurd (cc)
+singles_in (x ∷ y ∷ []) a b c k w e h = absurd (cc)
+singles_in (x ∷ y ∷ z ∷ os) a b c k w e h =
+    let p = and_true (is_visible x) (x.format == 0) a in
+    let q = and_true (is_visible y) (y.format == 0) b in
+    let r = and_true (is_visible z) (z.format == 0) c in
+    let is : filter is_visible (x ∷ y ∷ z ∷ os) ≡ x ∷ y ∷ z ∷ filter is_visible os = rw (p.0, q.0, r.0) refl in
+    go (zero_format x.format p.1) (zero_format y.format q.1) (zero_format z.format r.1) k h (sym (ap (λ (xs : List FileObject). slice_get xs k) is) ∙ e)
+  where
+    zero_format : (n : ℕ) → (n == 0) ≡ true → n ≡ 0
+    zero_format n e = grind (arith, nat_tests, e)
+
+    go : x.format ≡ 0 → y.format ≡ 0 → z.format ≡ 0 → (k : ℕ) → k < 3 → slice_get (x ∷ y ∷ z ∷ filter is_visible os) k ≡ Some w → w.format ≡ 0
+    go p q r zero h e = let same : x ≡ w = cc in ap (λ (o : FileObject). o.format) (sym same) ∙ p
+    go p q r (suc zero) h e = let same : y ≡ w = cc in ap (λ (o : FileObject). o.format) (sym same) ∙ q
+    go p q r (suc (suc zero)) h e = let same : z ≡ w = cc in ap (λ (o : FileObject). o.format) (sym same) ∙ r
+    go p q r (suc (suc (suc k))) h e = absurd (omega (arith, h))
 
 pub firsts : (f : File) → Table f → Firsts f
 firsts f t = go f.objects refl
@@ -362,6 +418,9 @@ firsts f t = go f.objects refl
       objects = e;
       oddball = ap (λ (xs : List FileObject). option_map_or is_oddball (slice_get xs 0) false) (sym e) ∙ (abc t.begins).0;
       three = firsts_in (x ∷ os) (ap (λ (xs : List FileObject). option_map_or is_oddball (slice_get xs 0) false) (sym e) ∙ (abc t.begins).0)
+          (ap (λ (xs : List FileObject). option_map_or is_oddball (slice_get xs 1) false) (sym e) ∙ (abc t.begins).1)
+          (ap (λ (xs : List FileObject). option_map_or is_oddball (slice_get xs 2) false) (sym e) ∙ (abc t.begins).2);
+      singles = singles_in (x ∷ os) (ap (λ (xs : List FileObject). option_map_or is_oddball (slice_get xs 0) false) (sym e) ∙ (abc t.begins).0)
           (ap (λ (xs : List FileObject). option_map_or is_oddball (slice_get xs 1) false) (sym e) ∙ (abc t.begins).1)
           (ap (λ (xs : List FileObject). option_map_or is_oddball (slice_get xs 2) false) (sym e) ∙ (abc t.begins).2);
     }

@@ -120,7 +120,7 @@ no_scheduler : (k : Kept) (r : CanOpen k) → scheduler_of k ≢ Some (ref.Obj r
 no_scheduler k r e =
     let process : active_process k ≡ Some (ref.Obj r.i) = process_read k ∙ ap (option_and_then (second_of k)) e ∙ process_second k r in
     let same : r.p ≡ r.i = one_birth r.p r.i (some_same (ref.Obj r.p) (ref.Obj r.i) (sym r.active ∙ process)) in
-    let wrong : Some (Ptr r.class r.format r.hash r.slots) ≡ Some (Ctx r.context) = sym r.process ∙ ap (object_at k) same ∙ r.found in
+    let wrong : Some (Ptr r.head r.slots) ≡ Some (Ctx r.context) = sym r.process ∙ ap (object_at k) same ∙ r.found in
     absurd (cc)
   where
     one_birth : (i j : ℕ) → ref.Obj i ≡ ref.Obj j → i ≡ j

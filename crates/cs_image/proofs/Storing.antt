@@ -1,13 +1,15 @@
 -- Storing an object's hash and slots behind all others.
-use Rattle.std.proofs.Common.{◌≡◌, ℕ, zero, suc, ◌+◌, ◌<◌, true, inl, inr, List, [], ◌∷◌, ◌++◌, length, map, set, get_or, replicate, refl, ap, sym, ◌∙◌, arith, length-set}
+use Rattle.std.proofs.Common.{◌≡◌, ℕ, zero, suc, ◌+◌, ◌<◌, ◌==◌, ◌&&◌, not, true, inl, inr, List, [], ◌∷◌, ◌++◌, length, map, set, get_or, replicate, refl, ap, sym, ◌∙◌, arith, length-set}
 use Rattle.std.proofs.lemmas.List.{length-replicate, get_or-set_same, get_or-set_other, ext_get_or}
 use Rattle.std.proofs.lemmas.Bool.Decides.{eqb_tells}
 use Rattle.std.specs.List.{range_with_len}
 use Rattle.std.proofs.lemmas.List.FromFn.{get_or-map-range_with_len, length-map-range_with_len}
+use Rattle.cs_model.specs.Obj.{context_class}
+use Rattle.cs_word.specs.Header.{with_immutable}
 use Rattle.cs_model.specs.Words.{plain_format}
 use Rattle.cs_model.specs.ImageFile.{FileObject, File}
-use Rattle.cs_heap.specs.Object.{Object, is_object, new_object, new_slot, next_address, slot_count_of, with_hash, with_slot}
-use Rattle.cs_heap.proofs.Laws.{is_object-new, next_address-new, with_hash-new, with_slot-new, field_of-new}
+use Rattle.cs_heap.specs.Object.{Object, is_object, new_object, new_slot, next_address, no_flags, slot_count_of, with_fixed, with_hash, with_slot}
+use Rattle.cs_heap.proofs.Laws.{give_fixed, give_hash, is_object-new, is_object-with_hash, next_address-new, with_hash-new, with_object-new, with_slot-new, field_of-new}
 use Rattle.cs_image.specs.Loading.{written, loaded, loaded_word}
 
 pub length-written : (n : ℕ) (value : ℕ → ℕ) (xs : List ℕ) → length (written n value xs) ≡ length xs
@@ -36,6 +38,7 @@ written_all n value xs e = ext_get_or 0 (written n value xs) (map value (range_w
 abbrev pub begun : File → ℕ → FileObject → ℕ → Object
 begun f birth o i = record (new_object o.class (plain_format o.format) (length o.words) birth) {
   hash = o.hash;
+  flags = with_immutable (o.fixed && not (o.class == context_class)) no_flags;
   words = written i (loaded_word f o.format o.words) (replicate (length o.words) (new_slot (plain_format o.format)));
 }
 
@@ -56,9 +59,17 @@ fresh birth o = new_object o.class (plain_format o.format) (length o.words) birt
 pub fresh_there : (xs : List Object) (birth : ℕ) (o : FileObject) (a : ℕ) → a ≡ next_address xs (length o.words) → is_object (xs ++ fresh birth o ∷ []) a ≡ true
 fresh_there xs birth o a at = is_object-new xs (fresh birth o) a (next_address-new xs a o.class (plain_format o.format) (length o.words) birth at)
 
+-- it is there still once it has its hash
+pub hashed_there : (xs : List Object) (birth : ℕ) (o : FileObject) (a : ℕ) → a ≡ next_address xs (length o.words)
+    → is_object (with_hash (xs ++ fresh birth o ∷ []) a o.hash) a ≡ true
+hashed_there xs birth o a at = is_object-with_hash (xs ++ fresh birth o ∷ []) a o.hash a ∙ fresh_there xs birth o a at
+
 pub fresh_begun : (f : File) (xs : List Object) (birth : ℕ) (o : FileObject) (a : ℕ) → a ≡ next_address xs (length o.words)
-    → with_hash (xs ++ fresh birth o ∷ []) a o.hash ≡ xs ++ begun f birth o 0 ∷ []
-fresh_begun f xs birth o a at = with_hash-new xs (fresh birth o) a o.hash (next_address-new xs a o.class (plain_format o.format) (length o.words) birth at)
+    → with_fixed (with_hash (xs ++ fresh birth o ∷ []) a o.hash) a (o.fixed && not (o.class == context_class)) ≡ xs ++ begun f birth o 0 ∷ []
+fresh_begun f xs birth o a at =
+    let here = next_address-new xs a o.class (plain_format o.format) (length o.words) birth at in
+    ap (λ (ys : List Object). with_fixed ys a (o.fixed && not (o.class == context_class))) (with_hash-new xs (fresh birth o) a o.hash here)
+    ∙ with_object-new xs (give_hash o.hash (fresh birth o)) a (give_fixed (o.fixed && not (o.class == context_class))) here
 
 begun_at : (f : File) (xs : List Object) (birth : ℕ) (o : FileObject) (i a : ℕ) → a ≡ next_address xs (length o.words) → a ≡ next_address xs (length (begun f birth o i).words)
 begun_at f xs birth o i a at = at ∙ ap (next_address xs) (sym (length-begun f birth o i))

@@ -1,17 +1,16 @@
 -- An image that loads gives a valid state once it is opened.
-use Rattle.std.proofs.Common.{◌≡◌, ℕ, ◌%◌, ◌==◌, ◌||◌, not, ltb, Bool, true, false, List, [], ◌∷◌, length, Option, Some, None, is_some, refl, ap, sym, subst, ◌∙◌, arith, slice_get, option_map}
+use Rattle.std.proofs.Common.{◌≡◌, ℕ, ◌<◌, ◌%◌, ◌==◌, not, Bool, true, false, List, [], ◌∷◌, length, Option, Some, None, is_some, refl, ap, sym, subst, ◌∙◌, arith, slice_get, slice_index, option_map}
 use Rattle.std.specs.FinMap.{FinMap, get}
 use Rattle.std.specs.Ordering.{nat_cmp}
-use Rattle.std.specs.List.{find}
-use Rattle.std.proofs.lemmas.Bool.Decides.{nat_tests}
 use Rattle.cs_model.specs.declared.event.Event.{Event}
 use Rattle.cs_model.specs.Ref.{Ref}
-use Rattle.cs_model.specs.Obj.{Obj, context_class, class_index_in, context_in, slots_in}
+use Rattle.cs_model.specs.Image.{head_in}
+use Rattle.cs_model.specs.Obj.{Obj, Head, context_class, class_index_in, context_in, slots_in}
 use Rattle.cs_model.specs.State.{Kept, IsValid, is_class_index, object_at}
 use Rattle.cs_model.specs.Settle.{opened}
 use Rattle.cs_model.specs.Words.{obj_by, is_pointer_format, is_method_format}
 use Rattle.cs_model.specs.ImageFile.{FileObject, File, file_of, is_visible, nil_in, old_base, special_address, visible}
-use Rattle.cs_model.specs.ImageFault.{bad_class, entry_in, has_entry, table_size}
+use Rattle.cs_model.specs.ImageFault.{entry_in, table_size}
 use Rattle.cs_model.proofs.Leading.{Plain}
 use Rattle.cs_heap.specs.Object.{Object}
 use Rattle.cs_heap.specs.Object as heap
@@ -21,56 +20,42 @@ use Rattle.cs_classes.specs.declared.Roots.{Roots}
 use Rattle.cs_classes.proofs.Wholes.{get-classes_of, kept_of-below, kept_of-keeps}
 use Rattle.cs_image.specs.Loading.{address_named, classes_at, loaded_from}
 use Rattle.cs_image.proofs.Naming.{birth_in-stands, birth_of-named, stands_named}
+use Rattle.cs_image.proofs.Numbering.{AreBirths}
 use Rattle.cs_image.proofs.Wording.{memory_of, meant}
-use Rattle.cs_image.proofs.Soundness.{IsSoundFile, and_true, context_at, entry_names, find_none_at, known_classes, map_none, seven, visible_from}
+use Rattle.cs_image.proofs.Soundness.{IsSoundFile, and_true, context_at, entry_names, known_classes, seven}
 use Rattle.cs_image.proofs.Describing.{IsBuilt, built_roots}
-use Rattle.cs_image.proofs.Wholeness.{Ground, from_entry, ground_of, memory_whole, nil_empty, nil_named, nil_number, nil_stands, nil_visible}
+use Rattle.cs_image.proofs.Wholeness.{index_at, Ground, from_entry, ground_of, memory_whole, nil_empty, nil_named, nil_number, nil_stands, nil_visible}
 use Rattle.cs_image.proofs.Opening.{HasFile, birth, equal, file_active, file_can_open, has_file, held}
 use Rattle.cs_image.proofs.Pcs.{file_pcs, from_file}
 use Rattle.cs_image.proofs.Starting.{Sleeps, opened_valid}
 
 -- ---- class indices
 
-class_of_words : (named : ℕ → Ref) (class format hash : ℕ) (words : List ℕ) → class_index_in (obj_by named class format hash words) ≡ class
+class_of_words : (named : ℕ → Ref) (head : Head) (words : List ℕ) → class_index_in (obj_by named head words) ≡ head.class
 unfolding obj_by
-class_of_words named class format hash words = go (class == context_class) (is_pointer_format format) (is_method_format format) refl refl refl
+class_of_words named head words = go (head.class == context_class) (is_pointer_format head.format) (is_method_format head.format) refl refl refl
   where
-    go : (a p m : Bool) → (class == context_class) ≡ a → is_pointer_format format ≡ p → is_method_format format ≡ m → class_index_in (obj_by named class format hash words) ≡ class
-    go true p m ea ep em = let is : class ≡ context_class = equal class context_class ea in rw ea (sym is)
+    go : (a p m : Bool) → (head.class == context_class) ≡ a → is_pointer_format head.format ≡ p → is_method_format head.format ≡ m → class_index_in (obj_by named head words) ≡ head.class
+    go true p m ea ep em = let is : head.class ≡ context_class = equal head.class context_class ea in rw ea (sym is)
     go false true m ea ep em = rw (ea, ep) refl
     go false false true ea ep em = rw (ea, ep, em) refl
     go false false false ea ep em = rw (ea, ep, em) refl
 
-index_at : (f : File) (special j : ℕ) (o : FileObject) → IsSoundFile f special → slice_get (visible f) j ≡ Some o → is_class_index o.class ≡ true
-unfolding bad_class
-index_at f special j o s e =
-    let p = find_none_at (λ o. ltb o.class 4 || not (has_entry f o.class)) (visible f) j o (map_none (λ o. o.place) (find (λ o. ltb o.class 4 || not (has_entry f o.class)) (visible f)) s.classes) e in
-    let high = first (ltb o.class 4) _ p in
-    let seen : is_visible o ≡ true = (visible_from f j o e).passes in
-    rw (above o.class high) seen
-  where
-    first : (a b : Bool) → (a || b) ≡ false → a ≡ false
-    first true b h = absurd (cc)
-    first false b h = refl
-
-    above : (n : ℕ) → ltb n 4 ≡ false → ltb 3 n ≡ true
-    above n h = grind (arith, nat_tests, h)
-
-file_indices : (f : File) (special : ℕ) (k : Kept) → HasFile f special k → (i : ℕ) (o : Obj) → object_at k i ≡ Some o → is_class_index (class_index_in o) ≡ true
-file_indices f special k h i o there =
-    let a = from_file f special k h i o there in
+file_indices : (births : List ℕ) (f : File) (special : ℕ) (k : Kept) → HasFile births f special k → (i : ℕ) (o : Obj) → object_at k i ≡ Some o → is_class_index (class_index_in o) ≡ true
+file_indices births f special k h i o there =
+    let a = from_file births f special k h i o there in
     let x = a.object in
     ap (λ (y : Obj). is_class_index (class_index_in y)) (sym a.means)
-    ∙ ap is_class_index (class_of_words (meant f) x.class x.format x.hash x.words)
+    ∙ ap is_class_index (class_of_words (meant births f) (head_in x) x.words)
     ∙ index_at f special a.place x h.ground_of.sound a.there
 
 -- ---- the class table
 
-no_context : (named : ℕ → Ref) (class format hash : ℕ) (words : List ℕ) → (class == context_class) ≡ false → context_in (Some (obj_by named class format hash words)) ≡ None
+no_context : (named : ℕ → Ref) (head : Head) (words : List ℕ) → (head.class == context_class) ≡ false → context_in (Some (obj_by named head words)) ≡ None
 unfolding obj_by
-no_context named class format hash words ea = go (is_pointer_format format) (is_method_format format) refl refl
+no_context named head words ea = go (is_pointer_format head.format) (is_method_format head.format) refl refl
   where
-    go : (p m : Bool) → is_pointer_format format ≡ p → is_method_format format ≡ m → context_in (Some (obj_by named class format hash words)) ≡ None
+    go : (p m : Bool) → is_pointer_format head.format ≡ p → is_method_format head.format ≡ m → context_in (Some (obj_by named head words)) ≡ None
     go true m ep em = rw (ea, ep) refl
     go false true ep em = rw (ea, ep, em) refl
     go false false ep em = rw (ea, ep, em) refl
@@ -88,47 +73,47 @@ entry_of os table index i e = go (get table index) refl (sym (get-classes_of os 
     go None er h = absurd (cc)
     go (Some a) er h = record { a = a; there = er; is = cc }
 
-file_table : (f : File) (special : ℕ) (k : Kept) → HasFile f special k → k.rest.classes ≡ classes_of (memory_of f) (classes_at f table_size)
+file_table : (births : List ℕ) (f : File) (special : ℕ) (k : Kept) → HasFile births f special k → k.rest.classes ≡ classes_of (memory_of births f) (classes_at f table_size)
     → (index i : ℕ) → get k.rest.classes index ≡ Some i → Plain k i
-file_table f special k h classes index i e =
-    let t = entry_of (memory_of f) (classes_at f table_size) index i (ap (λ (m : FinMap nat_cmp ℕ). get m index) (sym classes) ∙ e) in
+file_table births f special k h classes index i e =
+    let t = entry_of (memory_of births f) (classes_at f table_size) index i (ap (λ (m : FinMap nat_cmp ℕ). get m index) (sym classes) ∙ e) in
     let r = from_entry f table_size index t.a t.there in
     let word = entry_in f index in
     let c = entry_names f index h.ground_of.table r.below r.filled in
     let x = c.class in
-    let at : birth f word ≡ i = sym (birth_of-named f word (stands_named f word x c.named_is c.visible_is)) ∙ ap (heap.birth_of (memory_of f)) (sym r.address) ∙ t.is in
-    let there : object_at k i ≡ Some (obj_by (meant f) x.class x.format x.hash x.words) = ap (object_at k) (sym at) ∙ (held f special k h word x c.named_is c.visible_is).at in
-    record { there = ap is_some there; plain = ap context_in there ∙ no_context (meant f) x.class x.format x.hash x.words c.plain }
+    let at : birth births f word ≡ i = sym (birth_of-named births f word (stands_named births f word x c.named_is c.visible_is)) ∙ ap (heap.birth_of (memory_of births f)) (sym r.address) ∙ t.is in
+    let there : object_at k i ≡ Some (obj_by (meant births f) (head_in x) x.words) = ap (object_at k) (sym at) ∙ (held births f special k h word x c.named_is c.visible_is).at in
+    record { there = ap is_some there; plain = ap context_in there ∙ no_context (meant births f) (head_in x) x.words c.plain }
 
 -- index 16 has no entry
-file_hidden : (f : File) (special : ℕ) → Ground f special → get (classes_of (memory_of f) (classes_at f table_size)) 16 ≡ None
-file_hidden f special g = go (get (classes_at f table_size) 16) refl
+file_hidden : (births : List ℕ) (f : File) (special : ℕ) → Ground f special → get (classes_of (memory_of births f) (classes_at f table_size)) 16 ≡ None
+file_hidden births f special g = go (get (classes_at f table_size) 16) refl
   where
-    go : (r : Option ℕ) → get (classes_at f table_size) 16 ≡ r → get (classes_of (memory_of f) (classes_at f table_size)) 16 ≡ None
-    go None e = get-classes_of (memory_of f) (classes_at f table_size) 16 ∙ ap (option_map (heap.birth_of (memory_of f))) e
+    go : (r : Option ℕ) → get (classes_at f table_size) 16 ≡ r → get (classes_of (memory_of births f) (classes_at f table_size)) 16 ≡ None
+    go None e = get-classes_of (memory_of births f) (classes_at f table_size) 16 ∙ ap (option_map (heap.birth_of (memory_of births f))) e
     go (Some a) e =
         let wrong : true ≡ false = sym (ap not (from_entry f table_size 16 a e).filled) ∙ (known_classes f g.table).free in
         absurd (cc)
 
 -- ---- nil
 
-empty_pointers : (named : ℕ → Ref) (class format hash : ℕ) (words : List ℕ) → (class == context_class) ≡ false → format ≡ 0 → length words ≡ 0 → slots_in (Some (obj_by named class format hash words)) ≡ Some []
+empty_pointers : (named : ℕ → Ref) (head : Head) (words : List ℕ) → (head.class == context_class) ≡ false → head.format ≡ 0 → length words ≡ 0 → slots_in (Some (obj_by named head words)) ≡ Some []
 unfolding obj_by
-empty_pointers named class format hash [] plain zero none =
-    let p : is_pointer_format format ≡ true = ap is_pointer_format zero in
-    rw (plain, p) refl
-empty_pointers named class format hash (w ∷ words) plain zero none = absurd (omega (arith, none))
+empty_pointers named head [] other zero none =
+    let p : is_pointer_format head.format ≡ true = ap is_pointer_format zero in
+    rw (other, p) refl
+empty_pointers named head (w ∷ words) other zero none = absurd (omega (arith, none))
 
-file_bare : (f : File) (special : ℕ) (k : Kept) → HasFile f special k → slots_in (object_at k k.rest.nil) ≡ Some []
-file_bare f special k h =
+file_bare : (births : List ℕ) (f : File) (special : ℕ) (k : Kept) → HasFile births f special k → slots_in (object_at k k.rest.nil) ≡ Some []
+file_bare births f special k h =
     let g = h.ground_of in
     let s = g.first in
     let x = s.nil in
-    let a = held f special k h (nil_in f) x (nil_named f s) (nil_visible f s) in
-    let at : birth f (nil_in f) ≡ k.rest.nil = birth_in-stands f (nil_in f) (nil_stands f s) ∙ nil_number f s ∙ sym h.nil in
+    let a = held births f special k h (nil_in f) x (nil_named f s) (nil_visible f s) in
+    let at : birth births f (nil_in f) ≡ k.rest.nil = birth_in-stands births f (nil_in f) (nil_stands births f s) ∙ ap (slice_index births) (nil_number births f s) ∙ sym h.nil in
     let zero : x.format ≡ 0 = equal x.format 0 (and_true (is_visible x) (x.format == 0) s.oddball).1 in
     ap (λ (n : ℕ). slots_in (object_at k n)) (sym at) ∙ ap slots_in a.at
-    ∙ empty_pointers (meant f) x.class x.format x.hash x.words (plain x zero (x.class == context_class) refl a.j a.there) zero (nil_empty f special g)
+    ∙ empty_pointers (meant births f) (head_in x) x.words (plain x zero (x.class == context_class) refl a.j a.there) zero (nil_empty f special g)
   where
     plain : (x : FileObject) → x.format ≡ 0 → (b : Bool) → (x.class == context_class) ≡ b → (j : ℕ) → slice_get (visible f) j ≡ Some x → (x.class == context_class) ≡ false
     plain x zero false e j there = e
@@ -139,40 +124,40 @@ file_bare f special k h =
 
 -- ---- the whole
 
-sleeps : (f : File) (special : ℕ) (roots : Roots) → Ground f special → IsWhole (memory_of f) (classes_at f table_size) roots → HasFile f special (kept_of (memory_of f) (classes_at f table_size) roots None)
-    → Sleeps (kept_of (memory_of f) (classes_at f table_size) roots None)
-sleeps f special roots g w h =
-    let k : Kept = kept_of (memory_of f) (classes_at f table_size) roots None in
+sleeps : (births : List ℕ) (f : File) (special : ℕ) (roots : Roots) → Ground f special → IsWhole (memory_of births f) (classes_at f table_size) roots → HasFile births f special (kept_of (memory_of births f) (classes_at f table_size) roots None)
+    → Sleeps (kept_of (memory_of births f) (classes_at f table_size) roots None)
+sleeps births f special roots g w h =
+    let k : Kept = kept_of (memory_of births f) (classes_at f table_size) roots None in
     record {
       sound = record {
-        below = λ i o e. kept_of-below (memory_of f) (classes_at f table_size) roots i o w e;
-        pcs = file_pcs f special k h;
-        indices = file_indices f special k h;
-        table = file_table f special k h refl;
-        hidden = file_hidden f special g;
-        bare = file_bare f special k h;
+        below = λ i o e. kept_of-below (memory_of births f) (classes_at f table_size) roots i o w e;
+        pcs = file_pcs births f special k h;
+        indices = file_indices births f special k h;
+        table = file_table births f special k h refl;
+        hidden = file_hidden births f special g;
+        bare = file_bare births f special k h;
         live = λ i e. absurd (cc);
       };
-      closed = kept_of-keeps (memory_of f) (classes_at f table_size) roots None w (λ i e. absurd (cc));
-      process = file_active f special k h;
+      closed = kept_of-keeps (memory_of births f) (classes_at f table_size) roots None w (λ i e. absurd (cc));
+      process = file_active births f special k h;
       none = refl;
     }
 
-file_valid : (f : File) (special : ℕ) (roots : Roots) → Ground f special → roots.special.0 ≡ address_named f special → roots.next_birth ≡ length (visible f)
-    → (events : List Event) (snapping : Bool) → IsValid (opened (kept_of (memory_of f) (classes_at f table_size) roots None) events snapping)
-file_valid f special roots g at next events snapping =
-    let k : Kept = kept_of (memory_of f) (classes_at f table_size) roots None in
-    let h = has_file f special (classes_at f table_size) roots g at next in
-    opened_valid k events snapping (sleeps f special roots g (memory_whole f special roots g at next) h) (file_can_open f special k h)
+file_valid : (births : List ℕ) (f : File) (special : ℕ) (roots : Roots) → Ground f special → roots.special.0 ≡ address_named f special → AreBirths births (length (visible f)) roots.next_birth → roots.last_hash < 4194304
+    → (events : List Event) (snapping : Bool) → IsValid (opened (kept_of (memory_of births f) (classes_at f table_size) roots None) events snapping)
+file_valid births f special roots g at next small events snapping =
+    let k : Kept = kept_of (memory_of births f) (classes_at f table_size) roots None in
+    let h = has_file births f special (classes_at f table_size) roots g at next small in
+    opened_valid k events snapping (sleeps births f special roots g (memory_whole births f special roots g at next small) h) (file_can_open births f special k h)
 
 -- what was built for a file without faults
-pub built_valid : (bytes : List ℕ) (file : File) (objects : List Object) (table : FinMap nat_cmp ℕ) (roots : Roots) → file ≡ file_of bytes → IsBuilt bytes file objects table roots
+pub built_valid : (births : List ℕ) (bytes : List ℕ) (file : File) (objects : List Object) (table : FinMap nat_cmp ℕ) (roots : Roots) → file ≡ file_of bytes → IsBuilt births bytes file objects table roots
     → old_base bytes % 8 ≡ 0 → IsSoundFile (file_of bytes) (special_address bytes)
     → (events : List Event) (snapping : Bool) → IsValid (opened (kept_of objects table roots None) events snapping)
-built_valid bytes file objects table roots same b base_is s =
+built_valid births bytes file objects table roots same b base_is s =
     let f : File = file_of bytes in
-    let r = built_roots bytes file objects table roots same b in
-    let valid = file_valid f (special_address bytes) roots (ground_of bytes base_is s) r.special r.next in
+    let r = built_roots births bytes file objects table roots same b in
+    let valid = file_valid births f (special_address bytes) roots (ground_of bytes base_is s) r.special r.known r.small in
     let P : List Object → Type 0 = λ os. (events : List Event) (snapping : Bool) → IsValid (opened (kept_of os (classes_at f table_size) roots None) events snapping) in
     let Q : FinMap nat_cmp ℕ → Type 0 = λ t. (events : List Event) (snapping : Bool) → IsValid (opened (kept_of objects t roots None) events snapping) in
-    subst Q (sym (b.table_is ∙ ap (λ (f : File). classes_at f table_size) same)) (subst P (sym (b.objects_are ∙ ap (λ (f : File). loaded_from f 0 (visible f)) same)) valid)
+    subst Q (sym (b.table_is ∙ ap (λ (f : File). classes_at f table_size) same)) (subst P (sym (b.objects_are ∙ ap (λ (f : File). loaded_from f births 0 (visible f)) same)) valid)

@@ -20,25 +20,25 @@ use Rattle.cs_classes.proofs.Refs.{ref_of-object, is_reference-object}
 use Rattle.cs_image.specs.Loading.{number_of, addresses_of, address_named, translated, refers, loaded_word, loaded_from}
 use Rattle.cs_image.proofs.Naming.{Stands, stands_named, stands_there, birth_of-named}
 
--- the objects that a file becomes
-abbrev pub memory_of : File → List Object
-memory_of f = loaded_from f 0 (visible f)
+-- the objects that a file becomes, with these births
+abbrev pub memory_of : List ℕ → File → List Object
+memory_of births f = loaded_from f births 0 (visible f)
 
 -- what a word of the file refers to in the state
-abbrev pub meant : File → ℕ → Ref
-meant f word = ref.Obj (birth_in f (range_with_len 0 (length (visible f))) word)
+abbrev pub meant : List ℕ → File → ℕ → Ref
+meant births f word = ref.Obj (birth_in f births word)
 
 -- ---- a word that isn't lost
 
-visible_named : (f : File) (word : ℕ) → names f is_visible word ≡ true → Stands f word
-visible_named f word h = go (named f word) refl h
+visible_named : (births : List ℕ) (f : File) (word : ℕ) → names f is_visible word ≡ true → Stands births f word
+visible_named births f word h = go (named f word) refl h
   where
-    go : (r : Option FileObject) → named f word ≡ r → option_map_or is_visible r false ≡ true → Stands f word
+    go : (r : Option FileObject) → named f word ≡ r → option_map_or is_visible r false ≡ true → Stands births f word
     go None e h = absurd (cc)
-    go (Some x) e h = stands_named f word x e h
+    go (Some x) e h = stands_named births f word x e h
 
-pub not_lost : (f : File) (word : ℕ) → is_lost f word ≡ false → word % 4 ≡ 0 → Stands f word
-not_lost f word h z = visible_named f word (go (names f is_visible word) (word % 4 == 0) aligned h)
+pub not_lost : (births : List ℕ) (f : File) (word : ℕ) → is_lost f word ≡ false → word % 4 ≡ 0 → Stands births f word
+not_lost births f word h z = visible_named births f word (go (names f is_visible word) (word % 4 == 0) aligned h)
   where
     aligned : (word % 4 == 0) ≡ true
     aligned = grind (arith, nat_tests, z)
@@ -66,11 +66,11 @@ yes_test a b e = grind (arith, nat_tests, e)
 no_test : (a b : ℕ) → a ≢ b → (a == b) ≡ false
 no_test a b e = grind (arith, nat_tests, e)
 
-pub ref_translated : (f : File) (word : ℕ) → is_lost f word ≡ false → ref_of (memory_of f) (translated f word) ≡ ref_by (meant f) word
+pub ref_translated : (births : List ℕ) (f : File) (word : ℕ) → is_lost f word ≡ false → ref_of (memory_of births f) (translated f word) ≡ ref_by (meant births f) word
 unfolding ref_of
-ref_translated f word h = go (low word)
+ref_translated births f word h = go (low word)
   where
-    go : Low word → ref_of (memory_of f) (translated f word) ≡ ref_by (meant f) word
+    go : Low word → ref_of (memory_of births f) (translated f word) ≡ ref_by (meant births f) word
     go (Odd e) =
         let a : (word % 4 == 0) ≡ false = no_test _ _ (λ z. absurd (omega (arith, e, z))) in
         let b : (word % 2 == 1) ≡ true = yes_test _ _ e in
@@ -84,17 +84,17 @@ ref_translated f word h = go (low word)
         let a : (word % 4 == 0) ≡ true = yes_test _ _ e in
         let b : (word % 2 == 1) ≡ false = no_test _ _ (λ z. absurd (omega (arith, e, z))) in
         let d : (word % 4 == 2) ≡ false = no_test _ _ (λ z. absurd (omega (arith, e, z))) in
-        let s = not_lost f word h e in
+        let s = not_lost births f word h e in
         let t : translated f word ≡ address_named f word = rw a refl in
-        let u : ref_by (meant f) word ≡ meant f word = rw (b, d) refl in
-        ap (ref_of (memory_of f)) t ∙ ref_of-object (memory_of f) (address_named f word) (stands_there f word s)
-        ∙ ap ref.Obj (birth_of-named f word s) ∙ sym u
+        let u : ref_by (meant births f) word ≡ meant births f word = rw (b, d) refl in
+        ap (ref_of (memory_of births f)) t ∙ ref_of-object (memory_of births f) (address_named f word) (stands_there births f word s)
+        ∙ ap ref.Obj (birth_of-named births f word s) ∙ sym u
 
-pub is_reference_translated : (f : File) (word : ℕ) → is_lost f word ≡ false → is_reference (memory_of f) (translated f word) ≡ true
+pub is_reference_translated : (births : List ℕ) (f : File) (word : ℕ) → is_lost f word ≡ false → is_reference (memory_of births f) (translated f word) ≡ true
 unfolding is_reference
-is_reference_translated f word h = go (low word)
+is_reference_translated births f word h = go (low word)
   where
-    go : Low word → is_reference (memory_of f) (translated f word) ≡ true
+    go : Low word → is_reference (memory_of births f) (translated f word) ≡ true
     go (Odd e) =
         let a : (word % 4 == 0) ≡ false = no_test _ _ (λ z. absurd (omega (arith, e, z))) in
         let b : (word % 2 == 1) ≡ true = yes_test _ _ e in
@@ -107,7 +107,7 @@ is_reference_translated f word h = go (low word)
     go (Zero e) =
         let a : (word % 4 == 0) ≡ true = yes_test _ _ e in
         let t : translated f word ≡ address_named f word = rw a refl in
-        ap (is_reference (memory_of f)) t ∙ is_reference-object (memory_of f) (address_named f word) (stands_there f word (not_lost f word h e))
+        ap (is_reference (memory_of births f)) t ∙ is_reference-object (memory_of births f) (address_named f word) (stands_there births f word (not_lost births f word h e))
 
 -- ---- numbers
 

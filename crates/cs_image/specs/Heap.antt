@@ -15,6 +15,7 @@ object_of heap o = record {
   class = o.class;
   format = o.format;
   hash = o.hash;
+  fixed = o.fixed;
   words = take o.slots (drop (o.place + 2) heap);
 }
 
@@ -26,6 +27,7 @@ seen o = record {
   class = o.class;
   format = o.format;
   hash = o.hash;
+  fixed = o.fixed;
   words = o.words.now;
 }
 

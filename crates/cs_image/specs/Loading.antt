@@ -1,10 +1,11 @@
 -- Where the objects of a file go in memory, and what they are there.
-use Rattle.std.specs.Prelude.{ℕ, zero, suc, ◌+◌, ◌*◌, ◌%◌, ◌==◌, ◌&&◌, ◌||◌, Bool, nat_le, if◌then◌else◌, List, [], ◌∷◌, length, map, slice_index, slice_set, Option, Some, None, option_map}
+use Rattle.std.specs.Prelude.{ℕ, zero, suc, ◌+◌, ◌*◌, ◌%◌, ◌==◌, ◌&&◌, ◌||◌, not, Bool, nat_le, if◌then◌else◌, List, [], ◌∷◌, length, map, slice_index, slice_set, Option, Some, None, option_map}
 use Rattle.std.specs.Option.{option_map_or}
 use Rattle.std.specs.List.{range_with_len}
 use Rattle.std.specs.Ordering.{nat_cmp}
 use Rattle.std.specs.FinMap.{FinMap, empty, insert}
-use Rattle.cs_model.specs.Obj.{literal_count}
+use Rattle.cs_word.specs.Header.{with_immutable}
+use Rattle.cs_model.specs.Obj.{context_class, literal_count}
 use Rattle.cs_model.specs.Words.{is_pointer_format, is_method_format, header_in_words, plain_format}
 use Rattle.cs_model.specs.ImageFile.{FileObject, File, is_visible, address_in}
 use Rattle.cs_model.specs.ImageFault.{has_entry, entry_in}
@@ -44,21 +45,21 @@ abbrev pub written : ℕ → (ℕ → ℕ) → List ℕ → List ℕ
 written zero value xs = xs
 written (suc i) value xs = slice_set (written i value xs) i (value i)
 
--- an object of the file as it stands in memory, with this birth
+-- an object of the file as it stands in memory, with this birth; a context is never read-only
 abbrev pub loaded : File → ℕ → FileObject → Object
 loaded f birth o = record {
   class = o.class;
-  flags = no_flags;
+  flags = with_immutable (o.fixed && not (o.class == context_class)) no_flags;
   format = plain_format o.format;
   hash = o.hash;
   birth = birth;
   words = map (loaded_word f o.format o.words) (range_with_len 0 (length o.words));
 }
 
--- with their births by place, from this one on
-abbrev pub loaded_from : File → ℕ → List FileObject → List Object
-loaded_from f birth [] = []
-loaded_from f birth (o ∷ objects) = loaded f birth o ∷ loaded_from f (birth + 1) objects
+-- with these births, from number k on
+abbrev pub loaded_from : File → List ℕ → ℕ → List FileObject → List Object
+loaded_from f births k [] = []
+loaded_from f births k (o ∷ objects) = loaded f (slice_index births k) o ∷ loaded_from f births (k + 1) objects
 
 -- the addresses of the classes of the indices below n
 abbrev pub classes_at : File → ℕ → FinMap nat_cmp ℕ

@@ -3,13 +3,15 @@
 ghost use Rattle.std.specs.Prelude.{◌≡◌, ◌≤◌, length, ⊤};
 ghost use Rattle.cs_model.specs.Image.{at_word, when};
 ghost use Rattle.cs_model.specs.ImageFault as fault;
-ghost use Rattle.cs_model.specs.ImageFault.{bad_class, bad_context, bad_ref, is_bad_format, is_bad_header_size, is_bad_length, is_bad_roots, is_bad_table, is_short, is_too_long};
+ghost use Rattle.cs_model.specs.ImageFault.{bad_class, bad_context, bad_ref, is_bad_format, is_bad_header_size};
+ghost use Rattle.cs_model.specs.ImageFault.{is_bad_length, is_bad_profile, is_bad_roots, is_bad_table, is_short};
+ghost use Rattle.cs_model.specs.ImageFault.{is_too_long};
 ghost use Rattle.cs_image.specs.Answer.{Tells, header_fault, objects_fault};
 
 use crate::context::bad_context_place;
 use crate::error::ImageError;
 use crate::file::FileHeap;
-use crate::header::{has_bad_length, u32_at};
+use crate::header::{has_bad_length, has_bad_profile, u32_at};
 use crate::reference::{bad_class_place, bad_reference};
 use crate::roots::has_bad_roots;
 use crate::table::has_bad_table;
@@ -22,6 +24,7 @@ pub(crate) fn check_header(bytes: &[u8]) -> Result<(), ImageError>
     check_least(bytes)?;
     check_format(bytes)?;
     check_header_size(bytes)?;
+    check_profile(bytes)?;
     check_length(bytes)?;
     Ok(())
 }
@@ -64,6 +67,17 @@ fn check_header_size(bytes: &[u8]) -> Result<(), ImageError>
 {
     if u32_at(bytes, 4) != 64 {
         return Err(ImageError::BadHeaderSize);
+    }
+    Ok(())
+}
+
+/// In profile 2 the number of stack pages is one of a machine, or 0.
+fn check_profile(bytes: &[u8]) -> Result<(), ImageError>
+    requires { 64 ≤ length bytes.now }
+    ensures { Tells (when (is_bad_profile bytes.now) fault.BadProfile) (λ _. ⊤) result }
+{
+    if has_bad_profile(bytes) {
+        return Err(ImageError::BadProfile);
     }
     Ok(())
 }

@@ -1,7 +1,9 @@
 //! Cutting the heap of a file into its objects.
 
-ghost use Rattle.std.specs.Prelude.{◌≡◌, ◌<◌, ◌≤◌, ◌+◌, ◌*◌, ◌^◌, IfSome, length, option_map, slice_index, is_none, max};
-ghost use Rattle.cs_model.specs.ImageFile.{bits_at as bits_of, end_at as end_of, object_from, object_within as object_within_of};
+ghost use Rattle.std.specs.Prelude.{◌≡◌, ◌<◌, ◌≤◌, ◌+◌, ◌*◌, ◌^◌, IfSome, length, option_map, slice_index, is_none};
+ghost use Rattle.std.specs.Prelude.{max};
+ghost use Rattle.cs_model.specs.ImageFile.{bits_at as bits_of, end_at as end_of, object_from};
+ghost use Rattle.cs_model.specs.ImageFile.{object_within as object_within_of};
 ghost use Rattle.std.specs.Prelude.{filter};
 ghost use Rattle.cs_model.specs.ImageFile.{cut_of, stands};
 ghost use Rattle.cs_model.specs.ImageFault.{bad_object};
@@ -13,7 +15,8 @@ ghost use Rattle.cs_image.specs.Answer.{Tells};
 use crate::error::ImageError;
 use crate::file::{FileHeap, Placed};
 use crate::shape::is_body;
-use cs_word::Header;
+use bitflags::Flags as _;
+use cs_word::{Flags, Header};
 use std::alloc::Global;
 
 /// The word at a place, and 0 past the end.
@@ -59,6 +62,7 @@ fn object_within(words: &[u32], first: u32, place: u32, slots: u64) -> Option<Pl
         class: header.class,
         format: header.format,
         hash: header.hash,
+        fixed: header.flags.contains(Flags::IS_IMMUTABLE),
         slots: slots as u32,
     })
 }
@@ -94,7 +98,8 @@ fn object_at(words: &[u32], first: u32) -> Option<Placed>
     object_within(words, first, first + 2, bits % (1 << 56))
 }
 
-/// The object whose first word is at `first`; None exactly where no object is whole there, or where one that isn't skipped
+/// The object whose first word is at `first`; None exactly where no object is whole there, or where one that isn't
+/// skipped
 /// isn't well formed.
 fn sound_object_at(words: &[u32], first: u32) -> Option<Placed>
     requires size { length words.now ≤ 2 ^ 27 }

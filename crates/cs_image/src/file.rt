@@ -1,6 +1,7 @@
 //! The objects of a file, found by the words that name them.
 
-ghost use Rattle.std.specs.Prelude.{◌≡◌, ◌<◌, ◌≤◌, ◌+◌, ◌*◌, ◌^◌, ◌==◌, true, IfSome, length, option_map, slice_get, take, drop};
+ghost use Rattle.std.specs.Prelude.{◌≡◌, ◌<◌, ◌≤◌, ◌+◌, ◌*◌, ◌^◌, ◌==◌, true, IfSome, length, option_map, slice_get};
+ghost use Rattle.std.specs.Prelude.{take, drop};
 ghost use Rattle.cs_model.specs.ImageFile.{address_in, is_nil, named, nil_in};
 ghost use Rattle.cs_model.specs.ImageFault.{is_body, unless_nil};
 
@@ -19,6 +20,8 @@ pub(crate) struct Placed {
     pub(crate) format: u8,
     /// Its identity hash.
     pub(crate) hash: u32,
+    /// Whether its header says that it is read-only.
+    pub(crate) fixed: bool,
     /// How many slots it has.
     pub(crate) slots: u32,
 }
@@ -35,6 +38,8 @@ pub(crate) struct FileObject<'a> {
     pub(crate) format: u8,
     /// Its identity hash.
     pub(crate) hash: u32,
+    /// Whether its header says that it is read-only.
+    pub(crate) fixed: bool,
     /// Its slots.
     pub(crate) words: &'a [u32],
 }
@@ -102,6 +107,7 @@ impl FileHeap {
             class: o.class,
             format: o.format,
             hash: o.hash,
+            fixed: o.fixed,
             words: slots_of(&self.words, &o),
         }
     }

@@ -1,16 +1,20 @@
 //! The objects of a file in memory.
 
-ghost use Rattle.std.specs.Prelude.{◌≡◌, ◌<◌, ◌≤◌, ◌+◌, ◌*◌, ◌^◌, [], ◌∷◌, ◌++◌, true, false, IfOk, length, take};
+ghost use Rattle.std.specs.Prelude.{◌≡◌, ◌<◌, ◌≤◌, ◌+◌, ◌*◌, ◌^◌, ◌==◌, ◌&&◌, not, [], ◌∷◌, ◌++◌, true, false, IfOk};
+ghost use Rattle.std.specs.Prelude.{length, take};
 ghost use Rattle.cs_model.specs.ImageFile.{last_hash_in, special_address, visible};
 ghost use Rattle.cs_model.specs.ImageFault as fault;
 ghost use Rattle.cs_model.specs.ImageFault.{is_body, is_over, table_size};
 ghost use Rattle.cs_model.specs.Image.{when};
+ghost use Rattle.cs_model.specs.Obj.{context_class};
 ghost use Rattle.cs_model.specs.Words.{plain_format as plain_format_of};
 ghost use Rattle.cs_heap.specs.Object.{base, header_address, size, used};
 ghost use Rattle.cs_image.specs.Answer.{Tells};
 ghost use Rattle.cs_image.specs.Heap.{seen};
-ghost use Rattle.cs_image.specs.Loading.{address_named, addresses_of, classes_at, loaded, loaded_from, loaded_word as loaded_word_of, refers, translated as translated_of};
+ghost use Rattle.cs_image.specs.Loading.{address_named, addresses_of, classes_at, loaded, loaded_from};
+ghost use Rattle.cs_image.specs.Loading.{loaded_word as loaded_word_of, refers, translated as translated_of};
 
+use crate::context::CONTEXT;
 use crate::cut::word_at;
 use crate::error::ImageError;
 use crate::file::{FileHeap, FileObject};
@@ -116,7 +120,14 @@ fn loaded_word(file: &FileHeap, addresses: &[u32], o: &FileObject<'_>, i: usize)
     }
 }
 
-/// Adds an object of the file with its hash and its slots.
+/// Whether an object of the file is read-only in memory: no context is.
+fn is_fixed(o: &FileObject<'_>) -> bool
+    ensures { result ≡ (o.now.fixed && not (o.now.class == context_class)) }
+{
+    o.fixed && o.class != CONTEXT
+}
+
+/// Adds an object of the file with its hash and its slots, read-only where its header says so and it is no context.
 fn load_object(heap: &mut Heap, file: &FileHeap, addresses: &[u32], o: &FileObject<'_>, birth: u64)
     requires addresses { addresses.now ≡ addresses_of file.now.objects 0 }
     requires class { o.now.class < 2 ^ 22 }
@@ -124,43 +135,46 @@ fn load_object(heap: &mut Heap, file: &FileHeap, addresses: &[u32], o: &FileObje
     requires well_formed { is_body o.now.format o.now.words.now ≡ true }
     requires long { length o.now.words.now ≤ 2 ^ 27 }
     requires room { used heap.old.objects + size (length o.now.words.now) ≤ heap.old.limit }
-    ensures { heap.new ≡ record heap.old { objects = heap.old.objects ++ loaded file.now birth (seen o.now) ∷ [] } }
+    ensures limit { heap.new.limit ≡ heap.old.limit }
+    ensures objects { heap.new.objects ≡ heap.old.objects ++ loaded file.now birth (seen o.now) ∷ [] }
 {
     let slots = o.words.len() as u32;
     let Ok(at) = heap.allocate(o.class, plain_format(o.format), slots, birth) else {
         unreachable!()
     };
     heap.set_hash(at, o.hash);
+    heap.set_fixed(at, is_fixed(o));
     for i in 0..o.words.len() {
         heap.set_slot(at, i as u32, Oop(loaded_word(file, addresses, o, i)));
     }
 }
 
-/// The visible objects of a file in a heap of so many words, with their births by place, and the next birth.
+/// The visible objects of a file in a heap of so many words, with these births.
 pub(crate) fn load_objects(
     alloc: Global,
     file: &FileHeap,
     addresses: &[u32],
+    births: &[u64],
     limit_words: u32,
-) -> Result<(Heap, u64), AllocError>
+) -> Result<Heap, AllocError>
     requires least { 4096 ≤ limit_words }
     requires most { limit_words ≤ 67108864 }
     requires addresses { addresses.now ≡ addresses_of file.now.objects 0 }
+    requires births { length births.now ≡ length (visible file.now) }
     requires room { is_over file.now limit_words ≡ false }
-    ensures limit { IfOk result (λ p. p.0.limit ≡ limit_words) }
-    ensures objects { IfOk result (λ p. p.0.objects ≡ loaded_from file.now 0 (visible file.now)) }
-    ensures next { IfOk result (λ p. p.1 ≡ length (visible file.now)) }
+    ensures limit { IfOk result (λ heap. heap.limit ≡ limit_words) }
+    ensures objects { IfOk result (λ heap. heap.objects ≡ loaded_from file.now births.now 0 (visible file.now)) }
 {
     let mut heap = Heap::new(alloc, limit_words)?;
-    let mut birth = 0;
+    let mut count = 0;
     for number in 0..file.len() {
         let o = file.object(number);
         if o.class != 16 {
-            load_object(&mut heap, file, addresses, &o, birth);
-            birth += 1;
+            load_object(&mut heap, file, addresses, &o, births[count]);
+            count += 1;
         }
     }
-    Ok((heap, birth))
+    Ok(heap)
 }
 
 /// The class table of a file with the addresses in memory.

@@ -1,6 +1,7 @@
 //! References and class indices of a file's objects.
 
-ghost use Rattle.std.specs.Prelude.{◌≡◌, ◌<◌, ◌≤◌, ◌+◌, ◌^◌, ◌&&◌, ◌||◌, not, nat_lt, IfSome, if◌then◌else◌, length, find, option_map};
+ghost use Rattle.std.specs.Prelude.{◌≡◌, ◌<◌, ◌≤◌, ◌+◌, ◌^◌, ◌&&◌, ◌||◌, not, nat_lt, IfSome, if◌then◌else◌, length};
+ghost use Rattle.std.specs.Prelude.{find, option_map};
 ghost use Rattle.std.specs.List.{enumerate_from};
 ghost use Rattle.cs_model.specs.ImageFile.{is_visible};
 ghost use Rattle.cs_model.specs.ImageFault.{bad_class, bad_ref, has_entry, is_lost, references};

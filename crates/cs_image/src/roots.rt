@@ -2,7 +2,8 @@
 
 ghost use Rattle.std.specs.Prelude.{◌≡◌, ◌<◌, option_map};
 ghost use Rattle.cs_model.specs.ImageFile.{names};
-ghost use Rattle.cs_model.specs.ImageFault.{active_process_in, fields_in, fields_of, is_bad_roots, is_live_context, is_process, special_in};
+ghost use Rattle.cs_model.specs.ImageFault.{active_process_in, fields_in, fields_of, is_bad_roots, is_live_context};
+ghost use Rattle.cs_model.specs.ImageFault.{is_process, special_in};
 ghost use Rattle.cs_image.specs.Heap.{seen};
 
 use crate::context::CONTEXT;

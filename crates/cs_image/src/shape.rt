@@ -1,7 +1,8 @@
 //! What the words of an object must be for its format.
 
 ghost use Rattle.std.specs.Prelude.{◌≡◌, ◌<◌, ◌≤◌, ◌+◌, ◌*◌, ◌^◌, length, IsTrue};
-ghost use Rattle.cs_model.specs.Words.{bytecode_count, header_in_words, literals_in_words, is_method_format as is_method_of, natural_in_word};
+ghost use Rattle.cs_model.specs.Words.{bytecode_count, header_in_words, literals_in_words};
+ghost use Rattle.cs_model.specs.Words.{is_method_format as is_method_of, natural_in_word};
 ghost use Rattle.cs_model.specs.ImageFault.{is_body as is_body_of, is_method_body as is_method_body_of};
 ghost use Rattle.cs_model.specs.Obj.{is_header as is_header_of, lies_between, literal_count as literal_count_of};
 
@@ -54,7 +55,8 @@ pub(crate) fn literal_count(words: &[u32]) -> usize
 pub(crate) fn is_pc(format: u8, words: &[u32], pc: u32) -> bool
     requires size { length words.now < 2 ^ 32 }
     requires method { IsTrue (is_method_of format) }
-    ensures { result ≡ lies_between (4 * (1 + literal_count_of (header_in_words words.now)) + 1) (bytecode_count format words.now) pc }
+    ensures { result ≡ lies_between (4 * (1 + literal_count_of (header_in_words words.now)) + 1)
+        (bytecode_count format words.now) pc }
 {
     let before = 1 + literal_count(words);
     let first = 4 * before + 1;
@@ -74,7 +76,8 @@ fn is_method_body(format: u8, words: &[u32]) -> bool
     is_header(header) && literals + spare < words.len()
 }
 
-/// Whether an object of this format may have these slots: their number fits it, and a method's header is valid and leaves
+/// Whether an object of this format may have these slots: their number fits it, and a method's header is valid and
+/// leaves
 /// room for its literals.
 pub(crate) fn is_body(format: u8, words: &[u32]) -> bool
     requires { length words.now < 2 ^ 32 }

@@ -3,8 +3,10 @@
 ghost use Rattle.std.specs.Prelude.{◌≡◌, ℕ, ◌<◌, ◌==◌, ◌&&◌, option_and_then, option_map, slice_get};
 ghost use Rattle.std.specs.List.{list_all};
 ghost use Rattle.cs_model.specs.ImageFile.{is_hidden, names};
-ghost use Rattle.cs_model.specs.ImageFault.{begins_well, entry_in, has_entry, has_known_classes, has_object, is_bad_table, is_class};
-ghost use Rattle.cs_model.specs.ImageFault.{is_oddball, is_page, is_sound_entry, page_words, table_size, all_below, unless_nil};
+ghost use Rattle.cs_model.specs.ImageFault.{begins_well, entry_in, has_entry, has_known_classes, has_object};
+ghost use Rattle.cs_model.specs.ImageFault.{is_bad_table, is_class};
+ghost use Rattle.cs_model.specs.ImageFault.{is_oddball, is_page, is_sound_entry, page_words, table_size, all_below};
+ghost use Rattle.cs_model.specs.ImageFault.{unless_nil};
 ghost use Rattle.cs_image.specs.Heap.{seen};
 
 use crate::cut::word_at;

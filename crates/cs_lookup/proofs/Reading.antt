@@ -113,7 +113,7 @@ has_words os n w sound h =
     let x : Object = t.object in
     let slot : (i : ℕ) → slot_of os w i ≡ slice_index (words_at os w) i = λ i.
     ap (λ (o : Option Object). option_map_or (λ (y : Object). slice_index y.words i) o 0) t.there ∙ sym (ap (λ (ws : List ℕ). slice_index ws i) t.words) in
-    let references : AllPass (is_reference os) (words_at os w) = subst (AllPass (is_reference os)) (references-pointers x t.pointers ∙ sym t.words) (sound_at os w x sound t.there).references in
+    let references : AllPass (is_reference os) (words_at os w) = subst (AllPass (is_reference os)) (references-pointers x t.other t.pointers ∙ sym t.words) (sound_at os w x sound t.there).references in
     record {
       there = t.known;
       count = ap (λ (o : Option Object). option_map_or (λ (y : Object). length y.words) o 0) t.there ∙ sym (ap length t.words);

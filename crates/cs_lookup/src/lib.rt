@@ -1,7 +1,7 @@
 //! Method lookup: which method an instance of a class understands a selector by.
 //!
-//! A class is a pointer object whose first slots are its superclass and its method dictionary. A dictionary is one whose
-//! first slots are a tally and an array of values; the selectors follow, and the value of each stands at the same
+//! A class is a pointer object whose first slots are its superclass and its method dictionary. A dictionary is one
+//! whose first slots are a tally and an array of values; the selectors follow, and the value of each stands at the same
 //! position of the array (Blue Book, part four).
 #![tactic(auto)]
 
@@ -12,7 +12,8 @@ ghost use Rattle.cs_model.specs.Obj.{slots_in};
 ghost use Rattle.cs_model.specs.State.{Kept, object_of};
 ghost use Rattle.cs_classes.specs.Meaning.{ref_of};
 ghost use Rattle.cs_classes.specs.Sound.{IsSound, is_reference};
-ghost use Rattle.cs_lookup.specs.Found.{FindsMethod, HasObjects, has_slots as has_slots_at, is_method_at, refs_option, sought_of};
+ghost use Rattle.cs_lookup.specs.Found.{FindsMethod, HasObjects, has_slots as has_slots_at, is_method_at, refs_option};
+ghost use Rattle.cs_lookup.specs.Found.{sought_of};
 
 use cs_heap::Heap;
 use cs_word::Oop;
@@ -38,13 +39,14 @@ pub enum Found {
 ///
 /// In each class the selectors are compared by identity from the first to the last; where one is the selector and its
 /// value is a method, that is found. A value that isn't there or is no method counts as absent, and the search goes on
-/// behind it. What isn't a pointer object with as many slots as are needed, contexts included, is no dictionary, no array
-/// of values and no class: an empty one, and the end of the superclasses.
+/// behind it. What isn't a pointer object with as many slots as are needed, contexts included, is no dictionary, no
+/// array of values and no class: an empty one, and the end of the superclasses.
 pub fn find(heap: &Heap, class: Oop, selector: Oop) -> Found
     requires sound { IsSound heap.now.objects }
     requires class { is_reference heap.now.objects class.0 ≡ true }
     requires selector { is_reference heap.now.objects selector.0 ≡ true }
-    ensures lookup { (k : Kept) → HasObjects heap.now.objects k → sought_of heap.now.objects result ≡ lookup_of k (ref_of heap.now.objects class.0) (ref_of heap.now.objects selector.0) }
+    ensures lookup { (k : Kept) → HasObjects heap.now.objects k → sought_of heap.now.objects result ≡
+        lookup_of k (ref_of heap.now.objects class.0) (ref_of heap.now.objects selector.0) }
     ensures method { FindsMethod heap.now.objects result }
 {
     let mut class = class;
@@ -69,7 +71,8 @@ fn method_in(heap: &Heap, dictionary: Oop, selector: Oop) -> Option<Oop>
     requires sound { IsSound heap.now.objects }
     requires dictionary { is_reference heap.now.objects dictionary.0 ≡ true }
     requires selector { is_reference heap.now.objects selector.0 ≡ true }
-    ensures found { (k : Kept) → HasObjects heap.now.objects k → refs_option heap.now.objects result ≡ find_in_dictionary k (ref_of heap.now.objects selector.0) (ref_of heap.now.objects dictionary.0) }
+    ensures found { (k : Kept) → HasObjects heap.now.objects k → refs_option heap.now.objects result ≡
+        find_in_dictionary k (ref_of heap.now.objects selector.0) (ref_of heap.now.objects dictionary.0) }
     ensures method { IfSome result (λ m. is_method_at heap.now.objects m.0 ≡ true) }
 {
     if !has_slots(heap, dictionary, 2) {
@@ -92,7 +95,8 @@ fn method_at(heap: &Heap, values: Oop, position: u32) -> Option<Oop>
     requires sound { IsSound heap.now.objects }
     requires values { is_reference heap.now.objects values.0 ≡ true }
     requires position { position + 1 < 2 ^ 32 }
-    ensures value { (k : Kept) → HasObjects heap.now.objects k → refs_option heap.now.objects result ≡ if_method k (slice_get (list_or_empty (slots_in (object_of k (ref_of heap.now.objects values.0)))) position) }
+    ensures value { (k : Kept) → HasObjects heap.now.objects k → refs_option heap.now.objects result ≡
+        if_method k (slice_get (list_or_empty (slots_in (object_of k (ref_of heap.now.objects values.0)))) position) }
     ensures method { IfSome result (λ m. is_method_at heap.now.objects m.0 ≡ true) }
 {
     if !has_slots(heap, values, position + 1) {

@@ -39,4 +39,9 @@ pub mod Decode
 pub mod Assemble
 pub mod Built
 pub mod Line
+pub mod Text
+pub mod Script
+pub mod Print
+pub mod Canon
+pub mod Generator
 pub mod Alike

@@ -1,6 +1,7 @@
 //! The model of the machine: what every contract above speaks of.
 //!
-//! The definitions stand in `specs/`; here are the few enums that the code has in common with them, and the laws about them.
+//! The definitions stand in `specs/`; here are the few enums that the code has in common with them, and the laws about
+//! them.
 #![tactic(auto)]
 
 mod event;

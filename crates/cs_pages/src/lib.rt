@@ -6,7 +6,8 @@
 //! recent one are this machine's own ways: no image can tell them.
 #![tactic(auto)]
 
-ghost use Rattle.std.specs.Prelude.{◌≡◌, ◌≢◌, ℕ, ◌+◌, ◌-◌, ◌<◌, ◌≤◌, ◌↔◌, List, [], ◌∷◌, length, slice_index, vec_len, IsTrue, IsNone, IfOk, IfSome, IfNone, Contains};
+ghost use Rattle.std.specs.Prelude.{◌≡◌, ◌≢◌, ℕ, ◌+◌, ◌-◌, ◌<◌, ◌≤◌, ◌↔◌, List, [], ◌∷◌, length, slice_index, vec_len};
+ghost use Rattle.std.specs.Prelude.{IsTrue, IsNone, IfOk, IfSome, IfNone, Contains};
 ghost use Rattle.cs_pages.specs.Order.{Order, without, IsSound, IsFree};
 
 use std::alloc::{AllocError, Global};
@@ -191,4 +192,3 @@ fn self_links(alloc: Global, pages: u32) -> Result<Vec<u32>, AllocError>
     links.push(pages)?;
     Ok(links)
 }
-

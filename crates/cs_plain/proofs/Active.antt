@@ -1,17 +1,23 @@
 -- The active context of a world of heap contexts, and when such a world is sound.
-use Rattle.std.proofs.Common.{◌≡◌, ℕ, Bool, true, false, refl, sym, ap, subst, ◌∙◌, Option, Some, None, IsSome, is_some, unwrap_or}
-use Rattle.std.specs.Prelude.{if◌then◌else◌, ◌≤◌}
+use Rattle.std.proofs.Common.{◌≡◌, ℕ, zero, suc, ◌<◌, Bool, true, false, refl, sym, ap, subst, ◌∙◌, Option, Some, None, IsSome, is_some, unwrap_or, length, arith}
+use Rattle.std.specs.Prelude.{if◌then◌else◌, ◌≤◌, ◌||◌, slice_index}
+use Rattle.std.proofs.lemmas.Bool.{false≢true}
 use Rattle.std.specs.FinMap.{get}
 use Rattle.cs_word.specs.declared.Oop.{Oop}
 use Rattle.cs_heap.specs.Object.{Object, birth_of, object_at, used}
 use Rattle.cs_classes.specs.Meaning.{context_of, is_context, obj_of, objects_of, ref_of}
-use Rattle.cs_classes.specs.Sound.{IsWhole}
+use Rattle.cs_classes.specs.Kinds.{KindsStand}
+use Rattle.cs_classes.specs.Sound.{IsWhole, is_reference}
 use Rattle.cs_classes.proofs.Heaps.{birth_of-object_at, stands}
 use Rattle.cs_classes.proofs.Objects.{get-objects_of-element}
+use Rattle.cs_classes.proofs.Refs.{sender_named}
 use Rattle.cs_classes.proofs.Sorts.{context_is, obj_of-context}
+use Rattle.cs_classes.proofs.Sounds.{sound_at, whole_context}
 use Rattle.cs_classes.proofs.Wholes.{kept_of-below, kept_of-closed, kept_of-roots}
-use Rattle.cs_model.specs.Context.{closure_class}
-use Rattle.cs_model.specs.Obj.{Ctx, is_context_at}
+use Rattle.cs_model.specs.Ref.{Ref, Small, Char}
+use Rattle.cs_model.specs.Ref as ref
+use Rattle.cs_model.specs.Obj.{Context, Ctx, is_context_at}
+use Rattle.cs_model.specs.State.{Kept, is_nil, object_of}
 use Rattle.cs_model.specs.Read.{active_birth, active_context}
 use Rattle.cs_acts.specs.Ready.{IsReady, IsSound}
 use Rattle.cs_plain.specs.declared.PlainWorld.{PlainWorld}
@@ -30,6 +36,25 @@ pub record Active (w : PlainWorld) (a : Oop) (x : Object) : Type 0 where
 pub meaning_there : (w : PlainWorld) (a : ℕ) (x : Object) → IsWhole w.heap.objects w.classes w.roots → object_at w.heap.objects a ≡ Some x
     → get (objects_of w.heap.objects) x.birth ≡ Some (obj_of (ref_of w.heap.objects) x)
 meaning_there w a x whole there = let s = stands w.heap.objects a x there in get-objects_of-element w.heap.objects s.0 x whole.heap.apart s.1.element
+
+-- what is nil or a context is an object
+names_object : (k : Kept) (r : Ref) → (is_nil k r || is_context_at (object_of k r)) ≡ true → (i : ℕ) × (r ≡ ref.Obj i)
+names_object k (Small z) h = absurd (false≢true h)
+names_object k (Char code) h = absurd (false≢true h)
+names_object k (ref.Obj i) h = (i, refl)
+
+-- each word of a context is a reference, its sender too
+pub word_named : (w : PlainWorld) (a : ℕ) (x : Object) → IsSound (stored_of w) (view_of w) → object_at w.heap.objects a ≡ Some x → is_context x ≡ true
+    → (i : ℕ) → i < length x.words → is_reference w.heap.objects (slice_index x.words i) ≡ true
+unfolding context_of
+word_named w a x sound there is zero l =
+    let os = w.heap.objects in
+    let c : Context = context_of (ref_of os) x.hash x.words in
+    let means : get (objects_of os) x.birth ≡ Some (Ctx c) = meaning_there w a x sound.holds.whole there ∙ ap Some (obj_of-context (ref_of os) x is) in
+    let named = names_object (view_of w) c.sender (sound.kinds x.birth c means).sender in
+    sender_named os (slice_index x.words 0) named.0 (whole_context os x (sound_at os a x sound.holds.whole.heap there) is).sender named.1
+word_named w a x sound there is (suc i) l =
+    (whole_context w.heap.objects x (sound_at w.heap.objects a x sound.holds.whole.heap there) is).references (suc i) (omega arith) l
 
 pub active_is : (w : PlainWorld) (a : Oop) → IsReady (stored_of w) (view_of w) → w.active ≡ Some a → (x : Object) × Active w a x
 active_is w a ready known = go (object_at w.heap.objects a.0) refl
@@ -53,8 +78,8 @@ active_is w a ready known = go (object_at w.heap.objects a.0) refl
     go (Some x) e = (x, is_active x (is_context x) refl e)
 
 -- a whole heap is a sound world
-pub sound_world : (w : PlainWorld) → IsWhole w.heap.objects w.classes w.roots → used w.heap.objects ≤ w.heap.limit → w.heap.limit ≤ 67108864 → is_some (get w.classes closure_class) ≡ true → KeepsPcs (view_of w) → IsSound (stored_of w) (view_of w)
-sound_world w whole within most closures pcs = record {
+pub sound_world : (w : PlainWorld) → IsWhole w.heap.objects w.classes w.roots → used w.heap.objects ≤ w.heap.limit → w.heap.limit ≤ 67108864 → KindsStand (view_of w) → KeepsPcs (view_of w) → IsSound (stored_of w) (view_of w)
+sound_world w whole within most kinds pcs = record {
   closed = record {
     same = λ i o h. h;
     whole = λ i o h other. h;
@@ -63,8 +88,8 @@ sound_world w whole within most closures pcs = record {
     rest = refl;
   };
   pcs = pcs;
+  kinds = kinds;
   births = λ i o h. kept_of-below w.heap.objects w.classes w.roots i o whole h;
-  closures = closures;
   holds = record {
     whole = whole;
     object = λ j x h other. get-objects_of-element w.heap.objects j x whole.heap.apart h;

@@ -2,7 +2,6 @@
 use Rattle.std.proofs.Common.{IsSome, IfSome, ◌≡◌, ℕ, ◌-◌, ◌<◌, Bool, true, false, refl, sym, ap, ap₂, subst, ◌∙◌, Option, Some, None, is_some, unwrap_or, List, length, option_and_then, arith}
 use Rattle.std.specs.Prelude.{◌==◌, ◌&&◌, if◌then◌else◌, not, nat_le, nat_lt, slice_get, slice_index}
 use Rattle.std.specs.Option.{option_map_or}
-use Rattle.std.proofs.lemmas.List.Elements.{All-get_or}
 use Rattle.std.proofs.lemmas.Bool.Decides.{nat_tests}
 use Rattle.cs_word.specs.declared.Oop.{Oop}
 use Rattle.cs_word.specs.declared.Kind.{Kind}
@@ -30,6 +29,7 @@ use Rattle.cs_acts.specs.Targets.{method_in}
 use Rattle.cs_acts.proofs.Named.{Nowhere, Place, There, place}
 use Rattle.cs_plain.specs.declared.PlainWorld.{PlainWorld}
 use Rattle.cs_plain.specs.View.{birth_at, birth_in, stored_of, view_of}
+use Rattle.cs_plain.proofs.Active as active
 use Rattle.cs_plain.proofs.Active.{meaning_there}
 use Rattle.cs_plain.proofs.Storing.{kind_address, no_context}
 
@@ -40,6 +40,7 @@ pub record ContextAt (w : PlainWorld) (a : Oop) (x : Object) : Type 0 where
   pub birth : birth_at w.heap.objects a ≡ Some x.birth
   pub means : state.object_at (view_of w) x.birth ≡ Some (Ctx (context_of (ref_of w.heap.objects) x.hash x.words))
   pub whole : IsWholeContext w.heap.objects x
+  pub named : (i : ℕ) → i < length x.words → is_reference w.heap.objects (slice_index x.words i) ≡ true
   pub count : slot_count_of w.heap.objects a.0 ≡ length x.words
   pub slot : (i : ℕ) → slot_of w.heap.objects a.0 i ≡ slice_index x.words i
 
@@ -56,6 +57,7 @@ context_at w a sound some = go (object_at w.heap.objects a.0) refl some
         birth = ap birth_in e ∙ ap (λ c. if c then Some x.birth else None) o;
         means = meaning_there w a.0 x sound.holds.whole e ∙ ap (λ y. Some y) (obj_of-context (ref_of w.heap.objects) x o);
         whole = whole_context w.heap.objects x (sound_at w.heap.objects a.0 x sound.holds.whole.heap e) o;
+        named = active.word_named w a.0 x sound e o;
         count = ap (λ (y : Option Object). option_map_or (λ (z : Object). length z.words) y 0) e;
         slot = λ i. ap (λ (y : Option Object). option_map_or (λ (z : Object). slice_index z.words i) y 0) e;
       },
@@ -84,7 +86,7 @@ module _ {w : PlainWorld} {a : Oop} {x : Object} (sound : IsSound (stored_of w) 
   word_named v i y few read is =
       let word : v.0 ≡ slice_index x.words i = read ∙ at.slot i in
       record {
-        sound = ap (is_reference w.heap.objects) word ∙ All-get_or (λ (u : ℕ). is_reference w.heap.objects u ≡ true) x.words i 0 (omega (arith, at.whole.fields, few)) at.whole.references;
+        sound = ap (is_reference w.heap.objects) word ∙ at.named i (omega (arith, at.whole.fields, few));
         is = ap (ref_of w.heap.objects) word ∙ is;
       }
 

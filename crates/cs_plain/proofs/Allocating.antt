@@ -1,6 +1,6 @@
 -- An object is made: the heap has one more, and so has the state.
 use Rattle.std.proofs.Common.{◌≡◌, ◌∙◌, inl, inr, ℕ, ◌+◌, ◌*◌, ◌-◌, ◌<◌, ◌≤◌, ◌^◌, Bool, true, false, refl, sym, ap, subst, Option, Some, None, is_some, option_map, List, [], ◌∷◌, ◌++◌, replicate, arith}
-use Rattle.std.specs.Prelude.{◌==◌, ◌||◌, if◌then◌else◌, nat_lt, option_and_then, slice_get}
+use Rattle.std.specs.Prelude.{◌==◌, ◌≢◌, ◌||◌, if◌then◌else◌, nat_lt, option_and_then, slice_get}
 use Rattle.std.proofs.lemmas.Bool.Decides.{nat_tests}
 use Rattle.std.specs.FinMap.{get}
 use Rattle.std.proofs.lemmas.Bool.{false≢true}
@@ -8,16 +8,18 @@ use Rattle.cs_word.specs.declared.Oop.{Oop}
 use Rattle.cs_heap.specs.Format.{is_method, is_pointers}
 use Rattle.cs_heap.specs.Object.{Memory, Object, is_object, new_object, next_address, object_at, index_of, size, used}
 use Rattle.cs_heap.proofs.Laws.{is_object-new, is_object-pushed, length-new_words, next_address-new, object_at-new, object_at-old, used-pushed}
+use Rattle.cs_classes.specs.Kinds.{KindsStand}
 use Rattle.cs_classes.specs.Meaning.{kept_of, unused_bytes}
+use Rattle.cs_classes.specs.Sound.{is_weak}
 use Rattle.cs_classes.proofs.Heaps.{birth_of-object_at}
 use Rattle.cs_classes.proofs.Makings.{Makes, makes-bytes, makes-pointers}
 use Rattle.cs_classes.proofs.Objects.{get-objects_of-fresh}
 use Rattle.cs_classes.proofs.Refs.{is_reference-object, is_reference-push, ref_of-object, ref_of-push}
-use Rattle.cs_classes.proofs.Wholes.{after_birth, get-classes_of, next_is_fresh}
+use Rattle.cs_classes.proofs.Wholes.{after_birth, get-classes_of, kind_of-entry, next_is_fresh}
 use Rattle.cs_model.specs.Ref as ref
 use Rattle.cs_model.specs.Obj.{Context, Ctx, Obj, Raw, lies_in, new_head}
 use Rattle.cs_model.specs.State as state
-use Rattle.cs_model.specs.State.{Kept, NamesHeld, PcLies, put}
+use Rattle.cs_model.specs.State.{Kept, NamesHeld, PcLies, is_class_index, put}
 use Rattle.cs_model.specs.Keeps.{Keeps}
 use Rattle.cs_model.specs.Demand.{words_in}
 use Rattle.cs_model.specs.Read.{IsRunning, active_birth, active_context, pc_of}
@@ -29,6 +31,7 @@ use Rattle.cs_acts.specs.Full.{IsFullHeap}
 use Rattle.cs_acts.specs.Made.{CanAllocate, blank_of}
 use Rattle.cs_acts.specs.Names.{KeepsNames, Names}
 use Rattle.cs_acts.specs.Ready.{IsReady, IsSound}
+use Rattle.cs_acts.proofs.ContextKinds.{kinds-allocate}
 use Rattle.cs_plain.specs.declared.PlainWorld.{PlainWorld}
 use Rattle.cs_plain.specs.View.{active_in, birth_at, birth_in, stored_of, view_of}
 use Rattle.cs_plain.proofs.Active.{sound_world}
@@ -51,6 +54,15 @@ last_otherwise a b false h = refl
 last_otherwise true b true h = absurd (cc)
 last_otherwise false true true h = absurd (cc)
 last_otherwise false false true h = absurd (cc)
+
+first_otherwise : (a b c : Bool) → (a || b || c) ≡ false → (a || b) ≡ false
+first_otherwise false false c h = refl
+first_otherwise true b c h = absurd (cc)
+first_otherwise false true c h = absurd (cc)
+
+-- an index that isn't made apart is none of the first ones
+first_apart : (n : ℕ) → (n == 1 || n == 2 || n == 3 || n == 36) ≡ false → (n ≢ 1) × (n ≢ 2) × (n ≢ 3)
+first_apart n h = (grind (arith, nat_tests, h), grind (arith, nat_tests, h), grind (arith, nat_tests, h))
 
 mapped : (f : ℕ → ℕ) (o : Option ℕ) → is_some (option_map f o) ≡ true → is_some o ≡ true
 mapped f None e = e
@@ -89,6 +101,12 @@ module _ (w : PlainWorld) (class format slots : ℕ) (sound : IsSound (stored_of
   no_method : is_method format ≡ false
   no_method = last_otherwise (format == 4) (format == 5) (is_method format) fits.plain
 
+  no_weak : is_weak format ≡ false
+  no_weak = first_otherwise (format == 4) (format == 5) (is_method format) fits.plain
+
+  kind : is_class_index class ≡ true
+  kind = let apart = first_apart class fits.common in kind_of-entry os w.classes w.roots class sound.holds.whole entry apart.0 apart.1 apart.2
+
   abbrev blank_by : Bool → Kept → Obj
   blank_by b m = if b then new_pointers m class format slots else Raw (new_head class format) (replicate (4 * slots - unused_bytes format) 0)
 
@@ -96,8 +114,8 @@ module _ (w : PlainWorld) (class format slots : ℕ) (sound : IsSound (stored_of
   makes = go (is_pointers format) refl
     where
       go : (b : Bool) → is_pointers format ≡ b → Makes os new w.classes w.roots (λ m. blank_of m class format slots)
-      go true e = subst (λ b. Makes os new w.classes w.roots (blank_by b)) (sym e) (makes-pointers sound.holds.whole class format slots other e fits.shape entry)
-      go false e = subst (λ b. Makes os new w.classes w.roots (blank_by b)) (sym e) (makes-bytes sound.holds.whole class format slots other e no_method fits.shape entry)
+      go true e = subst (λ b. Makes os new w.classes w.roots (blank_by b)) (sym e) (makes-pointers sound.holds.whole class format slots kind other no_weak e fits.shape entry)
+      go false e = subst (λ b. Makes os new w.classes w.roots (blank_by b)) (sym e) (makes-bytes sound.holds.whole class format slots kind other e no_method fits.shape entry)
 
   -- ---- the active context is the same
 
@@ -180,7 +198,7 @@ module _ (w : PlainWorld) (class format slots : ℕ) (sound : IsSound (stored_of
 
   pub made_sound : used os + size slots ≤ w.heap.limit → IsSound (stored_of (with_made w all)) (view_of (with_made w all))
   made_sound room =
-      sound_world (with_made w all) makes.whole (omega (arith, room, used-pushed os new, ap size (length-new_words class format slots w.roots.next_birth))) sound.holds.most sound.closures (subst KeepsPcs (sym made_view) made_pcs)
+      sound_world (with_made w all) makes.whole (omega (arith, room, used-pushed os new, ap size (length-new_words class format slots w.roots.next_birth))) sound.holds.most (subst KindsStand (sym made_view) (kinds-allocate k class format slots sound.births sound.kinds)) (subst KeepsPcs (sym made_view) made_pcs)
 
   pub made_ready : used os + size slots ≤ w.heap.limit → IsReady (stored_of w) (view_of w) → IsReady (stored_of (with_made w all)) (view_of (with_made w all))
   made_ready room ready = record { sound = made_sound room; running = subst IsRunning (sym made_view) (runs ready.running) }

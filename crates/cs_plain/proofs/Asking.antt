@@ -4,7 +4,6 @@ use Rattle.std.specs.Prelude.{◌≢◌, ◌==◌, ◌||◌, nat_lt, negsuc, sli
 use Rattle.std.proofs.lemmas.Bool.{eqb-true}
 use Rattle.std.proofs.lemmas.Bool.Decides.{nat_tests}
 use Rattle.std.proofs.lemmas.List.{get_or-drop, get_or-take}
-use Rattle.std.proofs.lemmas.List.Elements.{All-get_or}
 use Rattle.std.proofs.lemmas.Option.{slice_get-get_or, slice_get-map}
 use Rattle.cs_word.specs.declared.Oop.{Oop}
 use Rattle.cs_word.specs.Word.{small_word}
@@ -159,9 +158,6 @@ module _ {w : PlainWorld} {a : Oop} {x : Object} (sound : IsSound (stored_of w) 
           left true h = refl
           left false h = h
 
-  word_named : (i : ℕ) → i < length x.words → is_reference w.heap.objects (slice_index x.words i) ≡ true
-  word_named i l = All-get_or (λ (u : ℕ). is_reference w.heap.objects u ≡ true) x.words i 0 l at.whole.references
-
   value_says : (i : ℕ) → 6 ≤ i → IsSome (field_of (view_of w) (name_of (stored_of w) a) i) → Some (ref_of w.heap.objects (slice_index x.words i)) ≡ context_get (view_of w) c i
   unfolding context_of
   value_says i past some =
@@ -178,7 +174,7 @@ module _ {w : PlainWorld} {a : Oop} {x : Object} (sound : IsSound (stored_of w) 
   unfolding context_of context_get
   slot_says zero other some = refl
   slot_says (suc zero) other some =
-      ap (λ r. Some r) (pc_names (slice_index x.words 1) (word_named 1 (omega (arith, at.whole.fields)))
+      ap (λ r. Some r) (pc_names (slice_index x.words 1) (at.named 1 (omega (arith, at.whole.fields)))
       ((sound_at w.heap.objects a.0 x sound.holds.whole.heap at.there).context at.context).pc)
   slot_says (suc (suc zero)) other some = absurd (other refl)
   slot_says (suc (suc (suc zero))) other some = refl
@@ -191,6 +187,6 @@ module _ {w : PlainWorld} {a : Oop} {x : Object} (sound : IsSound (stored_of w) 
   field_names v i other read some =
       let word : v.0 ≡ slice_index x.words i = read ∙ at.slot i in
       record {
-        sound = ap (is_reference w.heap.objects) word ∙ word_named i (omega (arith, asked_within i some, at.count));
+        sound = ap (is_reference w.heap.objects) word ∙ at.named i (omega (arith, asked_within i some, at.count));
         is = ap (λ u. Some (ref_of w.heap.objects u)) word ∙ slot_says i other some ∙ sym (field_is i);
       }

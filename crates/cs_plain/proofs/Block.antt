@@ -30,13 +30,15 @@ use Rattle.cs_model.specs.Enter.{block_size, can_evaluate, closure_method, closu
 use Rattle.cs_acts.specs.Names.{IsNamed, Names, name_of}
 use Rattle.cs_acts.specs.Ready.{IsReady, IsSound}
 use Rattle.cs_acts.specs.Targets.{CanEnterBlock}
+use Rattle.cs_acts.proofs.ContextKinds.{evaluated}
 use Rattle.cs_acts.proofs.Methods.{header_is}
+use Rattle.cs_acts.proofs.Named.{closure_kind}
 use Rattle.cs_plain.specs.declared.Fields.{Fields}
 use Rattle.cs_plain.specs.declared.PlainWorld.{PlainWorld}
 use Rattle.cs_plain.specs.Calling.{CanCall, called_context, called_of, called_stack, copied_words}
 use Rattle.cs_plain.specs.Calling as calling
 use Rattle.cs_plain.specs.View.{stored_of, view_of}
-use Rattle.cs_plain.proofs.Active.{active_is, meaning_there}
+use Rattle.cs_plain.proofs.Active.{active_is, meaning_there, word_named}
 use Rattle.cs_plain.proofs.Entering.{Header, header_at, method_at}
 use Rattle.cs_plain.proofs.Storing.{kind_address}
 
@@ -149,7 +151,7 @@ module _ (w : PlainWorld) (v : Oop) (args : ℕ) (ready : IsReady (stored_of w) 
   words = at.object.words
 
   references : AllPass (is_reference os) words
-  references = subst (λ us. AllPass (is_reference os) us) (references-pointers at.object pointers.pointers) (sound_at os v.0 at.object ready.sound.holds.whole.heap at.there).references
+  references = subst (λ us. AllPass (is_reference os) us) (references-pointers at.object pointers.other pointers.pointers) (sound_at os v.0 at.object ready.sound.holds.whole.heap at.there).references
 
   count_is : slot_count_of os v.0 ≡ length words
   count_is = ap (λ (o : Option Object). option_map_or (λ (z : Object). length z.words) o 0) at.there
@@ -206,7 +208,7 @@ module _ (w : PlainWorld) (v : Oop) (args : ℕ) (ready : IsReady (stored_of w) 
     field_names i u y few from is =
         let word : u.0 ≡ slice_index outer_at.object.words i = from ∙ ap (λ (o : Option Object). option_map_or (λ (z : Object). slice_index z.words i) o 0) outer_at.there in
         record {
-          sound = ap (is_reference os) word ∙ All-get_or (λ (n : ℕ). is_reference os n ≡ true) outer_at.object.words i 0 (omega (arith, few, outer_whole.fields)) outer_whole.references;
+          sound = ap (is_reference os) word ∙ word_named w outer.0 outer_at.object ready.sound outer_at.there outer_of.context i (omega (arith, few, outer_whole.fields));
           is = ap (ref_of os) word ∙ is;
         }
 
@@ -288,6 +290,7 @@ module _ (w : PlainWorld) (v : Oop) (args : ℕ) (ready : IsReady (stored_of w) 
         there = fits.there;
         values = values_long;
         named = subst (AllPass (is_reference os)) (sym copied_is) (All-drop (λ (u : ℕ). is_reference os u ≡ true) 3 words references);
+        closed = closure_kind (stored_of w) k v ready.sound.holds named (evaluated k x args fits.closure).closure;
         births = fits.births;
       }
 

@@ -1,6 +1,7 @@
 -- A new context is active, with the old one as its sender.
 use Rattle.std.proofs.Common.{◌≡◌, ℕ, pos, zero, suc, ◌+◌, ◌*◌, ◌/◌, ◌-◌, ◌%◌, ◌<◌, ◌≤◌, ◌^◌, Bool, true, false, refl, sym, ap, ap₂, subst, ◌∙◌, Option, Some, None, is_some, unwrap_or, List, [], ◌∷◌, ◌++◌, length, map, take, drop, replicate, get_or, length-take, length-drop, arith}
 use Rattle.std.specs.Prelude.{◌==◌, ◌||◌, if◌then◌else◌, IsTrue}
+use Rattle.std.specs.Option.{option_map_or}
 use Rattle.std.specs.List.{AllPass}
 use Rattle.std.specs.FinMap.{get}
 use Rattle.std.proofs.lemmas.Bool.{eqb-true, false≢true, or_right}
@@ -10,27 +11,32 @@ use Rattle.std.proofs.lemmas.List.Elements.{All-append, All-cons, All-drop, All-
 use Rattle.std.proofs.Math.Seq.{take-append-add}
 use Rattle.cs_word.specs.declared.Oop.{Oop}
 use Rattle.cs_word.specs.Word.{small_word}
-use Rattle.cs_heap.specs.Object.{Object, base, header_address, new_object, next_address, size, used, with_slot}
+use Rattle.cs_heap.specs.Object.{Object, class_of, is_object, set_word, base, header_address, new_object, next_address, size, used, with_slot}
 use Rattle.cs_heap.proofs.Laws.{object_at-new, used-pushed}
 use Rattle.cs_classes.specs.Meaning.{context_of, count_of, depth_in, kept_of, obj_of, ref_of}
-use Rattle.cs_classes.specs.Sound.{IsSoundObject, IsWhole, is_reference, nil_of}
+use Rattle.cs_classes.specs.Kinds.{ContextKinds, KindsStand}
+use Rattle.cs_classes.specs.Sound.{IsSoundObject, IsWhole, is_reference, is_sender, nil_of}
+use Rattle.cs_classes.proofs.Fields.{nil_or_closure_named}
 use Rattle.cs_classes.proofs.Heaps.{is_object-object_at, set_word-IsEdit, stands}
 use Rattle.cs_classes.proofs.Makings.{Makes, makes, nil_is_object, ref_of-nil}
 use Rattle.cs_classes.proofs.Objects.{get-objects_of-fresh}
-use Rattle.cs_classes.proofs.Refs.{is_reference-object, is_reference-push, ref_of-push}
+use Rattle.cs_classes.proofs.Refs.{is_nil_or_closure, is_nil_or_closure-push, is_nil_or_closure-with_object, is_nil_or_method, is_nil_or_method-push, is_nil_or_method-with_object}
+use Rattle.cs_classes.proofs.Refs.{is_reference-object, is_reference-push, is_sender-context, is_sender-push, is_sender-with_object, ref_of-object, ref_of-push}
 use Rattle.cs_classes.proofs.Sorts.{map_alike, obj_of-context}
 use Rattle.cs_classes.proofs.Wholes.{after_birth, next_is_fresh}
 use Rattle.cs_classes.proofs.Writes.{does-pop}
 use Rattle.cs_model.specs.Ref.{Ref}
-use Rattle.cs_model.specs.Obj.{Context, Ctx, context_size, lies_in, popped}
+use Rattle.cs_model.specs.Obj.{Context, Ctx, Method, Obj, Ptr, Raw, context_size, is_context_at, is_method, lies_in, popped}
 use Rattle.cs_model.specs.State as state
-use Rattle.cs_model.specs.State.{Kept, PcLies, object_of, put, with_rest}
+use Rattle.cs_model.specs.State.{Kept, PcLies, is_nil, object_of, put, with_rest}
 use Rattle.cs_model.specs.Read.{IsRunning, active_birth, active_context, depth_of, stack_of}
 use Rattle.cs_model.specs.Operation.{activate, add_of, drop_of, enter_of, enter_with, entry_pc, last_values, method_context, receiver_below}
 use Rattle.cs_model.specs.Operation as operation
 use Rattle.cs_model.proofs.Objects.{object_at-put_same}
 use Rattle.cs_acts.specs.Names.{KeepsNames, name_of}
 use Rattle.cs_acts.specs.Ready.{IsReady}
+use Rattle.cs_acts.proofs.ContextKinds.{kinds-enter_with}
+use Rattle.cs_acts.proofs.Named as named
 use Rattle.cs_model.specs.Demand.{words_in}
 use Rattle.cs_plain.specs.declared.Fields.{Fields}
 use Rattle.cs_plain.specs.declared.PlainWorld.{PlainWorld}
@@ -48,10 +54,18 @@ map_replicate : (f : ℕ → Ref) (n b : ℕ) → map f (replicate n b) ≡ repl
 map_replicate f zero b = refl
 map_replicate f (suc n) b = ap (λ us. f b ∷ us) (map_replicate f n b)
 
-six_named : (p : ℕ → Bool) (a b c d e f : ℕ) (rest : List ℕ) → p a ≡ true → p b ≡ true → p c ≡ true → p d ≡ true → p e ≡ true → p f ≡ true → AllPass p rest → AllPass p (a ∷ b ∷ c ∷ d ∷ e ∷ f ∷ rest)
-six_named p a b c d e f rest ha hb hc hd he hf all =
+five_named : (p : ℕ → Bool) (a b c d e : ℕ) (rest : List ℕ) → p a ≡ true → p b ≡ true → p c ≡ true → p d ≡ true → p e ≡ true → AllPass p rest → AllPass p (a ∷ b ∷ c ∷ d ∷ e ∷ rest)
+five_named p a b c d e rest ha hb hc hd he all =
     let P : ℕ → Type 0 = λ v. p v ≡ true in
-    All-cons P a (b ∷ c ∷ d ∷ e ∷ f ∷ rest) ha (All-cons P b (c ∷ d ∷ e ∷ f ∷ rest) hb (All-cons P c (d ∷ e ∷ f ∷ rest) hc (All-cons P d (e ∷ f ∷ rest) hd (All-cons P e (f ∷ rest) he (All-cons P f rest hf all)))))
+    All-cons P a (b ∷ c ∷ d ∷ e ∷ rest) ha (All-cons P b (c ∷ d ∷ e ∷ rest) hb (All-cons P c (d ∷ e ∷ rest) hc (All-cons P d (e ∷ rest) hd (All-cons P e rest he all))))
+
+-- a pc lies in methods alone
+lies_method : (o : Option Obj) (pc : ℕ) → lies_in o pc ≡ true → is_method o ≡ true
+lies_method None pc h = absurd (false≢true h)
+lies_method (Some (Ptr head slots)) pc h = absurd (false≢true h)
+lies_method (Some (Raw head bytes)) pc h = absurd (false≢true h)
+lies_method (Some (Method head header literals bytecodes)) pc h = refl
+lies_method (Some (Ctx c)) pc h = absurd (false≢true h)
 
 -- the world in which a new context is active
 abbrev pub with_entered : PlainWorld → List Object → Oop → PlainWorld
@@ -122,7 +136,7 @@ module _ {w : PlainWorld} {x : Object} (header args n : ℕ) (f : Fields) (ready
 
   dropped : Written w (with_objects w old) (popped (args + 1))
   dropped = written w f.sender x old (popped (args + 1)) _ ready active (does-pop (record { whole = ready.sound.holds.whole; there = active.there }) active.context (args + 1)) edit
-      ready.running.live refl ready.running.method
+      ready.running.live refl refl refl ready.running.method
 
   old_whole : IsWhole old w.classes w.roots
   old_whole = (does-pop (record { whole = ready.sound.holds.whole; there = active.there }) active.context (args + 1)).whole
@@ -138,31 +152,86 @@ module _ {w : PlainWorld} {x : Object} (header args n : ℕ) (f : Fields) (ready
   base_named : is_reference w.heap.objects base ≡ true
   base_named = is_reference-object w.heap.objects base (nil_is_object w.heap.objects w.classes w.roots ready.sound.holds.whole)
 
+  sender_there : is_object w.heap.objects f.sender.0 ≡ true
+  sender_there = is_object-object_at w.heap.objects f.sender.0 x active.there
+
   sender_named : is_reference w.heap.objects f.sender.0 ≡ true
-  sender_named = is_reference-object w.heap.objects f.sender.0 (is_object-object_at w.heap.objects f.sender.0 x active.there)
+  sender_named = is_reference-object w.heap.objects f.sender.0 sender_there
 
   closure_named : is_reference w.heap.objects f.closure.0 ≡ true
   closure_named = is_reference-object w.heap.objects f.closure.0 fits.closure
 
   part_named : AllPass (is_reference w.heap.objects) part
   part_named = All-take (λ (v : ℕ). is_reference w.heap.objects v ≡ true) args (drop at x.words)
-      (All-drop (λ (v : ℕ). is_reference w.heap.objects v ≡ true) at x.words (whole_active ready active).references)
+      (subst (AllPass (is_reference w.heap.objects)) (drop-drop (left + 1) 6 x.words ∙ ap (λ n. drop n x.words) place)
+      (All-drop (λ (v : ℕ). is_reference w.heap.objects v ≡ true) (left + 1) (drop 6 x.words) (whole_active ready active).stack))
+    where
+      place : 6 + (left + 1) ≡ at
+      place = omega arith
 
-  words_named : AllPass (is_reference w.heap.objects) new.words
+  -- all its words behind the sender
+  words_named : AllPass (is_reference w.heap.objects) (drop 1 new.words)
   words_named =
       let P : ℕ → Type 0 = λ v. is_reference w.heap.objects v ≡ true in
-      six_named (is_reference w.heap.objects) _ _ _ _ _ _ _ sender_named fits.pc_named fits.stackp_named fits.method closure_named fits.receiver
+      five_named (is_reference w.heap.objects) _ _ _ _ _ _ fits.pc_named fits.stackp_named fits.method closure_named fits.receiver
       (All-append P part (more ++ replicate (csize - (args + n)) base) part_named
       (All-append P more (replicate (csize - (args + n)) base) fits.named (All-replicate P (csize - (args + n)) base base_named)))
 
   -- ---- what it is
 
+  -- what its fields name, in the heap and in the state
+
+  abbrev mark : Object → Object
+  mark = set_word 2 (small_word (pos left))
+
+  some_old : 0 < length old
+  some_old = omega (arith, old_whole.first)
+
+  method_there : is_method (object_of (view_of w) (name_of (stored_of w) f.method)) ≡ true
+  method_there = lies_method (object_of (view_of w) (name_of (stored_of w) f.method)) fits.entry fits.lies
+
+  sender_kind : is_sender all f.sender.0 ≡ true
+  sender_kind =
+      let os = w.heap.objects in
+      let class : class_of os f.sender.0 ≡ x.class = ap (λ (o : Option Object). option_map_or (λ (y : Object). y.class) o 0) active.there in
+      is_sender-push old new f.sender.0 some_old
+      (ap (λ p. p f.sender.0) (is_sender-with_object os f.sender.0 mark (set_word-IsEdit 2 (small_word (pos left)))) ∙ is_sender-context os f.sender.0 sender_there (class ∙ eqb-true x.class 36 active.context))
+
+  method_kind : is_nil_or_method all f.method.0 ≡ true
+  method_kind =
+      is_nil_or_method-push old new f.method.0 some_old
+      (ap (λ p. p f.method.0) (is_nil_or_method-with_object w.heap.objects f.sender.0 mark (set_word-IsEdit 2 (small_word (pos left))))
+      ∙ named.method_kind (stored_of w) (view_of w) f.method ready.sound.holds fits.method method_there)
+
+  closure_kind : is_nil_or_closure all f.closure.0 ≡ true
+  closure_kind =
+      is_nil_or_closure-push old new f.closure.0 some_old
+      (ap (λ p. p f.closure.0) (is_nil_or_closure-with_object w.heap.objects f.sender.0 mark (set_word-IsEdit 2 (small_word (pos left)))) ∙ fits.closed)
+
+  c_kinds : ContextKinds (view_of w) c
+  c_kinds =
+      let k : Kept = view_of w in
+      let sender : Ref = name_of (stored_of w) f.sender in
+      let method : Ref = name_of (stored_of w) f.method in
+      record {
+        sender = or_right (is_nil k sender) (is_context_at (object_of k sender))
+            (ap (λ r. is_context_at (object_of k r)) (ref_of-object w.heap.objects f.sender.0 sender_there)
+            ∙ ap (λ n. is_context_at (state.object_at k n)) (sym active.birth) ∙ ap is_context_at ready.running.found);
+        method = or_right (is_nil k method) (is_method (object_of k method)) method_there;
+        closure = nil_or_closure_named w.heap.objects w.classes w.roots k.rest.active ready.sound.holds.whole f.closure.0 fits.closed;
+      }
+
   new_sound : IsSoundObject all new
   new_sound = record {
+    kind = refl;
+    plain = refl;
     shape = refl;
-    references = λ k d l. refers (get_or new.words k d) (words_named k d l);
+    references = λ k d l. refers (get_or (drop 1 new.words) k d) (words_named k d l);
     context = λ c. record {
       format = refl;
+      sender = sender_kind;
+      method = method_kind;
+      closure = closure_kind;
       slots = subst (λ (n : ℕ). IsTrue (n == 22 || n == 62)) (sym words_long) (shape csize (sizes (header / 2 ^ 17 % 2 == 1)));
       pc = or_right (f.pc.0 == nil_of all) (is_some (count_of f.pc.0)) (ap is_some fits.pc);
       stackp = or_right (f.stackp.0 == nil_of all) (is_some (count_of f.stackp.0)) (ap is_some fits.stackp);
@@ -285,6 +354,9 @@ module _ {w : PlainWorld} {x : Object} (header args n : ℕ) (f : Fields) (ready
       same : (c e : Context) → Ctx c ≡ Ctx e → c ≡ e
       same c e h = cc
 
+  entered_kinds : KindsStand entered
+  entered_kinds = kinds-enter_with (view_of w) args (λ d. c) ready.running ready.sound.births ready.sound.kinds c_kinds
+
   -- ---- the world
 
   pub entered_view : (v : Oop) → v.0 ≡ next_address w.heap.objects (6 + csize) → view_of (with_entered w all v) ≡ entered
@@ -306,6 +378,7 @@ module _ {w : PlainWorld} {x : Object} (header args n : ℕ) (f : Fields) (ready
       let view = entered_view v h in
       let d : Kept = drop_of (view_of w) (args + 1) in
       record {
-        sound = sound_world (with_entered w all v) made.whole (omega (arith, words, room)) ready.sound.holds.most ready.sound.closures (subst KeepsPcs (sym view) entered_pcs);
+        sound = sound_world (with_entered w all v) made.whole (omega (arith, words, room)) ready.sound.holds.most
+            (subst KindsStand (sym view) entered_kinds) (subst KeepsPcs (sym view) entered_pcs);
         running = subst IsRunning (sym view) (running entered w.roots.next_birth c fits.entry refl (object_at-put_same d w.roots.next_birth (Ctx c)) fits.pc entered_pcs);
       }

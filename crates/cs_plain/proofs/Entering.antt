@@ -13,7 +13,7 @@ use Rattle.cs_classes.specs.Meaning.{context_of, count_of, depth_in, header_in, 
 use Rattle.cs_classes.specs.Meaning as meaning
 use Rattle.cs_classes.specs.Sound.{is_reference, is_reference_kind}
 use Rattle.cs_classes.proofs.Heaps.{birth_of-object_at, is_object-object_at, object_there}
-use Rattle.cs_classes.proofs.Makings.{nil_is_object, ref_of-nil}
+use Rattle.cs_classes.proofs.Makings.{is_nil_or_closure-base, nil_is_object, ref_of-nil}
 use Rattle.cs_classes.proofs.Refs.{count_of-small, is_reference-small, ref_of-object, small_natural}
 use Rattle.cs_classes.proofs.Sorts.{AContext, AMethod, Bytes, Pointers, Sort, obj_of-bytes, obj_of-context, obj_of-method, obj_of-pointers, sort_of}
 use Rattle.cs_classes.proofs.Sounds.{sound_at}
@@ -216,6 +216,7 @@ module _ (w : PlainWorld) (m b : Oop) (args : ℕ) (skip : Bool) (ready : IsRead
       there = fits.there;
       values = ap length nothing;
       named = subst (AllPass (is_reference w.heap.objects)) (sym nothing) (λ k d l. absurd (omega (arith, l)));
+      closed = is_nil_or_closure-base w.heap.objects w.classes w.roots ready.sound.holds.whole;
       births = fits.births;
     }
 

@@ -10,10 +10,11 @@ use Rattle.cs_word.specs.Word.{small_word}
 use Rattle.cs_heap.specs.Object.{Memory, Object, base, set_word, slot_of, with_object, with_slot}
 use Rattle.cs_classes.specs.Meaning.{context_of, count_of, depth_in, is_context, kept_of, ref_of}
 use Rattle.cs_classes.specs.Meaning as meaning
+use Rattle.cs_classes.specs.Kinds.{KindsStand}
 use Rattle.cs_classes.specs.Sound.{IsSoundObject, is_reference, nil_of}
 use Rattle.cs_classes.proofs.Contexts.{by_six, obj_of-edit_context}
 use Rattle.cs_classes.proofs.Heaps.{IsEdit, set_word-IsEdit, with_object-twice}
-use Rattle.cs_classes.proofs.Makings.{nil_is_object, ref_of-nil}
+use Rattle.cs_classes.proofs.Makings.{is_sender-base, nil_is_object, ref_of-nil}
 use Rattle.cs_classes.proofs.Refs.{count_of-small, is_reference-object, is_reference-small, small_natural}
 use Rattle.cs_classes.proofs.Sounds.{sound-set_context}
 use Rattle.cs_classes.proofs.Writes.{Does, does-edit}
@@ -37,6 +38,7 @@ use Rattle.cs_plain.proofs.Edits.{Edited, edited}
 use Rattle.cs_plain.proofs.Pcs.{KeepsPcs, pcs-rest, running}
 use Rattle.cs_plain.proofs.Writing.{held_by}
 use Rattle.cs_heap.specs.Writes.{slots_stored}
+use Rattle.cs_acts.proofs.ContextKinds.{kinds-kill, kinds-resume}
 use Rattle.cs_acts.proofs.Dirty.{names-dirtied, ready-dirtied}
 use Rattle.cs_plain.proofs.Written.{dirtied, keeps_names, with_objects}
 use Rattle.std.specs.Prelude.{IfSome}
@@ -69,6 +71,7 @@ both-IsEdit f g first second = record {
   slots = λ x. second.slots (f x) ∙ first.slots x;
   birth = λ x. second.birth (f x) ∙ first.birth x;
   class = λ x. second.class (f x) ∙ first.class x;
+  format = λ x. second.format (f x) ∙ first.format x;
 }
 
 bury : Object → Object
@@ -77,6 +80,10 @@ bury x = set_word 2 (small_word (pos 0)) (set_word 1 base (set_word 0 base x))
 bury-IsEdit : IsEdit bury
 unfolding bury
 bury-IsEdit = both-IsEdit (λ x. set_word 1 base (set_word 0 base x)) (set_word 2 (small_word (pos 0))) (both-IsEdit (set_word 0 base) (set_word 1 base) (set_word-IsEdit 0 base) (set_word-IsEdit 1 base)) (set_word-IsEdit 2 (small_word (pos 0)))
+
+bury_hash : (x : Object) → (bury x).hash ≡ x.hash
+unfolding bury
+bury_hash x = refl
 
 buried-one : (os : List Object) (a : ℕ) → buried os a ≡ with_object os a bury
 unfolding bury
@@ -103,15 +110,34 @@ module _ {w : PlainWorld} {a : Oop} {x : Object} (sound : IsSound (stored_of w) 
       let count = count_of-small 0 small in
       let is_nil : (base == nil_of os) ≡ true = eq-eqb base (nil_of os) (sym sound.holds.whole.nil) in
       let first = sound-set_context os x 0 base (sound_at os a.0 x sound.holds.whole.heap at.there) at.context
-      (record { reference = base_named; pc = λ e. absurd (omega (arith, e)); stackp = λ e. absurd (omega (arith, e)); depth = λ e. absurd (omega (arith, e)) }) in
+      (record {
+        reference = λ some. base_named;
+        sender = λ e. is_sender-base os w.classes w.roots sound.holds.whole;
+        pc = λ e. absurd (omega (arith, e));
+        stackp = λ e. absurd (omega (arith, e));
+        depth = λ e. absurd (omega (arith, e));
+        method = λ e. absurd (omega (arith, e));
+        closure = λ e. absurd (omega (arith, e));
+      }) in
       let second = sound-set_context os (set_word 0 base x) 1 base first at.context
-      (record { reference = base_named; pc = λ e. or_left (base == nil_of os) (is_some (count_of base)) is_nil; stackp = λ e. absurd (omega (arith, e)); depth = λ e. absurd (omega (arith, e)) }) in
+      (record {
+        reference = λ some. base_named;
+        sender = λ e. absurd (omega (arith, e));
+        pc = λ e. or_left (base == nil_of os) (is_some (count_of base)) is_nil;
+        stackp = λ e. absurd (omega (arith, e));
+        depth = λ e. absurd (omega (arith, e));
+        method = λ e. absurd (omega (arith, e));
+        closure = λ e. absurd (omega (arith, e));
+      }) in
       sound-set_context os (set_word 1 base (set_word 0 base x)) 2 zero_word second at.context
       (record {
-        reference = is_reference-small os (pos 0) (small_natural 0 small);
+        reference = λ some. is_reference-small os (pos 0) (small_natural 0 small);
+        sender = λ e. absurd (omega (arith, e));
         pc = λ e. absurd (omega (arith, e));
         stackp = λ e. or_right (zero_word == nil_of os) (is_some (count_of zero_word)) (ap is_some count);
         depth = λ e. omega (arith, ap (λ (o : Option ℕ). unwrap_or o 0) count);
+        method = λ e. absurd (omega (arith, e));
+        closure = λ e. absurd (omega (arith, e));
       })
 
   does-bury : Does w.heap.objects (buried w.heap.objects a.0) w.classes w.roots (λ k. edit_object k (ref_of w.heap.objects a.0) (edit_context (dead nil)))
@@ -120,7 +146,7 @@ module _ {w : PlainWorld} {a : Oop} {x : Object} (sound : IsSound (stored_of w) 
       let os = w.heap.objects in
       let refer = ref_of os in
       subst (λ us. Does os us w.classes w.roots (λ k. edit_object k (refer a.0) (edit_context (dead nil)))) (sym (buried-one os a.0))
-      (does-edit (record { whole = sound.holds.whole; there = at.there }) bury (edit_context (dead nil)) bury-IsEdit sound_buried
+      (does-edit (record { whole = sound.holds.whole; there = at.there }) bury (edit_context (dead nil)) bury-IsEdit (bury_hash x) sound_buried
       (obj_of-edit_context refer x (bury x) (dead nil) at.context at.context
       (buried_context refer x.hash x.words at.whole.fields
       ∙ ap (λ r. record (context_of refer x.hash x.words) { sender = r; pc = None; stack = [] }) (ref_of-nil os w.classes w.roots sound.holds.whole))))
@@ -148,8 +174,8 @@ module _ {w : PlainWorld} {a : Oop} {x : Object} (sound : IsSound (stored_of w) 
 
   -- a context dies
   pub buried_sound : IsSound (stored_of (with_objects w (buried w.heap.objects a.0))) (view_of (with_objects w (buried w.heap.objects a.0)))
-  buried_sound = sound_world (with_objects w (buried w.heap.objects a.0)) does-bury.whole (subst (λ n. n ≤ w.heap.limit) (sym buried_edited.words) sound.holds.within) sound.holds.most sound.closures
-      (subst KeepsPcs (sym killed) killed_pcs)
+  buried_sound = sound_world (with_objects w (buried w.heap.objects a.0)) does-bury.whole (subst (λ n. n ≤ w.heap.limit) (sym buried_edited.words) sound.holds.within) sound.holds.most
+      (subst KindsStand (sym killed) (kinds-kill (view_of w) x.birth sound.kinds)) (subst KeepsPcs (sym killed) killed_pcs)
 
 -- ---- its sender is active
 
@@ -203,7 +229,8 @@ module _ {w : PlainWorld} {a : Oop} {x : Object} (sound : IsSound (stored_of w) 
       record {
         view = view;
         ready = record {
-          sound = sound_world (with_left w a sender) (does-bury sound at).whole (subst (λ n. n ≤ w.heap.limit) (sym edit.words) sound.holds.within) sound.holds.most sound.closures (subst KeepsPcs (sym view) pcs);
+          sound = sound_world (with_left w a sender) (does-bury sound at).whole (subst (λ n. n ≤ w.heap.limit) (sym edit.words) sound.holds.within) sound.holds.most
+              (subst KindsStand (sym view) (kinds-resume d target (kinds-kill k x.birth sound.kinds))) (subst KeepsPcs (sym view) pcs);
           running = subst IsRunning (sym view) (running (resume_of d target) target t.context t.pc refl stays t.live pcs);
         };
         names = keeps_names w us edit;

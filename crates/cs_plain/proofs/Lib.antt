@@ -8,6 +8,7 @@ mod Storing
 mod Opening
 mod Scheduled
 mod Copying
+mod Counts
 mod Words
 mod Acts
 mod Ways

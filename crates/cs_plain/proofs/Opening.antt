@@ -9,6 +9,7 @@ use Rattle.cs_word.specs.Word.{kind_of}
 use Rattle.cs_heap.specs.Format.{is_pointers}
 use Rattle.cs_heap.specs.Object.{Object, birth_of, class_of, format_of, is_object, object_at, slot_count_of, with_slot}
 use Rattle.cs_heap.proofs.Laws.{birth_of-with_slot, is_object-with_slot, used-with_slot}
+use Rattle.cs_classes.specs.Kinds.{KindsStand}
 use Rattle.cs_classes.specs.Meaning.{is_context, kept_of, obj_of, objects_of, ref_of, ref_of_kind}
 use Rattle.cs_classes.specs.Sound.{is_reference, is_reference_kind}
 use Rattle.cs_classes.proofs.Heaps.{birth_of-object_at, object_there}
@@ -26,6 +27,7 @@ use Rattle.cs_acts.specs.Names.{IsNamed, Names, NamesOption, name_of}
 use Rattle.cs_acts.specs.Ready.{IsSound}
 use Rattle.cs_acts.specs.Reading.{has_slots}
 use Rattle.cs_acts.proofs.Named.{field_at, has_slots_read, slots_there}
+use Rattle.cs_acts.proofs.ContextKinds.{kinds-rest, kinds-store}
 use Rattle.cs_acts.proofs.Dirty.{sound-dirtied}
 use Rattle.cs_plain.proofs.Written.{dirtied}
 use Rattle.cs_plain.specs.declared.PlainWorld.{PlainWorld}
@@ -133,13 +135,14 @@ module _ {w : PlainWorld} (p c nil : Oop) (sound : IsSound (stored_of w) (view_o
       ∙ ap (λ m. resume_of m i) (sym stored) in
       let at = address_of-object os c.0 i kept.sound is in
       let pcs : KeepsPcs (kept_of us w.classes w.roots active) = subst KeepsPcs (sym stored) (pcs-store k (name_of (stored_of w) p) 1 (nil_of k) sound.pcs) in
+      let kinds : KindsStand (kept_of us w.classes w.roots active) = subst KindsStand (sym stored) (kinds-store k (name_of (stored_of w) p) 1 (nil_of k) sound.kinds) in
       let between : PlainWorld = record w { heap = record w.heap { objects = us }; active = None } in
       let within = subst (λ n. n ≤ w.heap.limit) (sym (used-with_slot os p.0 1 nil.0)) sound.holds.within in
-      let birth : birth_at us c ≡ Some i = context_active between c us i (sound_world between does.whole within sound.holds.most sound.closures (pcs-rest (view_of between).rest (kept_of us w.classes w.roots active) pcs)) refl
+      let birth : birth_at us c ≡ Some i = context_active between c us i (sound_world between does.whole within sound.holds.most (kinds-rest (view_of between).rest (kept_of us w.classes w.roots active) refl kinds) (pcs-rest (view_of between).rest (kept_of us w.classes w.roots active) pcs)) refl
       (is_object-with_slot os p.0 1 nil.0 c.0 ∙ at.0) (birth_of-with_slot os p.0 1 nil.0 c.0 ∙ at.1) (subst IsRunning taken running) in
       record {
         view = ap (kept_of us w.classes w.roots) birth ∙ sym taken;
-        sound = sound_world (with_taken w p nil c) does.whole within sound.holds.most sound.closures (pcs-rest (view_of (with_taken w p nil c)).rest (kept_of us w.classes w.roots active) pcs);
+        sound = sound_world (with_taken w p nil c) does.whole within sound.holds.most (kinds-rest (view_of (with_taken w p nil c)).rest (kept_of us w.classes w.roots active) refl kinds) (pcs-rest (view_of (with_taken w p nil c)).rest (kept_of us w.classes w.roots active) pcs);
       }
 
   -- it does, for else no context would run

@@ -3,7 +3,6 @@ use Rattle.std.proofs.Common.{◌≡◌, ℕ, ◌+◌, ◌-◌, ◌<◌, ◌≤�
 use Rattle.std.specs.Prelude.{◌==◌, ◌||◌, slice_get, slice_index}
 use Rattle.std.specs.Option.{option_map_or}
 use Rattle.std.proofs.lemmas.List.{get_or-drop, get_or-take}
-use Rattle.std.proofs.lemmas.List.Elements.{All-get_or}
 use Rattle.std.proofs.lemmas.Bool.Decides.{nat_tests}
 use Rattle.std.proofs.lemmas.Option.{slice_get-map, slice_get-get_or}
 use Rattle.cs_word.specs.declared.Oop.{Oop}
@@ -21,7 +20,7 @@ use Rattle.cs_acts.specs.Ready.{IsReady}
 use Rattle.cs_acts.proofs.Sizes.{pc_small}
 use Rattle.cs_plain.specs.declared.PlainWorld.{PlainWorld}
 use Rattle.cs_plain.specs.View.{stored_of, view_of}
-use Rattle.cs_plain.proofs.Active.{Active}
+use Rattle.cs_plain.proofs.Active.{Active, word_named}
 
 slots_at_most : (n : ℕ) → (n == 22 || n == 62) ≡ true → n ≤ 62
 slots_at_most n h = grind (arith, nat_tests)
@@ -44,7 +43,7 @@ module _ {w : PlainWorld} {a : Oop} {x : Object} (ready : IsReady (stored_of w) 
   names_slot v i y within read is =
       let word : v.0 ≡ slice_index x.words i = read ∙ slot_is i in
       record {
-        sound = ap (is_reference w.heap.objects) word ∙ All-get_or (λ (u : ℕ). is_reference w.heap.objects u ≡ true) x.words i 0 within whole_active.references;
+        sound = ap (is_reference w.heap.objects) word ∙ word_named w a.0 x ready.sound active.there active.context i within;
         is = ap (ref_of w.heap.objects) word ∙ is;
       }
 
@@ -100,5 +99,5 @@ module _ {w : PlainWorld} {a : Oop} {x : Object} (ready : IsReady (stored_of w) 
   pc_within pc lies =
       let word : Oop = record { 0 = slice_index x.words 3 } in
       pc_small (stored_of w) (view_of w) word pc ready.sound.holds
-      (All-get_or (λ (u : ℕ). is_reference w.heap.objects u ≡ true) x.words 3 0 (omega (arith, fields_within)) whole_active.references)
+      (word_named w a.0 x ready.sound active.there active.context 3 (omega (arith, fields_within)))
       (ap (λ m. lies_in (object_of (view_of w) m) pc) method_is_read ∙ lies)

@@ -8,6 +8,7 @@ use Rattle.cs_word.specs.declared.Kind.{Kind}
 use Rattle.cs_word.specs.declared.Kind.TheVariants as kind
 use Rattle.cs_word.specs.Word.{kind_of, small_value}
 use Rattle.cs_heap.specs.Object.{Object, birth_of, is_object, object_at, set_word, with_slot}
+use Rattle.cs_classes.specs.Kinds.{KindsStand}
 use Rattle.cs_classes.specs.Meaning.{code_in, header_in, is_context, kept_of, literals_in, method_of, obj_of, ref_of, ref_of_kind, used_bytes}
 use Rattle.cs_classes.specs.Sound.{is_reference, is_reference_kind}
 use Rattle.cs_classes.proofs.Heaps.{birth_of-object_at, is_object-object_at, object_there, set_word-IsEdit}
@@ -27,6 +28,7 @@ use Rattle.cs_model.specs.Operation as operation
 use Rattle.cs_model.proofs.Operating.{store_moved}
 use Rattle.cs_acts.specs.Names.{IsNamed, name_of}
 use Rattle.cs_acts.specs.Ready.{IsReady, is_storable}
+use Rattle.cs_acts.proofs.ContextKinds.{kinds-store}
 use Rattle.cs_acts.proofs.Running.{running-put}
 use Rattle.cs_plain.specs.declared.PlainWorld.{PlainWorld}
 use Rattle.cs_plain.specs.View.{active_in, stored_of, view_of}
@@ -139,7 +141,8 @@ writes-store w o v i x ready named value s =
       state = λ m k. subst (λ u. Keeps u (store_of m (name_of (stored_of w) o) i (name_of (stored_of w) v))) (sym view) (store_moved k (held_by w o ready named) i (held_by w v ready value)).keeps;
       exact = same_kept _ _ view;
       ready = record {
-        sound = sound_world (with_objects w us) does.whole (subst (λ n. n ≤ w.heap.limit) (sym edit.words) ready.sound.holds.within) ready.sound.holds.most ready.sound.closures
+        sound = sound_world (with_objects w us) does.whole (subst (λ n. n ≤ w.heap.limit) (sym edit.words) ready.sound.holds.within) ready.sound.holds.most
+            (subst KindsStand (sym view) (kinds-store (view_of w) (name_of (stored_of w) o) i (name_of (stored_of w) v) ready.sound.kinds))
             (subst KeepsPcs (sym view) (pcs-store (view_of w) (name_of (stored_of w) o) i (name_of (stored_of w) v) ready.sound.pcs));
         running = subst IsRunning (sym (view ∙ put_is)) running;
       };

@@ -67,7 +67,7 @@ module _ {w : PlainWorld} {a : Oop} {x : Object} (ready : IsReady (stored_of w) 
       let count : count_of (small_word (pos pc)) ≡ Some pc = count_of-small pc small in
       let does = does-set_pc known active.context (small_word (pos pc)) (is_reference-small w.heap.objects (pos pc) (small_natural pc small))
       (or_right (small_word (pos pc) == nil_of w.heap.objects) (is_some (count_of (small_word (pos pc)))) (ap is_some count)) in
-      let done = written w a x _ (with_pc (count_of (small_word (pos pc)))) pc ready active does (slot_edited 1 (small_word (pos pc))) count refl lies in
+      let done = written w a x _ (with_pc (count_of (small_word (pos pc)))) pc ready active does (slot_edited 1 (small_word (pos pc))) count refl refl refl lies in
       record {
         state = λ m k. subst (λ v. Keeps v (set_pc_of m pc)) (sym (done.view ∙ ap (λ p. edit_active (view_of w) (with_pc p)) count)) (set_pc_moved k (is pc)).keeps;
         exact = same_kept _ _ (done.view ∙ ap (λ p. edit_active (view_of w) (with_pc p)) count);
@@ -84,7 +84,7 @@ module _ {w : PlainWorld} {a : Oop} {x : Object} (ready : IsReady (stored_of w) 
   unfolding set_stack_of
   writes-set_stack i v named =
       let done = written w a x _ (stored i (name_of (stored_of w) v)) (pc_of (view_of w)) ready active (does-set_stack known active.context i v.0 named) (slot_edited (6 + i) v.0)
-      ready.running.live refl ready.running.method in
+      ready.running.live refl refl refl ready.running.method in
       record {
         state = λ m k. subst (λ u. Keeps u (set_stack_of m i (name_of (stored_of w) v))) (sym done.view) (set_stack_moved k i (held_by w v ready named)).keeps;
         exact = same_kept _ _ done.view;
@@ -105,8 +105,9 @@ module _ {w : PlainWorld} {a : Oop} {x : Object} (ready : IsReady (stored_of w) 
         slots = λ y. (set_word-IsEdit 2 (small_word (pos (d + 1)))).slots (set_word (6 + d) v.0 y) ∙ (set_word-IsEdit (6 + d) v.0).slots y;
         birth = λ y. refl;
         class = λ y. refl;
+        format = λ y. refl;
       }) active.there in
-      let done = written w a x _ (pushed (name_of (stored_of w) v)) (pc_of (view_of w)) ready active does (subst (Edited os) (sym twice) edit) ready.running.live refl ready.running.method in
+      let done = written w a x _ (pushed (name_of (stored_of w) v)) (pc_of (view_of w)) ready active does (subst (Edited os) (sym twice) edit) ready.running.live refl refl refl ready.running.method in
       record {
         state = λ m k. subst (λ u. Keeps u (push_of m (name_of (stored_of w) v))) (sym done.view) (push_moved k (held_by w v ready named)).keeps;
         exact = same_kept _ _ done.view;
@@ -120,7 +121,7 @@ module _ {w : PlainWorld} {a : Oop} {x : Object} (ready : IsReady (stored_of w) 
       let os = w.heap.objects in
       let depth : depth_in x.words ≡ d = depth_is_read ready active ∙ sym deep in
       let does = subst (λ n. Does os (with_slot os a.0 2 (small_word (pos (n - 1)))) w.classes w.roots (λ k. edit_object k (ref_of os a.0) (edit_context (popped 1)))) depth (does-pop known active.context 1) in
-      let done = written w a x _ (popped 1) (pc_of (view_of w)) ready active does (slot_edited 2 (small_word (pos (d - 1)))) ready.running.live refl ready.running.method in
+      let done = written w a x _ (popped 1) (pc_of (view_of w)) ready active does (slot_edited 2 (small_word (pos (d - 1)))) ready.running.live refl refl refl ready.running.method in
       record {
         state = λ m k. subst (λ u. Keeps u (drop_of m 1)) (sym done.view) (drop_moved k 1).keeps;
         exact = same_kept _ _ done.view;

@@ -1,20 +1,23 @@
 -- What a write to the active context, or to another object, does to the state.
 use Rattle.std.proofs.Common.{◌≡◌, ℕ, Bool, true, refl, sym, ap, subst, ◌∙◌, Option, Some, None, List}
-use Rattle.std.specs.Prelude.{◌≤◌}
+use Rattle.std.specs.Prelude.{◌≤◌, ◌||◌}
 use Rattle.cs_word.specs.declared.Oop.{Oop}
 use Rattle.cs_heap.specs.Object.{Object}
+use Rattle.cs_classes.specs.Kinds.{ContextKinds, KindsStand}
 use Rattle.cs_classes.specs.Meaning.{kept_of, ref_of}
 use Rattle.cs_classes.proofs.Heaps.{is_object-object_at}
 use Rattle.cs_classes.proofs.Refs.{ref_of-object}
 use Rattle.cs_classes.proofs.Writes.{Does}
 use Rattle.cs_model.specs.Ref.{Ref}
 use Rattle.cs_model.specs.Ref as ref
-use Rattle.cs_model.specs.Obj.{Context, edit_context, lies_in}
-use Rattle.cs_model.specs.State.{Kept, PcLies, object_of}
+use Rattle.cs_model.specs.Context.{closure_class, has_class_index}
+use Rattle.cs_model.specs.Obj.{Context, edit_context, is_context_at, is_method, lies_in}
+use Rattle.cs_model.specs.State.{Kept, PcLies, is_nil, object_of}
 use Rattle.cs_model.specs.Read.{IsRunning, active_birth, active_context, method_of}
 use Rattle.cs_model.specs.Operation.{edit_active, edit_found, edit_object}
 use Rattle.cs_acts.specs.Names.{KeepsNames}
 use Rattle.cs_acts.specs.Ready.{IsReady}
+use Rattle.cs_acts.proofs.ContextKinds.{kinds-edit_active}
 use Rattle.cs_acts.proofs.Running.{running-edit}
 use Rattle.cs_plain.specs.declared.PlainWorld.{PlainWorld}
 use Rattle.cs_plain.specs.View.{active_in, stored_of, view_of}
@@ -56,21 +59,34 @@ written_view w a x us g ready active does same =
     ap (kept_of us w.classes w.roots) (active-same os us w.active same) ∙ does.kept (active_in os w.active)
     ∙ ap (λ r. edit_object (view_of w) r (edit_context g)) name ∙ edit_object-active (view_of w) g ready.running
 
+-- contexts whose fields name the same name what they must, both or neither
+same_kinds : (k : Kept) (c d : Context) → d.sender ≡ c.sender → d.method ≡ c.method → d.closure ≡ c.closure → ContextKinds k c → ContextKinds k d
+same_kinds k c d sender method closure kinds = record {
+  sender = subst (λ r. (is_nil k r || is_context_at (object_of k r)) ≡ true) (sym sender) kinds.sender;
+  method = subst (λ r. (is_nil k r || is_method (object_of k r)) ≡ true) (sym method) kinds.method;
+  closure = subst (λ r. (is_nil k r || has_class_index closure_class (object_of k r)) ≡ true) (sym closure) kinds.closure;
+}
+
 pub written : (w : PlainWorld) (a : Oop) (x : Object) (us : List Object) (g : Context → Context) (pc : ℕ)
     → IsReady (stored_of w) (view_of w) → Active w a x
     → Does w.heap.objects us w.classes w.roots (λ k. edit_object k (ref_of w.heap.objects a.0) (edit_context g))
     → Edited w.heap.objects us
     → (g (active_context (view_of w))).pc ≡ Some pc → (g (active_context (view_of w))).method ≡ (active_context (view_of w)).method
+    → (g (active_context (view_of w))).sender ≡ (active_context (view_of w)).sender → (g (active_context (view_of w))).closure ≡ (active_context (view_of w)).closure
     → lies_in (method_of (view_of w)) pc ≡ true
     → Written w (with_objects w us) g
 unfolding method_of
-written w a x us g pc ready active does same at method lies =
+written w a x us g pc ready active does same at method sender closure lies =
     let view = written_view w a x us g ready active does same in
     let kept : KeepsPcs (edit_active (view_of w) g) = pcs-edit_active (view_of w) g ready.running ready.sound.pcs (lies_there (g (active_context (view_of w))) at method) in
+    let old : Context = active_context (view_of w) in
+    let kinds : KindsStand (edit_active (view_of w) g) =
+    kinds-edit_active (view_of w) g ready.running.found ready.sound.kinds
+    (same_kinds (view_of w) old (g old) sender method closure (ready.sound.kinds (active_birth (view_of w)) old ready.running.found)) in
     record {
       view = view;
       ready = record {
-        sound = sound_world (with_objects w us) does.whole (subst (λ n. n ≤ w.heap.limit) (sym same.words) ready.sound.holds.within) ready.sound.holds.most ready.sound.closures (subst KeepsPcs (sym view) kept);
+        sound = sound_world (with_objects w us) does.whole (subst (λ n. n ≤ w.heap.limit) (sym same.words) ready.sound.holds.within) ready.sound.holds.most (subst KindsStand (sym view) kinds) (subst KeepsPcs (sym view) kept);
         running = subst IsRunning (sym view) (running-edit (view_of w) g pc ready.running at method lies);
       };
       names = keeps_names w us same;

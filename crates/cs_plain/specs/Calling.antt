@@ -1,14 +1,15 @@
 -- A context that is made of its fields, of arguments, and of copied values.
-use Rattle.std.specs.Prelude.{◌≡◌, ℕ, ◌+◌, ◌-◌, ◌<◌, ◌≤◌, true, List, [], ◌++◌, length, drop, take, map, replicate, Option, Some, None, unwrap_or}
+use Rattle.std.specs.Prelude.{◌≡◌, ℕ, ◌+◌, ◌-◌, ◌<◌, ◌≤◌, ◌==◌, ◌||◌, true, List, [], ◌++◌, length, drop, take, map, replicate, Option, Some, None, unwrap_or}
 use Rattle.cs_heap.specs.Object.{Object, is_object, object_at}
 use Rattle.cs_classes.specs.Meaning.{count_of, ref_of}
-use Rattle.cs_classes.specs.Sound.{is_reference}
+use Rattle.cs_classes.specs.Sound.{is_closure_address, is_reference, nil_of}
 use Rattle.std.specs.List.{AllPass}
 use Rattle.cs_model.specs.Ref.{Ref}
 use Rattle.cs_model.specs.Obj.{Context, context_size, lies_in}
 use Rattle.cs_model.specs.State.{Kept, object_of}
 use Rattle.cs_model.specs.Read.{depth_of, stack_of}
-use Rattle.cs_model.specs.Operation.{enter_with, last_values, nil_of}
+use Rattle.cs_model.specs.Operation.{enter_with, last_values}
+use Rattle.cs_model.specs.Operation as operation
 use Rattle.cs_acts.specs.Names.{IsNamed, Store, name_of}
 use Rattle.cs_plain.specs.declared.Fields.{Fields}
 
@@ -20,9 +21,9 @@ words_in (Some x) = x.words
 abbrev pub copied_words : List Object → ℕ → ℕ → List ℕ
 copied_words objects closure n = take n (drop 3 (words_in (object_at objects closure)))
 
--- The fields are those of a context that can run: its pc lies in its method, its stack holds arguments and copied values, and the
--- size by the method's header holds the stack. The arguments are on the active stack above one more value, the copied values in the
--- closure.
+-- The fields are those of a context that can run: its pc lies in its method, its closure is nil or a closure, its stack holds
+-- arguments and copied values, and the size by the method's header holds the stack. The arguments are on the active stack above one
+-- more value, the copied values in the closure.
 pub record CanCall (s : Store) (k : Kept) (header args copied : ℕ) (f : Fields) : Type 0 where
   pub entry : ℕ
   pub pc : count_of f.pc.0 ≡ Some entry
@@ -39,12 +40,13 @@ pub record CanCall (s : Store) (k : Kept) (header args copied : ℕ) (f : Fields
   pub there : args < depth_of k
   pub values : length (copied_words s.memory.objects f.closure.0 copied) ≡ copied
   pub named : AllPass (is_reference s.memory.objects) (copied_words s.memory.objects f.closure.0 copied)
+  pub closed : (f.closure.0 == nil_of s.memory.objects || is_closure_address s.memory.objects f.closure.0) ≡ true
   pub births : k.rest.next < 4611686018427387904
 
 -- the arguments, the copied values, and nil
 abbrev pub called_stack : Store → Kept → ℕ → ℕ → ℕ → Fields → List Ref
 called_stack s k depth args copied f =
-    last_values args (stack_of k) ++ (map (ref_of s.memory.objects) (copied_words s.memory.objects f.closure.0 copied) ++ replicate (depth - (args + copied)) (nil_of k))
+    last_values args (stack_of k) ++ (map (ref_of s.memory.objects) (copied_words s.memory.objects f.closure.0 copied) ++ replicate (depth - (args + copied)) (operation.nil_of k))
 
 abbrev pub called_context : Store → Kept → ℕ → ℕ → ℕ → Fields → Context
 called_context s k header args copied f = record {

@@ -1,7 +1,7 @@
 //! A world in which each activation is a context in the heap.
 //!
-//! It is the plainest representation of the machine: what it keeps is what the model says, and no frame, page or marriage
-//! stands between.
+//! It is the plainest representation of the machine: what it keeps is what the model says, and no frame, page or
+//! marriage stands between.
 #![tactic(auto)]
 
 ghost use Rattle.std.specs.Prelude.{◌≡◌, ◌<◌, ◌≤◌, ◌+◌, ◌*◌, ◌^◌, false, if◌then◌else◌, is_some, pos, Some, unwrap_or};
@@ -9,8 +9,7 @@ ghost use Rattle.cs_word.specs.Word.{small_word};
 ghost use Rattle.cs_heap.specs.Object.{is_watched, slot_count_of};
 ghost use Rattle.cs_heap.specs.Writes.{slots_stored};
 ghost use Rattle.cs_classes.specs.Meaning.{count_of};
-ghost use Rattle.cs_model.specs.Obj.{context_size, literal_count, temporary_count};
-ghost use Rattle.cs_model.specs.Ref.{natural_of};
+ghost use Rattle.cs_model.specs.Obj.{context_size, literal_count};
 ghost use Rattle.cs_acts.specs.Reading.{is_context_at};
 ghost use Rattle.cs_acts.specs.Ready.{IsReady};
 ghost use Rattle.cs_plain.specs.Storing.{buried, copied, with_fields};
@@ -19,7 +18,7 @@ use cs_acts::read::{active_process, nil, same, slot};
 use cs_acts::{Act, Full, Loaded, Roots, World};
 use cs_classes::Classes;
 use cs_heap::{BASE, Heap};
-use cs_word::{Kind, Oop};
+use cs_word::{MethodHeader, Oop};
 use std::alloc::{AllocError, Global};
 
 /// A world of heap contexts.
@@ -31,7 +30,8 @@ pub struct PlainWorld {
     active: Option<Oop>,
 }
 
-/// The slots of a context, in the order of the Blue Book: sender, pc, stackp, method, closure, receiver, and then its stack.
+/// The slots of a context, in the order of the Blue Book: sender, pc, stackp, method, closure, receiver, and then its
+/// stack.
 const SENDER: u32 = 0;
 
 const PC: u32 = 1;
@@ -66,22 +66,18 @@ const PROCESS_SLOTS: u32 = 4;
 
 const SUSPENDED_CONTEXT: u32 = 1;
 
-/// The number itself, and 0 for a negative one.
-fn natural(value: i32) -> u32
-    ensures { result ≡ unwrap_or (natural_of value) 0 }
-{
-    if value < 0 { 0 } else { value as u32 }
-}
-
 /// The number that a word is, and 0 where it is no SmallInteger or a negative one.
-#[tactic(auto, unfolding(cs_classes::specs::Meaning::count_of))]
 fn count(word: Oop) -> u32
     ensures { result ≡ unwrap_or (count_of word.0) 0 }
 {
-    match word.kind() {
-        Kind::Small(value) => natural(value),
-        _ => 0,
-    }
+    word.natural().unwrap_or(0)
+}
+
+/// The header that a method's first word is.
+fn header_of(word: Oop) -> MethodHeader
+    ensures { result.0 ≡ unwrap_or (count_of word.0) 0 }
+{
+    MethodHeader(count(word))
 }
 
 /// The word of a count below 2^30.
@@ -93,14 +89,10 @@ fn count_word(count: u32) -> Oop
 }
 
 /// Whether a word is a SmallInteger that isn't negative.
-#[tactic(auto, unfolding(cs_classes::specs::Meaning::count_of))]
 fn is_count(word: Oop) -> bool
     ensures { result ≡ is_some (count_of word.0) }
 {
-    match word.kind() {
-        Kind::Small(value) => value >= 0,
-        _ => false,
-    }
+    word.natural().is_some()
 }
 
 /// Whether a word is the address of a context.
@@ -111,29 +103,18 @@ fn is_context(heap: &Heap, o: Oop) -> bool
 }
 
 /// How many slots a context has for a method of this header: 56 values fit on a large stack, and 16 on another.
-fn context_slots(header: u32) -> u32
-    ensures { result ≡ 6 + context_size header }
+fn context_slots(header: MethodHeader) -> u32
+    ensures { result ≡ 6 + context_size header.0 }
 {
-    if header / (1 << 17) % 2 == 1 {
-        STACK + 56
-    } else {
-        STACK + 16
-    }
+    STACK + header.context_size()
 }
 
-/// How many temporaries a method of this header has, its arguments among them.
-fn temporaries(header: u32) -> u32
-    ensures { result ≡ temporary_count header }
+/// The pc at which a method of this header is entered: its first one, or with `skip` that behind the three bytes that
+/// name a primitive.
+fn entry_pc(header: MethodHeader, skip: bool) -> u32
+    ensures { result ≡ 4 * (literal_count header.0 + 1) + 1 + (if skip then 3 else 0) }
 {
-    header / (1 << 18) % (1 << 6)
-}
-
-/// The pc at which a method of this header is entered: its first one, or with `skip` that behind the three bytes that name a
-/// primitive.
-fn entry_pc(header: u32, skip: bool) -> u32
-    ensures { result ≡ 4 * (literal_count header + 1) + 1 + (if skip then 3 else 0) }
-{
-    let first = 4 * (header % (1 << 15) + 1) + 1;
+    let first = 4 * (header.literals() + 1) + 1;
     if skip { first + 3 } else { first }
 }
 
@@ -192,7 +173,7 @@ fn bury(heap: &mut Heap, context: Oop)
 
 impl PlainWorld {
     ghost use Rattle.std.specs.Prelude.{ℕ, IfErr, IfOk, IfSome, IsSomeAnd, None, OnOk, true};
-    ghost use Rattle.std.specs.FinMap.{get};
+    ghost use Rattle.cs_classes.specs.Senders.{SendersStand};
     ghost use Rattle.cs_classes.specs.Sound.{IsWhole};
     ghost use Rattle.cs_model.specs.Due.{is_idle};
     ghost use Rattle.cs_model.specs.Obj.{Context, Ctx};
@@ -210,15 +191,17 @@ impl PlainWorld {
     ghost use Rattle.cs_plain.specs.Cutting.{AtHome, CanLand, landed_of};
     ghost use Rattle.cs_plain.specs.View.{birth_at, loaded_kept, stored_of, taken_of, view_of};
 
-    /// Opens a loaded image: the active process gives its context to the machine. With no active process none is active.
+    /// Opens a loaded image: the active process gives its context to the machine. With no active process no context is
+    /// active.
     ///
-    /// Where a process is active, the context that it gives must be live. Closures have a class. The pc of each context must be nil or lie in its
-    /// method.
+    /// Where a process is active, the context that it gives must be live. The sender of each context must be nil or a
+    /// context, and its pc nil or in its method.
     pub fn new(_alloc: Global, loaded: Loaded) -> Result<PlainWorld, AllocError>
         requires whole { IsWhole loaded.heap.objects loaded.classes loaded.roots }
-        requires closures { is_some (get loaded.classes 37) ≡ true }
+        requires senders { SendersStand (loaded_kept loaded) }
         requires running { is_idle (loaded_kept loaded) ≡ false → IsRunning (open_kept (loaded_kept loaded)) }
-        requires pcs { (i : ℕ) (c : Context) → object_at (loaded_kept loaded) i ≡ Some (Ctx c) → PcLies (loaded_kept loaded) c }
+        requires pcs { (i : ℕ) (c : Context) → object_at (loaded_kept loaded) i ≡ Some (Ctx c) →
+            PcLies (loaded_kept loaded) c }
         ensures view { IfOk result (λ w. view_of w ≡ open_kept (loaded_kept loaded)) }
         ensures sound { IfOk result (λ w. IsSound (stored_of w) (view_of w)) }
         ensures limit { IfOk result (λ w. (stored_of w).memory.limit ≡ loaded.heap.limit) }
@@ -290,23 +273,26 @@ impl PlainWorld {
         context
     }
 
-    /// Makes a context of these fields active. So many arguments leave the stack of the active one, with what is below them, for
-    /// the new stack; above them come so many copied values of the closure.
+    /// Makes a context of these fields active. So many arguments leave the stack of the active one, with what is below
+    /// them, for the new stack; above them come so many copied values of the closure.
     fn new_context(
         &mut self,
-        header: u32,
+        header: MethodHeader,
         fields: Fields,
         args: u32,
         copied: u32,
     ) -> Result<(), Full>
         requires ready { IsReady (stored_of self.old) (view_of self.old) }
         requires sender { self.old.active ≡ Some fields.sender }
-        requires fits { CanCall (stored_of self.old) (view_of self.old) header args copied fields }
-        ensures view { OnOk result (view_of self.new ≡ called_of (view_of self.old) args (called_context (stored_of self.old) (view_of self.old) header args copied fields)) }
+        requires fits { CanCall (stored_of self.old) (view_of self.old) header.0 args copied fields }
+        ensures view { OnOk result (view_of self.new ≡ called_of (view_of self.old) args
+            (called_context (stored_of self.old) (view_of self.old) header.0 args copied fields)) }
         ensures ready { OnOk result (IsReady (stored_of self.new) (view_of self.new)) }
         ensures names { OnOk result (KeepsNames (stored_of self.old) (stored_of self.new)) }
         ensures limit { self.new.heap.limit ≡ self.old.heap.limit }
-        ensures full { IfErr result (CausesFull (stored_of self.new) None (view_of self.old) 0 (called_of (view_of self.old) args (called_context (stored_of self.old) (view_of self.old) header args copied fields))) }
+        ensures full { IfErr result (CausesFull (stored_of self.new) None (view_of self.old) 0
+            (called_of (view_of self.old) args
+            (called_context (stored_of self.old) (view_of self.old) header.0 args copied fields))) }
     {
         let sender = fields.sender;
         let closure = fields.closure;
@@ -326,11 +312,13 @@ impl PlainWorld {
         Ok(())
     }
 
-    /// Makes the active context dead, and its senders, until the home is met: the context of this birth. Answers the home.
+    /// Makes the active context dead, and its senders, until the home is met: the context of this birth. Answers the
+    /// home.
     fn bury_to(&mut self, home: u64) -> Oop
         requires ready { IsReady (stored_of self.old) (view_of self.old) }
         requires target { IsSomeAnd (sender_birth (view_of self.old) home) (CanCut (view_of self.old) home) }
-        ensures { IfSome (sender_birth (view_of self.old) home) (λ target. AtHome self.old self.new home target result) }
+        ensures { IfSome (sender_birth (view_of self.old) home)
+            (λ target. AtHome self.old self.new home target result) }
     {
         let mut context = self.active_context();
         for _ in 0..LINKS {
@@ -348,8 +336,11 @@ impl PlainWorld {
     fn land(&mut self, dying: Oop, v: Oop)
         requires sound { IsSound (stored_of self.old) (view_of self.old) }
         requires named { IsNamed (stored_of self.old) v }
-        requires target { IsSomeAnd (birth_at self.old.heap.objects dying) (λ home. IsSomeAnd (sender_birth (view_of self.old) home) (CanLand (view_of self.old) home)) }
-        ensures view { IfSome (birth_at self.old.heap.objects dying) (λ home. IfSome (sender_birth (view_of self.old) home) (λ target. view_of self.new ≡ landed_of (view_of self.old) home target (name_of (stored_of self.old) v))) }
+        requires target { IsSomeAnd (birth_at self.old.heap.objects dying)
+            (λ home. IsSomeAnd (sender_birth (view_of self.old) home) (CanLand (view_of self.old) home)) }
+        ensures view { IfSome (birth_at self.old.heap.objects dying)
+            (λ home. IfSome (sender_birth (view_of self.old) home)
+            (λ target. view_of self.new ≡ landed_of (view_of self.old) home target (name_of (stored_of self.old) v))) }
         ensures ready { IsReady (stored_of self.new) (view_of self.new) }
         ensures names { KeepsNames (stored_of self.old) (stored_of self.new) }
         ensures limit { self.new.heap.limit ≡ self.old.heap.limit }
@@ -547,11 +538,11 @@ impl World for PlainWorld {
     }
 
     fn enter(&mut self, method: Oop, args: u32, skip: bool) -> Result<(), Full> {
-        let header = count(self.heap.slot(method, 0));
+        let header = header_of(self.heap.slot(method, 0));
         let fields = Fields {
             sender: self.active_context(),
             pc: count_word(entry_pc(header, skip)),
-            stackp: count_word(temporaries(header)),
+            stackp: count_word(header.temporaries()),
             method,
             closure: Oop(BASE),
             receiver: self.stack_at(self.depth() - (args + 1)),
@@ -562,7 +553,7 @@ impl World for PlainWorld {
     fn enter_block(&mut self, closure: Oop, args: u32) -> Result<(), Full> {
         let outer = self.heap.slot(closure, OUTER_CONTEXT);
         let method = self.heap.slot(outer, METHOD);
-        let header = count(self.heap.slot(method, 0));
+        let header = header_of(self.heap.slot(method, 0));
         let copied = self.heap.slot_count(closure) - FIRST_COPIED;
         let fields = Fields {
             sender: self.active_context(),

@@ -2,14 +2,30 @@
 use Rattle.std.proofs.Common.{◌≡◌, ℕ, pos, zero, suc, ◌-◌, ◌<◌, ◌≤◌, true, false, refl, sym, ap, ◌∙◌, Option, Some, None, IsSome, is_some, unwrap_or, option_map, option_and_then, List, [], ◌∷◌, length, nat_lt, arith}
 use Rattle.std.specs.Prelude.{◌==◌, slice_get}
 use Rattle.std.proofs.lemmas.Bool.Decides.{nat_tests}
+use Rattle.cs_word.specs.declared.Kind.{Kind}
+use Rattle.cs_word.specs.declared.Kind.TheVariants as kind
 use Rattle.cs_word.specs.declared.Oop.{Oop}
+use Rattle.cs_word.specs.Word.{kind_of, natural_by_kind, natural_of_word}
+use Rattle.cs_classes.specs.Meaning.{count_of, count_of_kind}
+use Rattle.cs_classes.proofs.Refs.{index_of-ref_of}
 use Rattle.cs_model.specs.Ref.{Ref, Small, index_of}
 use Rattle.cs_model.specs.Obj.{Context}
 use Rattle.cs_model.specs.State.{Kept}
 use Rattle.cs_model.specs.Context.{context_get, is_context_ref}
 use Rattle.cs_model.specs.Return.{context_at}
-use Rattle.cs_acts.specs.Names.{NamesOption, Store, name_of}
+use Rattle.cs_acts.specs.Names.{IsNamed, NamesOption, Store, name_of}
 use Rattle.cs_acts.specs.Targets.{field_of}
+
+-- the number that a word is, as a reference and as a word
+pub natural_name : (s : Store) (o : Oop) → IsNamed s o → index_of (name_of s o) ≡ natural_of_word o.0
+unfolding natural_of_word count_of
+natural_name s o named = index_of-ref_of s.memory.objects o.0 named ∙ alike (kind_of o.0)
+  where
+    alike : (k : Kind) → count_of_kind k ≡ natural_by_kind k
+    alike (kind.Small z) = refl
+    alike (kind.Character c) = refl
+    alike (kind.Object a) = refl
+    alike (kind.Link w) = refl
 
 -- the field of a context that may be absent
 abbrev pub field_in : Kept → Option Context → ℕ → Option Ref
@@ -74,13 +90,13 @@ value_below k x i depth is l = go (context_at k x) is
         sym (ap is_some (value_is k c i l) ∙ get_there c.stack (i - 6) ∙ ap (nat_lt (i - 6)) deep)
 
 -- field 2 is the number of values
-pub depth_read : (k : Kept) (s : Store) (x : Ref) (o : Oop) (n : ℕ) → is_context_ref k x ≡ true → NamesOption s (Some o) (field_of k x 2) → n ≡ unwrap_or (index_of (name_of s o)) 0
-    → option_map (λ c. length c.stack) (context_at k x) ≡ Some n
+pub depth_read : (k : Kept) (s : Store) (x : Ref) (o : Oop) (n : Option ℕ) (depth : ℕ) → is_context_ref k x ≡ true → NamesOption s (Some o) (field_of k x 2) → n ≡ natural_of_word o.0 → depth ≡ unwrap_or n 0
+    → option_map (λ c. length c.stack) (context_at k x) ≡ Some depth
 unfolding context_get
-depth_read k s x o n is names e = go (context_at k x) is names.is
+depth_read k s x o n depth is names e f = go (context_at k x) is names.is
   where
-    go : (p : Option Context) → is_some p ≡ true → Some (name_of s o) ≡ field_in k p 2 → option_map (λ c. length c.stack) p ≡ Some n
+    go : (p : Option Context) → is_some p ≡ true → Some (name_of s o) ≡ field_in k p 2 → option_map (λ c. length c.stack) p ≡ Some depth
     go None i f = absurd (cc)
-    go (Some c) i f =
+    go (Some c) i g =
         let is : name_of s o ≡ Small (pos (length c.stack)) = cc in
-        sym (ap Some (e ∙ ap (λ r. unwrap_or (index_of r) 0) is))
+        sym (ap Some (f ∙ ap (λ p. unwrap_or p 0) (e ∙ sym (natural_name s o names.sound) ∙ ap index_of is)))

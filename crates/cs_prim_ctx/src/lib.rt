@@ -1,9 +1,11 @@
-//! Primitives on contexts, over any world: the fields and stack values of a context, and how many values its stack holds.
+//! Primitives on contexts, over any world: the fields and stack values of a context, and how many values its stack
+//! holds.
 //!
 //! Where one fails, nothing is changed. On success receiver and arguments are popped, and the answer is pushed.
 #![tactic(auto)]
 
-ghost use Rattle.std.specs.Prelude.{◌≡◌, ◌<◌, ◌+◌, ◌^◌, ℕ, Some, IfErr, IfOk, None, OnOk, is_some, length, option_map, true, unwrap_or};
+ghost use Rattle.std.specs.Prelude.{◌≡◌, ◌<◌, ◌+◌, ◌^◌, ℕ, Some, IfErr, IfOk, None, OnOk, is_some, length, option_map};
+ghost use Rattle.std.specs.Prelude.{true, unwrap_or};
 ghost use Rattle.cs_model.specs.Context.{is_context_ref};
 ghost use Rattle.cs_model.specs.Keeps.{SameKept};
 ghost use Rattle.cs_model.specs.Operation.{drop_of, push_of};
@@ -28,7 +30,7 @@ ghost use Rattle.cs_prim_ctx.specs.Numbers.{reads_context};
 use cs_acts::answer::{answer, argument, receiver};
 use cs_acts::read::is_context;
 use cs_acts::{Full, PrimEnd, World};
-use cs_word::{Kind, Oop};
+use cs_word::Oop;
 
 /// The numbers of two of the primitives; the third one is 212.
 const SLOT_AT: u32 = 73;
@@ -40,20 +42,24 @@ const FIELDS: u32 = 6;
 
 const STACKP: u32 = 2;
 
-/// Does the primitive of this number, with so many arguments.
+/// Does primitive `number` with `args` arguments.
 ///
-/// These are 73 on a context, which reads a field, counted from 1, or behind the fields a value of the stack; 210, which reads
-/// value i of a context's stack, counted from 1; and 212, which tells how many values that stack holds. With another number of
-/// arguments, and where there is no such field or value, they fail. `Full` comes only where the sender was to be answered.
+/// These are 73 on a context, which reads a field, counted from 1, or behind the fields a value of the stack; 210,
+/// which reads value i of a context's stack, counted from 1; and 212, which tells how many values that stack holds.
+/// With another number of arguments, and where there is no such field or value, they fail. `Full` comes only where the
+/// sender was to be answered.
 pub fn primitive<W: World>(w: &mut W, number: u32, args: u32) -> PrimEnd
     requires ready { IsReady (W.stored w.old) (W.view w.old) }
     requires number { reads_context (W.view w.old) number args ≡ true }
     requires there { args < depth_of (W.view w.old) }
-    ensures gives { PrimGives (W.stored w.old) (W.stored w.new) (W.layout w.old) (W.view w.old) (W.view w.old) (W.view w.new) result (kept_prim number args (W.view w.old)) }
-    ensures exact { UnlessFull result (W.layout w.old ≡ None → SameKept (W.view w.new) (kept_prim number args (W.view w.old)).state) }
+    ensures gives { PrimGives (W.stored w.old) (W.stored w.new) (W.layout w.old) (W.view w.old) (W.view w.old)
+        (W.view w.new) result (kept_prim number args (W.view w.old)) }
+    ensures exact { UnlessFull result (W.layout w.old ≡ None → SameKept (W.view w.new)
+        (kept_prim number args (W.view w.old)).state) }
     ensures layout { UnlessFull result (W.layout w.new ≡ W.layout w.old) }
     ensures limit { (W.stored w.new).memory.limit ≡ (W.stored w.old).memory.limit }
-    ensures contexts { UnlessFull result (MakesAtMost (kept_prim number args (W.view w.old)).count.looks (W.layout w.old) (W.stored w.old) (W.stored w.new)) }
+    ensures contexts { UnlessFull result (MakesAtMost (kept_prim number args (W.view w.old)).count.looks
+        (W.layout w.old) (W.stored w.old) (W.stored w.new)) }
 {
     if number == SLOT_AT {
         slot_at(w, args)
@@ -69,7 +75,8 @@ fn slot_at<W: World>(w: &mut W, args: u32) -> PrimEnd
     requires ready { IsReady (W.stored w.old) (W.view w.old) }
     requires there { args < depth_of (W.view w.old) }
     requires context { is_context_ref (W.view w.old) (receiver (W.view w.old) args) ≡ true }
-    ensures { Performs (W.stored w.old) (W.stored w.new) (W.layout w.old) (W.layout w.new) (W.view w.old) (W.view w.new) result (slot_at_prim (W.view w.old) args) }
+    ensures { Performs (W.stored w.old) (W.stored w.new) (W.layout w.old) (W.layout w.new) (W.view w.old) (W.view w.new)
+        result (slot_at_prim (W.view w.old) args) }
 {
     if args != 1 {
         return PrimEnd::Fail;
@@ -85,7 +92,8 @@ fn slot_at<W: World>(w: &mut W, args: u32) -> PrimEnd
 fn stack_at<W: World>(w: &mut W, args: u32) -> PrimEnd
     requires ready { IsReady (W.stored w.old) (W.view w.old) }
     requires there { args < depth_of (W.view w.old) }
-    ensures { Performs (W.stored w.old) (W.stored w.new) (W.layout w.old) (W.layout w.new) (W.view w.old) (W.view w.new) result (stack_at_prim (W.view w.old) args) }
+    ensures { Performs (W.stored w.old) (W.stored w.new) (W.layout w.old) (W.layout w.new) (W.view w.old) (W.view w.new)
+        result (stack_at_prim (W.view w.old) args) }
 {
     if args != 1 {
         return PrimEnd::Fail;
@@ -104,7 +112,8 @@ fn stack_at<W: World>(w: &mut W, args: u32) -> PrimEnd
 fn stack_pointer<W: World>(w: &mut W, args: u32) -> PrimEnd
     requires ready { IsReady (W.stored w.old) (W.view w.old) }
     requires there { args < depth_of (W.view w.old) }
-    ensures { Performs (W.stored w.old) (W.stored w.new) (W.layout w.old) (W.layout w.new) (W.view w.old) (W.view w.new) result (stackp_prim (W.view w.old) args) }
+    ensures { Performs (W.stored w.old) (W.stored w.new) (W.layout w.old) (W.layout w.new) (W.view w.old) (W.view w.new)
+        result (stackp_prim (W.view w.old) args) }
 {
     if args != 0 {
         return PrimEnd::Fail;
@@ -118,25 +127,26 @@ fn stack_pointer<W: World>(w: &mut W, args: u32) -> PrimEnd
 }
 
 /// The index, counted from 0, that a word says by counting from 1; None exactly where it is no SmallInteger above 0.
-#[tactic(auto, unfolding(cs_classes::specs::Meaning::ref_of, cs_classes::specs::Sound::is_reference))]
+#[tactic(auto, using(crate::proofs::Fields::natural_name))]
 fn slot_index(word: Oop) -> Option<u32>
     ensures value { (s : Store) → IsNamed s word → result ≡ slot_index (name_of s word) }
     ensures small { (i : ℕ) → result ≡ Some i → i < 2 ^ 30 }
 {
-    match word.kind() {
-        Kind::Small(value) if value > 0 => Some((value - 1) as u32),
+    match word.natural() {
+        Some(number) if number > 0 => Some(number - 1),
         _ => None,
     }
 }
 
-/// Answers field `i` of a context, or its stack value `i` - 6, in the place of receiver and arguments. It fails where the context
-/// has no such field or value.
+/// Answers field `i` of a context, or its stack value `i` - 6, in the place of receiver and arguments. It fails where
+/// the context has no such field or value.
 fn answer_field<W: World>(w: &mut W, args: u32, ctx: Oop, i: u32) -> PrimEnd
     requires ready { IsReady (W.stored w.old) (W.view w.old) }
     requires there { args < depth_of (W.view w.old) }
     requires named { IsNamed (W.stored w.old) ctx }
     requires context { is_context_ref (W.view w.old) (name_of (W.stored w.old) ctx) ≡ true }
-    ensures { Performs (W.stored w.old) (W.stored w.new) (W.layout w.old) (W.layout w.new) (W.view w.old) (W.view w.new) result (answer_field (W.view w.old) args i (field_of (W.view w.old) (name_of (W.stored w.old) ctx) i)) }
+    ensures { Performs (W.stored w.old) (W.stored w.new) (W.layout w.old) (W.layout w.new) (W.view w.old) (W.view w.new)
+        result (answer_field (W.view w.old) args i (field_of (W.view w.old) (name_of (W.stored w.old) ctx) i)) }
 {
     match field(w, ctx, i) {
         Ok(Some(value)) => {
@@ -153,9 +163,11 @@ fn field<W: World>(w: &mut W, ctx: Oop, i: u32) -> Result<Option<Oop>, Full>
     requires ready { IsReady (W.stored w.old) (W.view w.old) }
     requires named { IsNamed (W.stored w.old) ctx }
     requires context { is_context_ref (W.view w.old) (name_of (W.stored w.old) ctx) ≡ true }
-    ensures value { IfOk result (λ o. NamesOption (W.stored w.new) o (field_of (W.view w.old) (name_of (W.stored w.old) ctx) i)) }
+    ensures value { IfOk result (λ o. NamesOption (W.stored w.new) o
+        (field_of (W.view w.old) (name_of (W.stored w.old) ctx) i)) }
     ensures view { OnOk result (W.view w.new ≡ W.view w.old) }
-    ensures leads { OnOk result (Leads (W.stored w.old) (W.stored w.new) (W.layout w.old) (W.layout w.new) (W.view w.new) (W.view w.old) (made_by_reading i)) }
+    ensures leads { OnOk result (Leads (W.stored w.old) (W.stored w.new) (W.layout w.old) (W.layout w.new)
+        (W.view w.new) (W.view w.old) (made_by_reading i)) }
     ensures limit { (W.stored w.new).memory.limit ≡ (W.stored w.old).memory.limit }
     ensures sender_alone { IfErr result (λ _. i ≡ 0) }
     ensures heap_alone { IfErr result (λ why. why ≡ full.Heap) }
@@ -177,7 +189,8 @@ fn has_field<W: World>(w: &mut W, ctx: Oop, i: u32) -> bool
     requires context { is_context_ref (W.view w.old) (name_of (W.stored w.old) ctx) ≡ true }
     ensures value { result ≡ is_some (field_of (W.view w.old) (name_of (W.stored w.old) ctx) i) }
     ensures view { W.view w.new ≡ W.view w.old }
-    ensures leads { Leads (W.stored w.old) (W.stored w.new) (W.layout w.old) (W.layout w.new) (W.view w.new) (W.view w.old) 0 }
+    ensures leads { Leads (W.stored w.old) (W.stored w.new) (W.layout w.old) (W.layout w.new) (W.view w.new)
+        (W.view w.old) 0 }
 {
     if i < FIELDS {
         true
@@ -191,23 +204,14 @@ fn stack_depth<W: World>(w: &mut W, ctx: Oop) -> u32
     requires ready { IsReady (W.stored w.old) (W.view w.old) }
     requires named { IsNamed (W.stored w.old) ctx }
     requires context { is_context_ref (W.view w.old) (name_of (W.stored w.old) ctx) ≡ true }
-    ensures value { option_map (λ c. length c.stack) (context_at (W.view w.old) (name_of (W.stored w.old) ctx)) ≡ Some result }
+    ensures value { option_map (λ c. length c.stack) (context_at (W.view w.old) (name_of (W.stored w.old) ctx)) ≡ Some
+        result }
     ensures view { W.view w.new ≡ W.view w.old }
-    ensures leads { Leads (W.stored w.old) (W.stored w.new) (W.layout w.old) (W.layout w.new) (W.view w.new) (W.view w.old) 0 }
+    ensures leads { Leads (W.stored w.old) (W.stored w.new) (W.layout w.old) (W.layout w.new) (W.view w.new)
+        (W.view w.old) 0 }
 {
     let Ok(stackp) = w.context_get(ctx, STACKP) else {
         unreachable!();
     };
-    natural(stackp)
-}
-
-/// The number that a word is, where it is a SmallInteger that isn't negative, and else 0.
-#[tactic(auto, unfolding(cs_classes::specs::Meaning::ref_of, cs_classes::specs::Sound::is_reference))]
-fn natural(word: Oop) -> u32
-    ensures { (s : Store) → IsNamed s word → result ≡ unwrap_or (index_of (name_of s word)) 0 }
-{
-    match word.kind() {
-        Kind::Small(value) if value >= 0 => value as u32,
-        _ => 0,
-    }
+    stackp.natural().unwrap_or(0)
 }

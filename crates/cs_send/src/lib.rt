@@ -80,14 +80,15 @@ impl Sender {
         self.full_finds
     }
 
-    /// Sends a selector to the receiver below `args` arguments: a method that has no primitive is entered, and one that has
-    /// is offered to be tried first.
+    /// Sends a selector to the receiver below `args` arguments: a method that has no primitive is entered, and one that
+    /// has is offered to be tried first.
     ///
-    /// The lookup begins at the receiver's class, or at the superclass of `above`, if that is given: a class in whose method
-    /// the message is sent to super. The causes to stop, in this order: StackUnder where the stack hasn't a receiver below so
-    /// many arguments; NotBuilt where nothing is found, or there is no class to begin at; ClassLoop where the lookup goes
-    /// through more classes than it may; and BadArgs where the method takes another number of arguments, whether it has a
-    /// primitive or not. `Full` comes only where a method was to be entered, and ends the run.
+    /// The lookup begins at the receiver's class, or at the superclass of `above`, if that is given: a class in whose
+    /// method the message is sent to super. The causes to stop, in this order: StackUnder where the stack hasn't a
+    /// receiver below so many arguments; NotBuilt where nothing is found, or there is no class to begin at; ClassLoop
+    /// where the lookup goes through more classes than it may; and BadArgs where the method takes another number of
+    /// arguments, whether it has a primitive or not. `Full` comes only where a method was to be entered, and ends the
+    /// run.
     pub fn send<W: World>(
         &mut self,
         w: &mut W,
@@ -99,10 +100,12 @@ impl Sender {
         requires births { (W.view w.old).rest.next ≤ 4611686018427387896 }
         requires selector { IsNamed (W.stored w.old) selector }
         requires above { IfSome above (λ o. IsNamed (W.stored w.old) o) }
-        ensures sent { Sends (W.stored w.old) (W.stored w.new) (W.layout w.old) (W.layout w.new) (W.view w.old) (W.view w.new) (message_of (W.stored w.old) selector args above) result }
+        ensures sent { Sends (W.stored w.old) (W.stored w.new) (W.layout w.old) (W.layout w.new) (W.view w.old)
+            (W.view w.new) (message_of (W.stored w.old) selector args above) result }
         ensures limit { (W.stored w.new).memory.limit ≡ (W.stored w.old).memory.limit }
         ensures still { Still result (w.new ≡ w.old) }
-        ensures count { self.new ≡ counted (looks_up (W.view w.old) args (option_map (λ o. name_of (W.stored w.old) o) above)) self.old }
+        ensures count { self.new ≡ counted
+            (looks_up (W.view w.old) args (option_map (λ o. name_of (W.stored w.old) o) above)) self.old }
     {
         match self.resolve(w, selector, args, above) {
             Found::Primitive { method, number } => SendEnd::Primitive { method, number },
@@ -120,9 +123,11 @@ impl Sender {
         requires ready { IsReady (W.stored w.now) (W.view w.now) }
         requires selector { IsNamed (W.stored w.now) selector }
         requires above { IfSome above (λ o. IsNamed (W.stored w.now) o) }
-        ensures found { resolved_by (W.stored w.now) result ≡ resolve_of (W.view w.now) (name_of (W.stored w.now) selector) args (option_map (λ o. name_of (W.stored w.now) o) above) }
+        ensures found { resolved_by (W.stored w.now) result ≡ resolve_of (W.view w.now)
+            (name_of (W.stored w.now) selector) args (option_map (λ o. name_of (W.stored w.now) o) above) }
         ensures method { FindsMethod (W.stored w.now) (W.view w.now) result }
-        ensures count { self.new ≡ counted (looks_up (W.view w.now) args (option_map (λ o. name_of (W.stored w.now) o) above)) self.old }
+        ensures count { self.new ≡ counted
+            (looks_up (W.view w.now) args (option_map (λ o. name_of (W.stored w.now) o) above)) self.old }
     {
         if w.depth() <= args {
             return Found::Stop(Stop::StackUnder);
@@ -142,7 +147,8 @@ impl Sender {
         requires sound { IsSound (W.stored w.now) (W.view w.now) }
         requires class { IsNamed (W.stored w.now) class }
         requires selector { IsNamed (W.stored w.now) selector }
-        ensures lookup { sought_of (W.stored w.now).memory.objects result ≡ lookup (W.view w.now) (name_of (W.stored w.now) class) (name_of (W.stored w.now) selector) }
+        ensures lookup { sought_of (W.stored w.now).memory.objects result ≡ lookup (W.view w.now)
+            (name_of (W.stored w.now) class) (name_of (W.stored w.now) selector) }
         ensures method { LooksUpMethod (W.stored w.now) (W.view w.now) result }
         ensures count { self.new ≡ counted true self.old }
     {
@@ -158,8 +164,10 @@ pub fn enter<W: World>(w: &mut W, method: Oop, args: u32, skip: bool) -> Result<
     requires ready { IsReady (W.stored w.old) (W.view w.old) }
     requires named { IsNamed (W.stored w.old) method }
     requires fits { CanEnter (W.view w.old) (name_of (W.stored w.old) method) args skip }
-    ensures enters { OnOk result (Enters (W.stored w.old) (W.stored w.new) (W.layout w.old) (W.layout w.new) (W.view w.old) (W.view w.new) (enter_out (W.view w.old) (name_of (W.stored w.old) method) args skip)) }
-    ensures full { IfErr result (Refuses (W.stored w.new) (W.layout w.old) (W.view w.old) (enter_out (W.view w.old) (name_of (W.stored w.old) method) args skip)) }
+    ensures enters { OnOk result (Enters (W.stored w.old) (W.stored w.new) (W.layout w.old) (W.layout w.new)
+        (W.view w.old) (W.view w.new) (enter_out (W.view w.old) (name_of (W.stored w.old) method) args skip)) }
+    ensures full { IfErr result (Refuses (W.stored w.new) (W.layout w.old) (W.view w.old)
+        (enter_out (W.view w.old) (name_of (W.stored w.old) method) args skip)) }
     ensures limit { (W.stored w.new).memory.limit ≡ (W.stored w.old).memory.limit }
 {
     w.enter(method, args, skip)
@@ -170,7 +178,8 @@ fn begins_at<W: World>(w: &W, args: u32, above: Option<Oop>) -> Option<Oop>
     requires ready { IsReady (W.stored w.now) (W.view w.now) }
     requires there { args < depth_of (W.view w.now) }
     requires above { IfSome above (λ o. IsNamed (W.stored w.now) o) }
-    ensures { NamesOption (W.stored w.now) result (begins_at (W.view w.now) args (option_map (λ o. name_of (W.stored w.now) o) above)) }
+    ensures { NamesOption (W.stored w.now) result
+        (begins_at (W.view w.now) args (option_map (λ o. name_of (W.stored w.now) o) above)) }
 {
     match above {
         None => class_of(w, receiver(w, args)),
@@ -191,7 +200,8 @@ fn receiver<W: World>(w: &W, args: u32) -> Oop
 fn resolve_method<W: World>(w: &W, method: Oop, args: u32) -> Found
     requires sound { IsSound (W.stored w.now) (W.view w.now) }
     requires method { IsMethodNamed (W.stored w.now) (W.view w.now) method }
-    ensures found { resolved_by (W.stored w.now) result ≡ resolve_method (W.view w.now) (name_of (W.stored w.now) method) args }
+    ensures found { resolved_by (W.stored w.now) result ≡ resolve_method (W.view w.now)
+        (name_of (W.stored w.now) method) args }
     ensures method { FindsMethod (W.stored w.now) (W.view w.now) result }
 {
     if argument_count(w, method) != args {

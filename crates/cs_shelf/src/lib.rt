@@ -5,7 +5,8 @@
 //! they hold; [`FileShelf`] and [`OutSink`] reach files and standard output, and tell nothing of it.
 #![tactic(auto)]
 
-ghost use Rattle.std.specs.Prelude.{◌≡◌, ◌≢◌, ℕ, ◌+◌, ◌<◌, ◌≤◌, ◌↔◌, List, [], Option, Some, None, IfOk, OnOk, OnErr, IfSome, IsSome, length, take, drop, max, option_map};
+ghost use Rattle.std.specs.Prelude.{◌≡◌, ◌≢◌, ℕ, ◌+◌, ◌<◌, ◌≤◌, ◌↔◌, List, [], Option, Some, None, IfOk, OnOk, OnErr};
+ghost use Rattle.std.specs.Prelude.{IfSome, IsSome, length, take, drop, max, option_map};
 ghost use Rattle.cs_shelf.specs.Outside.{Rose, Fault, read_fault, save_fault, Appends, Empties};
 
 mod calls;

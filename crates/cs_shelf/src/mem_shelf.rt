@@ -1,7 +1,10 @@
 //! A shelf in memory.
 
-ghost use Rattle.std.specs.Prelude.{◌≡◌, ◌≢◌, ◌↔◌, ◌⊎◌, ◌+◌, ◌++◌, ◌-◌, ◌<◌, ◌≤◌, ℕ, List, [], Some, None, All, IfOk, IfSome, OnErr, IsErr, IsNone, IsSome, OnOk, drop, false, length, map, max, min, slice_get, string_bytes, string_len, take};
-ghost use Rattle.cs_shelf.specs.Memory.{IsFullFor, IsListed, NamesDiffer, content_of, failed, grown, name_at, new_calls, new_entry, none_taken, passed, place_of, put_at, room_left};
+ghost use Rattle.std.specs.Prelude.{◌≡◌, ◌≢◌, ◌↔◌, ◌⊎◌, ◌+◌, ◌++◌, ◌-◌, ◌<◌, ◌≤◌, ℕ, List, [], Some, None, All, IfOk};
+ghost use Rattle.std.specs.Prelude.{IfSome, OnErr, IsErr, IsNone, IsSome, OnOk, drop, false, length, map, max, min};
+ghost use Rattle.std.specs.Prelude.{slice_get, string_bytes, string_len, take};
+ghost use Rattle.cs_shelf.specs.Memory.{IsFullFor, IsListed, NamesDiffer, content_of, failed, grown, name_at};
+ghost use Rattle.cs_shelf.specs.Memory.{new_calls, new_entry, none_taken, passed, place_of, put_at, room_left};
 ghost use Rattle.cs_shelf.specs.Outside.{Rose, read_fault, save_fault};
 
 use crate::calls::Calls;

@@ -1,6 +1,7 @@
 //! Reads and writes of a whole: loops over the calls of a shelf and a sink.
 
-ghost use Rattle.std.specs.Prelude.{◌≡◌, ◌≢◌, ℕ, ◌+◌, ◌<◌, ◌≤◌, List, Some, None, Err, IfOk, OnOk, OnErr, IfSome, IsSome, length, vec_len};
+ghost use Rattle.std.specs.Prelude.{◌≡◌, ◌≢◌, ℕ, ◌+◌, ◌<◌, ◌≤◌, List, Some, None, Err, IfOk, OnOk, OnErr, IfSome};
+ghost use Rattle.std.specs.Prelude.{IsSome, length, vec_len};
 ghost use Rattle.cs_shelf.specs.Outside.{Rose, read_fault, save_fault, Appends, AppendsPart, AsksTo};
 
 use crate::{Failed, Shelf, Sink};

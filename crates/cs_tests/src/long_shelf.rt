@@ -5,7 +5,8 @@ ghost use Rattle.std.specs.Prelude.{◌≡◌, ◌≤◌, drop, length};
 use arrayvec::ArrayString;
 use cs_shelf::{Failed, Shelf};
 
-/// A shelf on which each name holds the same bytes: these, and behind them zeros up to a length. It computes the zeros as they
+/// A shelf on which each name holds the same bytes: these, and behind them zeros up to a length. It computes the zeros
+/// as they
 /// are read. It takes nothing, and doesn't tell what it holds.
 #[derive(Drop)]
 pub struct LongShelf<'a> {

@@ -8,6 +8,7 @@ mod BlockRows
 mod Closures
 mod MarkRows
 mod NumberRows
+mod Naturals
 mod Performing
 mod Pointers
 mod Searches

@@ -21,7 +21,7 @@ use cs_acts::method::{context_size, lies};
 use cs_acts::read::{has_slots, is_context, is_method, slot, slot_if_any};
 use cs_acts::{PrimEnd, World};
 use cs_model::Stop;
-use cs_word::{Kind, Oop};
+use cs_word::Oop;
 
 /// The class index of closures, and their format: pointer slots behind fixed ones.
 const CLOSURE_CLASS: u32 = 37;
@@ -40,12 +40,14 @@ const ARGUMENT_COUNT: u32 = 2;
 
 const FIRST_COPIED: u32 = 3;
 
-/// Primitives 201 to 205, 221 and 222: the receiver is evaluated with so many arguments.
+/// Primitives 201 to 205, 221 and 222: the receiver is evaluated with `wanted` arguments. They fail where `args` is
+/// another number.
 pub(crate) fn evaluate<W: World>(w: &mut W, wanted: u32, args: u32) -> PrimEnd
     requires ready { IsReady (W.stored w.old) (W.view w.old) }
     requires there { args < depth_of (W.view w.old) }
     requires births { (W.view w.old).rest.next < 4611686018427387904 }
-    ensures { Performs (W.stored w.old) (W.stored w.new) (W.layout w.old) (W.layout w.new) (W.view w.old) (W.view w.old) (W.view w.new) result (evaluate_prim (W.view w.old) wanted args) }
+    ensures { Performs (W.stored w.old) (W.stored w.new) (W.layout w.old) (W.layout w.new) (W.view w.old) (W.view w.old)
+        (W.view w.new) result (evaluate_prim (W.view w.old) wanted args) }
 {
     if args != wanted {
         return PrimEnd::Fail;
@@ -57,12 +59,14 @@ pub(crate) fn evaluate<W: World>(w: &mut W, wanted: u32, args: u32) -> PrimEnd
     }
 }
 
-/// Primitive 206: the receiver is evaluated with the elements of an Array, which stand in the Array's place on the stack by then.
+/// Primitive 206: the receiver is evaluated with the elements of an Array, which stand in the Array's place on the
+/// stack by then.
 pub(crate) fn evaluate_array<W: World>(w: &mut W, args: u32) -> PrimEnd
     requires ready { IsReady (W.stored w.old) (W.view w.old) }
     requires there { args < depth_of (W.view w.old) }
     requires births { (W.view w.old).rest.next < 4611686018427387904 }
-    ensures { Performs (W.stored w.old) (W.stored w.new) (W.layout w.old) (W.layout w.new) (W.view w.old) (entered_from (W.view w.old) 206) (W.view w.new) result (evaluate_array_prim (W.view w.old) args) }
+    ensures { Performs (W.stored w.old) (W.stored w.new) (W.layout w.old) (W.layout w.new) (W.view w.old)
+        (entered_from (W.view w.old) 206) (W.view w.new) result (evaluate_array_prim (W.view w.old) args) }
 {
     if args != 1 {
         return PrimEnd::Fail;
@@ -86,7 +90,8 @@ fn enter<W: World>(w: &mut W, closure: Oop, method: Oop, args: u32) -> PrimEnd
     requires block { Evaluates (W.stored w.old) (W.view w.old) (name_of (W.stored w.old) closure) args method }
     requires there { args < depth_of (W.view w.old) }
     requires births { (W.view w.old).rest.next < 4611686018427387904 }
-    ensures { Performs (W.stored w.old) (W.stored w.new) (W.layout w.old) (W.layout w.new) (W.view w.old) (W.view w.old) (W.view w.new) result (enter_block_out (W.view w.old) (name_of (W.stored w.old) closure) args) }
+    ensures { Performs (W.stored w.old) (W.stored w.new) (W.layout w.old) (W.layout w.new) (W.view w.old) (W.view w.old)
+        (W.view w.new) result (enter_block_out (W.view w.old) (name_of (W.stored w.old) closure) args) }
 {
     let size = context_size(w, method);
     if args > size || copied(w, closure) > size - args {
@@ -98,7 +103,7 @@ fn enter<W: World>(w: &mut W, closure: Oop, method: Oop, args: u32) -> PrimEnd
     }
 }
 
-/// The method of a closure that can be evaluated with so many arguments; None exactly where it can't.
+/// The method of a closure that can be evaluated with `args` arguments; None exactly where it can't.
 fn block_method<W: World>(w: &W, closure: Oop, args: u32) -> Option<Oop>
     requires sound { IsSound (W.stored w.now) (W.view w.now) }
     requires named { IsNamed (W.stored w.now) closure }
@@ -138,36 +143,28 @@ fn outer_method<W: World>(w: &W, closure: Oop) -> Option<Oop>
 }
 
 /// Whether a word is a pc that lies in a method.
+#[tactic(auto, using(crate::proofs::Naturals::natural_name))]
 fn lies_at<W: World>(w: &W, method: Oop, pc: Oop) -> bool
     requires sound { IsSound (W.stored w.now) (W.view w.now) }
     requires method { IsMethodNamed (W.stored w.now) (W.view w.now) method }
     requires named { IsNamed (W.stored w.now) pc }
-    ensures { result ≡ lies_if_index (object_of (W.view w.now) (name_of (W.stored w.now) method)) (index_of (name_of (W.stored w.now) pc)) }
+    ensures { result ≡ lies_if_index (object_of (W.view w.now) (name_of (W.stored w.now) method))
+        (index_of (name_of (W.stored w.now) pc)) }
 {
-    match index(pc) {
+    match pc.natural() {
         Some(pc) => lies(w, method, pc),
         None => false,
     }
 }
 
-/// Whether a word is this number.
+/// Whether a word is the number `count`.
+#[tactic(auto, using(crate::proofs::Naturals::natural_name))]
 fn is_count(word: Oop, count: u32) -> bool
     ensures { (s : Store) → IsNamed s word → result ≡ is_count count (index_of (name_of s word)) }
 {
-    match index(word) {
+    match word.natural() {
         Some(number) => count == number,
         None => false,
-    }
-}
-
-/// The number that a word is; None exactly where it is no SmallInteger or a negative one.
-#[tactic(auto, unfolding(cs_classes::specs::Meaning::ref_of, cs_classes::specs::Sound::is_reference))]
-fn index(word: Oop) -> Option<u32>
-    ensures { (s : Store) → IsNamed s word → result ≡ index_of (name_of s word) }
-{
-    match word.kind() {
-        Kind::Small(value) if value >= 0 => Some(value as u32),
-        _ => None,
     }
 }
 
@@ -213,17 +210,20 @@ fn slot_count<W: World>(w: &W, o: Oop) -> u32
     requires sound { IsSound (W.stored w.now) (W.view w.now) }
     requires named { IsNamed (W.stored w.now) o }
     requires pointers { is_some (slots_in (object_of (W.view w.now) (name_of (W.stored w.now) o))) ≡ true }
-    ensures { option_map (λ slots. length slots) (slots_in (object_of (W.view w.now) (name_of (W.stored w.now) o))) ≡ Some result }
+    ensures { option_map (λ slots. length slots) (slots_in (object_of (W.view w.now) (name_of (W.stored w.now) o))) ≡
+        Some result }
 {
     w.heap().slot_count(o)
 }
 
-/// How many elements an Array has that fit the stack in the place of one argument; None exactly where they don't, or it is none.
+/// How many elements an Array has that fit the stack in the place of one argument; None exactly where they don't, or it
+/// is none.
 fn fitting<W: World>(w: &W, array: Oop) -> Option<u32>
     requires ready { IsReady (W.stored w.now) (W.view w.now) }
     requires named { IsNamed (W.stored w.now) array }
     requires there { 0 < depth_of (W.view w.now) }
-    ensures { result ≡ option_map (λ values. length values) (elements_fitting (W.view w.now) 1 (name_of (W.stored w.now) array)) }
+    ensures { result ≡ option_map (λ values. length values)
+        (elements_fitting (W.view w.now) 1 (name_of (W.stored w.now) array)) }
 {
     if !is_array(w, array) {
         return None;
@@ -245,13 +245,15 @@ fn is_array<W: World>(w: &W, o: Oop) -> bool
     has_slots(w, o, 0) && w.heap().format(o) == ARRAY_FORMAT
 }
 
-/// Pops one argument, and pushes the elements of an Array, which fit.
+/// Pops one argument, and pushes the `count` elements of an Array, which fit.
 fn spread<W: World>(w: &mut W, array: Oop, count: u32)
     requires ready { IsReady (W.stored w.old) (W.view w.old) }
     requires named { IsNamed (W.stored w.old) array }
     requires there { 0 < depth_of (W.view w.old) }
-    requires fits { Some count ≡ option_map (λ values. length values) (elements_fitting (W.view w.old) 1 (name_of (W.stored w.old) array)) }
-    ensures spreads { Spreads (W.stored w.old) (W.stored w.new) (W.layout w.old) (W.layout w.new) (W.view w.old) (W.view w.new) (name_of (W.stored w.old) array) }
+    requires fits { Some count ≡ option_map (λ values. length values)
+        (elements_fitting (W.view w.old) 1 (name_of (W.stored w.old) array)) }
+    ensures spreads { Spreads (W.stored w.old) (W.stored w.new) (W.layout w.old) (W.layout w.new) (W.view w.old)
+        (W.view w.new) (name_of (W.stored w.old) array) }
     ensures laid { IsLaidOut (W.stored w.new) (W.view w.new) (W.layout w.new) }
 {
     // for what their clauses say: the stack fits, and each frame is a context

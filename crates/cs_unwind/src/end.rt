@@ -7,8 +7,8 @@ use cs_model::Stop;
 pub enum BackEnd {
     /// The value has arrived.
     Done,
-    /// It can't arrive yet, or at all: this special selector is to be sent to the active context, with so many arguments. Both are
-    /// pushed.
+    /// It can't arrive yet, or at all: the special selector `special` is to be sent to the active context with `args`
+    /// arguments. Receiver and arguments are pushed.
     Call { special: u32, args: u32 },
     /// The step stops.
     Stop(Stop),

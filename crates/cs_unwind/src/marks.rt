@@ -1,7 +1,8 @@
 //! Marks: contexts without a closure whose method has primitive 198 or 199, and the search for them along the senders.
 ghost use Rattle.std.specs.Prelude.{◌≡◌, ◌<◌, IfSome, IsSome, Some, is_some, not, true, if◌then◌else◌, None};
 ghost use Rattle.cs_model.specs.Obj.{is_context_at};
-ghost use Rattle.cs_model.specs.PrimUnwind.{Marked, answer_context, answer_mark, handler_mark_prim, is_end, is_goal, search_mark, unwind_mark_prim};
+ghost use Rattle.cs_model.specs.PrimUnwind.{Marked, answer_context, answer_mark, handler_mark_prim, is_end, is_goal};
+ghost use Rattle.cs_model.specs.PrimUnwind.{search_mark, unwind_mark_prim};
 ghost use Rattle.cs_model.specs.Read.{depth_of};
 ghost use Rattle.cs_model.specs.Ref.{birth_of};
 ghost use Rattle.cs_model.specs.Return.{is_marked, is_number, links, method_primitive};
@@ -39,7 +40,8 @@ pub(crate) enum Mark {
 pub(crate) fn unwind_mark<W: World>(w: &mut W, args: u32) -> PrimEnd
     requires ready { IsReady (W.stored w.old) (W.view w.old) }
     requires there { args < depth_of (W.view w.old) }
-    ensures { Performs (W.stored w.old) (W.stored w.new) (W.layout w.old) (W.layout w.new) (W.view w.old) (W.view w.old) (W.view w.new) result (unwind_mark_prim (W.view w.old) args) }
+    ensures { Performs (W.stored w.old) (W.stored w.new) (W.layout w.old) (W.layout w.new) (W.view w.old) (W.view w.old)
+        (W.view w.new) result (unwind_mark_prim (W.view w.old) args) }
 {
     if args != 1 {
         return PrimEnd::Fail;
@@ -60,7 +62,8 @@ pub(crate) fn unwind_mark<W: World>(w: &mut W, args: u32) -> PrimEnd
 pub(crate) fn handler_mark<W: World>(w: &mut W, args: u32) -> PrimEnd
     requires ready { IsReady (W.stored w.old) (W.view w.old) }
     requires there { args < depth_of (W.view w.old) }
-    ensures { Performs (W.stored w.old) (W.stored w.new) (W.layout w.old) (W.layout w.new) (W.view w.old) (W.view w.old) (W.view w.new) result (handler_mark_prim (W.view w.old) args) }
+    ensures { Performs (W.stored w.old) (W.stored w.new) (W.layout w.old) (W.layout w.new) (W.view w.old) (W.view w.old)
+        (W.view w.new) result (handler_mark_prim (W.view w.old) args) }
 {
     if args != 0 {
         return PrimEnd::Fail;
@@ -82,7 +85,8 @@ pub(crate) fn handler_mark<W: World>(w: &mut W, args: u32) -> PrimEnd
 fn goal_of<W: World>(w: &W, end: Oop) -> Option<u64>
     requires sound { IsSound (W.stored w.now) (W.view w.now) }
     requires named { IsNamed (W.stored w.now) end }
-    ensures { result ≡ (if is_end (W.view w.now) (name_of (W.stored w.now) end) then birth_of (name_of (W.stored w.now) end) else None) }
+    ensures { result ≡ (if is_end (W.view w.now) (name_of (W.stored w.now) end) then birth_of
+        (name_of (W.stored w.now) end) else None) }
 {
     if is_end(w, end) {
         Some(w.heap().birth(end))
@@ -100,7 +104,8 @@ fn is_end<W: World>(w: &W, end: Oop) -> bool
     same(w, end, nil(w)) || is_context(w, end)
 }
 
-/// Searches for the first context that is marked by a number, from one on along the senders, and before the one of birth `goal`.
+/// Searches for the first context that is marked by `number`, from `from` on along the senders, and before the one of
+/// birth `goal`, where that is given.
 fn search_mark<W: World>(w: &W, from: Act, number: u32, goal: Option<u64>) -> Mark
     requires sound { IsSound (W.stored w.now) (W.view w.now) }
     requires gone { is_gone from ≡ not (is_some (W.act w.now from)) }
@@ -135,7 +140,7 @@ fn is_gone(a: Act) -> bool
     }
 }
 
-/// Whether a context has this birth.
+/// Whether a context has the birth `goal`, where that is given.
 fn is_goal<W: World>(w: &W, a: Act, goal: Option<u64>) -> bool
     requires sound { IsSound (W.stored w.now) (W.view w.now) }
     requires stands { IsSome (W.act w.now a) }
@@ -147,7 +152,7 @@ fn is_goal<W: World>(w: &W, a: Act, goal: Option<u64>) -> bool
     }
 }
 
-/// Whether a context is marked by a number: it has no closure, and that is the primitive of its method.
+/// Whether a context is marked by `number`: it has no closure, and that is the primitive of its method.
 ///
 /// A world doesn't say that what an act stands for is a context; whoever was led to it along the senders knows.
 pub(crate) fn is_marked<W: World>(w: &W, a: Act, number: u32) -> bool
@@ -160,11 +165,12 @@ pub(crate) fn is_marked<W: World>(w: &W, a: Act, number: u32) -> bool
     same(w, w.act_closure(a), nil(w)) && has_primitive(w, method, number)
 }
 
-/// Whether a word names a method with the primitive of this number.
+/// Whether a word names a method with primitive `number`.
 fn has_primitive<W: World>(w: &W, method: Oop, number: u32) -> bool
     requires sound { IsSound (W.stored w.now) (W.view w.now) }
     requires named { IsNamed (W.stored w.now) method }
-    ensures { result ≡ is_number number (method_primitive (object_of (W.view w.now) (name_of (W.stored w.now) method))) }
+    ensures { result ≡ is_number number
+        (method_primitive (object_of (W.view w.now) (name_of (W.stored w.now) method))) }
 {
     if !is_method(w, method) {
         return false;
@@ -180,7 +186,9 @@ fn answer_mark<W: World>(w: &mut W, args: u32, mark: Mark) -> PrimEnd
     requires ready { IsReady (W.stored w.old) (W.view w.old) }
     requires there { args < depth_of (W.view w.old) }
     requires stands { MarkStands (W.act w.old) mark }
-    ensures { (m : Marked) → FindsMark (W.act w.old) mark m → Performs (W.stored w.old) (W.stored w.new) (W.layout w.old) (W.layout w.new) (W.view w.old) (W.view w.old) (W.view w.new) result (answer_mark (W.view w.old) args m) }
+    ensures { (m : Marked) → FindsMark (W.act w.old) mark m → Performs (W.stored w.old) (W.stored w.new)
+        (W.layout w.old) (W.layout w.new) (W.view w.old) (W.view w.old) (W.view w.new) result
+        (answer_mark (W.view w.old) args m) }
 {
     match mark {
         Mark::At(here) => answer_context(w, args, here),
@@ -198,7 +206,9 @@ fn answer_context<W: World>(w: &mut W, args: u32, a: Act) -> PrimEnd
     requires ready { IsReady (W.stored w.old) (W.view w.old) }
     requires there { args < depth_of (W.view w.old) }
     requires stands { IsSome (W.act w.old a) }
-    ensures { IfSome (W.act w.old a) (λ birth. Performs (W.stored w.old) (W.stored w.new) (W.layout w.old) (W.layout w.new) (W.view w.old) (W.view w.old) (W.view w.new) result (answer_context (W.view w.old) args (Some birth))) }
+    ensures { IfSome (W.act w.old a) (λ birth. Performs (W.stored w.old) (W.stored w.new) (W.layout w.old)
+        (W.layout w.new) (W.view w.old) (W.view w.old) (W.view w.new) result
+        (answer_context (W.view w.old) args (Some birth))) }
 {
     match w.act_context(a) {
         Ok(ctx) => {

@@ -1,5 +1,6 @@
 //! Returns: to the sender of the active context, and past its home.
-ghost use Rattle.std.specs.Prelude.{◌≡◌, ◌≤◌, ◌==◌, ◌||◌, ◌+◌, Bool, ℕ, false, IfSome, IsSome, nat_le, Option, Some, true};
+ghost use Rattle.std.specs.Prelude.{◌≡◌, ◌≤◌, ◌==◌, ◌||◌, ◌+◌, Bool, ℕ, false, IfSome, IsSome, nat_le, Option, Some};
+ghost use Rattle.std.specs.Prelude.{true};
 ghost use Rattle.cs_model.specs.Read.{active_birth, depth_of, size_of};
 ghost use Rattle.cs_model.specs.Return.{cannot_return_out, local_out, nonlocal_out, unwind_out};
 ghost use Rattle.cs_acts.specs.Names.{IsNamed, name_of};
@@ -34,7 +35,8 @@ pub(crate) enum Arrival {
 pub(crate) fn to_sender<W: World>(w: &mut W, value: Oop) -> BackEnd
     requires ready { IsReady (W.stored w.old) (W.view w.old) }
     requires named { IsNamed (W.stored w.old) value }
-    ensures { Returns (W.stored w.old) (W.stored w.new) (W.layout w.old) (W.layout w.new) (W.view w.old) (W.view w.new) true result (local_out (W.view w.old) (name_of (W.stored w.old) value)) }
+    ensures { Returns (W.stored w.old) (W.stored w.new) (W.layout w.old) (W.layout w.new) (W.view w.old) (W.view w.new)
+        true result (local_out (W.view w.old) (name_of (W.stored w.old) value)) }
 {
     let active = active(w);
     let target = sender(w, active);
@@ -53,7 +55,8 @@ pub(crate) fn to_sender<W: World>(w: &mut W, value: Oop) -> BackEnd
 pub(crate) fn from_home<W: World>(w: &mut W, value: Oop) -> BackEnd
     requires ready { IsReady (W.stored w.old) (W.view w.old) }
     requires named { IsNamed (W.stored w.old) value }
-    ensures { Returns (W.stored w.old) (W.stored w.new) (W.layout w.old) (W.layout w.new) (W.view w.old) (W.view w.new) false result (nonlocal_out (W.view w.old) (name_of (W.stored w.old) value)) }
+    ensures { Returns (W.stored w.old) (W.stored w.new) (W.layout w.old) (W.layout w.new) (W.view w.old) (W.view w.new)
+        false result (nonlocal_out (W.view w.old) (name_of (W.stored w.old) value)) }
 {
     match home(w) {
         HomeEnd::At(home) => past_marks(w, value, home),
@@ -67,7 +70,8 @@ fn past_marks<W: World>(w: &mut W, value: Oop, home: Act) -> BackEnd
     requires ready { IsReady (W.stored w.old) (W.view w.old) }
     requires named { IsNamed (W.stored w.old) value }
     requires home { HasHome (W.act w.old) (W.view w.old) home }
-    ensures { Returns (W.stored w.old) (W.stored w.new) (W.layout w.old) (W.layout w.new) (W.view w.old) (W.view w.new) false result (nonlocal_out (W.view w.old) (name_of (W.stored w.old) value)) }
+    ensures { Returns (W.stored w.old) (W.stored w.new) (W.layout w.old) (W.layout w.new) (W.view w.old) (W.view w.new)
+        false result (nonlocal_out (W.view w.old) (name_of (W.stored w.old) value)) }
 {
     let target = sender(w, home);
     match senders_to(w, home, target) {
@@ -88,7 +92,8 @@ fn dies<W: World>(w: &W, target: Option<Act>, passed: bool, home: Act) -> bool
     requires ready { IsReady (W.stored w.now) (W.view w.now) }
     requires stands { IfSome target (λ t. IsSome (W.act w.now t)) }
     requires home { IsSome (W.act w.now home) }
-    ensures { (i j : ℕ) → Stands (W.act w.now) target (Some i) → W.act w.now home ≡ Some j → result ≡ (passed || (i == active_birth (W.view w.now)) || (i == j)) }
+    ensures { (i j : ℕ) → Stands (W.act w.now) target (Some i) → W.act w.now home ≡ Some j → result ≡
+        (passed || (i == active_birth (W.view w.now)) || (i == j)) }
 {
     passed || is(w, target, active(w)) || is(w, target, home)
 }
@@ -98,7 +103,8 @@ fn past_home<W: World>(w: &mut W, value: Oop, home: Act, target: Option<Act>, di
     requires ready { IsReady (W.stored w.old) (W.view w.old) }
     requires named { IsNamed (W.stored w.old) value }
     requires free { IsUnmarked (W.act w.old) (W.view w.old) home target dies }
-    ensures { Returns (W.stored w.old) (W.stored w.new) (W.layout w.old) (W.layout w.new) (W.view w.old) (W.view w.new) false result (nonlocal_out (W.view w.old) (name_of (W.stored w.old) value)) }
+    ensures { Returns (W.stored w.old) (W.stored w.new) (W.layout w.old) (W.layout w.new) (W.view w.old) (W.view w.new)
+        false result (nonlocal_out (W.view w.old) (name_of (W.stored w.old) value)) }
 {
     match may_arrive(w, target, dies) {
         Arrival::Never => cannot_return(w, value),
@@ -128,7 +134,7 @@ fn may_arrive<W: World>(w: &W, target: Option<Act>, dies: bool) -> Arrival
     }
 }
 
-/// Whether the active stack has room for so many values.
+/// Whether the active stack has room for `count` more values.
 fn fits<W: World>(w: &W, count: u32) -> bool
     requires { IsReady (W.stored w.now) (W.view w.now) }
     ensures value { result ≡ nat_le (depth_of (W.view w.now) + count) (size_of (W.view w.now)) }
@@ -141,7 +147,8 @@ fn fits<W: World>(w: &W, count: u32) -> bool
 fn cannot_return<W: World>(w: &mut W, value: Oop) -> BackEnd
     requires ready { IsReady (W.stored w.old) (W.view w.old) }
     requires named { IsNamed (W.stored w.old) value }
-    ensures { (local : Bool) → Returns (W.stored w.old) (W.stored w.new) (W.layout w.old) (W.layout w.new) (W.view w.old) (W.view w.new) local result (cannot_return_out (W.view w.old) (name_of (W.stored w.old) value)) }
+    ensures { (local : Bool) → Returns (W.stored w.old) (W.stored w.new) (W.layout w.old) (W.layout w.new)
+        (W.view w.old) (W.view w.new) local result (cannot_return_out (W.view w.old) (name_of (W.stored w.old) value)) }
 {
     if !fits(w, 2) {
         return BackEnd::Stop(Stop::StackOver);
@@ -163,7 +170,9 @@ fn about_to_return<W: World>(w: &mut W, value: Oop, mark: Act) -> BackEnd
     requires ready { IsReady (W.stored w.old) (W.view w.old) }
     requires named { IsNamed (W.stored w.old) value }
     requires stands { IsSome (W.act w.old mark) }
-    ensures { (local : Bool) (birth : ℕ) → W.act w.old mark ≡ Some birth → Returns (W.stored w.old) (W.stored w.new) (W.layout w.old) (W.layout w.new) (W.view w.old) (W.view w.new) local result (unwind_out (W.view w.old) (name_of (W.stored w.old) value) birth) }
+    ensures { (local : Bool) (birth : ℕ) → W.act w.old mark ≡ Some birth → Returns (W.stored w.old) (W.stored w.new)
+        (W.layout w.old) (W.layout w.new) (W.view w.old) (W.view w.new) local result
+        (unwind_out (W.view w.old) (name_of (W.stored w.old) value) birth) }
 {
     if !fits(w, 3) {
         return BackEnd::Stop(Stop::StackOver);

@@ -67,7 +67,7 @@ pub(crate) fn sender<W: World>(w: &W, a: Act) -> Option<Act>
     }
 }
 
-/// Whether the first one, where there is one, stands for the same context.
+/// Whether `a`, where it is given, stands for the same context as `b`.
 pub(crate) fn is<W: World>(w: &W, a: Option<Act>, b: Act) -> bool
     requires sound { IsSound (W.stored w.now) (W.view w.now) }
     requires left { IfSome a (λ x. IsSome (W.act w.now x)) }
@@ -107,7 +107,8 @@ fn is_home<W: World>(w: &W, a: Act) -> bool
 fn outer_of<W: World>(w: &W, a: Act) -> Option<Act>
     requires sound { IsSound (W.stored w.now) (W.view w.now) }
     requires stands { IsSome (W.act w.now a) }
-    ensures { IfSome (W.act w.now a) (λ birth. Stands (W.act w.now) result (outer_birth (W.view w.now) (closure_at (W.view w.now) birth))) }
+    ensures { IfSome (W.act w.now a) (λ birth. Stands (W.act w.now) result
+        (outer_birth (W.view w.now) (closure_at (W.view w.now) birth))) }
 {
     outer(w, w.act_closure(a))
 }
@@ -136,12 +137,14 @@ pub(crate) fn home<W: World>(w: &W) -> HomeEnd
     }
 }
 
-/// The first of these contexts that is marked, with one context more.
+/// The first marked context of those that a walk has passed, `mark`, and of `act`, which it passes now.
 fn first_mark<W: World>(w: &W, mark: Option<Act>, act: Act) -> Option<Act>
     requires sound { IsSound (W.stored w.now) (W.view w.now) }
     requires stands { IsSome (W.act w.now act) }
     requires context { IfSome (W.act w.now act) (λ birth. is_context_at (object_at (W.view w.now) birth) ≡ true) }
-    ensures { (births : List ℕ) (birth : ℕ) → W.act w.now act ≡ Some birth → Stands (W.act w.now) mark (first_marked (W.view w.now) unwind_mark births) → Stands (W.act w.now) result (first_marked (W.view w.now) unwind_mark (births ++ birth ∷ [])) }
+    ensures { (births : List ℕ) (birth : ℕ) → W.act w.now act ≡ Some birth → Stands (W.act w.now) mark
+        (first_marked (W.view w.now) unwind_mark births) → Stands (W.act w.now) result
+        (first_marked (W.view w.now) unwind_mark (births ++ birth ∷ [])) }
 {
     if mark.is_some() {
         mark
@@ -152,23 +155,25 @@ fn first_mark<W: World>(w: &W, mark: Option<Act>, act: Act) -> Option<Act>
     }
 }
 
-/// Whether the target was passed before, or is this context.
+/// Whether the target was passed before, or is `act`.
 fn is_passed<W: World>(w: &W, passed: bool, act: Act, target: Option<Act>) -> bool
     requires sound { IsSound (W.stored w.now) (W.view w.now) }
     requires stands { IsSome (W.act w.now act) }
     requires target { IfSome target (λ t. IsSome (W.act w.now t)) }
-    ensures { (i j : ℕ) → Stands (W.act w.now) target (Some i) → W.act w.now act ≡ Some j → result ≡ (passed || (i == j)) }
+    ensures { (i j : ℕ) → Stands (W.act w.now) target (Some i) → W.act w.now act ≡ Some j → result ≡
+        (passed || (i == j)) }
 {
     passed || is(w, target, act)
 }
 
-/// What is seen with one context more.
+/// Adds `act` to what a walk has passed.
 fn pass<W: World>(w: &W, passed: Passed, act: Act, target: Option<Act>) -> Passed
     requires sound { IsSound (W.stored w.now) (W.view w.now) }
     requires stands { IsSome (W.act w.now act) }
     requires context { IfSome (W.act w.now act) (λ birth. is_context_at (object_at (W.view w.now) birth) ≡ true) }
     requires target { IfSome target (λ t. IsSome (W.act w.now t)) }
-    ensures { (births : List ℕ) (birth : ℕ) → W.act w.now act ≡ Some birth → Sees (W.act w.now) (W.view w.now) target births passed → Sees (W.act w.now) (W.view w.now) target (births ++ birth ∷ []) result }
+    ensures { (births : List ℕ) (birth : ℕ) → W.act w.now act ≡ Some birth → Sees (W.act w.now) (W.view w.now) target
+        births passed → Sees (W.act w.now) (W.view w.now) target (births ++ birth ∷ []) result }
 {
     Passed {
         mark: first_mark(w, passed.mark, act),

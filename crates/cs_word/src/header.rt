@@ -24,7 +24,8 @@ impl bitflags::Flags for Flags {
 
     ghost exact = { ⊤ };
 
-    ghost table = { (codes "IS_IMMUTABLE", 1) ∷ (codes "REMEMBERED", 2) ∷ (codes "PINNED", 4) ∷ (codes "GREY", 8) ∷ (codes "MARKED", 16) ∷ [] };
+    ghost table = { (codes "IS_IMMUTABLE", 1) ∷ (codes "REMEMBERED", 2) ∷ (codes "PINNED", 4) ∷ (codes "GREY", 8)
+        ∷ (codes "MARKED", 16) ∷ [] };
 
     ghost set_of = { λ flags. flags.0 };
 

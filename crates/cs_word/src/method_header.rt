@@ -2,7 +2,8 @@
 
 ghost use Rattle.std.specs.Prelude.{◌≡◌, ◌<◌, ◌≤◌, ◌^◌, option_map};
 ghost use Rattle.cs_word.specs.Word.{natural_of_word};
-ghost use Rattle.cs_model.specs.Obj.{argument_count, context_size, has_primitive, is_header, literal_count, temporary_count};
+ghost use Rattle.cs_model.specs.Obj.{argument_count, context_size, has_primitive, is_header, literal_count};
+ghost use Rattle.cs_model.specs.Obj.{temporary_count};
 
 use crate::Oop;
 

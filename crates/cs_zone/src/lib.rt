@@ -10,7 +10,6 @@ ghost use Rattle.std.specs.List.{copy_within, CopiedTo, SameBelow, SameFrom};
 use std::alloc::{AllocError as NoMemory, Global};
 use std::marker::Model;
 
-
 /// A fixed number of words, addressed by their place from 0 on.
 #[derive(Drop)]
 pub struct Zone {

@@ -10,4 +10,4 @@ pub returns-clause-value : goal.returns-clause-value
 returns-clause-value g c =
     let s = g.W.World.stored c.args.w.now in
     let t = g.W.World.stored c.context_get.new.self in
-    depth_read (g.W.World.view c.args.w.now) t (name_of s c.args.ctx) c.in-Ok.stackp c.natural.result c.requires.context c.in-Ok.ensures.value (c.natural.ensures t c.in-Ok.ensures.value.sound)
+    depth_read (g.W.World.view c.args.w.now) t (name_of s c.args.ctx) c.in-Ok.stackp c.natural.result c.unwrap_or.result c.requires.context c.in-Ok.ensures.value c.natural.ensures.value c.unwrap_or.ensures

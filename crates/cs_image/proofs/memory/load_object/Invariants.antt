@@ -4,4 +4,7 @@ use Rattle.cs_image.proofs.Storing.{begun}
 use Rattle.cs_image.proofs.memory.load_object.Given as goal
 
 abbrev pub invariant-loop-i : goal.invariant-loop-i
-invariant-loop-i l = l.heap ≡ record l.fn.heap { objects = l.fn.heap.objects ++ begun l.file l.birth (seen l.o) l.i ∷ [] }
+invariant-loop-i l = record {
+  limit : l.heap.limit ≡ l.fn.heap.limit;
+  objects : l.heap.objects ≡ l.fn.heap.objects ++ begun l.file l.birth (seen l.o) l.i ∷ [];
+}

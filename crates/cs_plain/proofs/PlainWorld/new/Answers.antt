@@ -1,4 +1,5 @@
 use Rattle.std.proofs.Common.{◌≤◌, ◌∙◌, None, ap, refl, subst, sym}
+use Rattle.cs_classes.proofs.Fields.{kept_of-kinds}
 use Rattle.cs_model.specs.Due.{is_idle}
 use Rattle.cs_model.specs.Read.{IsRunning}
 use Rattle.cs_model.specs.Step.{shape_fault}
@@ -14,7 +15,7 @@ open-requires-clause-sound c =
     sound_world w c.requires.whole
     (subst (λ n. n ≤ w.heap.limit) c.used_words-used.ensures.value c.used_words-used.ensures.within)
     (subst (λ n. n ≤ 67108864) c.limit_words-limit.ensures.value c.limit_words-limit.ensures.most)
-    c.requires.closures
+    (kept_of-kinds w.heap.objects w.classes w.roots None c.requires.whole c.requires.senders)
     c.requires.pcs
 
 pub returns-clause-idle : goal.returns-clause-idle

@@ -16,24 +16,24 @@ slot-requires c = header_there c.args.self.now c.args.method c.requires.ready.so
 
 pub new_context-requires-clause-fits : goal.new_context-requires-clause-fits
 new_context-requires-clause-fits c =
-    can_call c.args.self.now c.args.method c.active_context.result c.args.args c.args.skip c.requires.ready c.requires.named c.requires.fits c.active_context.ensures c.slot.result.0 c.count-header.result c.slot.ensures c.count-header.ensures
-    c.entry_pc.result c.temporaries.result c.depth.result c.count_word.result c.count_word-2.result c.stack_at.result c.depth.ensures.value c.entry_pc.ensures c.count_word.ensures c.temporaries.ensures c.count_word-2.ensures c.stack_at.ensures
+    can_call c.args.self.now c.args.method c.active_context.result c.args.args c.args.skip c.requires.ready c.requires.named c.requires.fits c.active_context.ensures c.slot.result.0 c.header_of-header.result.0 c.slot.ensures c.header_of-header.ensures
+    c.entry_pc.result c.temporaries.result c.depth.result c.count_word.result c.count_word-2.result c.stack_at.result c.depth.ensures.value c.entry_pc.ensures c.count_word.ensures c.temporaries.ensures.value c.count_word-2.ensures c.stack_at.ensures
 
 pub returns-clause-state : goal.returns-clause-state
 returns-clause-state c =
-    let is = called_is c.args.self.now c.args.method c.active_context.result c.args.args c.args.skip c.requires.ready c.requires.named c.requires.fits c.active_context.ensures c.slot.result.0 c.count-header.result c.slot.ensures c.count-header.ensures
-    c.entry_pc.result c.temporaries.result c.depth.result c.count_word.result c.count_word-2.result c.stack_at.result c.depth.ensures.value c.entry_pc.ensures c.count_word.ensures c.temporaries.ensures c.count_word-2.ensures c.stack_at.ensures in
+    let is = called_is c.args.self.now c.args.method c.active_context.result c.args.args c.args.skip c.requires.ready c.requires.named c.requires.fits c.active_context.ensures c.slot.result.0 c.header_of-header.result.0 c.slot.ensures c.header_of-header.ensures
+    c.entry_pc.result c.temporaries.result c.depth.result c.count_word.result c.count_word-2.result c.stack_at.result c.depth.ensures.value c.entry_pc.ensures c.count_word.ensures c.temporaries.ensures.value c.count_word-2.ensures c.stack_at.ensures in
     on_ok_weaker c.new_context.result (λ view m k. subst (λ t. Keeps t (enter_of m (name_of (stored_of c.args.self.now) c.args.method) c.args.args c.args.skip)) (sym (view ∙ is))
     (enter_moved k (held_by c.args.self.now c.args.method c.requires.ready c.requires.named) c.args.args c.args.skip).keeps) c.new_context.ensures.view
 
 pub returns-clause-exact : goal.returns-clause-exact
 returns-clause-exact c =
-    let is = called_is c.args.self.now c.args.method c.active_context.result c.args.args c.args.skip c.requires.ready c.requires.named c.requires.fits c.active_context.ensures c.slot.result.0 c.count-header.result c.slot.ensures c.count-header.ensures
-    c.entry_pc.result c.temporaries.result c.depth.result c.count_word.result c.count_word-2.result c.stack_at.result c.depth.ensures.value c.entry_pc.ensures c.count_word.ensures c.temporaries.ensures c.count_word-2.ensures c.stack_at.ensures in
+    let is = called_is c.args.self.now c.args.method c.active_context.result c.args.args c.args.skip c.requires.ready c.requires.named c.requires.fits c.active_context.ensures c.slot.result.0 c.header_of-header.result.0 c.slot.ensures c.header_of-header.ensures
+    c.entry_pc.result c.temporaries.result c.depth.result c.count_word.result c.count_word-2.result c.stack_at.result c.depth.ensures.value c.entry_pc.ensures c.count_word.ensures c.temporaries.ensures.value c.count_word-2.ensures c.stack_at.ensures in
     on_ok_weaker c.new_context.result (λ view none. same_kept _ _ (view ∙ is)) c.new_context.ensures.view
 
 pub returns-clause-full : goal.returns-clause-full
 returns-clause-full c =
-    let is = called_is c.args.self.now c.args.method c.active_context.result c.args.args c.args.skip c.requires.ready c.requires.named c.requires.fits c.active_context.ensures c.slot.result.0 c.count-header.result c.slot.ensures c.count-header.ensures
-    c.entry_pc.result c.temporaries.result c.depth.result c.count_word.result c.count_word-2.result c.stack_at.result c.depth.ensures.value c.entry_pc.ensures c.count_word.ensures c.temporaries.ensures c.count_word-2.ensures c.stack_at.ensures in
+    let is = called_is c.args.self.now c.args.method c.active_context.result c.args.args c.args.skip c.requires.ready c.requires.named c.requires.fits c.active_context.ensures c.slot.result.0 c.header_of-header.result.0 c.slot.ensures c.header_of-header.ensures
+    c.entry_pc.result c.temporaries.result c.depth.result c.count_word.result c.count_word-2.result c.stack_at.result c.depth.ensures.value c.entry_pc.ensures c.count_word.ensures c.temporaries.ensures.value c.count_word-2.ensures c.stack_at.ensures in
     subst (λ t. IfErr c.new_context.result (CausesFull (stored_of c.new_context.new.self) None (view_of c.args.self.now) 0 t)) is c.new_context.ensures.full

@@ -38,13 +38,13 @@ slot-requires-3 c = omega (arith, outer_slots c.args.self.now c.args.closure c.a
 pub new_context-requires-clause-fits : goal.new_context-requires-clause-fits
 new_context-requires-clause-fits c =
     can_call c.args.self.now c.args.closure c.args.args c.requires.ready c.requires.named c.requires.fits c.slot-outer.result c.slot-outer.ensures
-    c.slot-method.result c.active_context.result c.slot-2.result c.count_word.result c.slot-3.result (c.slot_count-copied.result - 3) c.slot.result.0 c.count-header.result c.slot-method.ensures c.slot.ensures c.count-header.ensures
+    c.slot-method.result c.active_context.result c.slot-2.result c.count_word.result c.slot-3.result (c.slot_count-copied.result - 3) c.slot.result.0 c.header_of-header.result.0 c.slot-method.ensures c.slot.ensures c.header_of-header.ensures
     (omega (arith, c.slot_count-copied.ensures.value, three_slots c.args.self.now c.args.closure c.args.args c.requires.ready c.requires.named c.requires.fits)) c.active_context.ensures c.slot-2.ensures c.count_word.ensures c.slot-3.ensures
 
 pub returns-clause-state : goal.returns-clause-state
 returns-clause-state c =
     let is = called_is c.args.self.now c.args.closure c.args.args c.requires.ready c.requires.named c.requires.fits c.slot-outer.result c.slot-outer.ensures
-    c.slot-method.result c.active_context.result c.slot-2.result c.count_word.result c.slot-3.result (c.slot_count-copied.result - 3) c.slot.result.0 c.count-header.result c.slot-method.ensures c.slot.ensures c.count-header.ensures
+    c.slot-method.result c.active_context.result c.slot-2.result c.count_word.result c.slot-3.result (c.slot_count-copied.result - 3) c.slot.result.0 c.header_of-header.result.0 c.slot-method.ensures c.slot.ensures c.header_of-header.ensures
     (omega (arith, c.slot_count-copied.ensures.value, three_slots c.args.self.now c.args.closure c.args.args c.requires.ready c.requires.named c.requires.fits)) c.active_context.ensures c.slot-2.ensures c.count_word.ensures c.slot-3.ensures in
     on_ok_weaker c.new_context.result (λ view m k. subst (λ t. Keeps t (enter_block_of m (name_of (stored_of c.args.self.now) c.args.closure) c.args.args)) (sym (view ∙ is))
     (enter_block_moved k (held_by c.args.self.now c.args.closure c.requires.ready c.requires.named) c.args.args).keeps) c.new_context.ensures.view
@@ -52,13 +52,13 @@ returns-clause-state c =
 pub returns-clause-exact : goal.returns-clause-exact
 returns-clause-exact c =
     let is = called_is c.args.self.now c.args.closure c.args.args c.requires.ready c.requires.named c.requires.fits c.slot-outer.result c.slot-outer.ensures
-    c.slot-method.result c.active_context.result c.slot-2.result c.count_word.result c.slot-3.result (c.slot_count-copied.result - 3) c.slot.result.0 c.count-header.result c.slot-method.ensures c.slot.ensures c.count-header.ensures
+    c.slot-method.result c.active_context.result c.slot-2.result c.count_word.result c.slot-3.result (c.slot_count-copied.result - 3) c.slot.result.0 c.header_of-header.result.0 c.slot-method.ensures c.slot.ensures c.header_of-header.ensures
     (omega (arith, c.slot_count-copied.ensures.value, three_slots c.args.self.now c.args.closure c.args.args c.requires.ready c.requires.named c.requires.fits)) c.active_context.ensures c.slot-2.ensures c.count_word.ensures c.slot-3.ensures in
     on_ok_weaker c.new_context.result (λ view none. same_kept _ _ (view ∙ is)) c.new_context.ensures.view
 
 pub returns-clause-full : goal.returns-clause-full
 returns-clause-full c =
     let is = called_is c.args.self.now c.args.closure c.args.args c.requires.ready c.requires.named c.requires.fits c.slot-outer.result c.slot-outer.ensures
-    c.slot-method.result c.active_context.result c.slot-2.result c.count_word.result c.slot-3.result (c.slot_count-copied.result - 3) c.slot.result.0 c.count-header.result c.slot-method.ensures c.slot.ensures c.count-header.ensures
+    c.slot-method.result c.active_context.result c.slot-2.result c.count_word.result c.slot-3.result (c.slot_count-copied.result - 3) c.slot.result.0 c.header_of-header.result.0 c.slot-method.ensures c.slot.ensures c.header_of-header.ensures
     (omega (arith, c.slot_count-copied.ensures.value, three_slots c.args.self.now c.args.closure c.args.args c.requires.ready c.requires.named c.requires.fits)) c.active_context.ensures c.slot-2.ensures c.count_word.ensures c.slot-3.ensures in
     subst (λ t. IfErr c.new_context.result (CausesFull (stored_of c.new_context.new.self) None (view_of c.args.self.now) 0 t)) is c.new_context.ensures.full

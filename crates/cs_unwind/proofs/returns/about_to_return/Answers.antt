@@ -1,14 +1,21 @@
-use Rattle.std.proofs.Common.{◌+◌, ◌≤◌, ◌∙◌, ap, arith, refl, [], ◌∷◌}
+use Rattle.std.proofs.Common.{◌+◌, ◌≤◌, ◌∙◌, ℕ, IfSome, IsSome, None, Option, Some, ap, arith, refl, [], ◌∷◌}
 use Rattle.cs_model.specs.Operation.{push_of}
 use Rattle.cs_model.specs.declared.stop.Stop.TheVariants as why
 use Rattle.cs_model.specs.Ref as ref
 use Rattle.cs_model.specs.Read.{active_birth, depth_of, size_of}
 use Rattle.cs_model.specs.State.{Kept}
-use Rattle.cs_acts.specs.Names.{Names, name_of}
+use Rattle.std.proofs.lemmas.Bool.{false≢true}
+use Rattle.cs_word.specs.declared.Oop.{Oop}
+use Rattle.cs_acts.specs.Names.{IsNamed, Names, Store, name_of}
 use Rattle.cs_acts.proofs.Leading.{names-trans}
 use Rattle.cs_unwind.proofs.Pushing.{call_over, call_refused, called, cause_at, context_made, contexts_made, depth_kept, depth_pushed, size_kept, size_pushed, stopped, there_is_none, there_is_room, value_pushed}
 use Rattle.cs_unwind.proofs.Walking.{told}
 use Rattle.cs_unwind.proofs.returns.about_to_return.Goals as goal
+
+-- the word that is made for a context that an act stands for is a reference
+named_there : (s : Store) (w : Oop) (o : Option ℕ) → IfSome o (λ birth. Names s w (ref.Obj birth)) → IsSome o → IsNamed s w
+named_there s w (Some birth) names some = names.sound
+named_there s w None names some = absurd (false≢true some)
 
 pub returns-then-not-fits : goal.returns-then-not-fits
 returns-then-not-fits g c local birth at =
@@ -54,6 +61,15 @@ push-requires-2-clause-fits g c =
     let here = context_made r t l m j v 1 e.view e.layout e.limit e.contexts e.sound first.ready.running e.names in
     let one = value_pushed r t (g.W.World.stored c.push.new.self) l m (g.W.World.layout c.push.new.self) v w j 1 c.in-Ok-this_context.active me here e.value.is p.state p.exact p.layout p.limit p.contexts p.ready p.names in
     omega (arith, room, depth_kept w _ one.state, size_kept w _ one.state, depth_pushed j me, size_pushed j me, ap depth_of d.view, ap size_of d.view)
+
+pub push-requires-3-clause-named : goal.push-requires-3-clause-named
+push-requires-3-clause-named g c =
+    let r = g.W.World.stored c.act_context.new.self in
+    let t = g.W.World.stored c.this_context.new.self in
+    let u = g.W.World.stored c.push.new.self in
+    let z = g.W.World.stored c.push-2.new.self in
+    let stays = names-trans r t z c.in-Ok-this_context.ensures.names (names-trans t u z c.push.ensures.names c.push-2.ensures.names) in
+    (stays c.in-Ok.mark (named_there _ _ (g.W.World.act c.args.w.now c.args.mark) c.in-Ok.ensures.value c.requires.stands)).sound
 
 pub push-requires-3-clause-fits : goal.push-requires-3-clause-fits
 push-requires-3-clause-fits g c =
