@@ -33,7 +33,8 @@ pub fn answer<W: World>(w: &mut W, args: u32, value: Oop)
     requires ready { IsReady (W.stored w.old) (W.view w.old) }
     requires there { args < depth_of (W.view w.old) }
     requires named { IsNamed (W.stored w.old) value }
-    ensures { Leads (W.stored w.old) (W.stored w.new) (W.layout w.old) (W.layout w.new) (W.view w.new) (push_of (drop_of (W.view w.old) (args + 1)) (name_of (W.stored w.old) value)) 0 }
+    ensures { Leads (W.stored w.old) (W.stored w.new) (W.layout w.old) (W.layout w.new) (W.view w.new)
+        (push_of (drop_of (W.view w.old) (args + 1)) (name_of (W.stored w.old) value)) 0 }
 {
     // for what its clauses say: the stack fits
     let _depth = w.depth();

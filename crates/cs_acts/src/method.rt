@@ -1,7 +1,9 @@
-//! What is read of a method: the number of its arguments, its primitive, the size of its contexts, and which pcs lie in it.
+//! What is read of a method: the number of its arguments, its primitive, the size of its contexts, and which pcs lie in
+//! it.
 ghost use Rattle.std.specs.Prelude.{◌≡◌, ◌<◌, ◌≤◌, ◌+◌, ◌*◌, ◌-◌, IsSome, IsTrue, Some};
 ghost use Rattle.cs_heap.specs.Object.{slot_count_of};
-ghost use Rattle.cs_model.specs.Obj.{argument_count, bytecodes_in, context_size, header_in, lies_in, literal_count, number_in, primitive_number};
+ghost use Rattle.cs_model.specs.Obj.{argument_count, bytecodes_in, context_size, header_in, lies_in, literal_count};
+ghost use Rattle.cs_model.specs.Obj.{number_in, primitive_number};
 ghost use Rattle.cs_model.specs.State.{object_of};
 ghost use Rattle.cs_acts.specs.Names.{name_of};
 ghost use Rattle.cs_acts.specs.Ready.{IsSound};
@@ -28,7 +30,8 @@ pub fn argument_count<W: World>(w: &W, method: Oop) -> u32
 pub fn primitive<W: World>(w: &W, method: Oop) -> Option<u32>
     requires sound { IsSound (W.stored w.now) (W.view w.now) }
     requires method { IsMethodNamed (W.stored w.now) (W.view w.now) method }
-    ensures { result ≡ primitive_number (header_in (object_of (W.view w.now) (name_of (W.stored w.now) method))) (bytecodes_in (object_of (W.view w.now) (name_of (W.stored w.now) method))) }
+    ensures { result ≡ primitive_number (header_in (object_of (W.view w.now) (name_of (W.stored w.now) method)))
+        (bytecodes_in (object_of (W.view w.now) (name_of (W.stored w.now) method))) }
 {
     let header = header(w, method);
     if header / (1 << 16) % 2 == 1 {
@@ -63,11 +66,13 @@ pub fn lies<W: World>(w: &W, method: Oop, pc: u32) -> bool
     is_between(first, end, u64::from(pc))
 }
 
-/// The primitive that the bytecodes of a method begin with; `first` is their first byte, behind the header and the literals.
+/// The primitive that the bytecodes of a method begin with; `first` is their first byte, behind the header and the
+/// literals.
 fn first_number<W: World>(w: &W, method: Oop, first: u32) -> Option<u32>
     requires sound { IsSound (W.stored w.now) (W.view w.now) }
     requires method { IsMethodNamed (W.stored w.now) (W.view w.now) method }
-    requires first { first ≡ 4 * (literal_count (header_in (object_of (W.view w.now) (name_of (W.stored w.now) method))) + 1) }
+    requires first { first ≡ 4 * (literal_count (header_in (object_of (W.view w.now)
+        (name_of (W.stored w.now) method))) + 1) }
     ensures { result ≡ number_in (bytecodes_in (object_of (W.view w.now) (name_of (W.stored w.now) method))) }
 {
     let heap = w.heap();

@@ -1,10 +1,12 @@
 //! What code above a world reads of its state.
-ghost use Rattle.std.specs.Prelude.{◌≤◌, ◌≡◌, ◌<◌, ◌^◌, ◌-◌, Bool, IsSome, IsTrue, Option, length, option_and_then, slice_get, is_some};
+ghost use Rattle.std.specs.Prelude.{◌≤◌, ◌≡◌, ◌<◌, ◌^◌, ◌-◌, Bool, IsSome, IsTrue, Option, length, option_and_then};
+ghost use Rattle.std.specs.Prelude.{slice_get, is_some};
 ghost use Rattle.cs_model.specs.Context.{is_context_ref};
 ghost use Rattle.cs_model.specs.Number.{boolean};
 ghost use Rattle.cs_model.specs.Obj.{first_pc, is_method, lies_in, slots_in};
 ghost use Rattle.cs_model.specs.Operation.{nil_of};
-ghost use Rattle.cs_model.specs.Read.{bytecodes_of, class_of, depth_of, from_top, literals_of, method_of, pc_of, stack_of};
+ghost use Rattle.cs_model.specs.Read.{bytecodes_of, class_of, depth_of, from_top, literals_of, method_of, pc_of};
+ghost use Rattle.cs_model.specs.Read.{stack_of};
 ghost use Rattle.cs_model.specs.Ref.{same_ref};
 ghost use Rattle.cs_model.specs.State.{active_process, is_read_only, object_of, scheduler_of, slots_of, special_at};
 ghost use Rattle.cs_model.specs.Step.{instruction_at};
@@ -87,7 +89,8 @@ pub fn from_top<W: World>(w: &W, n: u32) -> Option<Oop>
     }
 }
 
-/// Argument or temporary `i` of the active context, counted from 0 at the bottom of its stack; None exactly where the stack
+/// Argument or temporary `i` of the active context, counted from 0 at the bottom of its stack; None exactly where the
+/// stack
 /// holds fewer values.
 pub fn temporary<W: World>(w: &W, i: u32) -> Option<Oop>
     requires { IsReady (W.stored w.now) (W.view w.now) }
@@ -110,12 +113,14 @@ pub fn same<W: World>(w: &W, a: Oop, b: Oop) -> bool
     a == b
 }
 
-/// Slot `i` of a pointer object with at least `least` slots; None exactly where the word names none. A context isn't one.
+/// Slot `i` of a pointer object with at least `least` slots; None exactly where the word names none. A context isn't
+/// one.
 pub fn slot<W: World>(w: &W, o: Oop, least: u32, i: u32) -> Option<Oop>
     requires sound { IsSound (W.stored w.now) (W.view w.now) }
     requires named { IsNamed (W.stored w.now) o }
     requires within { i < least }
-    ensures { NamesOption (W.stored w.now) result (option_and_then (λ slots. slice_get slots i) (slots_of (W.view w.now) least (name_of (W.stored w.now) o))) }
+    ensures { NamesOption (W.stored w.now) result (option_and_then (λ slots. slice_get slots i)
+        (slots_of (W.view w.now) least (name_of (W.stored w.now) o))) }
 {
     let heap = w.heap();
     if words::has_slots(heap, o, least) {
@@ -129,7 +134,8 @@ pub fn slot<W: World>(w: &W, o: Oop, least: u32, i: u32) -> Option<Oop>
 pub fn slot_if_any<W: World>(w: &W, o: Oop, i: u32) -> Option<Oop>
     requires sound { IsSound (W.stored w.now) (W.view w.now) }
     requires named { IsNamed (W.stored w.now) o }
-    ensures { NamesOption (W.stored w.now) result (option_and_then (λ slots. slice_get slots i) (slots_in (object_of (W.view w.now) (name_of (W.stored w.now) o)))) }
+    ensures { NamesOption (W.stored w.now) result (option_and_then (λ slots. slice_get slots i)
+        (slots_in (object_of (W.view w.now) (name_of (W.stored w.now) o)))) }
 {
     let heap = w.heap();
     if words::has_slots(heap, o, 0) && i < heap.slot_count(o) {
@@ -225,7 +231,8 @@ pub fn has_slots<W: World>(w: &W, o: Oop, least: u32) -> bool
 /// The byte at the active pc; None exactly where that is at the end of the method.
 pub fn byte<W: World>(w: &W) -> Option<u8>
     requires { IsReady (W.stored w.now) (W.view w.now) }
-    ensures { result ≡ slice_get (bytecodes_of (W.view w.now)) (pc_of (W.view w.now) - first_pc (literals_of (W.view w.now))) }
+    ensures { result ≡ slice_get (bytecodes_of (W.view w.now))
+        (pc_of (W.view w.now) - first_pc (literals_of (W.view w.now))) }
 {
     let heap = w.heap();
     let method = w.method();

@@ -25,14 +25,16 @@ pub enum Shape {
 
 /// What the scheduler and the active process are.
 ///
-/// The scheduler must be there, with two slots, in special object 3, which has two slots too. The active process must be nil, or
+/// The scheduler must be there, with two slots, in special object 3, which has two slots too. The active process must
+/// be nil, or
 /// have four slots and be neither the scheduler nor special object 3.
 #[tactic(auto, unfolding(cs_model::specs::Step::shape_fault, cs_model::specs::Due::is_idle))]
 pub fn shape_of<W: World>(w: &W) -> Shape
     requires { IsSound (W.stored w.now) (W.view w.now) }
     ensures fault { shape_fault (W.view w.now) ≡ fault_in result }
     ensures idle { fault_in result ≡ None → is_idle (W.view w.now) ≡ is_idle_in result }
-    ensures process { IfSome (process_in result) (λ p. NamesOption (W.stored w.now) (Some p) (active_process (W.view w.now))) }
+    ensures process { IfSome (process_in result) (λ p. NamesOption (W.stored w.now) (Some p)
+        (active_process (W.view w.now))) }
 {
     let Some(process) = active_process(w) else {
         return Shape::Fault(Stop::BadSpecial);

@@ -1,11 +1,13 @@
 //! What is read of the heap by its words alone.
-ghost use Rattle.std.specs.Prelude.{◌≡◌, ◌<◌, ◌≤◌, ◌+◌, ◌*◌, ◌-◌, ◌&&◌, IsSome, IsTrue, Some, nat_le, is_some, true, unwrap_or};
+ghost use Rattle.std.specs.Prelude.{◌≡◌, ◌<◌, ◌≤◌, ◌+◌, ◌*◌, ◌-◌, ◌&&◌, IsSome, IsTrue, Some, nat_le, is_some, true};
+ghost use Rattle.std.specs.Prelude.{unwrap_or};
 ghost use Rattle.cs_heap.specs.Format.{is_method};
 ghost use Rattle.cs_heap.specs.Object.{format_of, is_object, next_of, slot_count_of, slot_of};
 ghost use Rattle.cs_classes.specs.Meaning.{count_of, unused_bytes};
 ghost use Rattle.cs_classes.specs.Sound.{is_reference};
 ghost use Rattle.cs_model.specs.Obj.{literal_count};
-ghost use Rattle.cs_acts.specs.Reading.{byte_before, class_index_of, has_slots, is_context_at, is_method_at, is_read_only_at};
+ghost use Rattle.cs_acts.specs.Reading.{byte_before, class_index_of, has_slots, is_context_at, is_method_at};
+ghost use Rattle.cs_acts.specs.Reading.{is_read_only_at};
 
 use cs_heap::Heap;
 use cs_word::{Kind, Oop};
@@ -97,7 +99,8 @@ pub(crate) fn byte_count(heap: &Heap, method: Oop) -> u32
     requires object { IsTrue (is_object heap.now.objects method.0) }
     requires slots { 0 < slot_count_of heap.now.objects method.0 }
     requires format { IsTrue (is_method (format_of heap.now.objects method.0)) }
-    ensures value { result ≡ 4 * slot_count_of heap.now.objects method.0 - unused_bytes (format_of heap.now.objects method.0) }
+    ensures value { result ≡ 4 * slot_count_of heap.now.objects method.0 - unused_bytes
+        (format_of heap.now.objects method.0) }
     ensures most { result ≤ 268435456 }
 {
     4 * heap.slot_count(method) - (u32::from(heap.format(method)) - 24)

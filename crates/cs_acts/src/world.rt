@@ -1,11 +1,14 @@
 //! The trait of all worlds.
-ghost use Rattle.std.specs.Prelude.{◌≡◌, ◌<◌, ◌≤◌, ◌-◌, ℕ, true, not, IfErr, IsSome, IsSomeAnd, is_some, IfOk, IfSome, OnOk, Option, None, Some, slice_get, unwrap_or};
+ghost use Rattle.std.specs.Prelude.{◌≡◌, ◌<◌, ◌≤◌, ◌-◌, ℕ, true, not, IfErr, IsSome, IsSomeAnd, is_some, IfOk, IfSome};
+ghost use Rattle.std.specs.Prelude.{OnOk, Option, None, Some, slice_get, unwrap_or};
 ghost use Rattle.cs_model.specs.Obj.{context_in, lies_in};
 ghost use Rattle.cs_model.specs.State.{Kept, object_at, object_of};
 ghost use Rattle.cs_model.specs.Keeps.{Keeps, SameKept};
 ghost use Rattle.cs_model.specs.Enter.{enter_block_of};
-ghost use Rattle.cs_model.specs.Read.{active_birth, active_context, depth_of, method_of, pc_of, receiver_of, size_of, stack_of};
-ghost use Rattle.cs_model.specs.Operation.{add_of, cut_to_of, enter_of, leave_of, next_ref, nil_of, pop_of, push_of, set_pc_of, set_stack_of, store_of};
+ghost use Rattle.cs_model.specs.Read.{active_birth, active_context, depth_of, method_of, pc_of, receiver_of, size_of};
+ghost use Rattle.cs_model.specs.Read.{stack_of};
+ghost use Rattle.cs_model.specs.Operation.{add_of, cut_to_of, enter_of, leave_of, next_ref, nil_of, pop_of, push_of};
+ghost use Rattle.cs_model.specs.Operation.{set_pc_of, set_stack_of, store_of};
 ghost use Rattle.cs_model.specs.Return.{closure_at, context_birth, has_room, is_live, sender_birth};
 ghost use Rattle.cs_model.specs.Context.{is_context_ref};
 ghost use Rattle.cs_model.specs.Ref as ref;
@@ -17,7 +20,8 @@ ghost use Rattle.cs_acts.specs.Layout.{IsLaidOut, LaidBy, Layout, cut, entered, 
 ghost use Rattle.cs_acts.specs.Made.{CanAllocate, MakesAtMost, blank_of, made_by_entering, made_by_reading};
 ghost use Rattle.cs_acts.specs.Names.{IsNamed, KeepsNames, Names, NamesOption, Store, name_of};
 ghost use Rattle.cs_acts.specs.Ready.{IsReady, IsSound, is_storable};
-ghost use Rattle.cs_acts.specs.Targets.{CanArrive, CanCut, CanEnter, CanEnterBlock, dying_to, field_of, is_gone, method_in};
+ghost use Rattle.cs_acts.specs.Targets.{CanArrive, CanCut, CanEnter, CanEnterBlock, dying_to, field_of, is_gone};
+ghost use Rattle.cs_acts.specs.Targets.{method_in};
 
 use crate::{Act, Full};
 use cs_classes::{Classes, Roots};
@@ -26,7 +30,8 @@ use cs_word::Oop;
 
 /// Keeps a state of the machine.
 ///
-/// Each call speaks of the state that the world keeps, its view. A call that changes it does that operation on every state
+/// Each call speaks of the state that the world keeps, its view. A call that changes it does that operation on every
+/// state
 /// that this one keeps, so nothing is told of where contexts stand. An `Oop` that a call answers is an immediate or the
 /// address of an object of the heap; one that it is given must be too. What an `Oop` names, it names for ever.
 pub trait World {
@@ -72,13 +77,15 @@ pub trait World {
     fn act_closure(&self, a: Act) -> Oop
         requires sound { IsSound (stored self.now) (view self.now) }
         requires stands { IsSome (act self.now a) }
-        ensures { IfSome (act self.now a) (λ birth. Names (stored self.now) result (closure_at (view self.now) birth)) };
+        ensures { IfSome (act self.now a) (λ birth. Names (stored self.now) result
+            (closure_at (view self.now) birth)) };
 
     /// The method of the context that an act stands for.
     fn act_method(&self, a: Act) -> Oop
         requires sound { IsSound (stored self.now) (view self.now) }
         requires stands { IsSome (act self.now a) }
-        ensures { IfSome (act self.now a) (λ birth. Names (stored self.now) result (method_in (nil_of (view self.now)) (context_in (object_at (view self.now) birth)))) };
+        ensures { IfSome (act self.now a) (λ birth. Names (stored self.now) result
+            (method_in (nil_of (view self.now)) (context_in (object_at (view self.now) birth)))) };
 
     /// Whether the context that an act stands for is live: it has a pc.
     fn act_live(&self, a: Act) -> bool
@@ -90,7 +97,8 @@ pub trait World {
     fn act_full(&self, a: Act) -> bool
         requires sound { IsSound (stored self.now) (view self.now) }
         requires stands { IsSome (act self.now a) }
-        ensures { IfSome (act self.now a) (λ birth. not result ≡ has_room (context_in (object_at (view self.now) birth))) };
+        ensures { IfSome (act self.now a) (λ birth. not result ≡ has_room
+            (context_in (object_at (view self.now) birth))) };
 
     /// The sender of the context that an act stands for; Gone exactly where that is nil.
     fn sender_act(&self, a: Act) -> Act
@@ -148,15 +156,18 @@ pub trait World {
     fn stack_at(&self, i: u32) -> Oop
         requires ready { IsReady (stored self.now) (view self.now) }
         requires there { i < depth_of (view self.now) }
-        ensures { Names (stored self.now) result (unwrap_or (slice_get (stack_of (view self.now)) i) (nil_of (view self.now))) };
+        ensures { Names (stored self.now) result (unwrap_or (slice_get (stack_of (view self.now)) i)
+            (nil_of (view self.now))) };
 
     /// Writes value i of the active stack.
     fn set_stack(&mut self, i: u32, v: Oop)
         requires ready { IsReady (stored self.old) (view self.old) }
         requires there { i < depth_of (view self.old) }
         requires named { IsNamed (stored self.old) v }
-        ensures state { (m : Kept) → Keeps (view self.old) m → Keeps (view self.new) (set_stack_of m i (name_of (stored self.old) v)) }
-        ensures exact { layout self.old ≡ None → SameKept (view self.new) (set_stack_of (view self.old) i (name_of (stored self.old) v)) }
+        ensures state { (m : Kept) → Keeps (view self.old) m → Keeps (view self.new)
+            (set_stack_of m i (name_of (stored self.old) v)) }
+        ensures exact { layout self.old ≡ None → SameKept (view self.new)
+            (set_stack_of (view self.old) i (name_of (stored self.old) v)) }
         ensures layout { layout self.new ≡ layout self.old }
         ensures limit { (stored self.new).memory.limit ≡ (stored self.old).memory.limit }
         ensures contexts { MakesAtMost 0 (layout self.old) (stored self.old) (stored self.new) }
@@ -169,8 +180,10 @@ pub trait World {
         requires there { is_storable (object_of (view self.old) (name_of (stored self.old) o)) i ≡ true }
         requires object { IsNamed (stored self.old) o }
         requires named { IsNamed (stored self.old) v }
-        ensures state { (m : Kept) → Keeps (view self.old) m → Keeps (view self.new) (store_of m (name_of (stored self.old) o) i (name_of (stored self.old) v)) }
-        ensures exact { layout self.old ≡ None → SameKept (view self.new) (store_of (view self.old) (name_of (stored self.old) o) i (name_of (stored self.old) v)) }
+        ensures state { (m : Kept) → Keeps (view self.old) m → Keeps (view self.new)
+            (store_of m (name_of (stored self.old) o) i (name_of (stored self.old) v)) }
+        ensures exact { layout self.old ≡ None → SameKept (view self.new)
+            (store_of (view self.old) (name_of (stored self.old) o) i (name_of (stored self.old) v)) }
         ensures layout { layout self.new ≡ layout self.old }
         ensures limit { (stored self.new).memory.limit ≡ (stored self.old).memory.limit }
         ensures contexts { MakesAtMost 0 (layout self.old) (stored self.old) (stored self.new) }
@@ -182,8 +195,10 @@ pub trait World {
         requires ready { IsReady (stored self.old) (view self.old) }
         requires fits { depth_of (view self.old) < size_of (view self.old) }
         requires named { IsNamed (stored self.old) v }
-        ensures state { (m : Kept) → Keeps (view self.old) m → Keeps (view self.new) (push_of m (name_of (stored self.old) v)) }
-        ensures exact { layout self.old ≡ None → SameKept (view self.new) (push_of (view self.old) (name_of (stored self.old) v)) }
+        ensures state { (m : Kept) → Keeps (view self.old) m → Keeps (view self.new)
+            (push_of m (name_of (stored self.old) v)) }
+        ensures exact { layout self.old ≡ None → SameKept (view self.new)
+            (push_of (view self.old) (name_of (stored self.old) v)) }
         ensures layout { layout self.new ≡ layout self.old }
         ensures limit { (stored self.new).memory.limit ≡ (stored self.old).memory.limit }
         ensures contexts { MakesAtMost 0 (layout self.old) (stored self.old) (stored self.new) }
@@ -194,7 +209,8 @@ pub trait World {
     fn pop(&mut self) -> Oop
         requires ready { IsReady (stored self.old) (view self.old) }
         requires there { 0 < depth_of (view self.old) }
-        ensures value { Names (stored self.new) result (unwrap_or (slice_get (stack_of (view self.old)) (depth_of (view self.old) - 1)) (nil_of (view self.old))) }
+        ensures value { Names (stored self.new) result (unwrap_or (slice_get (stack_of (view self.old))
+            (depth_of (view self.old) - 1)) (nil_of (view self.old))) }
         ensures state { (m : Kept) → Keeps (view self.old) m → Keeps (view self.new) (pop_of m) }
         ensures exact { layout self.old ≡ None → SameKept (view self.new) (pop_of (view self.old)) }
         ensures layout { layout self.new ≡ layout self.old }
@@ -205,7 +221,8 @@ pub trait World {
 
     /// The active context as an object.
     ///
-    /// Where it was a frame alone, its context is made: it was there in the state all the time, so nothing changes there. A
+    /// Where it was a frame alone, its context is made: it was there in the state all the time, so nothing changes
+    /// there. A
     /// refusal ends the run, so nothing is said of the world behind it.
     fn this_context(&mut self) -> Result<Oop, Full>
         requires sound { IsSound (stored self.old) (view self.old) }
@@ -219,14 +236,16 @@ pub trait World {
         ensures names { OnOk result (KeepsNames (stored self.old) (stored self.new)) }
         ensures paged { IfErr result (λ _. IsSome (layout self.old)) }
         ensures heap_alone { IfErr result (λ why. why ≡ full.Heap) }
-        ensures full { IfErr result (CausesFull (stored self.new) (layout self.old) (view self.old) 0 (view self.old)) };
+        ensures full { IfErr result (CausesFull (stored self.new) (layout self.old) (view self.old) 0
+            (view self.old)) };
 
     /// The context that an act stands for, as an object. It is made as by `this_context`.
     fn act_context(&mut self, a: Act) -> Result<Oop, Full>
         requires sound { IsSound (stored self.old) (view self.old) }
         requires stands { IsSome (act self.old a) }
         ensures view { OnOk result (view self.new ≡ view self.old) }
-        ensures value { IfOk result (λ o. IfSome (act self.old a) (λ birth. Names (stored self.new) o (ref.Obj birth))) }
+        ensures value { IfOk result (λ o. IfSome (act self.old a)
+            (λ birth. Names (stored self.new) o (ref.Obj birth))) }
         ensures layout { OnOk result (layout self.new ≡ layout self.old) }
         ensures limit { (stored self.new).memory.limit ≡ (stored self.old).memory.limit }
         ensures contexts { OnOk result (MakesAtMost 1 (layout self.old) (stored self.old) (stored self.new)) }
@@ -234,9 +253,11 @@ pub trait World {
         ensures names { OnOk result (KeepsNames (stored self.old) (stored self.new)) }
         ensures paged { IfErr result (λ _. IsSome (layout self.old)) }
         ensures heap_alone { IfErr result (λ why. why ≡ full.Heap) }
-        ensures full { IfErr result (CausesFull (stored self.new) (layout self.old) (view self.old) 0 (view self.old)) };
+        ensures full { IfErr result (CausesFull (stored self.new) (layout self.old) (view self.old) 0
+            (view self.old)) };
 
-    /// Field i of a context, or its stack value i - 6, counted from 0 at the bottom. There must be such a field or value.
+    /// Field i of a context, or its stack value i - 6, counted from 0 at the bottom. There must be such a field or
+    /// value.
     ///
     /// Field 0, the sender, is made as by `this_context`; the others make nothing.
     fn context_get(&mut self, ctx: Oop, i: u32) -> Result<Oop, Full>
@@ -244,10 +265,12 @@ pub trait World {
         requires named { IsNamed (stored self.old) ctx }
         requires there { IsSome (field_of (view self.old) (name_of (stored self.old) ctx) i) }
         ensures view { OnOk result (view self.new ≡ view self.old) }
-        ensures value { IfOk result (λ o. NamesOption (stored self.new) (Some o) (field_of (view self.old) (name_of (stored self.old) ctx) i)) }
+        ensures value { IfOk result (λ o. NamesOption (stored self.new) (Some o)
+            (field_of (view self.old) (name_of (stored self.old) ctx) i)) }
         ensures layout { OnOk result (layout self.new ≡ layout self.old) }
         ensures limit { (stored self.new).memory.limit ≡ (stored self.old).memory.limit }
-        ensures contexts { OnOk result (MakesAtMost (made_by_reading i) (layout self.old) (stored self.old) (stored self.new)) }
+        ensures contexts { OnOk result (MakesAtMost (made_by_reading i) (layout self.old) (stored self.old)
+            (stored self.new)) }
         ensures sound { OnOk result (IsSound (stored self.new) (view self.new)) }
         ensures names { OnOk result (KeepsNames (stored self.old) (stored self.new)) }
         ensures paged { IfErr result (λ _. IsSome (layout self.old)) }
@@ -261,19 +284,24 @@ pub trait World {
     fn allocate(&mut self, class: u32, format: u8, slots: u32) -> Result<Oop, Full>
         requires sound { IsSound (stored self.old) (view self.old) }
         requires fits { CanAllocate (view self.old) class format slots }
-        ensures state { OnOk result ((m : Kept) → Keeps (view self.old) m → Keeps (view self.new) (add_of m (blank_of m class format slots))) }
-        ensures exact { OnOk result (layout self.old ≡ None → SameKept (view self.new) (add_of (view self.old) (blank_of (view self.old) class format slots))) }
+        ensures state { OnOk result ((m : Kept) → Keeps (view self.old) m
+            → Keeps (view self.new) (add_of m (blank_of m class format slots))) }
+        ensures exact { OnOk result (layout self.old ≡ None → SameKept (view self.new)
+            (add_of (view self.old) (blank_of (view self.old) class format slots))) }
         ensures value { IfOk result (λ o. Names (stored self.new) o (next_ref (view self.old))) }
         ensures layout { OnOk result (layout self.new ≡ layout self.old) }
         ensures limit { (stored self.new).memory.limit ≡ (stored self.old).memory.limit }
         ensures contexts { OnOk result (MakesAtMost 0 (layout self.old) (stored self.old) (stored self.new)) }
         ensures sound { OnOk result (IsSound (stored self.new) (view self.new)) }
-        ensures ready { OnOk result (IsReady (stored self.old) (view self.old) → IsReady (stored self.new) (view self.new)) }
+        ensures ready { OnOk result (IsReady (stored self.old) (view self.old)
+            → IsReady (stored self.new) (view self.new)) }
         ensures names { OnOk result (KeepsNames (stored self.old) (stored self.new)) }
         ensures heap_alone { IfErr result (λ why. why ≡ full.Heap) }
-        ensures full { IfErr result (CausesFull (stored self.new) (layout self.old) (view self.old) (size slots) (add_of (view self.old) (blank_of (view self.old) class format slots))) };
+        ensures full { IfErr result (CausesFull (stored self.new) (layout self.old) (view self.old) (size slots)
+            (add_of (view self.old) (blank_of (view self.old) class format slots))) };
 
-    /// Enters a method: receiver and arguments leave the active stack, and a new context is active, with the old one as its
+    /// Enters a method: receiver and arguments leave the active stack, and a new context is active, with the old one as
+    /// its
     /// sender. It begins at the first pc of the method, or with `skip` behind its three bytes that name a primitive.
     ///
     /// A refusal ends the run, so nothing is said of the world behind it.
@@ -281,16 +309,22 @@ pub trait World {
         requires ready { IsReady (stored self.old) (view self.old) }
         requires named { IsNamed (stored self.old) method }
         requires fits { CanEnter (view self.old) (name_of (stored self.old) method) args skip }
-        ensures state { OnOk result ((m : Kept) → Keeps (view self.old) m → Keeps (view self.new) (enter_of m (name_of (stored self.old) method) args skip)) }
-        ensures exact { OnOk result (layout self.old ≡ None → SameKept (view self.new) (enter_of (view self.old) (name_of (stored self.old) method) args skip)) }
-        ensures layout { OnOk result (LaidBy (entered (view self.old) (view self.old).rest.next) (layout self.old) (layout self.new)) }
+        ensures state { OnOk result ((m : Kept) → Keeps (view self.old) m
+            → Keeps (view self.new) (enter_of m (name_of (stored self.old) method) args skip)) }
+        ensures exact { OnOk result (layout self.old ≡ None → SameKept (view self.new)
+            (enter_of (view self.old) (name_of (stored self.old) method) args skip)) }
+        ensures layout { OnOk result (LaidBy (entered (view self.old) (view self.old).rest.next) (layout self.old)
+            (layout self.new)) }
         ensures limit { (stored self.new).memory.limit ≡ (stored self.old).memory.limit }
-        ensures contexts { OnOk result (MakesAtMost (made_by_entering (view self.old) (layout self.old)) (layout self.old) (stored self.old) (stored self.new)) }
+        ensures contexts { OnOk result (MakesAtMost (made_by_entering (view self.old) (layout self.old))
+            (layout self.old) (stored self.old) (stored self.new)) }
         ensures ready { OnOk result (IsReady (stored self.new) (view self.new)) }
         ensures names { OnOk result (KeepsNames (stored self.old) (stored self.new)) }
-        ensures full { IfErr result (CausesFull (stored self.new) (layout self.old) (view self.old) 0 (enter_of (view self.old) (name_of (stored self.old) method) args skip)) };
+        ensures full { IfErr result (CausesFull (stored self.new) (layout self.old) (view self.old) 0
+            (enter_of (view self.old) (name_of (stored self.old) method) args skip)) };
 
-    /// Enters the block of a closure: closure and arguments leave the active stack, and a new context is active, with the old one as its
+    /// Enters the block of a closure: closure and arguments leave the active stack, and a new context is active, with
+    /// the old one as its
     /// sender. Its method and receiver are those of the closure's outer context.
     ///
     /// A refusal ends the run, so nothing is said of the world behind it.
@@ -298,14 +332,19 @@ pub trait World {
         requires ready { IsReady (stored self.old) (view self.old) }
         requires named { IsNamed (stored self.old) closure }
         requires fits { CanEnterBlock (view self.old) (name_of (stored self.old) closure) args }
-        ensures state { OnOk result ((m : Kept) → Keeps (view self.old) m → Keeps (view self.new) (enter_block_of m (name_of (stored self.old) closure) args)) }
-        ensures exact { OnOk result (layout self.old ≡ None → SameKept (view self.new) (enter_block_of (view self.old) (name_of (stored self.old) closure) args)) }
-        ensures layout { OnOk result (LaidBy (entered (view self.old) (view self.old).rest.next) (layout self.old) (layout self.new)) }
+        ensures state { OnOk result ((m : Kept) → Keeps (view self.old) m
+            → Keeps (view self.new) (enter_block_of m (name_of (stored self.old) closure) args)) }
+        ensures exact { OnOk result (layout self.old ≡ None → SameKept (view self.new)
+            (enter_block_of (view self.old) (name_of (stored self.old) closure) args)) }
+        ensures layout { OnOk result (LaidBy (entered (view self.old) (view self.old).rest.next) (layout self.old)
+            (layout self.new)) }
         ensures limit { (stored self.new).memory.limit ≡ (stored self.old).memory.limit }
-        ensures contexts { OnOk result (MakesAtMost (made_by_entering (view self.old) (layout self.old)) (layout self.old) (stored self.old) (stored self.new)) }
+        ensures contexts { OnOk result (MakesAtMost (made_by_entering (view self.old) (layout self.old))
+            (layout self.old) (stored self.old) (stored self.new)) }
         ensures ready { OnOk result (IsReady (stored self.new) (view self.new)) }
         ensures names { OnOk result (KeepsNames (stored self.old) (stored self.new)) }
-        ensures full { IfErr result (CausesFull (stored self.new) (layout self.old) (view self.old) 0 (enter_block_of (view self.old) (name_of (stored self.old) closure) args)) };
+        ensures full { IfErr result (CausesFull (stored self.new) (layout self.old) (view self.old) 0
+            (enter_block_of (view self.old) (name_of (stored self.old) closure) args)) };
 
     /// Returns a value: the active context dies, its sender is active, and the value is pushed there.
     ///
@@ -313,32 +352,50 @@ pub trait World {
     fn leave(&mut self, v: Oop) -> Result<(), Full>
         requires ready { IsReady (stored self.old) (view self.old) }
         requires named { IsNamed (stored self.old) v }
-        requires target { IsSomeAnd (sender_birth (view self.old) (active_birth (view self.old))) (CanArrive (view self.old)) }
-        ensures state { OnOk result ((m : Kept) → Keeps (view self.old) m → Keeps (view self.new) (leave_of m (name_of (stored self.old) v))) }
-        ensures exact { OnOk result (layout self.old ≡ None → SameKept (view self.new) (leave_of (view self.old) (name_of (stored self.old) v))) }
-        ensures layout { OnOk result (IfSome (sender_birth (view self.old) (active_birth (view self.old))) (λ target. LaidBy (left target) (layout self.old) (layout self.new))) }
+        requires target { IsSomeAnd (sender_birth (view self.old) (active_birth (view self.old)))
+            (CanArrive (view self.old)) }
+        ensures state { OnOk result ((m : Kept) → Keeps (view self.old) m
+            → Keeps (view self.new) (leave_of m (name_of (stored self.old) v))) }
+        ensures exact { OnOk result (layout self.old ≡ None → SameKept (view self.new)
+            (leave_of (view self.old) (name_of (stored self.old) v))) }
+        ensures layout { OnOk result (IfSome (sender_birth (view self.old) (active_birth (view self.old)))
+            (λ target. LaidBy (left target) (layout self.old) (layout self.new))) }
         ensures limit { (stored self.new).memory.limit ≡ (stored self.old).memory.limit }
         ensures contexts { OnOk result (MakesAtMost 0 (layout self.old) (stored self.old) (stored self.new)) }
         ensures ready { OnOk result (IsReady (stored self.new) (view self.new)) }
         ensures names { OnOk result (KeepsNames (stored self.old) (stored self.new)) }
         ensures heap_alone { IfErr result (λ why. why ≡ full.Heap) }
-        ensures full { IfErr result (CausesFull (stored self.new) (layout self.old) (view self.old) 0 (leave_of (view self.old) (name_of (stored self.old) v))) };
+        ensures full { IfErr result (CausesFull (stored self.new) (layout self.old) (view self.old) 0
+            (leave_of (view self.old) (name_of (stored self.old) v))) };
 
-    /// Returns a value past a home that is met among the senders of the active context: all contexts from the active one to the home die,
+    /// Returns a value past a home that is met among the senders of the active context: all contexts from the active
+    /// one to the home die,
     /// the home's sender is active, and the value is pushed there.
     ///
     /// A refusal ends the run, so nothing is said of the world behind it.
     fn cut_to(&mut self, home: Act, v: Oop) -> Result<(), Full>
         requires ready { IsReady (stored self.old) (view self.old) }
         requires named { IsNamed (stored self.old) v }
-        requires target { IsSomeAnd (act self.old home) (λ birth. IsSomeAnd (sender_birth (view self.old) birth) (CanCut (view self.old) birth)) }
-        ensures state { OnOk result (IfSome (act self.old home) (λ birth. IfSome (sender_birth (view self.old) birth) (λ target. (m : Kept) → Keeps (view self.old) m → Keeps (view self.new) (cut_to_of m (dying_to (view self.old) birth) target (name_of (stored self.old) v))))) }
-        ensures exact { OnOk result (layout self.old ≡ None → IfSome (act self.old home) (λ birth. IfSome (sender_birth (view self.old) birth) (λ target. SameKept (view self.new) (cut_to_of (view self.old) (dying_to (view self.old) birth) target (name_of (stored self.old) v))))) }
-        ensures layout { OnOk result (IfSome (act self.old home) (λ birth. IfSome (sender_birth (view self.old) birth) (λ target. LaidBy (cut (dying_to (view self.old) birth) target) (layout self.old) (layout self.new)))) }
+        requires target { IsSomeAnd (act self.old home) (λ birth. IsSomeAnd (sender_birth (view self.old) birth)
+            (CanCut (view self.old) birth)) }
+        ensures state { OnOk result (IfSome (act self.old home) (λ birth. IfSome (sender_birth (view self.old) birth)
+            (λ target. (m : Kept) → Keeps (view self.old) m
+            → Keeps (view self.new) (cut_to_of m (dying_to (view self.old) birth) target
+            (name_of (stored self.old) v))))) }
+        ensures exact { OnOk result (layout self.old ≡ None → IfSome (act self.old home)
+            (λ birth. IfSome (sender_birth (view self.old) birth)
+            (λ target. SameKept (view self.new) (cut_to_of (view self.old) (dying_to (view self.old) birth) target
+            (name_of (stored self.old) v))))) }
+        ensures layout { OnOk result (IfSome (act self.old home) (λ birth. IfSome (sender_birth (view self.old) birth)
+            (λ target. LaidBy (cut (dying_to (view self.old) birth) target) (layout self.old) (layout self.new)))) }
         ensures limit { (stored self.new).memory.limit ≡ (stored self.old).memory.limit }
         ensures contexts { OnOk result (MakesAtMost 0 (layout self.old) (stored self.old) (stored self.new)) }
         ensures ready { OnOk result (IsReady (stored self.new) (view self.new)) }
         ensures names { OnOk result (KeepsNames (stored self.old) (stored self.new)) }
         ensures heap_alone { IfErr result (λ why. why ≡ full.Heap) }
-        ensures full { IfErr result (λ why. IfSome (act self.old home) (λ birth. IfSome (sender_birth (view self.old) birth) (λ target. CausesFull (stored self.new) (layout self.old) (view self.old) 0 (cut_to_of (view self.old) (dying_to (view self.old) birth) target (name_of (stored self.old) v)) why))) };
+        ensures full { IfErr result (λ why. IfSome (act self.old home)
+            (λ birth. IfSome (sender_birth (view self.old) birth)
+            (λ target. CausesFull (stored self.new) (layout self.old) (view self.old) 0
+            (cut_to_of (view self.old) (dying_to (view self.old) birth) target
+            (name_of (stored self.old) v)) why))) };
 }

@@ -101,7 +101,8 @@ fn stack_depth<W: World>(w: &mut W, context: Oop) -> u32
     requires ready { IsReady (W.stored w.old) (W.view w.old) }
     requires named { IsNamed (W.stored w.old) context }
     requires context { is_context_ref (W.view w.old) (name_of (W.stored w.old) context) ≡ true }
-    ensures value { IfSome (context_at (W.view w.old) (name_of (W.stored w.old) context)) (λ c. result ≡ length c.stack) }
+    ensures value { IfSome (context_at (W.view w.old) (name_of (W.stored w.old) context))
+        (λ c. result ≡ length c.stack) }
     ensures view { W.view w.new ≡ W.view w.old }
     ensures layout { W.layout w.new ≡ W.layout w.old }
     ensures limit { (W.stored w.new).memory.limit ≡ (W.stored w.old).memory.limit }

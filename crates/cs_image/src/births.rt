@@ -80,7 +80,8 @@ fn places(alloc: Global, count: usize) -> Result<Births, AllocError>
 fn section(alloc: Global, bytes: &[u8]) -> Result<Births, AllocError>
     requires header { header_fault bytes.now ≡ None }
     requires stands { has_births bytes.now ≡ true }
-    ensures births { IfOk result (λ b. b.births.items ≡ u64s_at (birth_count bytes.now) bytes.now (80 + heap_size bytes.now)) }
+    ensures births { IfOk result (λ b. b.births.items ≡ u64s_at (birth_count bytes.now) bytes.now
+        (80 + heap_size bytes.now)) }
     ensures count { IfOk result (λ b. length b.births.items ≡ birth_count bytes.now) }
     ensures next { IfOk result (λ b. b.next ≡ next_birth_in bytes.now 0) }
 {

@@ -104,7 +104,8 @@ fn is_sound(file: &FileHeap, o: &FileObject<'_>) -> bool
 
 /// Whether an object has class index 36 and isn't what a context is.
 fn is_bad(file: &FileHeap, o: &FileObject<'_>) -> bool
-    ensures { result ≡ (is_visible (seen o.now) && (is_context (seen o.now) && not (is_sound_context file.now (seen o.now)))) }
+    ensures { result ≡ (is_visible (seen o.now) && (is_context (seen o.now)
+        && not (is_sound_context file.now (seen o.now)))) }
 {
     o.class == CONTEXT && !is_sound(file, o)
 }

@@ -55,7 +55,8 @@ use std::alloc::{AllocError, Global};
 #[tactic(auto, unfolding(cs_model::specs::ImageFile::file_of))]
 fn read_objects(alloc: Global, bytes: &[u8]) -> Result<FileHeap, ImageError>
     requires { header_fault bytes.now ≡ None }
-    ensures { Tells (at_word fault.BadObject (bad_object (cut_of (words_in bytes.now)))) (λ file. file ≡ file_of bytes.now)
+    ensures { Tells (at_word fault.BadObject (bad_object (cut_of (words_in bytes.now))))
+        (λ file. file ≡ file_of bytes.now)
         result }
 {
     let words = heap_words(alloc, bytes)?;
@@ -78,7 +79,8 @@ fn build(
     requires births { length births.now.births.items ≡ length (visible file.now) }
     requires room { is_over file.now limit_words ≡ false }
     ensures limit { IfOk result (λ l. l.heap.limit ≡ limit_words) }
-    ensures objects { IfOk result (λ l. l.heap.objects ≡ loaded_from file.now births.now.births.items 0 (visible file.now)) }
+    ensures objects { IfOk result (λ l. l.heap.objects ≡ loaded_from file.now births.now.births.items 0
+        (visible file.now)) }
     ensures classes { IfOk result (λ l. l.classes ≡ classes_at file.now table_size) }
     ensures special { IfOk result (λ l. l.roots.special.0 ≡ address_named file.now (special_address bytes.now)) }
     ensures hash { IfOk result (λ l. l.roots.last_hash ≡ last_hash_in bytes.now) }
@@ -117,12 +119,14 @@ pub fn load(alloc: Global, bytes: &[u8], limit_words: u32) -> Result<Loaded, Ima
     requires least { 4096 ≤ limit_words }
     requires most { limit_words ≤ 67108864 }
     ensures fault { Tells (fault_of bytes.now limit_words) (λ _. ⊤) result }
-    ensures state { IfOk result (λ l. image_of bytes.now limit_words ≡ Ok (kept_of l.heap.objects l.classes l.roots None)) }
+    ensures state { IfOk result (λ l. image_of bytes.now limit_words ≡ Ok
+        (kept_of l.heap.objects l.classes l.roots None)) }
     ensures opens { IfOk result (λ l. is_idle (kept_of l.heap.objects l.classes l.roots None) ≡ false
         → IsRunning (open_kept (kept_of l.heap.objects l.classes l.roots None))) }
     ensures sound { IfOk result (λ l. IsWhole l.heap.objects l.classes l.roots) }
     ensures next { IfOk result (λ l. l.roots.next_birth ≤ 2 ^ 62) }
-    ensures pcs { IfOk result (λ l. (i : ℕ) (c : Context) → object_at (kept_of l.heap.objects l.classes l.roots None) i ≡ Some
+    ensures pcs { IfOk result (λ l. (i : ℕ) (c : Context) → object_at
+        (kept_of l.heap.objects l.classes l.roots None) i ≡ Some
         (Ctx c) → PcLies (kept_of l.heap.objects l.classes l.roots None) c) }
     ensures kinds { IfOk result (λ l. (is_some (get l.classes context_class) ≡ true)
         × (is_some (get l.classes closure_class) ≡ true)) }

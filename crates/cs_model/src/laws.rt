@@ -96,14 +96,18 @@ pub fn keeping_agrees_in_reads()
     ensures scheduler_of { (v m : Kept) → Keeps v m → scheduler_of m ≡ scheduler_of v }
     ensures shaped_scheduler { (v m : Kept) → Keeps v m → shaped_scheduler m ≡ shaped_scheduler v }
     ensures active_process { (v m : Kept) → Keeps v m → active_process m ≡ active_process v }
-    ensures context_get { (v m : Kept) (c : Context) (i : ℕ) → Keeps v m → ContextHeld v c → context_get m c i ≡ context_get v c i }
-    ensures accepts { (v m : Kept) (active : Bool) (c : Context) (i : ℕ) (x : Ref) → Keeps v m → ContextHeld v c → IsHeld v x
+    ensures context_get { (v m : Kept) (c : Context) (i : ℕ) → Keeps v m → ContextHeld v c
+        → context_get m c i ≡ context_get v c i }
+    ensures accepts { (v m : Kept) (active : Bool) (c : Context) (i : ℕ) (x : Ref) → Keeps v m
+        → ContextHeld v c → IsHeld v x
         → accepts m active c i x ≡ accepts v active c i x }
-    ensures can_evaluate { (v m : Kept) (x : Ref) (args : ℕ) → Keeps v m → IsHeld v x → can_evaluate m x args ≡ can_evaluate v x args }
+    ensures can_evaluate { (v m : Kept) (x : Ref) (args : ℕ) → Keeps v m → IsHeld v x
+        → can_evaluate m x args ≡ can_evaluate v x args }
     ensures hash_of { (v m : Kept) (x : Ref) → Keeps v m → IsHeld v x → hash_of m x ≡ hash_of v x }
     ensures lookup { (v m : Kept) (class selector : Ref) → Keeps v m → IsHeld v class
         → lookup m class selector ≡ lookup v class selector }
-    ensures senders_to { (v m : Kept) (i goal : ℕ) → Keeps v m → IsSome (object_at v i) → senders_to m i goal ≡ senders_to v i goal }
+    ensures senders_to { (v m : Kept) (i goal : ℕ) → Keeps v m → IsSome (object_at v i)
+        → senders_to m i goal ≡ senders_to v i goal }
     ensures home { (v m : Kept) (i : ℕ) → Keeps v m → IsSome (object_at v i) → home m i ≡ home v i }
     ensures is_idle { (v m : Kept) → Keeps v m → is_idle m ≡ is_idle v }
     ensures instruction_at { (v m : Kept) → Keeps v m → instruction_at m ≡ instruction_at v }
@@ -120,13 +124,15 @@ pub fn keeping_agrees_in_reports()
 pub fn what_is_read_is_held()
     ensures special { (v : Kept) (i : ℕ) (x : Ref) → Keeps v v → special_at v i ≡ Some x → IsHeld v x }
     ensures class { (v : Kept) (x y : Ref) → Keeps v v → IsHeld v x → class_of v x ≡ Some y → IsHeld v y }
-    ensures slots { (v : Kept) (n : ℕ) (x : Ref) (slots : List Ref) → Keeps v v → IsHeld v x → slots_of v n x ≡ Some slots
+    ensures slots { (v : Kept) (n : ℕ) (x : Ref) (slots : List Ref) → Keeps v v → IsHeld v x
+        → slots_of v n x ≡ Some slots
         → AllByRecursion (IsHeld v) slots }
     ensures context { (v : Kept) → Keeps v v → ContextHeld v (active_context v) }
     ensures literals { (v : Kept) → Keeps v v → AllByRecursion (IsHeld v) (literals_of v) }
     ensures scheduler { (v : Kept) (x : Ref) → Keeps v v → scheduler_of v ≡ Some x → IsHeld v x }
     ensures process { (v : Kept) (x : Ref) → Keeps v v → active_process v ≡ Some x → IsHeld v x }
-    ensures method { (v : Kept) (class selector : Ref) → Keeps v v → IsHeld v class → SoughtHeld v (lookup v class selector) }
+    ensures method { (v : Kept) (class selector : Ref) → Keeps v v → IsHeld v class
+        → SoughtHeld v (lookup v class selector) }
 {}
 
 /// Behind the same operation on both, a state that keeps another one keeps it again.
@@ -135,10 +141,14 @@ pub fn keeping_survives_an_operation()
     ensures set_pc { (v m : Kept) (pc : ℕ) → Keeps v m → Keeps (set_pc_of v pc) (set_pc_of m pc) }
     ensures push { (v m : Kept) (x : Ref) → Keeps v m → IsHeld v x → Keeps (push_of v x) (push_of m x) }
     ensures drop { (v m : Kept) (n : ℕ) → Keeps v m → Keeps (drop_of v n) (drop_of m n) }
-    ensures set_stack { (v m : Kept) (i : ℕ) (x : Ref) → Keeps v m → IsHeld v x → Keeps (set_stack_of v i x) (set_stack_of m i x) }
-    ensures store { (v m : Kept) (o : Ref) (i : ℕ) (x : Ref) → Keeps v m → IsHeld v x → Keeps (store_of v o i x) (store_of m o i x) }
-    ensures store_byte { (v m : Kept) (o : Ref) (i b : ℕ) → Keeps v m → Keeps (store_byte_of v o i b) (store_byte_of m o i b) }
-    ensures set_fixed { (v m : Kept) (o : Ref) (on : Bool) → Keeps v m → Keeps (set_fixed_of v o on) (set_fixed_of m o on) }
+    ensures set_stack { (v m : Kept) (i : ℕ) (x : Ref) → Keeps v m → IsHeld v x
+        → Keeps (set_stack_of v i x) (set_stack_of m i x) }
+    ensures store { (v m : Kept) (o : Ref) (i : ℕ) (x : Ref) → Keeps v m → IsHeld v x
+        → Keeps (store_of v o i x) (store_of m o i x) }
+    ensures store_byte { (v m : Kept) (o : Ref) (i b : ℕ) → Keeps v m
+        → Keeps (store_byte_of v o i b) (store_byte_of m o i b) }
+    ensures set_fixed { (v m : Kept) (o : Ref) (on : Bool) → Keeps v m
+        → Keeps (set_fixed_of v o on) (set_fixed_of m o on) }
     ensures add { (v m : Kept) (o : Obj) → Keeps v m → NamesHeld v o → Keeps (add_of v o) (add_of m o) }
     ensures fill { (v m : Kept) (o : Ref) (values : List Ref) → Keeps v m → AllByRecursion (IsHeld v) values
         → Keeps (fill_of v o values) (fill_of m o values) }
@@ -176,7 +186,8 @@ pub fn what_was_held_still_is()
     ensures add { (v : Kept) (o : Obj) → Keeps v v → NamesHeld v o → Grows v (add_of v o) }
     ensures fill { (v : Kept) (o : Ref) (values : List Ref) → Keeps v v → AllByRecursion (IsHeld v) values
         → Grows v (fill_of v o values) }
-    ensures enter { (v : Kept) (x : Ref) (args : ℕ) (skip : Bool) → Keeps v v → IsHeld v x → Grows v (enter_of v x args skip) }
+    ensures enter { (v : Kept) (x : Ref) (args : ℕ) (skip : Bool) → Keeps v v → IsHeld v x
+        → Grows v (enter_of v x args skip) }
     ensures enter_block { (v : Kept) (x : Ref) (args : ℕ) → Keeps v v → IsHeld v x → Grows v (enter_block_of v x args) }
     ensures kill { (v : Kept) (i : ℕ) → Keeps v v → Grows v (kill_of v i) }
     ensures resume { (v : Kept) (i : ℕ) → Keeps v v → IsSome (object_at v i) → Grows v (resume_of v i) }
@@ -184,8 +195,10 @@ pub fn what_was_held_still_is()
     ensures leave { (v : Kept) (x : Ref) → Keeps v v → IsHeld v x → Grows v (leave_of v x) }
     ensures cut_to { (v : Kept) (dying : List ℕ) (i : ℕ) (x : Ref) → Keeps v v → IsSome (object_at v i) → IsHeld v x
         → Grows v (cut_to_of v dying i x) }
-    ensures context_put { (v : Kept) (birth i : ℕ) (x : Ref) → Keeps v v → IsHeld v x → Grows v (context_put v birth i x) }
-    ensures end_between { (v : Kept) (dying : List ℕ) (i : ℕ) (x : Ref) → Keeps v v → IsHeld v x → Grows v (end_between_of v dying i x) }
+    ensures context_put { (v : Kept) (birth i : ℕ) (x : Ref) → Keeps v v → IsHeld v x
+        → Grows v (context_put v birth i x) }
+    ensures end_between { (v : Kept) (dying : List ℕ) (i : ℕ) (x : Ref) → Keeps v v → IsHeld v x
+        → Grows v (end_between_of v dying i x) }
     ensures take_index { (v : Kept) (x : Ref) (index : ℕ) → Keeps v v → IsHeld v x → Grows v (take_index v x index) }
     ensures hash_given { (v : Kept) (x : Ref) → Keeps v v → IsHeld v x → Grows v (hash_given v x) }
     ensures settle { (v : Kept) → Keeps v v → Grows v (settle_kept v) }
@@ -204,14 +217,16 @@ pub fn keeping_survives_opening()
 pub fn opening_undoes_settling()
     ensures kept { (s : State) (events : List Event) (snapping : Bool) → IsValid s
         → SameKept (opened (settled s) events snapping).kept (forgotten s.kept) }
-    ensures run { (k : Kept) (events : List Event) (snapping : Bool) → (opened k events snapping).run ≡ new_run events snapping }
+    ensures run { (k : Kept) (events : List Event) (snapping : Bool)
+        → (opened k events snapping).run ≡ new_run events snapping }
 {}
 
 /// Instances are made alike, and classes get the same index.
 pub fn keeping_survives_a_making()
     ensures instance { (v m : Kept) (x : Ref) (size : ℕ) → Keeps v m → IsHeld v x
         → AlikeMade v (instantiate v x size) (instantiate m x size) }
-    ensures index { (v m : Kept) (x : Ref) → Keeps v m → IsHeld v x → AlikeHashed v (behavior_hash v x) (behavior_hash m x) }
+    ensures index { (v m : Kept) (x : Ref) → Keeps v m → IsHeld v x
+        → AlikeHashed v (behavior_hash v x) (behavior_hash m x) }
 {}
 
 /// Each instruction ends alike, and so do the parts of which instructions are composed.
@@ -232,7 +247,8 @@ pub fn keeping_survives_an_instruction()
 pub fn keeping_survives_a_send()
     ensures any { (v m : Kept) (x : Ref) (args : ℕ) (above : Option Ref) → Keeps v m → IsHeld v x → IsHeldIf v above
         → Alike v (send v x args above) (send m x args above) }
-    ensures invoked { (v m : Kept) (x : Ref) (args : ℕ) → Keeps v m → IsHeld v x → Alike v (invoke v x args) (invoke m x args) }
+    ensures invoked { (v m : Kept) (x : Ref) (args : ℕ) → Keeps v m → IsHeld v x
+        → Alike v (invoke v x args) (invoke m x args) }
     ensures entered { (v m : Kept) (x : Ref) (args : ℕ) (skip : Bool) → Keeps v m → IsHeld v x
         → Alike v (enter_out v x args skip) (enter_out m x args skip) }
     ensures block { (v m : Kept) (x : Ref) (args : ℕ) → Keeps v m → IsHeld v x
@@ -242,16 +258,19 @@ pub fn keeping_survives_a_send()
     ensures performed { (v m : Kept) (args : ℕ) → Keeps v m → Alike v (perform v args) (perform m args) }
     ensures with_arguments { (v m : Kept) → Keeps v m → Alike v (perform_with_arguments v) (perform_with_arguments m) }
     ensures executed { (v m : Kept) → Keeps v m → Alike v (execute_method v) (execute_method m) }
-    ensures whole { (v m : Kept) (r : Run) (x : Ref) (args : ℕ) (above : Option Ref) → Keeps v m → IsHeld v x → IsHeldIf v above
+    ensures whole { (v m : Kept) (r : Run) (x : Ref) (args : ℕ) (above : Option Ref) → Keeps v m → IsHeld v x
+        → IsHeldIf v above
         → AlikeResult v (do_send r v x args above) (do_send r m x args above) }
 {}
 
 /// A return ends alike: to the sender, to the sender of the home, or to what is told of it.
 pub fn keeping_survives_a_return()
-    ensures any { (v m : Kept) (x : Ref) (local : Bool) → Keeps v m → IsHeld v x → Alike v (back v x local) (back m x local) }
+    ensures any { (v m : Kept) (x : Ref) (local : Bool) → Keeps v m → IsHeld v x
+        → Alike v (back v x local) (back m x local) }
     ensures local { (v m : Kept) (x : Ref) → Keeps v m → IsHeld v x → Alike v (local_out v x) (local_out m x) }
     ensures nonlocal { (v m : Kept) (x : Ref) → Keeps v m → IsHeld v x → Alike v (nonlocal_out v x) (nonlocal_out m x) }
-    ensures refused { (v m : Kept) (x : Ref) → Keeps v m → IsHeld v x → Alike v (cannot_return_out v x) (cannot_return_out m x) }
+    ensures refused { (v m : Kept) (x : Ref) → Keeps v m → IsHeld v x
+        → Alike v (cannot_return_out v x) (cannot_return_out m x) }
     ensures unwound { (v m : Kept) (x : Ref) (mark : ℕ) → Keeps v m → IsHeld v x → IsSome (object_at v mark)
         → Alike v (unwind_out v x mark) (unwind_out m x mark) }
     ensures whole { (v m : Kept) (r : Run) (x : Ref) (local : Bool) → Keeps v m → IsHeld v x
@@ -277,9 +296,12 @@ pub fn keeping_survives_a_switch()
 
 /// Each primitive ends alike.
 pub fn keeping_survives_a_primitive()
-    ensures kept { (v m : Kept) (number args : ℕ) → Keeps v m → Alike v (kept_prim number args v) (kept_prim number args m) }
-    ensures answered { (v m : Kept) (args : ℕ) (x : Ref) → Keeps v m → IsHeld v x → Alike v (answer v args x) (answer m args x) }
-    ensures any { (s t : State) (number args : ℕ) → KeepsState s t → AlikeResult s.kept (prim number args s) (prim number args t) }
+    ensures kept { (v m : Kept) (number args : ℕ) → Keeps v m → Alike v (kept_prim number args v)
+        (kept_prim number args m) }
+    ensures answered { (v m : Kept) (args : ℕ) (x : Ref) → Keeps v m → IsHeld v x
+        → Alike v (answer v args x) (answer m args x) }
+    ensures any { (s t : State) (number args : ℕ) → KeepsState s t
+        → AlikeResult s.kept (prim number args s) (prim number args t) }
     ensures tried { (s t : State) (x : Ref) (number : ℕ) → KeepsState s t → IsHeld s.kept x
         → AlikeResult s.kept (try_primitive s x number) (try_primitive t x number) }
 {}
@@ -313,7 +335,8 @@ pub fn keeping_survives_a_run()
     ensures ending { (n : ℕ) (s t : State) → KeepsState s t → (run n s).ending ≡ (run n t).ending }
     ensures count { (n : ℕ) (s t : State) → KeepsState s t → (run n s).count ≡ (run n t).count }
     ensures run { (n : ℕ) (s t : State) → KeepsState s t → (run n s).state.run ≡ (run n t).state.run }
-    ensures next { (n : ℕ) (s t : State) → KeepsState s t → (run n s).state.kept.rest.next ≡ (run n t).state.kept.rest.next }
+    ensures next { (n : ℕ) (s t : State) → KeepsState s t → (run n s).state.kept.rest.next ≡ (run n
+        t).state.kept.rest.next }
     ensures keeps { (n : ℕ) (s t : State) → KeepsState s t → KeepsState (run n s).state (run n t).state }
     ensures held { (n : ℕ) (s t : State) → KeepsState s t → Grows s.kept (run n s).state.kept }
     ensures snapshots { (n : ℕ) (s t : State) → KeepsState s t → AllKeep (run n s).snapshots (run n t).snapshots }
@@ -350,15 +373,18 @@ pub fn no_birth_is_given_again()
         → object_at (step s).state.kept i ≡ None }
     ensures run { (n : ℕ) (s : State) (i : ℕ) → IsValid s → i < s.kept.rest.next → object_at s.kept i ≡ None
         → object_at (run n s).state.kept i ≡ None }
-    ensures step_made { (s : State) (i : ℕ) → IsValid s → object_at s.kept i ≡ None → IsSome (object_at (step s).state.kept i)
+    ensures step_made { (s : State) (i : ℕ) → IsValid s → object_at s.kept i ≡ None → IsSome (object_at
+        (step s).state.kept i)
         → s.kept.rest.next ≤ i }
-    ensures run_made { (n : ℕ) (s : State) (i : ℕ) → IsValid s → object_at s.kept i ≡ None → IsSome (object_at (run n s).state.kept i)
+    ensures run_made { (n : ℕ) (s : State) (i : ℕ) → IsValid s → object_at s.kept i ≡ None → IsSome (object_at
+        (run n s).state.kept i)
         → s.kept.rest.next ≤ i }
 {}
 
 /// No object leaves: what stands at a birth stands there after each step.
 pub fn no_object_leaves()
-    ensures step { (s : State) (i : ℕ) → IsValid s → IsSome (object_at s.kept i) → IsSome (object_at (step s).state.kept i) }
+    ensures step { (s : State) (i : ℕ) → IsValid s → IsSome (object_at s.kept i)
+        → IsSome (object_at (step s).state.kept i) }
     ensures run { (n : ℕ) (s : State) (i : ℕ) → IsValid s → IsSome (object_at s.kept i)
         → IsSome (object_at (run n s).state.kept i) }
 {}
@@ -380,7 +406,8 @@ pub fn a_run_passes_what_its_steps_leave()
 
 /// The state in which a step does its bytecode is the one that is said; where none is, the step completes no bytecode.
 pub fn a_step_does_its_bytecode_there()
-    ensures done { (s b : State) → bytecode_state s ≡ Some b → step s ≡ add_count (due s).count (finish_of s (bytecode b)) }
+    ensures done { (s b : State) → bytecode_state s ≡ Some b → step s ≡ add_count (due s).count
+        (finish_of s (bytecode b)) }
     ensures undone { (s : State) → bytecode_state s ≡ None → ((step s).ending ≢ Steps) × ((step s).ending ≢ Quit) }
 {}
 
@@ -390,7 +417,8 @@ pub fn a_step_does_its_bytecode_there()
 /// fails, or at
 /// once where it is a perform that a perform found. So where it answers, one of them gives that very answer.
 pub fn a_bytecode_gives_what_its_last_primitive_gives()
-    ensures sent { (r : Run) (o : Out) (a : Sending) → sending_from o ≡ Some a → SameButCount (followed r o) (sent r (sent_out a)) }
+    ensures sent { (r : Run) (o : Out) (a : Sending) → sending_from o ≡ Some a
+        → SameButCount (followed r o) (sent r (sent_out a)) }
     ensures none { (r : Run) (o : Out) → trials r o ≡ [] → ((followed r o).run ≡ r) × ((followed r o).snapshot ≡ None) }
     ensures one { (r : Run) (o : Out) (t : Trial) → trials r o ≡ t ∷ []
         → SameButCount (followed r o) (or_enter t.state t.method (result_of t)) }
@@ -405,7 +433,8 @@ pub fn a_bytecode_gives_what_its_last_primitive_gives()
 /// sender; where 74
 /// answers for a context, the field of its index is what is written.
 pub fn the_contexts_changed_are_those_of_the_primitives()
-    ensures ended { (k : Kept) (i : ℕ) → context_birth k (receiver k 1) ≡ Some i → is_answer (end_between_prim k 1).end ≡ true
+    ensures ended { (k : Kept) (i : ℕ) → context_birth k (receiver k 1) ≡ Some i → is_answer
+        (end_between_prim k 1).end ≡ true
         → end_between_prim k 1 ≡ answer (end_between_of k (ended_between k i (argument k 1 0)) i (argument k 1 0)) 1
         (ref.Obj i) }
     ensures slot { (k : Kept) (i f : ℕ) → context_birth k (receiver k 2) ≡ Some i → slot_index (argument k 2 0) ≡ Some f

@@ -153,7 +153,8 @@ fn is_value(rt: &impl Abort, v: Oop)
 
 fn no_links(rt: &impl Abort, heap: &Heap, context: Oop)
     requires context { IsContextAt heap.now.objects context.0 }
-    ensures values { (i : ℕ) → i < slot_count_of heap.now.objects context.0 → IsValue (slot_of heap.now.objects context.0 i) }
+    ensures values { (i : ℕ) → i < slot_count_of heap.now.objects context.0
+        → IsValue (slot_of heap.now.objects context.0 i) }
 {
     assert!(rt; heap.is_object(context));
     for i in 0..heap.slot_count(context) {
