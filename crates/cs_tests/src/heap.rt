@@ -53,22 +53,35 @@ fn exchange(heap: &mut Heap, o: Oop, i: u32, b: u8) -> Option<u8> {
     }
 }
 
-/// The hash that an object's header says, and whether it is read-only and watched, before and after it
-/// is made so, whether a store into it then makes the heap dirty, and whether it is so once cleaned.
-fn watched(heap: &mut Heap, o: Oop) -> Option<(u32, [bool; 6])> {
-    if !heap.is_object(o) || heap.slot_count(o) == 0 {
-        return None;
+/// Whether an object is read-only, and whether it is watched.
+fn marks(heap: &Heap, o: Oop) -> Option<(bool, bool)> {
+    if heap.is_object(o) {
+        Some((heap.is_fixed(o), heap.is_watched(o)))
+    } else {
+        None
     }
-    let before = (heap.is_fixed(o), heap.is_watched(o));
-    heap.set_fixed(o, true);
-    heap.watch(o);
-    let after = (heap.is_fixed(o), heap.is_watched(o));
-    heap.set_slot(o, 0, Oop(1));
-    let dirty = heap.dirty();
-    heap.clean();
-    let hash = heap.header(o).hash;
-    let told = [before.0, before.1, after.0, after.1, dirty, heap.dirty()];
-    Some((hash, told))
+}
+
+/// Makes an object read-only.
+fn fix(heap: &mut Heap, o: Oop) {
+    if heap.is_object(o) {
+        heap.set_fixed(o, true);
+    }
+}
+
+fn watch(heap: &mut Heap, o: Oop) {
+    if heap.is_object(o) {
+        heap.watch(o);
+    }
+}
+
+/// The hash that an object's header says.
+fn hash(heap: &Heap, o: Oop) -> Option<u32> {
+    if heap.is_object(o) {
+        Some(heap.header(o).hash)
+    } else {
+        None
+    }
 }
 
 #[test]
@@ -122,8 +135,26 @@ fn objects_lie_one_behind_another(rt: HostRuntime) {
         head(&heap, Oop(65600)),
         Some((53, 10, 255, 4194303, 123, Some(Oop(66632))))
     );
-    assert_eq!(rt;
-        watched(&mut heap, Oop(65600)),
-        Some((4194303, [false, false, true, true, true, false]))
-    );
+    assert_eq!(rt; hash(&heap, Oop(65600)), Some(4194303));
+}
+
+/// A store into a watched object makes the heap dirty until it is cleaned.
+#[test]
+fn objects_are_read_only_and_watched(rt: HostRuntime) {
+    let mut heap = Heap::new(rt.alloc(), 4096).expect(&rt, "memory");
+    make(&mut heap, 51, 2, 1)
+        .expect(&rt, "an object")
+        .expect(&rt, "room");
+    let o = Oop(65536);
+    assert_eq!(rt; marks(&heap, o), Some((false, false)));
+    fix(&mut heap, o);
+    assert_eq!(rt; marks(&heap, o), Some((true, false)));
+    watch(&mut heap, o);
+    assert_eq!(rt; marks(&heap, o), Some((true, true)));
+    assert!(rt; !heap.dirty());
+    store(&mut heap, o, 0, 1);
+    assert!(rt; heap.dirty());
+    heap.clean();
+    assert!(rt; !heap.dirty());
+    assert_eq!(rt; slot(&heap, o, 0), Some(1));
 }

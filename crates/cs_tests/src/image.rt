@@ -296,13 +296,3 @@ fn tells_that_objects_pass_the_limit(rt: HostRuntime) -> Result<(), AllocError> 
     assert!(rt; load(alloc, &over, 4098).is_ok());
     Ok(())
 }
-
-#[test]
-fn tells_that_a_file_is_too_long(rt: HostRuntime) -> Result<(), AllocError> {
-    let alloc = rt.alloc();
-    let mut bytes = vec![in alloc; 0u8; 536_870_913]?;
-    assert!(rt; load(alloc, &bytes, 4096).err() == Some(ImageError::TooLong));
-    bytes.truncate(536_870_912);
-    assert!(rt; load(alloc, &bytes, 4096).err() == Some(ImageError::BadFormat));
-    Ok(())
-}
