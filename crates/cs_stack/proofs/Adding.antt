@@ -1,9 +1,9 @@
 -- A new frame on a page of a good world: above the last frame of the most recent page, or alone on one that was free.
-use Rattle.std.proofs.Common.{◌≡◌, ◌≢◌, ℕ, ◌+◌, ◌<◌, true, refl, sym, ap, ap₂, subst, ◌∙◌, arith, Some, List, [], ◌∷◌, length, inl, inr, suc, is_some}
+use Rattle.std.proofs.Common.{◌≡◌, ◌≢◌, ℕ, ◌+◌, ◌<◌, refl, sym, ap, ap₂, subst, ◌∙◌, arith, Some, List, [], ◌∷◌, length, inl, inr, suc}
 use Rattle.std.specs.Prelude.{◌↔◌, Contains, nat_eq}
 use Rattle.std.specs.List.{IsDistinct}
 use Rattle.std.specs.Ordering.{nat_cmp}
-use Rattle.std.specs.FinMap.{FinMap, insert, get}
+use Rattle.std.specs.FinMap.{FinMap, insert}
 use Rattle.std.proofs.lemmas.Bool.{cases_eq}
 use Rattle.std.proofs.lemmas.Map.Keys.{IsDistinct-head}
 use Rattle.cs_heap.specs.Object.{Object}
@@ -16,7 +16,7 @@ use Rattle.cs_frame.proofs.PageLaws.{frames_of-on_page, frames_of-on_page_other,
 use Rattle.cs_marriage.specs.Agree as marriage
 use Rattle.cs_marriage.specs.Agree.{Agree}
 use Rattle.cs_marriage.proofs.Laws.{agree_on_page, fits_above, page_fits}
-use Rattle.cs_model.specs.Obj.{Context, Ctx, context_class}
+use Rattle.cs_model.specs.Obj.{Context, Ctx}
 use Rattle.cs_model.specs.State.{Kept, put, with_rest}
 use Rattle.cs_model.specs.Operation.{activate, with_next}
 use Rattle.cs_pages.specs.Order.{IsSound, Order}

@@ -1,11 +1,11 @@
 -- A world without frames in which a live context of the heap becomes a base frame: it is good, and the context is active.
-use Rattle.std.proofs.Common.{◌≡◌, ◌≢◌, ◌↔◌, ℕ, pos, set, ◌-◌, ◌<◌, ◌≤◌, true, refl, sym, ap, subst, ◌∙◌, arith, Option, Some, None, IsSome, List, [], ◌∷◌, length, length-set, map, option_map, take, drop, zero, suc, inl, inr, is_some}
+use Rattle.std.proofs.Common.{◌≡◌, ◌≢◌, ◌↔◌, ℕ, pos, set, ◌-◌, ◌<◌, ◌≤◌, true, refl, sym, ap, subst, ◌∙◌, arith, Option, Some, None, IsSome, List, [], ◌∷◌, length, length-set, map, option_map, take, drop, zero, suc, inl, inr}
 use Rattle.std.specs.Prelude.{Contains, nat_eq, slice_index, if◌then◌else◌}
 use Rattle.std.specs.List.{AllPass, IsDistinct}
 use Rattle.std.specs.Option.{option_map_or}
 use Rattle.std.specs.FinMap.{get, same_map, nat_cmp-IsAntisymmetric}
 use Rattle.std.specs.Cmp.{nat_cmp_total}
-use Rattle.std.proofs.lemmas.Bool.{cases_eq, ne_eqb, eqb-true}
+use Rattle.std.proofs.lemmas.Bool.{cases_eq, ne_eqb}
 use Rattle.std.proofs.lemmas.List.Elements.{All-cons, All-take}
 use Rattle.std.proofs.lemmas.Map.Keys.{IsDistinct-cons}
 use Rattle.cs_heap.specs.Object.{Object, birth_of, class_of, hash_of, object_at, slot_count_of, slot_of, with_object}

@@ -8,8 +8,7 @@ use Rattle.std.proofs.lemmas.Map.Keys.{IsDistinct-cons}
 use Rattle.cs_word.specs.declared.Oop.{Oop}
 use Rattle.cs_heap.specs.Object.{Object, is_object}
 use Rattle.cs_classes.specs.Meaning.{ref_of}
-use Rattle.cs_classes.specs.Sound.{is_reference}
-use Rattle.cs_classes.proofs.Refs.{is_reference-object, ref_of-object}
+use Rattle.cs_classes.proofs.Refs.{ref_of-object}
 use Rattle.cs_frame.specs.declared.FrameRef.{FrameRef}
 use Rattle.cs_frame.specs.declared.NewFrame.{NewFrame}
 use Rattle.cs_frame.specs.Frame.{Frame, cut, nil, with_caller, with_saved_pc, with_stack}

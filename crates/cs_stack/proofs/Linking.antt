@@ -1,11 +1,11 @@
 -- A context of the heap that is linked to a frame: the heap is whole, and nothing else of it changes.
-use Rattle.std.proofs.Common.{◌≡◌, ◌≢◌, ◌⊎◌, ℕ, ◌+◌, ◌-◌, ◌%◌, ◌/◌, ◌<◌, ◌≤◌, true, false, refl, sym, ap, subst, ◌∙◌, arith, Option, Some, None, is_some, List, [], ◌∷◌, ◌++◌, length, length-set, option_map, get_or-set_same, get_or-set_other, set, unwrap_or, zero, suc, take, replicate, inl, inr}
+use Rattle.std.proofs.Common.{◌≡◌, ◌≢◌, ◌⊎◌, ℕ, ◌+◌, ◌-◌, ◌<◌, ◌≤◌, true, false, refl, sym, ap, subst, ◌∙◌, arith, Option, Some, None, is_some, List, [], ◌∷◌, ◌++◌, length, length-set, option_map, get_or-set_same, get_or-set_other, set, unwrap_or, zero, suc, take, replicate, inl, inr}
 use Rattle.std.specs.Prelude.{IsTrue, slice_get, slice_index, ◌==◌, ◌||◌, if◌then◌else◌}
 use Rattle.std.specs.List.{AllPass}
 use Rattle.std.specs.Option.{option_map_or}
 use Rattle.std.specs.Ordering.{nat_cmp}
 use Rattle.std.specs.FinMap.{FinMap}
-use Rattle.std.proofs.lemmas.Bool.{cases_eq, eq-eqb, false≢true}
+use Rattle.std.proofs.lemmas.Bool.{cases_eq, false≢true}
 use Rattle.std.proofs.lemmas.List.Elements.{All-append, All-drop, All-replicate, All-take}
 use Rattle.cs_heap.specs.Format.{format_allows, is_pointers}
 use Rattle.cs_heap.specs.Object.{Object, at_index, index_of, object_at, set_word, used, with_object}

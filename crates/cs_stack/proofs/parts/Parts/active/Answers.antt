@@ -1,4 +1,4 @@
-use Rattle.std.proofs.Common.{◌≡◌, Some, IsNone, ap, ◌∙◌, arith}
+use Rattle.std.proofs.Common.{Some, IsNone, ap, ◌∙◌, arith}
 use Rattle.cs_frame.specs.Page.{frames_of, ref_of, top}
 use Rattle.cs_stack.specs.View.{act_of}
 use Rattle.cs_stack.proofs.Acts.{first_birth}
