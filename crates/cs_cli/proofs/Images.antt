@@ -1,7 +1,8 @@
 -- Why an image is refused.
-use Rattle.std.proofs.Common.{◌≡◌, ℕ, List, Option, Some, None, IfSome, Err, refl, subst}
+use Rattle.std.proofs.Common.{◌≡◌, ◌<◌, ℕ, true, List, Option, Some, None, IfSome, Err, length, refl, subst, arith}
+use Rattle.std.proofs.lemmas.Bool.Decides.{nat_tests}
 use Rattle.cs_model.specs.Image.{fault_of, image_of}
-use Rattle.cs_model.specs.ImageFault.{ImageFault}
+use Rattle.cs_model.specs.ImageFault.{ImageFault, is_too_long}
 use Rattle.cs_image.specs.Answer.{Tells}
 use Rattle.cs_image.specs.declared.error.ImageError.{ImageError}
 use Rattle.cs_image.specs.declared.error.ImageError.TheVariants as error
@@ -33,7 +34,9 @@ refused_by P bytes error.NoMemory other h = absurd (other refl)
 -- a file that is longer than an image may be
 pub refused_long : (bytes : List ℕ) → 536870912 < length bytes → IsRefused bytes
 unfolding image_of fault_of
-refused_long bytes long = rw (grind (arith, nat_tests, long)) refl
+refused_long bytes long =
+    let is : is_too_long bytes ≡ true = grind (arith, nat_tests, long) in
+    rw is refl
 
 -- where the shelf tells a content, it is what was read
 pub refused_read : (content : Option (List ℕ)) (bytes : List ℕ) → IfSome content (λ held. bytes ≡ held) → IsRefused bytes → IfSome content IsRefused

@@ -126,4 +126,3 @@ fn is_method(heap: &Heap, o: Oop) -> bool
 {
     heap.is_object(o) && (24..28).contains(&heap.format(o))
 }
-

@@ -212,4 +212,3 @@ fn resolve_method<W: World>(w: &W, method: Oop, args: u32) -> Found
         None => Found::Plain { method },
     }
 }
-
