@@ -42,3 +42,8 @@ refused_long bytes long =
 pub refused_read : (content : Option (List ℕ)) (bytes : List ℕ) → IfSome content (λ held. bytes ≡ held) → IsRefused bytes → IfSome content IsRefused
 refused_read None bytes same h = tt
 refused_read (Some held) bytes same h = let P : List ℕ → Type 0 = λ b. IsRefused b in subst P same h
+
+-- where it tells one that is too long, that is refused
+pub long_content : (content : Option (List ℕ)) → IfSome content (λ held. 536870912 < length held) → IfSome content IsRefused
+long_content None long = tt
+long_content (Some held) long = refused_long held long

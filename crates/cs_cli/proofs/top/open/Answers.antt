@@ -1,7 +1,7 @@
-use Rattle.std.proofs.Common.{◌≡◌, ◌∙◌, ℕ, List, IfSome, subst, sym}
+use Rattle.std.proofs.Common.{◌≡◌, ◌∙◌, ℕ, List, IfSome, Err, ap, subst, sym}
 use Rattle.cs_acts.specs.declared.Loaded.{Loaded}
 use Rattle.cs_stack.specs.View.{loaded_kept}
-use Rattle.cs_cli.proofs.Images.{refused_by, refused_read}
+use Rattle.cs_cli.proofs.Images.{long_content, refused_by, refused_read}
 use Rattle.cs_cli.proofs.top.open.Goals as goal
 
 pub returns-in-Ok-new-clause-opens : goal.returns-in-Ok-new-clause-opens
@@ -28,3 +28,6 @@ returns-clause-opens g c =
     let Q : Loaded → Type 0 = λ _. Unit {0} in
     refused_read _ c.as_slice.result.now (subst P (sym c.as_slice.ensures.value) c.in-Ok.ensures.whole)
     (refused_by Q c.as_slice.result.now c.in-Err.error c.in_default.not-NoMemory c.in-Err.ensures.fault)
+
+pub returns-in-Err-TooLong-clause-opens : goal.returns-in-Err-TooLong-clause-opens
+returns-in-Err-TooLong-clause-opens g c = long_content _ (c.in-Err-TooLong.ensures.too_long (ap Err c.in-Err-TooLong.field-0-is))
