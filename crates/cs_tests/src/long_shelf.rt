@@ -1,13 +1,12 @@
 //! A shelf for images that are too long to be held beside their loading.
 
-ghost use Rattle.std.specs.Prelude.{◌≡◌, ◌≤◌, drop, length};
+ghost use Rattle.std.specs.Prelude.{◌≡◌, ◌≤◌, ◌+◌, IfSome, None, drop, length, min};
 
 use arrayvec::ArrayString;
 use cs_shelf::{Failed, Shelf};
 
 /// A shelf on which each name holds the same bytes: these, and behind them zeros up to a length. It computes the zeros
-/// as they
-/// are read. It takes nothing, and doesn't tell what it holds.
+/// as they are read. It takes nothing, and doesn't tell what it holds.
 #[derive(Drop)]
 pub struct LongShelf<'a> {
     pub front: &'a [u8],
@@ -15,12 +14,14 @@ pub struct LongShelf<'a> {
     /// The place behind the last byte that was read.
     pub end: u64,
     pub faults: u64,
+    /// The name of the content that is begun, if one is.
+    pub begun: Option<ArrayString<4096>>,
     /// The name that was to be saved last.
     pub last: ArrayString<4096>,
 }
 
 impl Shelf for LongShelf<'_> {
-    ghost use Rattle.std.specs.Prelude.{None, false};
+    ghost use Rattle.std.specs.Prelude.{None, false, option_map};
 
     ghost fault_count = { λ s. s.faults };
 
@@ -28,7 +29,7 @@ impl Shelf for LongShelf<'_> {
 
     ghost content = { λ _ _. None };
 
-    ghost begun = { λ _. None };
+    ghost begun = { λ s. option_map (λ name. name.bytes) s.begun };
 
     ghost taken = { λ _. None };
 
@@ -46,17 +47,20 @@ impl Shelf for LongShelf<'_> {
 
     fn start(&mut self, name: &str) -> Result<(), Failed> {
         self.faults = self.faults.saturating_add(1);
+        self.begun = None;
         self.last.clear();
         self.last.push_str(name);
         Err(Failed)
     }
 
     fn append(&mut self, _bytes: &[u8]) -> Result<usize, Failed> {
-        unreachable!()
+        self.give_up();
+        Err(Failed)
     }
 
     fn finish(&mut self) -> Result<(), Failed> {
-        unreachable!()
+        self.give_up();
+        Err(Failed)
     }
 
     fn faults(&self) -> u64 {
@@ -69,6 +73,22 @@ impl Shelf for LongShelf<'_> {
 
     fn last_read(&self) -> bool {
         false
+    }
+}
+
+impl LongShelf<'_> {
+    /// Fails under the name of the content that is begun, which is given up.
+    fn give_up(&mut self)
+        ensures name { IfSome self.old.begun (λ name. self.new.last.bytes ≡ name.bytes) }
+        ensures begun { self.new.begun ≡ None }
+        ensures faults { self.new.faults ≡ min (self.old.faults + 1) 18446744073709551615 }
+        ensures never_falls { self.old.faults ≤ self.new.faults }
+    {
+        self.faults = self.faults.saturating_add(1);
+        if let Some(name) = self.begun {
+            self.last = name;
+        }
+        self.begun = None;
     }
 }
 

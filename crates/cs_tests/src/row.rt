@@ -48,6 +48,7 @@ pub fn take(rt: &(impl Files + Print + Alloc<A = Global>), given: &str, words: &
             len: given.zeros.saturating_add(given.image.len() as u64),
             end: 0,
             faults: 0,
+            begun: None,
             last: ArrayString::new(),
         };
         let status = cogstack(alloc, words.as_slice(), &mut shelf, &mut out);
