@@ -1,10 +1,10 @@
 -- Texts that are written one behind another, and the answer of a run.
-use Rattle.std.proofs.Common.{◌≡◌, inl, inr, ℕ, ◌+◌, ◌≤◌, List, ◌++◌, take, length, length-append, Option, Some, None, Result, Ok, Err, OnOk, OnErr, sym, ap, ◌∙◌, subst, arith}
+use Rattle.std.proofs.Common.{◌≡◌, inl, inr, ℕ, ◌+◌, ◌≤◌, List, ◌++◌, take, length, length-append, Option, Some, None, Result, Ok, Err, OnOk, OnErr, sym, ap, ◌∙◌, subst, arith, codes}
 use Rattle.std.proofs.Math.Seq.{take-append-add}
 use Rattle.std.proofs.lemmas.List.{take-append-le}
 use Rattle.cs_shelf.specs.Outside.{Appends, AppendsPart, Rose}
 use Rattle.cs_shelf.proofs.Appending.{appends_then}
-use Rattle.cs_model.specs.Line.{Said}
+use Rattle.cs_cli.specs.Said.{Said}
 use Rattle.cs_model.specs.Step.{Ending, Ran}
 use Rattle.cs_model.specs.Report.{Place, report_line, place_of, report_of}
 use Rattle.cs_cli.specs.Answer.{Answer, AnsweredTo, Answered, Printed, Reading, Writing, answering, refused_line, run_answer, run_status}
@@ -35,23 +35,23 @@ printed_behind a b c i j k xs ys answer status h le (inr (e, rose, part)) = inr 
 
 -- the answer of a run by its ending, its steps and its place
 pub run_answer-by : (m : Ran) (e : Ending) (steps : ℕ) (p : Place) → m.ending ≡ e → m.state.run.steps ≡ steps → place_of m.state.kept ≡ p
-    → answering (run_status e) (m.state.run.output ++ report_line e steps p) ≡ run_answer m
+    → answering (run_status e) (m.state.run.output ++ codes "\n" ++ report_line e steps p) ≡ run_answer m
 unfolding report_of
 run_answer-by m e steps p he hs hp =
-    let f : Ending → ℕ → Place → Answer = λ e s q. answering (run_status e) (m.state.run.output ++ report_line e s q) in
+    let f : Ending → ℕ → Place → Answer = λ e s q. answering (run_status e) (m.state.run.output ++ codes "\n" ++ report_line e s q) in
     sym (ap (λ x. f x m.state.run.steps (place_of m.state.kept)) he ∙ ap (λ s. f e s (place_of m.state.kept)) hs ∙ ap (λ q. f e steps q) hp)
 
 -- a run whose report is printed behind what it wrote
 pub run_printed : (m : Ran) (e : Ending) (steps : ℕ) (p : Place) (a b c : Option (List ℕ)) (i j k : ℕ) (answer : ℕ) (text : List ℕ) (status : ℕ)
     → m.ending ≡ e → m.state.run.steps ≡ steps → place_of m.state.kept ≡ p → Appends a b m.state.run.output → i ≤ j
-    → answer ≡ run_status e → text ≡ report_line e steps p → Printed (answering answer text) (writing b c j k) status
+    → answer ≡ run_status e → text ≡ codes "\n" ++ report_line e steps p → Printed (answering answer text) (writing b c j k) status
     → Printed (run_answer m) (writing a c i k) status
 run_printed m e steps p a b c i j k answer text status he hs hp h le same_status same_text printed =
     let P : Answer → Type 0 = λ x. Printed x (writing a c i k) status in
     let Q : ℕ → Type 0 = λ s. Printed (answering s text) (writing b c j k) status in
     let R : List ℕ → Type 0 = λ t. Printed (answering (run_status e) t) (writing b c j k) status in
     subst P (run_answer-by m e steps p he hs hp)
-    (printed_behind a b c i j k m.state.run.output (report_line e steps p) (run_status e) status h le (subst R same_text (subst Q same_status printed)))
+    (printed_behind a b c i j k m.state.run.output (codes "\n" ++ report_line e steps p) (run_status e) status h le (subst R same_text (subst Q same_status printed)))
 
 pub answered_refused : (line : Option Said) (shelf : Reading) (out : Writing) (status : ℕ) → None ≡ line
     → Printed refused_line out status → Answered line shelf out status

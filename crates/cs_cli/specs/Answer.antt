@@ -4,7 +4,7 @@ use Rattle.cs_shelf.specs.Outside.{Appends, AppendsPart, Fault, Rose, read_fault
 use Rattle.cs_model.specs.State.{Kept}
 use Rattle.cs_model.specs.Image.{image_of}
 use Rattle.cs_model.specs.Settle.{open_kept}
-use Rattle.cs_model.specs.Line.{Said}
+use Rattle.cs_cli.specs.Said.{Said}
 use Rattle.cs_model.specs.Demand.{words_in}
 use Rattle.cs_model.specs.End as ends
 use Rattle.cs_model.specs.End.{Out}

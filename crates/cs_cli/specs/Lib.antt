@@ -1,3 +1,4 @@
+pub mod Said
 pub mod Meaning
 pub mod Answer
 pub mod Opening

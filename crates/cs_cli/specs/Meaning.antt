@@ -1,5 +1,5 @@
 -- What a line of the code means in the model.
-use Rattle.cs_model.specs.Line.{Said}
+use Rattle.cs_cli.specs.Said.{Said}
 use Rattle.cs_cli.specs.declared.line.Line.{Line}
 
 -- the line without where its name lies

@@ -1,8 +1,9 @@
 //! The command line, read by hand: `run IMAGE STEPS`.
 
 ghost use Rattle.std.specs.Prelude.{◌≡◌, ◌≤◌, IfSome, length, map, option_and_then, option_map, string_bytes};
-ghost use Rattle.cs_model.specs.Line.{at_most, line_of, most_steps, number_in};
+ghost use Rattle.cs_model.specs.Line.{at_most, most_steps, number_in};
 ghost use Rattle.cs_cli.specs.Meaning.{said_by};
+ghost use Rattle.cs_cli.specs.Said.{line_of};
 
 /// The most steps that a line may ask for.
 const MOST_STEPS: u64 = 1_000_000_000_000;

@@ -3,7 +3,7 @@
 //! The line is the word of the ending, for a stop also its reason, and then
 //! `steps=S process=P context=C pc=Q`. The words and names are this machine's own.
 
-ghost use Rattle.std.specs.Prelude.{◌≡◌, ◌≤◌, ◌+◌, ◌++◌, length};
+ghost use Rattle.std.specs.Prelude.{◌≡◌, ◌≤◌, ◌+◌, ◌++◌, codes, length};
 ghost use Rattle.arrayvec.specs.ArrayString.{array_string_len};
 ghost use Rattle.cs_model.specs.Report.{ending_text, report_line, number_text};
 ghost use Rattle.cs_core.specs.Running.{ending_of, place_by};
@@ -20,7 +20,7 @@ pub const LONGEST_REPORT: usize = 132;
 ///
 /// It takes no memory.
 pub fn report(ending: Ending, steps: u64, place: &Place) -> ArrayString<LONGEST_REPORT>
-    ensures { result.bytes ≡ report_line (ending_of ending) steps (place_by place.now) }
+    ensures { result.bytes ≡ codes "\n" ++ report_line (ending_of ending) steps (place_by place.now) }
 {
     let mut text = ArrayString::new();
     text.push_str("\n");

@@ -2,7 +2,6 @@
 
 ghost use Rattle.std.specs.Prelude.{◌≡◌, ◌≤◌, ℕ, List, Some, false, OnErr, OnOk, length, map, string_bytes};
 ghost use Rattle.cs_model.specs.Due.{is_idle};
-ghost use Rattle.cs_model.specs.Line.{line_of};
 ghost use Rattle.cs_model.specs.Read.{IsRunning};
 ghost use Rattle.cs_acts.specs.Layout.{IsFresh};
 ghost use Rattle.cs_acts.specs.Ready.{IsSound};
@@ -12,6 +11,7 @@ ghost use Rattle.cs_shelf.specs.Outside.{Appends, AppendsPart, Rose};
 ghost use Rattle.cs_cli.specs.Answer.{Answered, Begun, Printed, Reported, answering, failed_read, heap_limit};
 ghost use Rattle.cs_cli.specs.Answer.{read_text, run_status, stack_pages};
 ghost use Rattle.cs_cli.specs.Opening.{Opens};
+ghost use Rattle.cs_cli.specs.Said.{line_of};
 
 use crate::line::parse;
 use crate::report::report;

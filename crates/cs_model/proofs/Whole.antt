@@ -1,5 +1,5 @@
 -- The laws of whole states, in plain words.
-use Rattle.std.proofs.Common.{◌≡◌, ◌∙◌, ℕ, Bool, refl, sym, ap, Option, List}
+use Rattle.std.proofs.Common.{◌≡◌, ◌∙◌, ℕ, Bool, refl, sym, ap, Option, List, ◌++◌, codes}
 use Rattle.cs_model.specs.declared.event.Event.{Event}
 use Rattle.cs_model.specs.Ref.{Ref}
 use Rattle.cs_model.specs.State.{Kept, Run, State, IsHeld, IsValid}
@@ -60,7 +60,8 @@ opened-keeps v m events snapping k = record { kept = (open_moved k).keeps; run =
 
 pub report_of-kept : (s t : State) (e : Ending) → KeepsState s t → report_of t e ≡ report_of s e
 unfolding report_of
-report_of-kept s t e k = ap (λ r. report_line e r.steps (place_of t.kept)) (sym k.run) ∙ ap (report_line e s.run.steps) (place_of-kept s.kept t.kept k.kept)
+report_of-kept s t e k = ap (λ r. codes "\n" ++ report_line e r.steps (place_of t.kept)) (sym k.run)
+    ∙ ap (λ p. codes "\n" ++ report_line e s.run.steps p) (place_of-kept s.kept t.kept k.kept)
 
 -- a valid state is closed
 pub valid-keeps : (s : State) → IsValid s → KeepsState s s

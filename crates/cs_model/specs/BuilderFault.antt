@@ -1,6 +1,6 @@
 -- What can be wrong with a builder's text. Each line is judged against the lines above it, and references to what comes
 -- later once all lines are read.
-use Rattle.std.specs.Prelude.{ℕ, ℤ, pos, ◌+◌, ◌^◌, ◌-ℤ◌, ◌==◌, ◌&&◌, ◌||◌, not, Bool, true, false, nat_lt, int_lt, if◌then◌else◌, List, [], ◌∷◌, ◌++◌, length, find, flat_map, count_by, codes, Option, Some, None, is_some, is_none, option_map, option_and_then, option_to_list, unwrap_or}
+use Rattle.std.specs.Prelude.{ℕ, ℤ, pos, ◌+◌, ◌^◌, ◌-ℤ◌, ◌==◌, ◌&&◌, ◌||◌, not, Bool, true, false, nat_lt, int_lt, if◌then◌else◌, List, [], ◌∷◌, ◌++◌, length, find, flat_map, count_by, codes, decimal, Option, Some, None, is_some, is_none, option_map, option_and_then, option_to_list, unwrap_or}
 use Rattle.std.specs.Option.{option_map_or, option_or}
 use Rattle.std.specs.List.{list_any, list_all, before_first, after_last}
 use Rattle.std.specs.Str.{bytes_eq}
@@ -18,6 +18,14 @@ pub data BuildFault : Type 0 where
   Twice : (number : ℕ) → BuildFault
   BadRange : (number : ℕ) → BuildFault
   BadName : (number : ℕ) → BuildFault
+
+-- the printed name of a fault, with its line
+abbrev pub fault_text : BuildFault → List ℕ
+fault_text TooMany = codes "TooMany"
+fault_text (BadLine number) = codes "BadLine " ++ decimal number
+fault_text (Twice number) = codes "Twice " ++ decimal number
+fault_text (BadRange number) = codes "BadRange " ++ decimal number
+fault_text (BadName number) = codes "BadName " ++ decimal number
 
 -- ---- classes
 

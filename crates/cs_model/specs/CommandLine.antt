@@ -1,6 +1,6 @@
--- The command line: a command, a file and options, read as `clap` reads a simple command without help and version flags.
+-- The command line: a command, a file and options, read as `clap` 4 reads a simple command without help and version flags.
 -- `Line` beside it is the shorter line of a first program.
-use Rattle.std.specs.Prelude.{ℕ, ◌==◌, ◌&&◌, ◌||◌, not, Bool, true, false, nat_le, if◌then◌else◌, List, [], ◌∷◌, ◌++◌, length, filter_map, codes, Option, Some, None, is_some, option_map, option_and_then, slice_index}
+use Rattle.std.specs.Prelude.{ℕ, ◌==◌, ◌&&◌, ◌||◌, not, Bool, true, false, nat_le, if◌then◌else◌, List, [], ◌∷◌, ◌++◌, length, filter_map, codes, Option, Some, None, is_some, is_none, option_map, option_and_then, unwrap_or, slice_index}
 use Rattle.std.specs.Option.{option_map_or}
 use Rattle.std.specs.List.{list_any, before_first, after_first}
 use Rattle.std.specs.Str.{bytes_eq}
@@ -116,10 +116,10 @@ pub data Command : Type 0 where
   Same : Command
   Gen : (k : ℕ) → Command
 
--- 0 pages are those of the machine without pages
+-- 0 pages are those of the machine without pages; where none are given, whoever uses them has a number of its own
 pub record Options : Type 0 where
   pub events : Option (List ℕ)
-  pub pages : ℕ
+  pub pages : Option ℕ
   pub steps : ℕ
   pub heap : ℕ
   pub save : Option (List ℕ)
@@ -149,8 +149,12 @@ number_given lowest highest default None = Some default
 number_given lowest highest default (Some word) = number_between lowest highest word
 
 -- one page is too few
-abbrev pub pages_given : Option (List ℕ) → Option ℕ
-pages_given word = option_and_then (λ n. if n == 1 then None else Some n) (number_given 0 64 8 word)
+abbrev pub pages_in : List ℕ → Option ℕ
+pages_in word = option_and_then (λ n. if n == 1 then None else Some n) (number_between 0 64 word)
+
+abbrev pub pages_given : Option (List ℕ) → Option (Option ℕ)
+pages_given None = Some None
+pages_given (Some word) = option_map (λ n. Some n) (pages_in word)
 
 abbrev pub steps_given : Option (List ℕ) → Option ℕ
 steps_given word = number_given 0 most_steps 1000000 word
@@ -158,7 +162,7 @@ steps_given word = number_given 0 most_steps 1000000 word
 abbrev pub heap_given : Option (List ℕ) → Option ℕ
 heap_given word = number_given 4096 67108864 16777216 word
 
-abbrev pub options_by : List Part → ℕ → ℕ → ℕ → Options
+abbrev pub options_by : List Part → Option ℕ → ℕ → ℕ → Options
 options_by parts pages steps heap = record {
   events = given parts (codes "--events");
   pages = pages;
@@ -206,3 +210,41 @@ line_in parts =
 -- the command and its values, or that the line is refused
 unfoldable pub command_line_of : List (List ℕ) → Option CommandLine
 command_line_of words = option_and_then line_in (parts_from Free words)
+
+-- ---- what a command uses
+
+-- a generated image runs for so many steps, whatever the option says
+abbrev pub steps_of : Command → Options → ℕ
+steps_of (Gen k) o = 1000000
+steps_of command o = o.steps
+
+-- the stack pages of a run
+abbrev pub run_pages : Options → ℕ
+run_pages o = unwrap_or o.pages 8
+
+-- the commands that run an image
+abbrev pub is_run : Command → Bool
+is_run Run = true
+is_run (Gen k) = true
+is_run command = false
+
+-- a run takes snapshots where it has a name for them
+abbrev pub takes_snapshots : CommandLine → Bool
+takes_snapshots line = is_run line.command && is_some line.options.snapshot
+
+-- ---- what the machine can't do yet
+
+-- a run without events, snapshots, counts and saving, on pages
+abbrev pub is_simple_run : Options → Bool
+is_simple_run o = is_none o.events && is_none o.save && is_none o.snapshot && not o.stats && not (run_pages o == 0)
+
+abbrev pub is_possible : CommandLine → Bool
+is_possible line = not (is_run line.command) || is_simple_run line.options
+
+abbrev pub possible : CommandLine → Option CommandLine
+possible line = if is_possible line then Some line else None
+
+-- The line that the machine takes. A run or a generated image's run is refused besides where it asks for what can't be
+-- done yet: events, snapshots, the line of counts, a machine without pages, or saving at its end.
+unfoldable pub line_of : List (List ℕ) → Option CommandLine
+line_of words = option_and_then possible (command_line_of words)

@@ -1,6 +1,6 @@
 -- What can be wrong with the file of an image. Each fault is stated over the objects into which the file is cut. Where a
 -- fault has a place, `at` counts bytes from the heap's first one.
-use Rattle.std.specs.Prelude.{ℕ, zero, suc, ◌+◌, ◌-◌, ◌*◌, ◌/◌, ◌%◌, ◌^◌, ◌==◌, ◌&&◌, ◌||◌, not, Bool, true, false, nat_le, nat_lt, if◌then◌else◌, List, [], ◌∷◌, length, take, slice_index, slice_get, find, flat_map, sum_by, Option, Some, None, is_some, option_map, option_and_then}
+use Rattle.std.specs.Prelude.{ℕ, zero, suc, ◌+◌, ◌-◌, ◌*◌, ◌/◌, ◌%◌, ◌^◌, ◌==◌, ◌&&◌, ◌||◌, not, Bool, true, false, nat_le, nat_lt, if◌then◌else◌, List, [], ◌∷◌, ◌++◌, length, take, codes, decimal, slice_index, slice_get, find, flat_map, sum_by, Option, Some, None, is_some, option_map, option_and_then}
 use Rattle.std.specs.Option.{option_map_or, option_or}
 use Rattle.std.specs.List.{list_any, list_all, enumerate_from}
 use Rattle.cs_model.specs.Obj.{context_class, context_fields, words_of_slots, literal_count, is_header, lies_between}
@@ -23,6 +23,23 @@ pub data ImageFault : Type 0 where
   BadContext : (at : ℕ) → ImageFault
   BadRoots : ImageFault
   BadBirths : ImageFault
+
+-- the printed name of a fault, with its place
+abbrev pub fault_text : ImageFault → List ℕ
+fault_text TooLong = codes "TooLong"
+fault_text Short = codes "Short"
+fault_text BadFormat = codes "BadFormat"
+fault_text BadHeaderSize = codes "BadHeaderSize"
+fault_text BadProfile = codes "BadProfile"
+fault_text BadLength = codes "BadLength"
+fault_text (BadObject at) = codes "BadObject " ++ decimal at
+fault_text OverLimit = codes "OverLimit"
+fault_text BadTable = codes "BadTable"
+fault_text (BadRef at) = codes "BadRef " ++ decimal at
+fault_text (BadClass at) = codes "BadClass " ++ decimal at
+fault_text (BadContext at) = codes "BadContext " ++ decimal at
+fault_text BadRoots = codes "BadRoots"
+fault_text BadBirths = codes "BadBirths"
 
 -- ---- the file and its header
 

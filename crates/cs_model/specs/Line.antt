@@ -1,7 +1,6 @@
--- The command line: `run`, the name of an image, and a number of steps.
-use Rattle.std.specs.Prelude.{ℕ, ◌+◌, ◌*◌, ◌-◌, ◌==◌, ◌&&◌, nat_le, nat_lt, if◌then◌else◌, List, [], ◌∷◌, length, codes, Option, Some, None, option_and_then, option_map}
+-- The numbers and names of a command line.
+use Rattle.std.specs.Prelude.{ℕ, ◌+◌, ◌*◌, ◌-◌, ◌==◌, ◌&&◌, nat_le, nat_lt, if◌then◌else◌, List, [], ◌∷◌, length, Option, Some, None}
 use Rattle.std.specs.Char.{is_ascii_digit}
-use Rattle.std.specs.Str.{bytes_eq}
 
 -- the number that some digits end whose first ones are those of n
 unfoldable pub digits_from : ℕ → List ℕ → Option ℕ
@@ -23,24 +22,3 @@ most_steps = 1000000000000
 -- the longest name, in bytes
 abbrev pub longest_name : ℕ
 longest_name = 4096
-
--- what a line says: to run this image for so many steps
-pub record Said : Type 0 where
-  pub file : List ℕ
-  pub steps : ℕ
-
-abbrev pub run_said : List ℕ → ℕ → Said
-run_said file steps = record { file = file; steps = steps }
-
-abbrev pub said : List ℕ → List ℕ → List ℕ → Option Said
-said command file steps =
-    if bytes_eq command (codes "run") && nat_le (length file) longest_name
-    then option_map (run_said file) (option_and_then (at_most most_steps) (number_in steps)) else None
-
--- what the words say, or that they are refused
-abbrev pub line_of : List (List ℕ) → Option Said
-line_of [] = None
-line_of (a ∷ []) = None
-line_of (a ∷ b ∷ []) = None
-line_of (a ∷ b ∷ c ∷ []) = said a b c
-line_of (a ∷ b ∷ c ∷ d ∷ words) = None

@@ -54,7 +54,8 @@ place_text p = codes " process=" ++ number_text p.process ++ codes " context=" +
 
 -- the line of an ending, the completed bytecodes and the place
 abbrev pub report_line : Ending → ℕ → Place → List ℕ
-report_line e steps p = codes "\n" ++ ending_text e ++ codes " steps=" ++ decimal steps ++ place_text p ++ codes "\n"
+report_line e steps p = ending_text e ++ codes " steps=" ++ decimal steps ++ place_text p ++ codes "\n"
 
+-- a line feed ends what the image wrote, and the line comes behind it
 unfoldable pub report_of : State → Ending → List ℕ
-report_of s e = report_line e s.run.steps (place_of s.kept)
+report_of s e = codes "\n" ++ report_line e s.run.steps (place_of s.kept)

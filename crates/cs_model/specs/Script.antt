@@ -1,5 +1,5 @@
 -- Scripts of events: a line an event, `S signal K`, `S clock M` or `S byte B`, with single spaces.
-use Rattle.std.specs.Prelude.{ℕ, pos, ◌+◌, nat_lt, if◌then◌else◌, List, [], ◌∷◌, map, filter_map, codes, Option, Some, None, option_map, option_and_then, Result, Ok, Err}
+use Rattle.std.specs.Prelude.{ℕ, pos, ◌+◌, nat_lt, if◌then◌else◌, List, [], ◌∷◌, ◌++◌, map, filter_map, codes, decimal, Option, Some, None, option_map, option_and_then, Result, Ok, Err}
 use Rattle.std.specs.Option.{option_or, option_map_or}
 use Rattle.std.specs.Str.{bytes_eq}
 use Rattle.cs_model.specs.declared.event.Event.{Event}
@@ -13,6 +13,12 @@ pub data ScriptFault : Type 0 where
   TooMany : ScriptFault
   BadLine : (number : ℕ) → ScriptFault
   NotRising : (number : ℕ) → ScriptFault
+
+-- the printed name of a fault, with its line
+abbrev pub fault_text : ScriptFault → List ℕ
+fault_text TooMany = codes "TooMany"
+fault_text (BadLine number) = codes "BadLine " ++ decimal number
+fault_text (NotRising number) = codes "NotRising " ++ decimal number
 
 -- ---- lines
 

@@ -1,6 +1,6 @@
 use Rattle.std.proofs.Common.{◌≡◌, inl, inr, ℕ, subst}
 use Rattle.cs_model.specs.State.{Kept}
-use Rattle.cs_model.specs.Line.{Said}
+use Rattle.cs_cli.specs.Said.{Said}
 use Rattle.cs_cli.specs.Answer.{AnsweredTo, Begun, IsImage, Reading, Writing}
 use Rattle.cs_model.specs.Settle.{open_kept}
 use Rattle.cs_cli.specs.Answer as answer
