@@ -10,3 +10,5 @@ pub mod Wholes
 pub mod Writes
 pub mod Makings
 pub mod Fields
+pub mod Naturals
+pub mod Counting

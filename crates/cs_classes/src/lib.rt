@@ -10,10 +10,23 @@
 ghost use Rattle.std.specs.Prelude.{◌≡◌, ℕ, ◌<◌, ◌≤◌, IfOk, None, option_map};
 ghost use Rattle.std.specs.FinMap.{empty, get, insert};
 
+pub mod slots;
+mod words;
+
 use cs_heap::Heap;
 use cs_word::Oop;
 use std::alloc::{AllocError, Global};
 use std::marker::Model;
+pub use words::{is_context, method_header};
+
+/// The class index of contexts.
+pub const CONTEXT_CLASS: u32 = 36;
+
+/// The class index of closures.
+pub const CLOSURE_CLASS: u32 = 37;
+
+/// The format of objects that have named slots and others behind them, as contexts and closures are.
+pub const FIELDS_AND_INDICES: u8 = 3;
 
 /// How many entries a class table has: one for each class index below it.
 pub const ENTRIES: u32 = 16384;

@@ -269,7 +269,7 @@ impl Heap {
         requires { IsTrue (is_object self.now.objects o.0) }
         ensures { result ≡ is_fixed self.now.objects o.0 }
     {
-        self.header(o).flags.contains(Flags::IS_IMMUTABLE)
+        self.header(o).is_read_only()
     }
 
     /// Whether the object is watched.

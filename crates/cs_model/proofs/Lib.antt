@@ -31,6 +31,7 @@ pub mod Surviving
 pub mod Whole
 pub mod Lasting
 pub mod Settling
+pub mod Opening
 pub mod Editing
 pub mod Leading
 pub mod LeadCombining

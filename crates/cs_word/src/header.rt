@@ -58,7 +58,7 @@ pub struct Header {
 }
 
 impl Header {
-    ghost use Rattle.cs_word.specs.Header.{header_of, header_bits, flag_bits, IsWritable};
+    ghost use Rattle.cs_word.specs.Header.{header_of, header_bits, flag_bits, is_immutable, IsWritable};
 
     /// What a header says. Its bits 22 and 54 are unused and are dropped.
     pub fn read(bits: u64) -> Header
@@ -74,6 +74,13 @@ impl Header {
             hash: ((bits >> 32) & 0x3f_ffff) as u32,
             slots: (bits >> 56) as u8,
         }
+    }
+
+    /// Whether the object is read-only, which `IS_IMMUTABLE` says.
+    pub fn is_read_only(&self) -> bool
+        ensures { result ≡ is_immutable self.now.flags }
+    {
+        self.flags.contains(Flags::IS_IMMUTABLE)
     }
 
     /// The 64 bits of a header, of which 22 and 54 are 0. `read` of them gives the header back

@@ -1,7 +1,7 @@
 //! Object words, SmallInteger arithmetic and object headers of 32-bit Spur.
 #![tactic(auto)]
 
-ghost use Rattle.std.specs.Prelude.{◌≡◌, ◌+◌, ◌*◌, ◌<◌, ◌^◌, ◌↔◌, IsSome, IfSome};
+ghost use Rattle.std.specs.Prelude.{◌≡◌, ◌+◌, ◌*◌, ◌<◌, ◌^◌, ◌↔◌, IsSome, IfSome, pos};
 ghost use Rattle.cs_word.specs.Word.{kind_of, word_of, small_word, character_word, natural_of_word, IsSmall};
 
 mod arithmetic;
@@ -67,6 +67,14 @@ impl Oop {
         } else {
             None
         }
+    }
+
+    /// The word of a number below 2^30, as a SmallInteger.
+    pub fn from_natural(n: u32) -> Oop
+        requires { n < 2 ^ 30 }
+        ensures { result.0 ≡ small_word (pos n) }
+    {
+        Oop(2 * n + 1)
     }
 
     /// The word of a SmallInteger, or `None` exactly where `v` is outside -2^30 to 2^30 - 1.
