@@ -9,6 +9,7 @@ use Rattle.std.proofs.lemmas.Bool.{eq-eqb, false≢true, or_left}
 use Rattle.std.proofs.lemmas.Bool.Decides.{nat_tests}
 use Rattle.std.proofs.lemmas.List.{get_or-replicate, length-replicate, take-replicate}
 use Rattle.std.proofs.lemmas.List.Elements.{All-drop}
+use Rattle.cs_word.specs.Header.{flag_bits}
 use Rattle.cs_heap.specs.Format.{format_allows, is_method, is_pointers}
 use Rattle.cs_heap.specs.Object.{Object, address_of, base, is_object, new_object, new_slot}
 use Rattle.cs_heap.proofs.Laws.{address_of-below, index_of-address, is_object-old, object_at-address}
@@ -95,6 +96,7 @@ module _ {os : List Object} {table : FinMap nat_cmp ℕ} {roots : Roots} (w : Is
       sound : IsSoundObject (os ++ y ∷ []) y
       sound = record {
         kind = kind;
+        flags = omega arith;
         plain = plain;
         shape = subst (λ (n : ℕ). IsTrue (format_allows format n)) (sym (length-replicate slots (new_slot format))) shape;
         references = subst (AllPass (is_reference (os ++ y ∷ []))) (sym (references-pointers y other p ∙ words)) (all_nils y slots);
@@ -133,6 +135,7 @@ module _ {os : List Object} {table : FinMap nat_cmp ℕ} {roots : Roots} (w : Is
       sound : IsSoundObject (os ++ y ∷ []) y
       sound = record {
         kind = kind;
+        flags = omega arith;
         plain = bits_plain format p;
         shape = subst (λ (n : ℕ). IsTrue (format_allows format n)) (sym (length-replicate slots (new_slot format))) shape;
         references = subst (AllPass (is_reference (os ++ y ∷ []))) (sym none) (λ k d l. absurd (omega (arith, l)));
@@ -149,15 +152,16 @@ module _ {os : List Object} {table : FinMap nat_cmp ℕ} {roots : Roots} (w : Is
       means = obj_of-bytes (ref_of (os ++ y ∷ [])) y other p m ∙ ap (Raw (new_head class format)) (ap (used_bytes format) words ∙ bytes)
 
   -- a method, whose header and literals stand already: all words of a new one are 0 until these are written
-  pub makes-method : (y : Object) → y.birth ≡ roots.next_birth → is_some (get table y.class) ≡ true → is_class_index y.class ≡ true → is_context y ≡ false → is_method y.format ≡ true
+  pub makes-method : (y : Object) → y.birth ≡ roots.next_birth → is_some (get table y.class) ≡ true → is_class_index y.class ≡ true → flag_bits y.flags < 2 → is_context y ≡ false → is_method y.format ≡ true
       → IsTrue (format_allows y.format (length y.words)) → IsSoundMethod y → AllPass (is_reference os) (literals_in y.words)
       → Makes os y table roots (λ k. Method (head_of y) (header_in y.words) (map (ref_of os) (literals_in y.words)) (used_bytes y.format (code_in y.words)))
-  makes-method y next entry kind other m shape sound_method all =
+  makes-method y next entry kind flags other m shape sound_method all =
       makes y (λ k. Method (head_of y) (header_in y.words) (map (ref_of os) (literals_in y.words)) (used_bytes y.format (code_in y.words))) next entry sound (λ active. means)
     where
       sound : IsSoundObject (os ++ y ∷ []) y
       sound = record {
         kind = kind;
+        flags = flags;
         plain = bits_plain y.format (not_pointers y.format m);
         shape = shape;
         references = subst (AllPass (is_reference (os ++ y ∷ []))) (sym (references-method y m)) (λ k d l. is_reference-push os y (get_or (literals_in y.words) k d) (all k d l));
@@ -215,11 +219,13 @@ module _ {os : List Object} {table : FinMap nat_cmp ℕ} {roots : Roots} (w : Is
       sound : IsSoundObject (os ++ y ∷ []) y
       sound = record {
         kind = refl;
+        flags = omega arith;
         plain = refl;
         shape = allowed (length y.words);
         references = subst (AllPass (is_reference (os ++ y ∷ []))) (sym (references-context y refl refl))
             (All-drop (λ v. is_reference (os ++ y ∷ []) v ≡ true) 1 (replicate (6 + size) base) (all_nils y (6 + size)));
         context = λ c. record {
+          flags = refl;
           format = refl;
           slots = subst (λ (n : ℕ). IsTrue (n == 22 || n == 62)) (sym long) (shape size fits);
           sender = subst (λ v. is_sender (os ++ y ∷ []) v ≡ true) (nil ∙ sym (word 0 (omega arith))) (is_sender-nil (os ++ y ∷ []) nil_there);

@@ -81,10 +81,12 @@ with_object-alike os a f edit = record {
 pub sound-alike : (os us : List Object) → ReadsAlike os us → (x : Object) → IsSoundObject os x → IsSoundObject us x
 sound-alike os us alike x s = record {
   kind = s.kind;
+  flags = s.flags;
   plain = s.plain;
   shape = s.shape;
   references = subst (λ (p : ℕ → Bool). AllPass p (references_in x)) (sym alike.references) s.references;
   context = λ c. let old = s.context c in record {
+    flags = old.flags;
     format = old.format;
     slots = old.slots;
     sender = subst (λ (p : ℕ → Bool). IsTrue (p (slice_index x.words 0))) (sym alike.senders) old.sender;
@@ -136,10 +138,12 @@ sound-with_object os a x f edit sound there new =
 more : (os : List Object) (y : Object) → 0 < length os → (x : Object) → IsSoundObject os x → IsSoundObject (os ++ y ∷ []) x
 more os y some x s = record {
   kind = s.kind;
+  flags = s.flags;
   plain = s.plain;
   shape = s.shape;
   references = λ k d l. is_reference-push os y (get_or (references_in x) k d) (s.references k d l);
   context = λ c. let old = s.context c in record {
+    flags = old.flags;
     format = old.format;
     slots = old.slots;
     sender = is_sender-push os y (slice_index x.words 0) some old.sender;
@@ -177,6 +181,7 @@ allows_set format ws i v h = subst (λ (n : ℕ). IsTrue (format_allows format n
 pub sound-set_slot : (os : List Object) (x : Object) (i v : ℕ) → IsSoundObject os x → is_context x ≡ false → is_pointers x.format ≡ true → is_reference os v ≡ true → IsSoundObject os (set_word i v x)
 sound-set_slot os x i v s other p h = record {
   kind = s.kind;
+  flags = s.flags;
   plain = s.plain;
   shape = allows_set x.format x.words i v s.shape;
   references = subst (AllPass (is_reference os)) (sym (references-pointers (set_word i v x) other p))
@@ -193,6 +198,7 @@ sound_method os x i v s m h all =
     let old = s.method m in
     record {
       kind = s.kind;
+      flags = s.flags;
       plain = s.plain;
       shape = allows_set x.format x.words i v s.shape;
       references = subst (AllPass (is_reference os)) (sym (references-method (set_word i v x) m)) all;
@@ -218,6 +224,7 @@ sound-set_code os x i v s m h =
 pub sound-set_bytes : (os : List Object) (x : Object) (i v : ℕ) → IsSoundObject os x → is_context x ≡ false → is_pointers x.format ≡ false → is_method x.format ≡ false → IsSoundObject os (set_word i v x)
 sound-set_bytes os x i v s other p m = record {
   kind = s.kind;
+  flags = s.flags;
   plain = s.plain;
   shape = allows_set x.format x.words i v s.shape;
   references = subst (AllPass (is_reference os)) (sym (none (set_word i v x) p m)) (λ k d l. absurd (omega (arith, l)));
@@ -253,11 +260,13 @@ sound-set_context os x i v s c w =
     let slots : length (set x.words i v) ≡ length x.words = length-set x.words i v in
     record {
       kind = s.kind;
+      flags = s.flags;
       plain = s.plain;
       shape = allows_set x.format x.words i v s.shape;
       references = subst (AllPass (is_reference os)) (sym (references-context (set_word i v x) c old.format))
           (behind_set (λ (u : ℕ). is_reference os u ≡ true) x.words i v w.reference whole.behind);
       context = λ _. record {
+        flags = old.flags;
         format = old.format;
         slots = subst (λ (n : ℕ). IsTrue (n == 22 || n == 62)) (sym slots) old.slots;
         sender = read 0 (λ (u : ℕ). IsTrue (is_sender os u)) (omega (arith, whole.fields)) w.sender old.sender;
@@ -282,10 +291,12 @@ sound-set_context os x i v s c w =
 pub sound-hash : (os : List Object) (x : Object) (h : ℕ) → IsSoundObject os x → IsSoundObject os (record x { hash = h })
 sound-hash os x h s = record {
   kind = s.kind;
+  flags = s.flags;
   plain = s.plain;
   shape = s.shape;
   references = s.references;
   context = λ c. let old = s.context c in record {
+    flags = old.flags;
     format = old.format;
     slots = old.slots;
     sender = old.sender;

@@ -108,6 +108,7 @@ whole-set_entry os table roots index a w can = record {
   special = w.special;
   array = w.array;
   last_hash = w.last_hash;
+  header = w.header;
 }
   where
     other : (q : ℕ) → (q ≡ index → ⊥) → get (insert table index a) q ≡ get table q
@@ -240,6 +241,7 @@ whole-with_hash os table roots a x f edit hash w there new =
         slots = omega (arith, w.array.slots, slot_count_of-with_object os a roots.special.0 f edit);
       };
       last_hash = w.last_hash;
+  header = w.header;
     }
   where
     before : (k j : ℕ) (y : Object) → slice_get (at_index k f os) j ≡ Some y → Before os j y
@@ -361,6 +363,7 @@ whole-push os table roots y w next class new = record {
     slots = omega (arith, w.array.slots, field_of-old (λ x. length x.words) os y roots.special.0 w.special);
   };
   last_hash = w.last_hash;
+  header = w.header;
 }
   where
     singles : (k : ℕ) (x : Object) → k < 3 → (slice_get os k ≡ Some x) ⊎ ((k ≡ length os) × (y ≡ x)) → x.format ≡ 0
@@ -473,6 +476,7 @@ whole-last_hash os table roots hash fits w = record {
   special = w.special;
   array = record { format = w.array.format; slots = w.array.slots };
   last_hash = fits;
+  header = record { format = w.header.format; size = w.header.size; profile = w.header.profile };
 }
 
 pub kept_of-last_hash : (os : List Object) (table : FinMap nat_cmp ℕ) (roots : Roots) (active : Option ℕ) (hash : ℕ)

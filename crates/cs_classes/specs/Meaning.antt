@@ -11,7 +11,7 @@ use Rattle.cs_heap.specs.Format.{is_pointers, is_method, unused_units}
 use Rattle.cs_heap.specs.Object.{Object, birth_of, byte_in, object_at}
 use Rattle.cs_model.specs.Ref.{Ref, natural_of}
 use Rattle.cs_model.specs.Ref as ref
-use Rattle.cs_word.specs.Header.{bit, flag_bits}
+use Rattle.cs_word.specs.Header.{is_immutable}
 use Rattle.cs_model.specs.Obj.{Obj, Head, Context, Ptr, Raw, Method, Ctx, context_class, context_fields, literal_count}
 use Rattle.cs_model.specs.State.{Kept}
 use Rattle.cs_classes.specs.declared.Roots.{Roots}
@@ -85,7 +85,7 @@ code_in words = drop (1 + literal_count (header_in words)) words
 
 -- an object is read-only where its header says so: flag 0, isImmutable
 abbrev pub head_of : Object → Head
-head_of x = record { class = x.class; format = x.format; hash = x.hash; fixed = bit (flag_bits x.flags) 0 == 1 }
+head_of x = record { class = x.class; format = x.format; hash = x.hash; fixed = is_immutable x.flags }
 
 unfoldable pub method_of : (ℕ → Ref) → Object → Obj
 method_of refer x = Method (head_of x) (header_in x.words) (map refer (literals_in x.words)) (used_bytes x.format (code_in x.words))

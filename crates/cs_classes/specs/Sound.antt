@@ -6,9 +6,11 @@ use Rattle.std.specs.FinMap.{FinMap, get}
 use Rattle.cs_word.specs.declared.Kind.{Kind}
 use Rattle.cs_word.specs.declared.Kind.TheVariants as kind
 use Rattle.cs_word.specs.Word.{kind_of}
+use Rattle.cs_word.specs.Header.{flag_bits}
 use Rattle.cs_heap.specs.Format.{is_method, is_pointers, format_allows}
 use Rattle.cs_heap.specs.Object.{Object, address_of, base, class_of, format_of, is_object, object_at, slot_count_of}
 use Rattle.cs_model.specs.Context.{closure_class}
+use Rattle.cs_model.specs.ImageFault.{is_bad_format, is_bad_header_size, is_bad_profile}
 use Rattle.cs_model.specs.Obj.{context_class, context_fields, is_header, literal_count}
 use Rattle.cs_model.specs.State.{is_class_index}
 use Rattle.cs_classes.specs.declared.Roots.{Roots}
@@ -55,9 +57,10 @@ references_in x =
     if is_pointers x.format then (if is_context x then drop 1 x.words else x.words) else
     (if is_method x.format then literals_in x.words else [])
 
--- A context has 22 or 62 slots. Its sender is nil, a context or no address; its pc is nil or a SmallInteger that isn't negative;
--- so is its stackp, at most its size; its method is nil or a method; and its closure is nil or a closure.
+-- A context has no flags, so it is never read-only, and 22 or 62 slots. Its sender is nil, a context or no address; its pc is nil or a
+-- SmallInteger that isn't negative; so is its stackp, at most its size; its method is nil or a method; and its closure is nil or a closure.
 pub record IsSoundContext (objects : List Object) (x : Object) : Type 0 where
+  pub flags : flag_bits x.flags ≡ 0
   pub format : x.format ≡ 3
   pub slots : IsTrue (length x.words == 22 || length x.words == 62)
   pub sender : IsTrue (is_sender objects (slice_index x.words 0))
@@ -77,8 +80,10 @@ pub record IsSoundMethod (x : Object) : Type 0 where
 abbrev pub is_weak : ℕ → Bool
 is_weak format = format == 4 || format == 5
 
+-- an object has the index of a class, of the flags at most isImmutable, and what its format asks
 pub record IsSoundObject (objects : List Object) (x : Object) : Type 0 where
   pub kind : is_class_index x.class ≡ true
+  pub flags : flag_bits x.flags < 2
   pub plain : is_weak x.format ≡ false
   pub shape : IsTrue (format_allows x.format (length x.words))
   pub references : AllPass (is_reference objects) (references_in x)
@@ -119,9 +124,15 @@ pub record IsSpecialArray (objects : List Object) (a : ℕ) : Type 0 where
   pub format : format_of objects a ≡ 2
   pub slots : 51 ≤ slot_count_of objects a
 
+-- an image header has the format number and the size of one, and a page count that its profile allows
+pub record IsImageHeader (header : List ℕ) : Type 0 where
+  pub format : is_bad_format header ≡ false
+  pub size : is_bad_header_size header ≡ false
+  pub profile : is_bad_profile header ≡ false
+
 -- A heap with its class table and roots: nil, false and true are there without slots, nil at the first address, which new slots
 -- hold; births are below the next one; each object's class index has an entry; each entry and the special-object array are objects;
--- the table and the array are sound; and identity hashes have 22 bits.
+-- the table, the array and the image header are sound; and identity hashes have 22 bits.
 pub record IsWhole (objects : List Object) (table : FinMap nat_cmp ℕ) (roots : Roots) : Type 0 where
   pub heap : IsSound objects
   pub first : 3 ≤ length objects
@@ -134,3 +145,4 @@ pub record IsWhole (objects : List Object) (table : FinMap nat_cmp ℕ) (roots :
   pub special : is_object objects roots.special.0 ≡ true
   pub array : IsSpecialArray objects roots.special.0
   pub last_hash : roots.last_hash < 4194304
+  pub header : IsImageHeader roots.header
