@@ -32,6 +32,7 @@ pub mod Whole
 pub mod Lasting
 pub mod Settling
 pub mod Opening
+pub mod Canons
 pub mod Editing
 pub mod Leading
 pub mod LeadCombining

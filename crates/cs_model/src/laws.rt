@@ -57,6 +57,7 @@ ghost use Rattle.cs_model.specs.Demand.{before_bytecode, last_state, first_event
 ghost use Rattle.cs_model.specs.Shallow.{ended_between, is_answer, Trial, result_of, Sending, sending_from, sent_out};
 ghost use Rattle.cs_model.specs.Shallow.{trials, bytecode_state};
 ghost use Rattle.cs_model.specs.Report.{place_of, report_of};
+ghost use Rattle.cs_model.specs.Canon.{canon};
 ghost use Rattle.cs_model.specs.SavedFile.{SavedFile, FitsFile, IsReadAgain, IsSeen, IsSeenAgain, saved_bytes};
 ghost use Rattle.cs_model.specs.Built.{is_built_number, is_built_send, is_built_out, built_step, built_run};
 
@@ -460,4 +461,10 @@ pub fn what_is_built_is_what_a_send_finds()
 pub fn a_saved_file_is_read_again()
     ensures read { (f : SavedFile) → FitsFile f → IsReadAgain f (saved_bytes f) }
     ensures seen { (f : SavedFile) → FitsFile f → AllByRecursion IsSeen f.objects → IsSeenAgain f (saved_bytes f) }
+{}
+
+/// States of which one keeps the other have one form by which images are compared: it sees neither births of contexts nor
+/// contexts that nothing names.
+pub fn states_that_keep_each_other_have_one_form()
+    ensures canon { (v m : Kept) → Keeps v m → canon v ≡ canon m }
 {}
