@@ -22,9 +22,10 @@ mod roots;
 mod shape;
 mod table;
 
-ghost use Rattle.std.specs.Prelude.{◌≡◌, ℕ, ◌≤◌, ◌^◌, true, false, is_some, length, take, Bool, List, Some, None, Ok};
+ghost use Rattle.std.specs.Prelude.{◌≡◌, ℕ, ◌≤◌, ◌^◌, true, false, is_some, length, map, take, Bool, List, Some, None, Ok};
 ghost use Rattle.std.specs.Prelude.{IfOk, ⊤};
-ghost use Rattle.cs_model.specs.ImageFile.{file_of, visible, words_in, cut_of, special_address, last_hash_in};
+ghost use Rattle.std.specs.FinSet.{empty};
+ghost use Rattle.cs_model.specs.ImageFile.{births_in, file_of, visible, words_in, cut_of, special_address, last_hash_in};
 ghost use Rattle.cs_model.specs.ImageFault as fault;
 ghost use Rattle.cs_model.specs.ImageFault.{bad_object, is_over, table_size};
 ghost use Rattle.cs_model.specs.Image.{at_word, fault_of, image_of};
@@ -79,6 +80,8 @@ fn build(
     requires births { length births.now.births.items ≡ length (visible file.now) }
     requires room { is_over file.now limit_words ≡ false }
     ensures limit { IfOk result (λ l. l.heap.limit ≡ limit_words) }
+    ensures unwatched { IfOk result (λ l. l.heap.watched ≡ empty) }
+    ensures clean { IfOk result (λ l. l.heap.dirty ≡ false) }
     ensures objects { IfOk result (λ l. l.heap.objects ≡ loaded_from file.now births.now.births.items 0
         (visible file.now)) }
     ensures classes { IfOk result (λ l. l.classes ≡ classes_at file.now table_size) }
@@ -135,7 +138,11 @@ pub fn load(alloc: Global, bytes: &[u8], limit_words: u32) -> Result<Loaded, Ima
     ensures senders { IfOk result (λ l. SendersStand (kept_of l.heap.objects l.classes l.roots None)) }
     ensures valid { IfOk result (λ l. (events : List Event) (snapping : Bool)
         → IsValid (opened (kept_of l.heap.objects l.classes l.roots None) events snapping)) }
+    ensures births { IfOk result (λ l. map (λ x. x.birth) l.heap.objects
+        ≡ births_in bytes.now (length l.heap.objects)) }
     ensures limit { IfOk result (λ l. l.heap.limit ≡ limit_words) }
+    ensures unwatched { IfOk result (λ l. l.heap.watched ≡ empty) }
+    ensures clean { IfOk result (λ l. l.heap.dirty ≡ false) }
 {
     check_header(bytes)?;
     let file = read_objects(alloc, bytes)?;
