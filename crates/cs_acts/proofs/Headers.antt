@@ -14,7 +14,8 @@ use Rattle.cs_model.specs.Obj.{Obj, literal_count, number_in}
 use Rattle.cs_model.specs.State.{Kept, object_of}
 use Rattle.cs_acts.specs.Names.{Store, name_of}
 use Rattle.cs_acts.specs.Ready.{Holds}
-use Rattle.cs_acts.specs.Reading.{IsMethodNamed, is_method_at, number_between, object_named}
+use Rattle.cs_classes.specs.Sound.{is_method_address}
+use Rattle.cs_acts.specs.Reading.{IsMethodNamed, number_between, object_named}
 use Rattle.cs_acts.proofs.Held.{Says, says}
 use Rattle.cs_acts.proofs.Methods.{IsMethodAt, code_byte, end_is, header_is}
 use Rattle.cs_acts.proofs.Named.{Place, There, Nowhere, field_at, method_read, place}
@@ -29,7 +30,7 @@ method_here s k o holds m = go (place s.memory.objects o.0)
     said : (p : Option Object) → object_named s.memory.objects o.0 ≡ p → Says (ref_of s.memory.objects) p (object_of k (name_of s o))
     said p f = subst (λ q. Says (ref_of s.memory.objects) q (object_of k (name_of s o))) f (says s k o holds m.named)
 
-    in_heap : is_method_at s.memory.objects o.0 ≡ true
+    in_heap : is_method_address s.memory.objects o.0 ≡ true
     in_heap = method_read s k s.memory o refl holds m.named ∙ m.method
 
     there : (x : Object) → object_named s.memory.objects o.0 ≡ Some x → object_at s.memory.objects o.0 ≡ Some x → is_method x.format ≡ true → IsMethodAt s.memory.objects (object_of k (name_of s o)) o.0

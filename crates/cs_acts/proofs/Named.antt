@@ -12,7 +12,7 @@ use Rattle.cs_word.specs.declared.Oop.{Oop}
 use Rattle.cs_word.specs.declared.Kind.{Kind}
 use Rattle.cs_word.specs.declared.Kind.TheVariants as kind
 use Rattle.cs_word.specs.Word.{kind_of, small_value}
-use Rattle.cs_word.specs.Header.{bit, flag_bits}
+use Rattle.cs_word.specs.Header.{flag_bits, is_immutable}
 use Rattle.cs_word.proofs.Words.{kind_of-object}
 use Rattle.cs_heap.specs.Format.{is_pointers, is_method}
 use Rattle.cs_heap.specs.Object.{Memory, Object, birth_of, class_of, field_of, format_of, index_of, is_fixed, is_object, object_at, slot_count_of, slot_of}
@@ -252,8 +252,8 @@ context_no_method (Some (Raw head bytes)) h = refl
 context_no_method (Some (Method head header literals bytecodes)) h = absurd (cc)
 context_no_method (Some (Ctx c)) h = refl
 
-pub method_read : (s : Store) (k : Kept) (m : Memory) (o : Oop) → m ≡ s.memory → Holds s k → IsNamed s o → reading.is_method_at m.objects o.0 ≡ obj.is_method (object_of k (name_of s o))
-method_read s k m o e holds named = subst (λ (m : Memory). reading.is_method_at m.objects o.0 ≡ obj.is_method (object_of k (name_of s o))) (sym e) (go (place s.memory.objects o.0))
+pub method_read : (s : Store) (k : Kept) (m : Memory) (o : Oop) → m ≡ s.memory → Holds s k → IsNamed s o → is_method_address m.objects o.0 ≡ obj.is_method (object_of k (name_of s o))
+method_read s k m o e holds named = subst (λ (m : Memory). is_method_address m.objects o.0 ≡ obj.is_method (object_of k (name_of s o))) (sym e) (go (place s.memory.objects o.0))
   where
     said : (p : Option Object) → object_named s.memory.objects o.0 ≡ p → Says (ref_of s.memory.objects) p (object_of k (name_of s o))
     said p f = subst (λ q. Says (ref_of s.memory.objects) q (object_of k (name_of s o))) f (says s k o holds named)
@@ -266,7 +266,7 @@ method_read s k m o e holds named = subst (λ (m : Memory). reading.is_method_at
     is_it x true sound c h = no_method x sound c (is_method x.format) refl ∙ sym (context_no_method (object_of k (name_of s o)) (h.1 c))
     is_it x false sound c h = sym (ap obj.is_method (h.0 c) ∙ method_sort s.memory.objects x (is_method x.format) sound refl)
 
-    go : Place s.memory.objects o.0 → reading.is_method_at s.memory.objects o.0 ≡ obj.is_method (object_of k (name_of s o))
+    go : Place s.memory.objects o.0 → is_method_address s.memory.objects o.0 ≡ obj.is_method (object_of k (name_of s o))
     go (There x f at is) =
         ap₂ (λ b c. b && is_method c) is (field_at (λ y. y.format) s.memory.objects o.0 x at)
         ∙ is_it x (is_context x) (sound_at s.memory.objects o.0 x holds.whole.heap at) refl (said (Some x) f)
@@ -280,13 +280,10 @@ context_not_fixed (Some (Raw head bytes)) h = absurd (cc)
 context_not_fixed (Some (Method head header literals bytecodes)) h = absurd (cc)
 context_not_fixed (Some (Ctx c)) h = refl
 
-fixed_object : (refer : ℕ → Ref) (x : Object) → is_context x ≡ false → (flag_bits x.flags % 2 == 1) ≡ is_fixed_at (Some (obj_of refer x))
-fixed_object refer x other = ap (λ n. n == 1) (lowest (flag_bits x.flags)) ∙ sym (go (sort_of x))
+fixed_object : (refer : ℕ → Ref) (x : Object) → is_context x ≡ false → is_immutable x.flags ≡ is_fixed_at (Some (obj_of refer x))
+fixed_object refer x other = sym (go (sort_of x))
   where
-    lowest : (n : ℕ) → n % 2 ≡ bit n 0
-    lowest n = omega arith
-
-    go : Sort x → is_fixed_at (Some (obj_of refer x)) ≡ (bit (flag_bits x.flags) 0 == 1)
+    go : Sort x → is_fixed_at (Some (obj_of refer x)) ≡ is_immutable x.flags
     go (AContext c) = absurd (false≢true (sym other ∙ c))
     go (Pointers o p) = ap (λ y. is_fixed_at (Some y)) (obj_of-pointers refer x o p)
     go (AMethod o b m) = ap (λ y. is_fixed_at (Some y)) (obj_of-method refer x o b m)
@@ -298,16 +295,15 @@ read_only_read s k m o e holds named = subst (λ (m : Memory). reading.is_read_o
     said : (p : Option Object) → object_named s.memory.objects o.0 ≡ p → Says (ref_of s.memory.objects) p (object_of k (name_of s o))
     said p f = subst (λ q. Says (ref_of s.memory.objects) q (object_of k (name_of s o))) f (says s k o holds named)
 
-    is_it : (x : Object) (b : Bool) → is_context x ≡ b → Says (ref_of s.memory.objects) (Some x) (object_of k (name_of s o)) → (not b && flag_bits x.flags % 2 == 1) ≡ is_read_only k (name_of s o)
-    is_it x true f h = sym (context_not_fixed (object_of k (name_of s o)) (h.1 f))
-    is_it x false f h = fixed_object (ref_of s.memory.objects) x f ∙ sym (ap is_fixed_at (h.0 f))
+    is_it : (x : Object) (b : Bool) → IsSoundObject s.memory.objects x → is_context x ≡ b → Says (ref_of s.memory.objects) (Some x) (object_of k (name_of s o)) → is_immutable x.flags ≡ is_read_only k (name_of s o)
+    is_it x true sound f h = ap (λ n. n % 2 == 1) (sound.context f).flags ∙ sym (context_not_fixed (object_of k (name_of s o)) (h.1 f))
+    is_it x false sound f h = fixed_object (ref_of s.memory.objects) x f ∙ sym (ap is_fixed_at (h.0 f))
 
     go : Place s.memory.objects o.0 → reading.is_read_only_at s.memory.objects o.0 ≡ is_read_only k (name_of s o)
     go (There x f at is) =
-        ap₂ (λ b c. b && not (c == context_class) && is_fixed s.memory.objects o.0) is (field_at (λ y. y.class) s.memory.objects o.0 x at)
-        ∙ ap (λ n. not (is_context x) && n % 2 == 1) (field_at (λ y. flag_bits y.flags) s.memory.objects o.0 x at)
-        ∙ is_it x (is_context x) refl (said (Some x) f)
-    go (Nowhere f is) = ap (λ b. b && not (class_of s.memory.objects o.0 == context_class) && is_fixed s.memory.objects o.0) is ∙ sym (ap is_fixed_at (said None f))
+        ap₂ (λ b n. b && n % 2 == 1) is (field_at (λ y. flag_bits y.flags) s.memory.objects o.0 x at)
+        ∙ is_it x (is_context x) (sound_at s.memory.objects o.0 x holds.whole.heap at) refl (said (Some x) f)
+    go (Nowhere f is) = ap (λ b. b && is_fixed s.memory.objects o.0) is ∙ sym (ap is_fixed_at (said None f))
 
 -- ---- special objects and classes
 

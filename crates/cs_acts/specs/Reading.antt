@@ -4,7 +4,7 @@ use Rattle.cs_word.specs.declared.Oop.{Oop}
 use Rattle.cs_word.specs.declared.Kind.{Kind}
 use Rattle.cs_word.specs.declared.Kind.TheVariants as kind
 use Rattle.cs_word.specs.Word.{kind_of}
-use Rattle.cs_heap.specs.Format.{is_method, is_pointers}
+use Rattle.cs_heap.specs.Format.{is_pointers}
 use Rattle.cs_heap.specs.Object.{Object, byte_of, class_of, format_of, is_fixed, is_object, object_at, slot_count_of}
 use Rattle.cs_model.specs.Obj as obj
 use Rattle.cs_model.specs.Obj.{context_class}
@@ -35,16 +35,13 @@ abbrev pub has_slots : List Object → ℕ → ℕ → Bool
 has_slots objects n word = is_object objects word && not (class_of objects word == context_class)
     && is_pointers (format_of objects word) && nat_le n (slot_count_of objects word)
 
--- a word is the address of a context, or of a method
+-- a word is the address of a context
 abbrev pub is_context_at : List Object → ℕ → Bool
 is_context_at objects word = is_object objects word && class_of objects word == context_class
 
-abbrev pub is_method_at : List Object → ℕ → Bool
-is_method_at objects word = is_object objects word && is_method (format_of objects word)
-
--- a word is the address of a read-only object, which no context is
+-- a word is the address of a read-only object
 abbrev pub is_read_only_at : List Object → ℕ → Bool
-is_read_only_at objects word = is_object objects word && not (class_of objects word == context_class) && is_fixed objects word
+is_read_only_at objects word = is_object objects word && is_fixed objects word
 
 abbrev pub class_index_of_kind : List Object → Kind → ℕ
 class_index_of_kind objects (kind.Small value) = 1

@@ -1,8 +1,7 @@
 //! Activations: what every representation of the machine's state offers.
 //!
 //! A world keeps the kept parts of a state, its `view`. Where a context stands in the heap and where it is a frame is
-//! the
-//! world's own matter. Whoever goes through the calls of `World` alone can't see the difference.
+//! the world's own matter. Whoever goes through the calls of `World` alone can't see the difference.
 #![tactic(auto)]
 
 mod act;

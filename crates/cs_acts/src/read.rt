@@ -90,8 +90,7 @@ pub fn from_top<W: World>(w: &W, n: u32) -> Option<Oop>
 }
 
 /// Argument or temporary `i` of the active context, counted from 0 at the bottom of its stack; None exactly where the
-/// stack
-/// holds fewer values.
+/// stack holds fewer values.
 pub fn temporary<W: World>(w: &W, i: u32) -> Option<Oop>
     requires { IsReady (W.stored w.now) (W.view w.now) }
     ensures value { NamesOption (W.stored w.now) result (slice_get (stack_of (W.view w.now)) i) }

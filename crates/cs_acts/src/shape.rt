@@ -26,8 +26,7 @@ pub enum Shape {
 /// What the scheduler and the active process are.
 ///
 /// The scheduler must be there, with two slots, in special object 3, which has two slots too. The active process must
-/// be nil, or
-/// have four slots and be neither the scheduler nor special object 3.
+/// be nil, or have four slots and be neither the scheduler nor special object 3.
 #[tactic(auto, unfolding(cs_model::specs::Step::shape_fault, cs_model::specs::Due::is_idle))]
 pub fn shape_of<W: World>(w: &W) -> Shape
     requires { IsSound (W.stored w.now) (W.view w.now) }

@@ -4,9 +4,9 @@ ghost use Rattle.std.specs.Prelude.{unwrap_or};
 ghost use Rattle.cs_heap.specs.Format.{is_method};
 ghost use Rattle.cs_heap.specs.Object.{format_of, is_object, next_of, slot_count_of, slot_of};
 ghost use Rattle.cs_classes.specs.Meaning.{count_of, unused_bytes};
-ghost use Rattle.cs_classes.specs.Sound.{is_reference};
+ghost use Rattle.cs_classes.specs.Sound.{is_method_address, is_reference};
 ghost use Rattle.cs_model.specs.Obj.{literal_count};
-ghost use Rattle.cs_acts.specs.Reading.{byte_before, class_index_of, has_slots, is_context_at, is_method_at};
+ghost use Rattle.cs_acts.specs.Reading.{byte_before, class_index_of, has_slots, is_context_at};
 ghost use Rattle.cs_acts.specs.Reading.{is_read_only_at};
 
 use cs_heap::Heap;
@@ -41,16 +41,16 @@ pub(crate) fn class_index(heap: &Heap, o: Oop) -> u32
 
 /// Whether a word is the address of a method.
 pub(crate) fn is_method(heap: &Heap, o: Oop) -> bool
-    ensures { result ≡ is_method_at heap.now.objects o.0 }
+    ensures { result ≡ is_method_address heap.now.objects o.0 }
 {
     heap.is_object(o) && (24..28).contains(&heap.format(o))
 }
 
-/// Whether a word is the address of a read-only object, which no context is.
+/// Whether a word is the address of a read-only object.
 pub(crate) fn is_read_only(heap: &Heap, o: Oop) -> bool
     ensures { result ≡ is_read_only_at heap.now.objects o.0 }
 {
-    heap.is_object(o) && heap.class_index(o) != CONTEXT && heap.is_fixed(o)
+    heap.is_object(o) && heap.is_fixed(o)
 }
 
 /// Whether a word is the address of a pointer object, which no context is, with at least so many slots.

@@ -31,9 +31,8 @@ use cs_word::Oop;
 /// Keeps a state of the machine.
 ///
 /// Each call speaks of the state that the world keeps, its view. A call that changes it does that operation on every
-/// state
-/// that this one keeps, so nothing is told of where contexts stand. An `Oop` that a call answers is an immediate or the
-/// address of an object of the heap; one that it is given must be too. What an `Oop` names, it names for ever.
+/// state that this one keeps, so nothing is told of where contexts stand. An `Oop` that a call answers is an immediate
+/// or the address of an object of the heap; one that it is given must be too. What an `Oop` names, it names for ever.
 pub trait World {
     ghost view: { Self → Kept };
 
@@ -222,8 +221,7 @@ pub trait World {
     /// The active context as an object.
     ///
     /// Where it was a frame alone, its context is made: it was there in the state all the time, so nothing changes
-    /// there. A
-    /// refusal ends the run, so nothing is said of the world behind it.
+    /// there. A refusal ends the run, so nothing is said of the world behind it.
     fn this_context(&mut self) -> Result<Oop, Full>
         requires sound { IsSound (stored self.old) (view self.old) }
         requires active { IsSome (view self.old).rest.active }
@@ -301,8 +299,8 @@ pub trait World {
             (add_of (view self.old) (blank_of (view self.old) class format slots))) };
 
     /// Enters a method: receiver and arguments leave the active stack, and a new context is active, with the old one as
-    /// its
-    /// sender. It begins at the first pc of the method, or with `skip` behind its three bytes that name a primitive.
+    /// its sender. It begins at the first pc of the method, or with `skip` behind its three bytes that name a
+    /// primitive.
     ///
     /// A refusal ends the run, so nothing is said of the world behind it.
     fn enter(&mut self, method: Oop, args: u32, skip: bool) -> Result<(), Full>
@@ -324,8 +322,7 @@ pub trait World {
             (enter_of (view self.old) (name_of (stored self.old) method) args skip)) };
 
     /// Enters the block of a closure: closure and arguments leave the active stack, and a new context is active, with
-    /// the old one as its
-    /// sender. Its method and receiver are those of the closure's outer context.
+    /// the old one as its sender. Its method and receiver are those of the closure's outer context.
     ///
     /// A refusal ends the run, so nothing is said of the world behind it.
     fn enter_block(&mut self, closure: Oop, args: u32) -> Result<(), Full>
@@ -369,8 +366,7 @@ pub trait World {
             (leave_of (view self.old) (name_of (stored self.old) v))) };
 
     /// Returns a value past a home that is met among the senders of the active context: all contexts from the active
-    /// one to the home die,
-    /// the home's sender is active, and the value is pushed there.
+    /// one to the home die, the home's sender is active, and the value is pushed there.
     ///
     /// A refusal ends the run, so nothing is said of the world behind it.
     fn cut_to(&mut self, home: Act, v: Oop) -> Result<(), Full>

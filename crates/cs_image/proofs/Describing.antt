@@ -1,21 +1,24 @@
 -- A file without faults means in memory what it describes.
-use Rattle.std.proofs.Common.{◌≡◌, ℕ, zero, suc, ◌+◌, ◌<◌, ◌≤◌, Bool, true, false, List, [], ◌∷◌, ◌++◌, length, map, take, drop, replicate, Option, Some, None, Ok, refl, ap, sym, subst, ◌∙◌, arith, slice_get, slice_index, option_map, nat_cmp}
+use Rattle.std.proofs.Common.{◌≡◌, ℕ, zero, suc, ◌+◌, ◌*◌, ◌/◌, ◌%◌, ◌^◌, ◌<◌, ◌≤◌, ◌==◌, ◌&&◌, not, Bool, true, false, List, [], ◌∷◌, ◌++◌, length, map, take, drop, replicate, Option, Some, None, Ok, refl, ap, ap₂, sym, subst, ◌∙◌, arith, slice_get, slice_index, option_map, nat_cmp}
 use Rattle.std.specs.List.{zip}
 use Rattle.std.specs.FinMap.{FinMap, empty, get-empty, insert, from_entries, nat_cmp-IsAntisymmetric, same_map}
 use Rattle.std.specs.Cmp.{nat_cmp_total}
-use Rattle.std.proofs.lemmas.List.{drop-take, drop_more, take-take}
+use Rattle.std.proofs.lemmas.List.{drop-take, drop_more, get_or-take, take-take}
+use Rattle.std.proofs.Math.ListN.{drop_of_length-le}
 use Rattle.cs_model.specs.Obj.{Obj}
-use Rattle.cs_model.specs.ImageFile.{FileObject, File, file_of, visible, births_in, next_birth_in, header_in, special_address, last_hash_in, is_nil}
+use Rattle.cs_model.specs.ImageFile.{FileObject, File, file_of, visible, births_in, next_birth_in, header_in, number_at, special_address, u32_at, last_hash_in, is_nil}
 use Rattle.cs_model.specs.ImageFault.{entry_in, table_size}
 use Rattle.cs_model.specs.Image.{birth_in, object_in, classes_in, described, fault_of, image_of, rest_in, state_unless}
 use Rattle.cs_model.specs.ImageFault.{ImageFault}
+use Rattle.cs_model.specs.Profile.{is_page_count}
 use Rattle.cs_model.specs.State.{Kept}
 use Rattle.cs_heap.specs.Object.{Object, birth_of}
 use Rattle.cs_classes.specs.Meaning.{classes_of, header_of, kept_of, obj_of, ref_of, objects_of}
+use Rattle.cs_classes.specs.Sound.{IsImageHeader}
 use Rattle.cs_classes.specs.declared.Roots.{Roots}
 use Rattle.cs_classes.proofs.Wholes.{classes_of-insert, get-classes_of}
 use Rattle.cs_image.specs.Loading.{address_named, classes_at, loaded_from}
-use Rattle.cs_image.proofs.Naming.{Stands, birth_is_place, birth_of-named}
+use Rattle.cs_image.proofs.Naming.{Stands, length-loaded_from, birth_is_place, birth_of-named}
 use Rattle.cs_image.proofs.Soundness.{IsSoundFile, table_parts, entry_stands, fine_at, special_stands, visible_three}
 use Rattle.cs_image.proofs.Numbering.{AreBirths}
 use Rattle.cs_image.proofs.Wording.{memory_of}
@@ -85,6 +88,7 @@ pub record HasRoots (births : List ℕ) (bytes : List ℕ) (roots : Roots) : Typ
   pub known : AreBirths births (length (visible (file_of bytes))) roots.next_birth
   pub small : roots.last_hash < 4194304
   pub header : roots.header ≡ take 64 bytes
+  pub checked : IsImageHeader roots.header
 
 pub kept_same : (births : List ℕ) (bytes : List ℕ) (roots : Roots) → HasRoots births bytes roots → IsSoundFile (file_of bytes) (special_address bytes)
     → kept_of (memory_of births (file_of bytes)) (classes_at (file_of bytes) table_size) roots None ≡ described bytes
@@ -126,6 +130,34 @@ pub image_is : (bytes : List ℕ) (limit : ℕ) (k : Kept) → fault_of bytes li
 unfolding image_of
 image_is bytes limit k none same = ap (λ (f : Option ImageFault). state_unless f (described bytes)) none ∙ ap Ok (sym same)
 
+-- ---- the header
+
+number_at-take : (n limit : ℕ) (bytes : List ℕ) (place : ℕ) → place + n ≤ limit → number_at n (take limit bytes) place ≡ number_at n bytes place
+number_at-take zero limit bytes place h = refl
+number_at-take (suc n) limit bytes place h =
+    ap₂ (λ (b rest : ℕ). b + 256 * rest) (get_or-take limit bytes place 0 (omega (arith, h))) (number_at-take n limit bytes (place + 1) (omega (arith, h)))
+
+u32_at-take : (bytes : List ℕ) (place : ℕ) → place + 4 ≤ 64 → u32_at (take 64 bytes) place ≡ u32_at bytes place
+unfolding u32_at
+u32_at-take bytes place h = number_at-take 4 64 bytes place h
+
+-- the first 64 bytes say what the file's header says
+image_header-take : (bytes : List ℕ) → IsImageHeader bytes → IsImageHeader (take 64 bytes)
+image_header-take bytes h = record {
+  format = ap (λ n. not (n == 6521)) (u32_at-take bytes 0 (omega arith)) ∙ h.format;
+  size = ap (λ n. not (n == 64)) (u32_at-take bytes 4 (omega arith)) ∙ h.size;
+  profile = ap₂ (λ flags pages. flags / 2 ^ 31 % 2 == 1 && not (is_page_count pages)) (u32_at-take bytes 28 (omega arith)) (number_at-take 2 64 bytes 36 (omega arith)) ∙ h.profile;
+}
+
+-- ---- births
+
+births_loaded : (births : List ℕ) (f : File) (k : ℕ) (os : List FileObject) → k + length os ≡ length births
+    → map (λ x. x.birth) (loaded_from f births k os) ≡ drop k births
+births_loaded births f k [] long = sym (drop_of_length-le births (omega (arith, long)))
+births_loaded births f k (o ∷ os) long =
+    ap (λ (bs : List ℕ). slice_index births k ∷ bs) (births_loaded births f (k + 1) os (omega (arith, long)))
+    ∙ sym (drop_more births k 0 (omega (arith, long)))
+
 -- what was built for a file
 pub record IsBuilt (births : List ℕ) (bytes : List ℕ) (file : File) (objects : List Object) (table : FinMap nat_cmp ℕ) (roots : Roots) : Type 0 where
   pub objects_are : objects ≡ loaded_from file births 0 (visible file)
@@ -136,6 +168,7 @@ pub record IsBuilt (births : List ℕ) (bytes : List ℕ) (file : File) (objects
   pub next : roots.next_birth ≡ next_birth_in bytes (length (visible file))
   pub known : AreBirths births (length (visible file)) roots.next_birth
   pub header : roots.header ≡ take 64 bytes
+  pub checked : IsImageHeader bytes
 
 pub built_roots : (births : List ℕ) (bytes : List ℕ) (file : File) (objects : List Object) (table : FinMap nat_cmp ℕ) (roots : Roots) → file ≡ file_of bytes
     → IsBuilt births bytes file objects table roots → HasRoots births bytes roots
@@ -147,7 +180,15 @@ built_roots births bytes file objects table roots same b = record {
   known = let P : File → Type 0 = λ f. AreBirths births (length (visible f)) roots.next_birth in subst P same b.known;
   small = let h = b.hash in omega (arith, h);
   header = b.header;
+  checked = subst IsImageHeader (sym b.header) (image_header-take bytes b.checked);
 }
+
+-- the births of the objects are those of the file
+pub built_births : (births : List ℕ) (bytes : List ℕ) (file : File) (objects : List Object) (table : FinMap nat_cmp ℕ) (roots : Roots)
+    → IsBuilt births bytes file objects table roots → map (λ x. x.birth) objects ≡ births_in bytes (length objects)
+built_births births bytes file objects table roots b =
+    ap (λ (os : List Object). map (λ x. x.birth) os) b.objects_are ∙ births_loaded births file 0 (visible file) (omega (arith, b.known.long)) ∙ b.births_are
+    ∙ ap (births_in bytes) (sym (ap length b.objects_are ∙ length-loaded_from births file 0 (visible file)))
 
 pub built_is : (births : List ℕ) (bytes : List ℕ) (limit : ℕ) (file : File) (objects : List Object) (table : FinMap nat_cmp ℕ) (roots : Roots) → file ≡ file_of bytes
     → IsBuilt births bytes file objects table roots → fault_of bytes limit ≡ None → IsSoundFile (file_of bytes) (special_address bytes)

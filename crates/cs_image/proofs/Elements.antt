@@ -44,7 +44,7 @@ abbrev pub standing : File → ℕ → FileObject → Object
 standing f j o = loaded f j o
 
 -- its head: whether it is read-only is told of no context
-fixed_kept : (on : Bool) → (0 / 2 * 2 + cond on 1 0) / 2 ^ 0 % 2 == 1 ≡ on
+fixed_kept : (on : Bool) → (0 / 2 * 2 + cond on 1 0) % 2 == 1 ≡ on
 fixed_kept true = refl
 fixed_kept false = refl
 

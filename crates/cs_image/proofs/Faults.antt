@@ -7,6 +7,7 @@ use Rattle.cs_model.specs.ImageFault as fault
 use Rattle.cs_model.specs.ImageFault.{is_too_long, is_short, is_bad_format, is_bad_header_size, is_bad_profile, is_bad_length, bad_object, is_over, is_bad_table, bad_ref, bad_class, bad_context, is_bad_roots, is_bad_births}
 use Rattle.cs_model.specs.ImageFile.{heap_size, old_base, has_births, birth_count, words_in, cut_of, file_of, special_address, visible}
 use Rattle.cs_model.specs.Image.{at_word, when, first_of, fault_of}
+use Rattle.cs_classes.specs.Sound.{IsImageHeader}
 use Rattle.cs_image.specs.declared.error.ImageError.{ImageError}
 use Rattle.cs_image.specs.declared.error.ImageError.TheVariants as error
 use Rattle.cs_image.specs.Answer.{Tells, header_fault, objects_fault}
@@ -72,6 +73,7 @@ or_false true b e = absurd (cc)
 or_false false b e = (refl, e)
 
 pub record IsHeader (bytes : List ℕ) : Type 0 where
+  pub image : IsImageHeader bytes
   pub long : 64 ≤ length bytes
   pub short : length bytes ≤ 536870912
   pub whole : heap_size bytes % 8 ≡ 0
@@ -93,6 +95,11 @@ header_is bytes e =
     let z = or_false _ (not (old_base bytes % 8 == 0)) y.0 in
     let w = or_false (heap_size bytes == 0) (not (heap_size bytes % 8 == 0)) z.0 in
     record {
+      image = record {
+        format = when_none (is_bad_format bytes) fault.BadFormat c.0;
+        size = when_none (is_bad_header_size bytes) fault.BadHeaderSize d.0;
+        profile = when_none (is_bad_profile bytes) fault.BadProfile f.0;
+      };
       long = let s = when_none (is_short bytes) fault.Short b.0 in grind (arith, nat_tests, s);
       short = let s = when_none (is_too_long bytes) fault.TooLong a.0 in grind (arith, nat_tests, s);
       base = let s = z.1 in grind (arith, nat_tests, s);

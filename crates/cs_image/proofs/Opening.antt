@@ -37,7 +37,7 @@ use Rattle.cs_image.proofs.Wording.{memory_of, meant, natural_even}
 use Rattle.cs_image.proofs.Elements.{object_same}
 use Rattle.cs_image.proofs.Soundness.{IsSoundFile, and_true, not_true, not_false, context_at, fine_at, seven, special_stands, visible_three}
 use Rattle.cs_image.proofs.Describing.{IsBuilt, built_roots}
-use Rattle.cs_image.proofs.Wholeness.{and_then_some, map_some, passes_some, is_some_some, visible_named, named_aligned, context_seen, seen, Ground, ground_of, memory_whole, nil_aligned, nil_number, nil_stands}
+use Rattle.cs_image.proofs.Wholeness.{and_then_some, map_some, passes_some, is_some_some, visible_named, named_aligned, context_seen, seen, Ground, ground_of, memory_sound, nil_aligned, nil_number, nil_stands}
 
 -- ---- the state alone
 
@@ -436,13 +436,13 @@ file_can_open births f special k h busy =
     no_nil w true e n = absurd (cc (sym (nil_held births f special k h w e) ∙ n))
 
 -- the state of a heap into which a file was loaded
-pub has_file : (births : List ℕ) (f : File) (special : ℕ) (table : FinMap nat_cmp ℕ) (roots : Roots) → Ground f special → roots.special.0 ≡ address_named f special → AreBirths births (length (visible f)) roots.next_birth → roots.last_hash < 4194304
+pub has_file : (births : List ℕ) (f : File) (special : ℕ) (table : FinMap nat_cmp ℕ) (roots : Roots) → Ground f special → roots.special.0 ≡ address_named f special → AreBirths births (length (visible f)) roots.next_birth
     → HasFile births f special (kept_of (memory_of births f) table roots None)
-has_file births f special table roots g at next small =
+has_file births f special table roots g at next =
     let three = visible_three f g.table in
     record {
       ground_of = g;
-      sound = (memory_whole births f special roots g at next small).heap;
+      sound = memory_sound births f special roots.next_birth g next;
       objects = refl;
       special = ap (heap.birth_of (memory_of births f)) at ∙ birth_of-named births f special (special_stands births f special g.sound.roots);
       nil = birth_is_place births f (visible f) 0 (omega (arith, three));
@@ -462,4 +462,4 @@ built_opens births bytes file objects table roots same b base_is s =
     let r = built_roots births bytes file objects table roots same b in
     let P : List Object → Type 0 = λ os. is_idle (kept_of os table roots None) ≡ false → IsRunning (open_kept (kept_of os table roots None)) in
     subst P (sym (b.objects_are ∙ ap (λ (f : File). loaded_from f births 0 (visible f)) same))
-    (file_opens births f special (kept_of (memory_of births f) table roots None) (has_file births f special table roots (ground_of bytes base_is s) r.special r.known r.small))
+    (file_opens births f special (kept_of (memory_of births f) table roots None) (has_file births f special table roots (ground_of bytes base_is s) r.special r.known))

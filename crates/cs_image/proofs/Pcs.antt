@@ -99,7 +99,7 @@ built_pcs births bytes file objects table roots same b base_is s =
     let r = built_roots births bytes file objects table roots same b in
     let P : List Object → Type 0 = λ os. (i : ℕ) (c : Context) → object_at (kept_of os table roots None) i ≡ Some (Ctx c) → PcLies (kept_of os table roots None) c in
     subst P (sym (b.objects_are ∙ ap (λ (f : File). loaded_from f births 0 (visible f)) same))
-    (file_pcs births f special (kept_of (memory_of births f) table roots None) (has_file births f special table roots (ground_of bytes base_is s) r.special r.known r.small))
+    (file_pcs births f special (kept_of (memory_of births f) table roots None) (has_file births f special table roots (ground_of bytes base_is s) r.special r.known))
 
 -- each object takes a word and more, so the births are at most the words of the limit
 pub few_births : (file : File) (limit : ℕ) → is_over file limit ≡ false → length (visible file) ≤ limit

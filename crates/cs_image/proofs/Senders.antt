@@ -68,4 +68,4 @@ built_senders births bytes file objects table roots same b base_is s =
     let r = built_roots births bytes file objects table roots same b in
     let P : List Object → Type 0 = λ os. SendersStand (kept_of os table roots None) in
     subst P (sym (b.objects_are ∙ ap (λ (f : File). loaded_from f births 0 (visible f)) same))
-    (file_senders births f special (kept_of (memory_of births f) table roots None) (has_file births f special table roots (ground_of bytes base_is s) r.special r.known r.small))
+    (file_senders births f special (kept_of (memory_of births f) table roots None) (has_file births f special table roots (ground_of bytes base_is s) r.special r.known))

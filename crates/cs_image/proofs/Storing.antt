@@ -1,5 +1,5 @@
 -- Storing an object's hash and slots behind all others.
-use Rattle.std.proofs.Common.{◌≡◌, ℕ, zero, suc, ◌+◌, ◌<◌, ◌==◌, ◌&&◌, not, true, inl, inr, List, [], ◌∷◌, ◌++◌, length, map, set, get_or, replicate, refl, ap, sym, ◌∙◌, arith, length-set}
+use Rattle.std.proofs.Common.{◌≡◌, ℕ, zero, suc, ◌+◌, ◌<◌, ◌==◌, ◌&&◌, ◌||◌, not, Bool, true, false, inl, inr, List, [], ◌∷◌, ◌++◌, length, map, set, get_or, replicate, refl, ap, sym, ◌∙◌, arith, length-set, nat_cmp}
 use Rattle.std.proofs.lemmas.List.{length-replicate, get_or-set_same, get_or-set_other, ext_get_or}
 use Rattle.std.proofs.lemmas.Bool.Decides.{eqb_tells}
 use Rattle.std.specs.List.{range_with_len}
@@ -8,7 +8,8 @@ use Rattle.cs_model.specs.Obj.{context_class}
 use Rattle.cs_word.specs.Header.{with_immutable}
 use Rattle.cs_model.specs.Words.{plain_format}
 use Rattle.cs_model.specs.ImageFile.{FileObject, File}
-use Rattle.cs_heap.specs.Object.{Object, is_object, new_object, new_slot, next_address, no_flags, slot_count_of, with_fixed, with_hash, with_slot}
+use Rattle.std.specs.FinSet.{FinSet, contains, contains-empty, empty}
+use Rattle.cs_heap.specs.Object.{Memory, is_watched, Object, is_object, new_object, new_slot, next_address, no_flags, slot_count_of, with_fixed, with_hash, with_slot}
 use Rattle.cs_heap.proofs.Laws.{give_fixed, give_hash, is_object-new, is_object-with_hash, next_address-new, with_hash-new, with_object-new, with_slot-new, field_of-new}
 use Rattle.cs_image.specs.Loading.{written, loaded, loaded_word}
 
@@ -70,6 +71,14 @@ fresh_begun f xs birth o a at =
     let here = next_address-new xs a o.class (plain_format o.format) (length o.words) birth at in
     ap (λ (ys : List Object). with_fixed ys a (o.fixed && not (o.class == context_class))) (with_hash-new xs (fresh birth o) a o.hash here)
     ∙ with_object-new xs (give_hash o.hash (fresh birth o)) a (give_fixed (o.fixed && not (o.class == context_class))) here
+
+-- where nothing is watched, a store leaves the memory as clean as it was
+pub still_clean : (m : Memory) (a : ℕ) → m.watched ≡ empty → (m.dirty || is_watched m a) ≡ m.dirty
+still_clean m a e = ap (λ (watched : FinSet nat_cmp). m.dirty || contains watched a) e ∙ ap (λ b. m.dirty || b) (contains-empty nat_cmp a) ∙ none m.dirty
+  where
+    none : (b : Bool) → (b || false) ≡ b
+    none true = refl
+    none false = refl
 
 begun_at : (f : File) (xs : List Object) (birth : ℕ) (o : FileObject) (i a : ℕ) → a ≡ next_address xs (length o.words) → a ≡ next_address xs (length (begun f birth o i).words)
 begun_at f xs birth o i a at = at ∙ ap (next_address xs) (sym (length-begun f birth o i))

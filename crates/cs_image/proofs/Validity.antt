@@ -15,7 +15,7 @@ use Rattle.cs_model.proofs.Leading.{Plain}
 use Rattle.cs_heap.specs.Object.{Object}
 use Rattle.cs_heap.specs.Object as heap
 use Rattle.cs_classes.specs.Meaning.{kept_of, classes_of}
-use Rattle.cs_classes.specs.Sound.{IsWhole}
+use Rattle.cs_classes.specs.Sound.{IsImageHeader, IsWhole}
 use Rattle.cs_classes.specs.declared.Roots.{Roots}
 use Rattle.cs_classes.proofs.Wholes.{get-classes_of, kept_of-below, kept_of-keeps}
 use Rattle.cs_image.specs.Loading.{address_named, classes_at, loaded_from}
@@ -143,12 +143,12 @@ sleeps births f special roots g w h =
       none = refl;
     }
 
-file_valid : (births : List ℕ) (f : File) (special : ℕ) (roots : Roots) → Ground f special → roots.special.0 ≡ address_named f special → AreBirths births (length (visible f)) roots.next_birth → roots.last_hash < 4194304
+file_valid : (births : List ℕ) (f : File) (special : ℕ) (roots : Roots) → Ground f special → roots.special.0 ≡ address_named f special → AreBirths births (length (visible f)) roots.next_birth → roots.last_hash < 4194304 → IsImageHeader roots.header
     → (events : List Event) (snapping : Bool) → IsValid (opened (kept_of (memory_of births f) (classes_at f table_size) roots None) events snapping)
-file_valid births f special roots g at next small events snapping =
+file_valid births f special roots g at next small checked events snapping =
     let k : Kept = kept_of (memory_of births f) (classes_at f table_size) roots None in
-    let h = has_file births f special (classes_at f table_size) roots g at next small in
-    opened_valid k events snapping (sleeps births f special roots g (memory_whole births f special roots g at next small) h) (file_can_open births f special k h)
+    let h = has_file births f special (classes_at f table_size) roots g at next in
+    opened_valid k events snapping (sleeps births f special roots g (memory_whole births f special roots g at next small checked) h) (file_can_open births f special k h)
 
 -- what was built for a file without faults
 pub built_valid : (births : List ℕ) (bytes : List ℕ) (file : File) (objects : List Object) (table : FinMap nat_cmp ℕ) (roots : Roots) → file ≡ file_of bytes → IsBuilt births bytes file objects table roots
@@ -157,7 +157,7 @@ pub built_valid : (births : List ℕ) (bytes : List ℕ) (file : File) (objects 
 built_valid births bytes file objects table roots same b base_is s =
     let f : File = file_of bytes in
     let r = built_roots births bytes file objects table roots same b in
-    let valid = file_valid births f (special_address bytes) roots (ground_of bytes base_is s) r.special r.known r.small in
+    let valid = file_valid births f (special_address bytes) roots (ground_of bytes base_is s) r.special r.known r.small r.checked in
     let P : List Object → Type 0 = λ os. (events : List Event) (snapping : Bool) → IsValid (opened (kept_of os (classes_at f table_size) roots None) events snapping) in
     let Q : FinMap nat_cmp ℕ → Type 0 = λ t. (events : List Event) (snapping : Bool) → IsValid (opened (kept_of objects t roots None) events snapping) in
     subst Q (sym (b.table_is ∙ ap (λ (f : File). classes_at f table_size) same)) (subst P (sym (b.objects_are ∙ ap (λ (f : File). loaded_from f births 0 (visible f)) same)) valid)

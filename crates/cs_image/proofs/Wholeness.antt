@@ -18,10 +18,11 @@ use Rattle.cs_heap.proofs.Laws.{object_at-address}
 use Rattle.cs_classes.proofs.Refs.{is_sender-context, is_sender-nil}
 use Rattle.cs_image.proofs.Entries.{entry_there}
 use Rattle.cs_image.proofs.Finding.{find-number}
-use Rattle.cs_heap.specs.Object.{Object, address_among, address_of, base, class_of, format_of, header_address, is_object, object_at, slot_count_of}
+use Rattle.cs_heap.specs.Object.{Object, address_among, address_of, base, class_of, format_of, header_address, is_object, no_flags, object_at, slot_count_of}
 use Rattle.cs_heap.specs.Format.{format_allows}
+use Rattle.cs_word.specs.Header.{flag_bits, with_immutable}
 use Rattle.cs_classes.specs.Meaning.{count_of, depth_in, header_in}
-use Rattle.cs_classes.specs.Sound.{is_closure_address, is_method_address, is_sender, is_weak, IsSoundClass, IsSoundTable, IsSpecialArray, is_reference, nil_of, references_in, IsSoundContext, IsSoundMethod, IsSoundObject, IsWhole}
+use Rattle.cs_classes.specs.Sound.{is_closure_address, is_method_address, is_sender, is_weak, IsImageHeader, IsSound, IsSoundClass, IsSoundTable, IsSpecialArray, is_reference, nil_of, references_in, IsSoundContext, IsSoundMethod, IsSoundObject, IsWhole}
 use Rattle.cs_classes.specs.declared.Roots.{Roots}
 use Rattle.cs_classes.proofs.Tables.{ties_same, ties_other}
 use Rattle.cs_image.specs.Loading.{address_named, classes_at, loaded, loaded_from, number_of, translated}
@@ -312,6 +313,7 @@ pub record Ground (f : File) (special : ℕ) : Type 0 where
   pub first : Firsts f
 
 record ContextFacts (f : File) (o : FileObject) : Type 0 where
+  class : (o.class == context_class) ≡ true
   three : o.format ≡ 3
   long : 6 ≤ length o.words
   slots : (length o.words == 22 || length o.words == 62) ≡ true
@@ -342,6 +344,7 @@ context_facts f special j o g e h =
     let all = fine_at f special j o g.sound e in
     let context = all.context h in
     record {
+      class = h;
       three = context.0;
       long = context.1;
       slots = parts.slots;
@@ -354,8 +357,18 @@ context_facts f special j o g e h =
       kept = all.pointers (ap is_pointer_format context.0);
     }
 
+-- of the flags at most isImmutable is set, and of a context's none
+one_flag : (on : Bool) → flag_bits (with_immutable on no_flags) < 2
+one_flag true = omega arith
+one_flag false = omega arith
+
+no_flag : (on context : Bool) → context ≡ true → flag_bits (with_immutable (on && not context) no_flags) ≡ 0
+no_flag true context e = ap (λ b. flag_bits (with_immutable (not b) no_flags)) e
+no_flag false context e = refl
+
 context_sound : (births : List ℕ) (f : File) (special j : ℕ) (o : FileObject) → Ground f special → ContextFacts f o → IsSoundContext (memory_of births f) (loaded f (slice_index births j) o)
 context_sound births f special j o g c = record {
+  flags = no_flag o.fixed (o.class == context_class) c.class;
   format = ap plain_format c.three;
   slots = ap (λ n. n == 22 || n == 62) (length-loaded_words f o.format o.words) ∙ c.slots;
   sender = ap (is_sender (memory_of births f)) (read 0 (omega (arith, c.long))) ∙ sender_sound births f g.aligned g.first (get_or o.words 0 0) c.sender;
@@ -481,6 +494,7 @@ never_weak format = elim (eqb_tells format 4) [
 object_sound : (births : List ℕ) (f : File) (special j : ℕ) (o : FileObject) → Ground f special → slice_get (visible f) j ≡ Some o → IsSoundObject (memory_of births f) (loaded f (slice_index births j) o)
 object_sound births f special j o g e = record {
   kind = index_at f special j o g.sound e;
+  flags = one_flag (o.fixed && not (o.class == context_class));
   plain = never_weak o.format;
   shape = ap (format_allows (plain_format o.format)) (length-loaded_words f o.format o.words)
       ∙ shape_plain o.format (length o.words) (and_true (has_shape o.format (length o.words)) _ (formed_at f special j o g.sound e)).0;
@@ -689,13 +703,16 @@ singles_at : (f : File) (s : Firsts f) (k : ℕ) (o : FileObject) → slice_get 
 unfolding visible
 singles_at f s k o e h = s.singles k o (ap (λ (xs : List FileObject). slice_get (filter is_visible xs) k) (sym s.objects) ∙ e) h
 
+pub memory_sound : (births : List ℕ) (f : File) (special next : ℕ) → Ground f special → AreBirths births (length (visible f)) next → IsSound (memory_of births f)
+memory_sound births f special next g known = record {
+  apart = apart births f next known;
+  each = λ k x e. let a = loaded_at births f k x e in let P : Object → Type 0 = IsSoundObject (memory_of births f) in subst P a.is (object_sound births f special k a.o g a.there);
+}
+
 pub memory_whole : (births : List ℕ) (f : File) (special : ℕ) (roots : Roots) → Ground f special → roots.special.0 ≡ address_named f special → AreBirths births (length (visible f)) roots.next_birth → roots.last_hash < 4194304
-    → IsWhole (memory_of births f) (classes_at f table_size) roots
-memory_whole births f special roots g at known small = record {
-  heap = record {
-    apart = apart births f roots.next_birth known;
-    each = λ k x e. let a = loaded_at births f k x e in let P : Object → Type 0 = IsSoundObject (memory_of births f) in subst P a.is (object_sound births f special k a.o g a.there);
-  };
+    → IsImageHeader roots.header → IsWhole (memory_of births f) (classes_at f table_size) roots
+memory_whole births f special roots g at known small checked = record {
+  heap = memory_sound births f special roots.next_birth g known;
   first = let l = length-loaded_from births f 0 (visible f) in let three = visible_three f g.table in omega (arith, l, three);
   nil = nil_of-base births f g.first (nil_empty f special g);
   singles = λ k x e h.
@@ -705,6 +722,7 @@ memory_whole births f special roots g at known small = record {
   entries = table_sound births f special g;
   array = let P : ℕ → Type 0 = IsSpecialArray (memory_of births f) in subst P (sym at) (array_sound births f special g.sound.roots);
   last_hash = small;
+  header = checked;
   births = λ k x e.
       let a = loaded_at births f k x e in
       let birth : slice_index births k ≡ x.birth = ap (λ (z : Object). z.birth) a.is in
@@ -735,7 +753,7 @@ pub built_whole : (births : List ℕ) (bytes : List ℕ) (file : File) (objects 
     → old_base bytes % 8 ≡ 0 → IsSoundFile (file_of bytes) (special_address bytes) → IsWhole objects table roots
 built_whole births bytes file objects table roots same b base_is s =
     let r = built_roots births bytes file objects table roots same b in
-    let whole = memory_whole births (file_of bytes) (special_address bytes) roots (ground_of bytes base_is s) r.special r.known r.small in
+    let whole = memory_whole births (file_of bytes) (special_address bytes) roots (ground_of bytes base_is s) r.special r.known r.small r.checked in
     let P : List Object → Type 0 = λ os. IsWhole os (classes_at (file_of bytes) table_size) roots in
     let Q : FinMap nat_cmp ℕ → Type 0 = λ t. IsWhole objects t roots in
     subst Q (sym (b.table_is ∙ ap (λ (f : File). classes_at f table_size) same)) (subst P (sym (b.objects_are ∙ ap (λ (f : File). loaded_from f births 0 (visible f)) same)) whole)

@@ -99,8 +99,7 @@ fn object_at(words: &[u32], first: u32) -> Option<Placed>
 }
 
 /// The object whose first word is at `first`; None exactly where no object is whole there, or where one that isn't
-/// skipped
-/// isn't well formed.
+/// skipped isn't well formed.
 fn sound_object_at(words: &[u32], first: u32) -> Option<Placed>
     requires size { length words.now ≤ 2 ^ 27 }
     requires first { first < length words.now }

@@ -4,8 +4,7 @@ use std::alloc::{AllocError, AllocFailed};
 use thiserror::Error;
 
 /// Why an image is refused: the first fault of its file, in the order in which they stand here, and within one kind the
-/// one
-/// of the lowest place. `at` counts bytes from the heap's first one.
+/// one of the lowest place. `at` counts bytes from the heap's first one.
 #[derive(Clone, Copy, PartialEq, Eq, Debug, Error)]
 pub enum ImageError {
     /// The file has more than 536,870,912 bytes.
@@ -21,13 +20,11 @@ pub enum ImageError {
     #[error("the header's size isn't 64")]
     BadHeaderSize,
     /// Bit 31 of the flags, at place 28, is 1, which is profile 2, and the number of stack pages, the 16 bits at place
-    /// 36, is
-    /// neither 0 nor 2 to 64.
+    /// 36, is neither 0 nor 2 to 64.
     #[error("the number of stack pages isn't one of profile 2")]
     BadProfile,
     /// The heap's size, at place 8, is 0 or no multiple of 8; the old base, at place 12, is no multiple of 8; their sum
-    /// is
-    /// above 2^32; or the file ends neither behind the heap nor behind a birth section of so many births as it says.
+    /// is above 2^32; or the file ends neither behind the heap nor behind a birth section of so many births as it says.
     #[error("the sizes don't fit the file")]
     BadLength,
     /// An object isn't whole, has a format or slot count that isn't accepted, or is a method whose header isn't valid.

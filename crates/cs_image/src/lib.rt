@@ -1,12 +1,10 @@
 //! Loading an image: from the bytes of a file to its objects in memory.
 //!
 //! An image file has a header of 64 bytes and behind it the heap: objects as 32-bit Spur lays them out, one right
-//! behind
-//! another, with the addresses that they had where the file was written. The loader cuts the heap into its objects,
-//! checks
-//! all that the machine relies on, and lays the visible objects out anew. What a file describes, and each of its
-//! faults, is
-//! defined in the crate `cs_model`, in `specs/ImageFile.antt`, `specs/ImageFault.antt` and `specs/Image.antt`.
+//! behind another, with the addresses that they had where the file was written. The loader cuts the heap into its
+//! objects, checks all that the machine relies on, and lays the visible objects out anew. What a file describes, and
+//! each of its faults, is defined in the crate `cs_model`, in `specs/ImageFile.antt`, `specs/ImageFault.antt` and
+//! `specs/Image.antt`.
 #![tactic(auto)]
 
 mod births;
@@ -22,9 +20,10 @@ mod roots;
 mod shape;
 mod table;
 
-ghost use Rattle.std.specs.Prelude.{◌≡◌, ℕ, ◌≤◌, ◌^◌, true, false, is_some, length, take, Bool, List, Some, None, Ok};
+ghost use Rattle.std.specs.Prelude.{◌≡◌, ℕ, ◌≤◌, ◌^◌, true, false, is_some, length, map, take, Bool, List, Some, None, Ok};
 ghost use Rattle.std.specs.Prelude.{IfOk, ⊤};
-ghost use Rattle.cs_model.specs.ImageFile.{file_of, visible, words_in, cut_of, special_address, last_hash_in};
+ghost use Rattle.std.specs.FinSet.{empty};
+ghost use Rattle.cs_model.specs.ImageFile.{births_in, file_of, visible, words_in, cut_of, special_address, last_hash_in};
 ghost use Rattle.cs_model.specs.ImageFault as fault;
 ghost use Rattle.cs_model.specs.ImageFault.{bad_object, is_over, table_size};
 ghost use Rattle.cs_model.specs.Image.{at_word, fault_of, image_of};
@@ -79,6 +78,8 @@ fn build(
     requires births { length births.now.births.items ≡ length (visible file.now) }
     requires room { is_over file.now limit_words ≡ false }
     ensures limit { IfOk result (λ l. l.heap.limit ≡ limit_words) }
+    ensures unwatched { IfOk result (λ l. l.heap.watched ≡ empty) }
+    ensures clean { IfOk result (λ l. l.heap.dirty ≡ false) }
     ensures objects { IfOk result (λ l. l.heap.objects ≡ loaded_from file.now births.now.births.items 0
         (visible file.now)) }
     ensures classes { IfOk result (λ l. l.classes ≡ classes_at file.now table_size) }
@@ -100,18 +101,13 @@ fn build(
 /// Loads the image in these bytes into a heap of `limit_words` words of 4 bytes, from 4,096 to 67,108,864.
 ///
 /// The objects come in the order of the file, with the births of its birth section, and where it has none with their
-/// places
-/// in that order, counted from 0. Objects of class index 0 are skipped, and those of class index 16, the class table
-/// and its
-/// pages, are hidden and aren't loaded. Weak objects are read as ones with named and indexed fields, and ephemerons as
-/// ones
-/// with named fields. An object is read-only where bit 23 of its header is 1 and it is no context. No context is active
-/// yet:
+/// places in that order, counted from 0. Objects of class index 0 are skipped, and those of class index 16, the class
+/// table and its pages, are hidden and aren't loaded. Weak objects are read as ones with named and indexed fields, and
+/// ephemerons as ones with named fields. An object is read-only where bit 23 of its header is 1 and it is no context;
+/// the other flags of headers are dropped. No object is watched, and the heap isn't dirty. No context is active yet:
 /// where a process is active it keeps one that is live, so that the state can be opened and runs. The pc of a context
-/// is nil
-/// or lies in its method, and its sender is nil or a context. Opened for a run of any events, the state is a valid one,
-/// and
-/// so is each that a run of it leaves.
+/// is nil or lies in its method, and its sender is nil or a context. Opened for a run of any events, the state is a
+/// valid one, and so is each that a run of it leaves.
 ///
 /// An error says what the first fault is (see `ImageError`), and comes exactly where there is one; `NoMemory` alone is
 /// free.
@@ -135,7 +131,11 @@ pub fn load(alloc: Global, bytes: &[u8], limit_words: u32) -> Result<Loaded, Ima
     ensures senders { IfOk result (λ l. SendersStand (kept_of l.heap.objects l.classes l.roots None)) }
     ensures valid { IfOk result (λ l. (events : List Event) (snapping : Bool)
         → IsValid (opened (kept_of l.heap.objects l.classes l.roots None) events snapping)) }
+    ensures births { IfOk result (λ l. map (λ x. x.birth) l.heap.objects
+        ≡ births_in bytes.now (length l.heap.objects)) }
     ensures limit { IfOk result (λ l. l.heap.limit ≡ limit_words) }
+    ensures unwatched { IfOk result (λ l. l.heap.watched ≡ empty) }
+    ensures clean { IfOk result (λ l. l.heap.dirty ≡ false) }
 {
     check_header(bytes)?;
     let file = read_objects(alloc, bytes)?;

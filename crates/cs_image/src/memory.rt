@@ -2,6 +2,7 @@
 
 ghost use Rattle.std.specs.Prelude.{◌≡◌, ◌<◌, ◌≤◌, ◌+◌, ◌*◌, ◌^◌, ◌==◌, ◌&&◌, not, [], ◌∷◌, ◌++◌, true, false, IfOk};
 ghost use Rattle.std.specs.Prelude.{length, take};
+ghost use Rattle.std.specs.FinSet.{empty};
 ghost use Rattle.cs_model.specs.ImageFile.{last_hash_in, special_address, visible};
 ghost use Rattle.cs_model.specs.ImageFault as fault;
 ghost use Rattle.cs_model.specs.ImageFault.{is_body, is_over, table_size};
@@ -135,7 +136,10 @@ fn load_object(heap: &mut Heap, file: &FileHeap, addresses: &[u32], o: &FileObje
     requires well_formed { is_body o.now.format o.now.words.now ≡ true }
     requires long { length o.now.words.now ≤ 2 ^ 27 }
     requires room { used heap.old.objects + size (length o.now.words.now) ≤ heap.old.limit }
+    requires unwatched { heap.old.watched ≡ empty }
     ensures limit { heap.new.limit ≡ heap.old.limit }
+    ensures watched { heap.new.watched ≡ empty }
+    ensures dirty { heap.new.dirty ≡ heap.old.dirty }
     ensures objects { heap.new.objects ≡ heap.old.objects ++ loaded file.now birth (seen o.now) ∷ [] }
 {
     let slots = o.words.len() as u32;
@@ -163,6 +167,8 @@ pub(crate) fn load_objects(
     requires births { length births.now ≡ length (visible file.now) }
     requires room { is_over file.now limit_words ≡ false }
     ensures limit { IfOk result (λ heap. heap.limit ≡ limit_words) }
+    ensures unwatched { IfOk result (λ heap. heap.watched ≡ empty) }
+    ensures clean { IfOk result (λ heap. heap.dirty ≡ false) }
     ensures objects { IfOk result (λ heap. heap.objects ≡ loaded_from file.now births.now 0 (visible file.now)) }
 {
     let mut heap = Heap::new(alloc, limit_words)?;

@@ -77,8 +77,7 @@ fn is_method_body(format: u8, words: &[u32]) -> bool
 }
 
 /// Whether an object of this format may have these slots: their number fits it, and a method's header is valid and
-/// leaves
-/// room for its literals.
+/// leaves room for its literals.
 pub(crate) fn is_body(format: u8, words: &[u32]) -> bool
     requires { length words.now < 2 ^ 32 }
     ensures { result ≡ is_body_of format words.now }

@@ -13,9 +13,9 @@ use Rattle.cs_model.specs.State.{Kept, object_of, slots_of}
 use Rattle.cs_model.specs.Lookup.{Sought, class_limit, find_among, find_in, find_in_dictionary, if_method, in_class, list_or_empty, lookup, lookup_within, or_above, or_else, slot_in}
 use Rattle.cs_model.specs.Lookup as sought
 use Rattle.cs_classes.specs.Meaning.{ref_of}
-use Rattle.cs_classes.specs.Sound.{IsSound, is_reference}
+use Rattle.cs_classes.specs.Sound.{IsSound, is_method_address, is_reference}
 use Rattle.cs_classes.proofs.Refs.{same_ref-ref_of}
-use Rattle.cs_lookup.specs.Found.{HasObjects, has_slots, is_method_at, refs_option}
+use Rattle.cs_lookup.specs.Found.{HasObjects, has_slots, refs_option}
 use Rattle.cs_lookup.proofs.Reading.{HasWords, has_words, is_method-at, refs_at, slots_in-words, slots_of-none, slots_of-words, words_at}
 
 -- ---- a value of an array of values
@@ -43,11 +43,11 @@ no_value_at os k w i sound has r h = go (slots_in (object_of k (ref_of os w))) (
     go None h = refl
     go (Some xs) h = few xs (nat_le (i + 1) (length xs)) refl h
 
-if_method-at : (os : List Object) (k : Kept) (v : ℕ) (b : Bool) → IsSound os → HasObjects os k → is_reference os v ≡ true → is_method_at os v ≡ b → if_method k (Some (ref_of os v)) ≡ cond b (Some (ref_of os v)) None
+if_method-at : (os : List Object) (k : Kept) (v : ℕ) (b : Bool) → IsSound os → HasObjects os k → is_reference os v ≡ true → is_method_address os v ≡ b → if_method k (Some (ref_of os v)) ≡ cond b (Some (ref_of os v)) None
 if_method-at os k v b sound has r h = ap (λ (t : Bool). cond t (Some (ref_of os v)) None) (is_method-at os k v sound has r ∙ h)
 
 -- the value v at a position, where it is a method
-pub method_there : (os : List Object) (k : Kept) (w i v : ℕ) (b : Bool) → IsSound os → HasObjects os k → has_slots os (i + 1) w ≡ true → v ≡ slot_of os w i → is_method_at os v ≡ b
+pub method_there : (os : List Object) (k : Kept) (w i v : ℕ) (b : Bool) → IsSound os → HasObjects os k → has_slots os (i + 1) w ≡ true → v ≡ slot_of os w i → is_method_address os v ≡ b
     → if_method k (slice_get (values_of k (ref_of os w)) i) ≡ cond b (Some (ref_of os v)) None
 method_there os k w i v b sound has h is m =
     let words = has_words os (i + 1) w sound h in

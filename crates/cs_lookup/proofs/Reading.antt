@@ -16,13 +16,13 @@ use Rattle.cs_model.specs.Obj.{Obj, at_least, slots_in}
 use Rattle.cs_model.specs.Obj as model
 use Rattle.cs_model.specs.State.{Kept, object_of, slots_of}
 use Rattle.cs_classes.specs.Meaning.{is_context, meaning_at, obj_of, ref_of, ref_of_kind}
-use Rattle.cs_classes.specs.Sound.{IsSound, IsSoundObject, is_reference, is_reference_kind}
+use Rattle.cs_classes.specs.Sound.{IsSound, IsSoundObject, is_method_address, is_reference, is_reference_kind}
 use Rattle.cs_classes.proofs.Heaps.{is_object-object_at, object_there}
 use Rattle.cs_classes.proofs.Objects.{get-objects_of}
 use Rattle.cs_classes.proofs.Refs.{ref_of-object}
 use Rattle.cs_classes.proofs.Sorts.{AContext, AMethod, Bytes, Pointers, Sort, obj_of-bytes, obj_of-context, obj_of-method, obj_of-pointers, not_pointers, references-pointers, sort_of}
 use Rattle.cs_classes.proofs.Sounds.{sound_at}
-use Rattle.cs_lookup.specs.Found.{HasObjects, has_slots, is_method_at}
+use Rattle.cs_lookup.specs.Found.{HasObjects, has_slots}
 
 -- the kind of an address is itself
 kind_of_address : (w a : ℕ) → kind_of w ≡ kind.Object a → w ≡ a
@@ -160,7 +160,7 @@ slots_of-none os k n w sound has r h = go (is_object os w) refl
 
 -- ---- methods
 
-pub is_method-at : (os : List Object) (k : Kept) (w : ℕ) → IsSound os → HasObjects os k → is_reference os w ≡ true → model.is_method (object_of k (ref_of os w)) ≡ is_method_at os w
+pub is_method-at : (os : List Object) (k : Kept) (w : ℕ) → IsSound os → HasObjects os k → is_reference os w ≡ true → model.is_method (object_of k (ref_of os w)) ≡ is_method_address os w
 is_method-at os k w sound has r = go (is_object os w) refl
   where
     format : (x : Object) → object_at os w ≡ Some x → format_of os w ≡ x.format

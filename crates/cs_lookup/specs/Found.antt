@@ -1,7 +1,7 @@
 -- What a lookup reads of the heap, and what it answers.
 use Rattle.std.specs.Prelude.{◌≡◌, ℕ, ◌==◌, ◌&&◌, not, Bool, true, nat_le, List, Option, option_map}
 use Rattle.cs_word.specs.declared.Oop.{Oop}
-use Rattle.cs_heap.specs.Format.{is_method, is_pointers}
+use Rattle.cs_heap.specs.Format.{is_pointers}
 use Rattle.cs_heap.specs.Object.{Object, class_of, format_of, is_object, slot_count_of}
 use Rattle.cs_model.specs.Lookup.{Sought}
 use Rattle.cs_model.specs.Lookup as sought
@@ -9,6 +9,7 @@ use Rattle.cs_model.specs.Obj.{context_class}
 use Rattle.cs_model.specs.Ref.{Ref}
 use Rattle.cs_model.specs.State.{Kept}
 use Rattle.cs_classes.specs.Meaning.{objects_of, ref_of}
+use Rattle.cs_classes.specs.Sound.{is_method_address}
 use Rattle.cs_lookup.specs.declared.Found.{Found}
 use Rattle.cs_lookup.specs.declared.Found.TheVariants.{Method, Missing, Loop}
 
@@ -21,10 +22,6 @@ abbrev pub has_slots : List Object → ℕ → ℕ → Bool
 has_slots objects n word = is_object objects word && not (class_of objects word == context_class)
     && is_pointers (format_of objects word) && nat_le n (slot_count_of objects word)
 
--- a word is the address of a method
-abbrev pub is_method_at : List Object → ℕ → Bool
-is_method_at objects word = is_object objects word && is_method (format_of objects word)
-
 abbrev pub refs_option : List Object → Option Oop → Option Ref
 refs_option objects = option_map (λ o. ref_of objects o.0)
 
@@ -36,6 +33,6 @@ sought_of objects Loop = sought.Loop
 
 -- what was found is a method
 abbrev pub FindsMethod : List Object → Found → Type 0
-FindsMethod objects (Method method) = is_method_at objects method.0 ≡ true
+FindsMethod objects (Method method) = is_method_address objects method.0 ≡ true
 FindsMethod objects Missing = Unit {0}
 FindsMethod objects Loop = Unit {0}

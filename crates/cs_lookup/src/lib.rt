@@ -11,8 +11,8 @@ ghost use Rattle.cs_model.specs.Lookup.{find_in_dictionary, if_method, list_or_e
 ghost use Rattle.cs_model.specs.Obj.{slots_in};
 ghost use Rattle.cs_model.specs.State.{Kept, object_of};
 ghost use Rattle.cs_classes.specs.Meaning.{ref_of};
-ghost use Rattle.cs_classes.specs.Sound.{IsSound, is_reference};
-ghost use Rattle.cs_lookup.specs.Found.{FindsMethod, HasObjects, has_slots as has_slots_at, is_method_at, refs_option};
+ghost use Rattle.cs_classes.specs.Sound.{IsSound, is_method_address, is_reference};
+ghost use Rattle.cs_lookup.specs.Found.{FindsMethod, HasObjects, has_slots as has_slots_at, refs_option};
 ghost use Rattle.cs_lookup.specs.Found.{sought_of};
 
 use cs_heap::Heap;
@@ -73,7 +73,7 @@ fn method_in(heap: &Heap, dictionary: Oop, selector: Oop) -> Option<Oop>
     requires selector { is_reference heap.now.objects selector.0 ≡ true }
     ensures found { (k : Kept) → HasObjects heap.now.objects k → refs_option heap.now.objects result ≡
         find_in_dictionary k (ref_of heap.now.objects selector.0) (ref_of heap.now.objects dictionary.0) }
-    ensures method { IfSome result (λ m. is_method_at heap.now.objects m.0 ≡ true) }
+    ensures method { IfSome result (λ m. is_method_address heap.now.objects m.0 ≡ true) }
 {
     if !has_slots(heap, dictionary, 2) {
         return None;
@@ -97,7 +97,7 @@ fn method_at(heap: &Heap, values: Oop, position: u32) -> Option<Oop>
     requires position { position + 1 < 2 ^ 32 }
     ensures value { (k : Kept) → HasObjects heap.now.objects k → refs_option heap.now.objects result ≡
         if_method k (slice_get (list_or_empty (slots_in (object_of k (ref_of heap.now.objects values.0)))) position) }
-    ensures method { IfSome result (λ m. is_method_at heap.now.objects m.0 ≡ true) }
+    ensures method { IfSome result (λ m. is_method_address heap.now.objects m.0 ≡ true) }
 {
     if !has_slots(heap, values, position + 1) {
         return None;
@@ -122,7 +122,7 @@ fn has_slots(heap: &Heap, o: Oop, least: u32) -> bool
 
 /// Whether a word is a method.
 fn is_method(heap: &Heap, o: Oop) -> bool
-    ensures { result ≡ is_method_at heap.now.objects o.0 }
+    ensures { result ≡ is_method_address heap.now.objects o.0 }
 {
     heap.is_object(o) && (24..28).contains(&heap.format(o))
 }

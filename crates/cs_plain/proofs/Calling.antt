@@ -224,10 +224,12 @@ module _ {w : PlainWorld} {x : Object} (header args n : ℕ) (f : Fields) (ready
   new_sound : IsSoundObject all new
   new_sound = record {
     kind = refl;
+    flags = omega arith;
     plain = refl;
     shape = refl;
     references = λ k d l. refers (get_or (drop 1 new.words) k d) (words_named k d l);
     context = λ c. record {
+      flags = refl;
       format = refl;
       sender = sender_kind;
       method = method_kind;

@@ -303,6 +303,7 @@ bare_whole os table roots whole = record {
     slots = omega (arith, whole.array.slots, bare_count os roots.special.0);
   };
   last_hash = whole.last_hash;
+  header = whole.header;
 }
 
 bare_birth_at : (os : List Object) (k : ℕ) → birth_at (bare os) k ≡ birth_at os k

@@ -75,6 +75,7 @@ sound_cleared os z s c place named =
     let second = get_or-cleared 6 z.words 2 (omega arith) in
     record {
       kind = s.kind;
+      flags = s.flags;
       plain = s.plain;
       shape = subst (λ (n : ℕ). IsTrue (format_allows z.format n)) (sym slots) s.shape;
       references = subst (AllPass (is_reference os)) (sym (references-context (cleared_from 6 z) c old.format))
@@ -83,6 +84,7 @@ sound_cleared os z s c place named =
           (All-take (λ (u : ℕ). is_reference os u ≡ true) 6 z.words (all_words (is_reference os) z.words place whole.behind))
           (All-replicate (λ (u : ℕ). is_reference os u ≡ true) (length z.words - 6) nil named)));
       context = λ _. record {
+        flags = old.flags;
         format = old.format;
         slots = subst (λ (n : ℕ). IsTrue (n == 22 || n == 62)) (sym slots) old.slots;
         sender = subst (λ (u : ℕ). IsTrue (is_sender os u)) (sym (get_or-cleared 6 z.words 0 (omega arith))) old.sender;

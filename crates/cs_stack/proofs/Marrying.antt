@@ -189,6 +189,7 @@ spouse_sound us r f header nil_is nil_named method closure receiver =
     let allowed = sizes_allowed header y.words long in
     record {
       kind = refl;
+      flags = omega arith;
       plain = refl;
       shape = allowed.0;
       references =
@@ -198,6 +199,7 @@ spouse_sound us r f header nil_is nil_named method closure receiver =
           (All-cons named f.closure (f.receiver ∷ rest) (nil_or_named closure_class us f.closure closure)
           (All-cons named f.receiver rest receiver (All-replicate named (context_size header) nil nil_named)))));
       context = λ _. record {
+        flags = refl;
         format = refl;
         slots = allowed.1;
         sender = place_sender us (link_word r) (link_names r);
@@ -579,6 +581,7 @@ module _ (w : Parts) (good : IsGood w) (r : FrameRef) (is : IsFrame w.frames r) 
       slots = omega (arith, good.whole.array.slots, field_of-old (λ x. length x.words) os y w.roots.special.0 good.whole.special);
     };
     last_hash = good.whole.last_hash;
+    header = good.whole.header;
   }
     where
       singles : (k : ℕ) (x : Object) → k < 3 → (slice_get os k ≡ Some x) ⊎ ((k ≡ length os) × (y ≡ x)) → x.format ≡ 0

@@ -12,7 +12,7 @@ use Rattle.cs_image.proofs.Faults.{fault_of-parts, told_as, after_header, after_
 use Rattle.cs_image.proofs.Soundness.{sound_file}
 use Rattle.cs_image.specs.declared.births.Births.{Births}
 use Rattle.cs_image.proofs.Numbering.{AreBirths, births_read, next_small}
-use Rattle.cs_image.proofs.Describing.{IsBuilt, built_is}
+use Rattle.cs_image.proofs.Describing.{IsBuilt, built_births, built_is}
 use Rattle.cs_image.proofs.Wholeness.{built_whole}
 use Rattle.cs_image.proofs.Opening.{built_opens}
 use Rattle.cs_image.proofs.Pcs.{built_pcs, few_births}
@@ -124,6 +124,7 @@ returns-clause-state c =
       next = c.in_ok-loaded.ensures.next ∙ c.in_ok-births.ensures.1.1 ∙ ap (next_birth_in c.args.bytes.now) c.visible_count.ensures;
       known = let P : ℕ → Type 0 = AreBirths c.in_ok-births.births.births.items (length (visible c.in_ok-file.file)) in subst P (sym c.in_ok-loaded.ensures.next) known;
       header = c.in_ok-loaded.ensures.header;
+      checked = (header_is c.args.bytes.now c.in_ok-check_header.ensures.0).image;
     } in
     let whole = no_fault c.args.bytes.now c.args.limit_words c.in_ok-check_header.ensures.0 c.in_ok-file.ensures.0
     (room c.in_ok-file.file (file_of c.args.bytes.now) c.args.limit_words same c.in_ok-addresses.ensures.0) fine
@@ -150,6 +151,7 @@ returns-clause-sound c =
       next = c.in_ok-loaded.ensures.next ∙ c.in_ok-births.ensures.1.1 ∙ ap (next_birth_in c.args.bytes.now) c.visible_count.ensures;
       known = let P : ℕ → Type 0 = AreBirths c.in_ok-births.births.births.items (length (visible c.in_ok-file.file)) in subst P (sym c.in_ok-loaded.ensures.next) known;
       header = c.in_ok-loaded.ensures.header;
+      checked = (header_is c.args.bytes.now c.in_ok-check_header.ensures.0).image;
     } in
     built_whole c.in_ok-births.births.births.items c.args.bytes.now c.in_ok-file.file c.in_ok-loaded.loaded.heap.objects c.in_ok-loaded.loaded.classes c.in_ok-loaded.loaded.roots same
     built (header_is c.args.bytes.now c.in_ok-check_header.ensures.0).base (sound_file c.args.bytes.now c.in_ok-file.ensures.0 fine)
@@ -173,6 +175,7 @@ returns-clause-opens c =
       next = c.in_ok-loaded.ensures.next ∙ c.in_ok-births.ensures.1.1 ∙ ap (next_birth_in c.args.bytes.now) c.visible_count.ensures;
       known = let P : ℕ → Type 0 = AreBirths c.in_ok-births.births.births.items (length (visible c.in_ok-file.file)) in subst P (sym c.in_ok-loaded.ensures.next) known;
       header = c.in_ok-loaded.ensures.header;
+      checked = (header_is c.args.bytes.now c.in_ok-check_header.ensures.0).image;
     } in
     built_opens c.in_ok-births.births.births.items c.args.bytes.now c.in_ok-file.file c.in_ok-loaded.loaded.heap.objects c.in_ok-loaded.loaded.classes c.in_ok-loaded.loaded.roots same
     built (header_is c.args.bytes.now c.in_ok-check_header.ensures.0).base (sound_file c.args.bytes.now c.in_ok-file.ensures.0 fine)
@@ -196,6 +199,7 @@ returns-clause-pcs c =
       next = c.in_ok-loaded.ensures.next ∙ c.in_ok-births.ensures.1.1 ∙ ap (next_birth_in c.args.bytes.now) c.visible_count.ensures;
       known = let P : ℕ → Type 0 = AreBirths c.in_ok-births.births.births.items (length (visible c.in_ok-file.file)) in subst P (sym c.in_ok-loaded.ensures.next) known;
       header = c.in_ok-loaded.ensures.header;
+      checked = (header_is c.args.bytes.now c.in_ok-check_header.ensures.0).image;
     } in
     built_pcs c.in_ok-births.births.births.items c.args.bytes.now c.in_ok-file.file c.in_ok-loaded.loaded.heap.objects c.in_ok-loaded.loaded.classes c.in_ok-loaded.loaded.roots same
     built (header_is c.args.bytes.now c.in_ok-check_header.ensures.0).base (sound_file c.args.bytes.now c.in_ok-file.ensures.0 fine)
@@ -219,6 +223,7 @@ returns-clause-senders c =
       next = c.in_ok-loaded.ensures.next ∙ c.in_ok-births.ensures.1.1 ∙ ap (next_birth_in c.args.bytes.now) c.visible_count.ensures;
       known = let P : ℕ → Type 0 = AreBirths c.in_ok-births.births.births.items (length (visible c.in_ok-file.file)) in subst P (sym c.in_ok-loaded.ensures.next) known;
       header = c.in_ok-loaded.ensures.header;
+      checked = (header_is c.args.bytes.now c.in_ok-check_header.ensures.0).image;
     } in
     built_senders c.in_ok-births.births.births.items c.args.bytes.now c.in_ok-file.file c.in_ok-loaded.loaded.heap.objects c.in_ok-loaded.loaded.classes c.in_ok-loaded.loaded.roots same
     built (header_is c.args.bytes.now c.in_ok-check_header.ensures.0).base (sound_file c.args.bytes.now c.in_ok-file.ensures.0 fine)
@@ -242,6 +247,7 @@ returns-clause-valid c =
       next = c.in_ok-loaded.ensures.next ∙ c.in_ok-births.ensures.1.1 ∙ ap (next_birth_in c.args.bytes.now) c.visible_count.ensures;
       known = let P : ℕ → Type 0 = AreBirths c.in_ok-births.births.births.items (length (visible c.in_ok-file.file)) in subst P (sym c.in_ok-loaded.ensures.next) known;
       header = c.in_ok-loaded.ensures.header;
+      checked = (header_is c.args.bytes.now c.in_ok-check_header.ensures.0).image;
     } in
     built_valid c.in_ok-births.births.births.items c.args.bytes.now c.in_ok-file.file c.in_ok-loaded.loaded.heap.objects c.in_ok-loaded.loaded.classes c.in_ok-loaded.loaded.roots same
     built (header_is c.args.bytes.now c.in_ok-check_header.ensures.0).base (sound_file c.args.bytes.now c.in_ok-file.ensures.0 fine)
@@ -272,3 +278,22 @@ pub returns-clause-nil : goal.returns-clause-nil
 returns-clause-nil c =
     let l = c.in_ok-loaded.loaded in
     nil_is_plain (kept_of l.heap.objects l.classes l.roots None) [] false (returns-clause-valid c [] false)
+
+pub returns-clause-births : goal.returns-clause-births
+returns-clause-births c =
+    let known : AreBirths c.in_ok-births.births.births.items (length (visible c.in_ok-file.file)) c.in_ok-births.births.next =
+    births_read c.args.bytes.now c.in_ok-births.births.births.items c.in_ok-births.births.next c.visible_count.result (length (visible c.in_ok-file.file))
+    (births_fine c.args.bytes.now c.visible_count.result c.in_ok-births.ensures.0) c.in_ok-births.ensures.1.0 c.in_ok-births.ensures.1.1 c.visible_count.ensures in
+    let built : IsBuilt c.in_ok-births.births.births.items c.args.bytes.now c.in_ok-file.file c.in_ok-loaded.loaded.heap.objects c.in_ok-loaded.loaded.classes c.in_ok-loaded.loaded.roots =
+    record {
+      objects_are = c.in_ok-loaded.ensures.objects;
+      table_is = c.in_ok-loaded.ensures.classes;
+      special = c.in_ok-loaded.ensures.special;
+      hash = c.in_ok-loaded.ensures.hash;
+      births_are = c.in_ok-births.ensures.1.0 ∙ ap (births_in c.args.bytes.now) c.visible_count.ensures;
+      next = c.in_ok-loaded.ensures.next ∙ c.in_ok-births.ensures.1.1 ∙ ap (next_birth_in c.args.bytes.now) c.visible_count.ensures;
+      known = let P : ℕ → Type 0 = AreBirths c.in_ok-births.births.births.items (length (visible c.in_ok-file.file)) in subst P (sym c.in_ok-loaded.ensures.next) known;
+      header = c.in_ok-loaded.ensures.header;
+      checked = (header_is c.args.bytes.now c.in_ok-check_header.ensures.0).image;
+    } in
+    built_births c.in_ok-births.births.births.items c.args.bytes.now c.in_ok-file.file c.in_ok-loaded.loaded.heap.objects c.in_ok-loaded.loaded.classes c.in_ok-loaded.loaded.roots built

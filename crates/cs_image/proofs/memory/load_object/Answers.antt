@@ -3,7 +3,7 @@ use Rattle.cs_model.specs.Obj.{context_class}
 use Rattle.cs_heap.specs.Object.{Memory, Object, is_object, new_object, slot_count_of, with_fixed, with_hash, with_slot}
 use Rattle.cs_image.specs.Heap.{seen}
 use Rattle.cs_image.specs.Loading.{loaded_word}
-use Rattle.cs_image.proofs.Storing.{begun, begun_all, begun_more, begun_slots, fresh, fresh_begun, fresh_there, hashed_there}
+use Rattle.cs_image.proofs.Storing.{still_clean, begun, begun_all, begun_more, begun_slots, fresh, fresh_begun, fresh_there, hashed_there}
 use Rattle.cs_image.proofs.memory.load_object.Goals as goal
 
 pub set_hash-requires-clause-object : goal.set_hash-requires-clause-object
@@ -31,6 +31,9 @@ loop-i-init c =
     ap (λ (m : Memory). m.objects) c.set_hash.ensures ∙ ap (λ (xs : List Object). with_hash xs c.in-Ok.at.0 c.args.o.now.hash) added in
     record {
       limit = ap (λ (m : Memory). m.limit) c.set_fixed.ensures ∙ ap (λ (m : Memory). m.limit) c.set_hash.ensures ∙ ap (λ (m : Memory). m.limit) c.in-Ok.ensures.added;
+      watched = ap (λ (m : Memory). m.watched) c.set_fixed.ensures ∙ ap (λ (m : Memory). m.watched) c.set_hash.ensures ∙ ap (λ (m : Memory). m.watched) c.in-Ok.ensures.added
+          ∙ c.requires.unwatched;
+      dirty = ap (λ (m : Memory). m.dirty) c.set_fixed.ensures ∙ ap (λ (m : Memory). m.dirty) c.set_hash.ensures ∙ ap (λ (m : Memory). m.dirty) c.in-Ok.ensures.added;
       objects = ap (λ (m : Memory). m.objects) c.set_fixed.ensures
           ∙ ap (λ on. with_fixed c.set_hash.new.self.objects c.in-Ok.at.0 on) c.is_fixed.ensures
           ∙ ap (λ (xs : List Object). with_fixed xs c.in-Ok.at.0 (c.args.o.now.fixed && not (c.args.o.now.class == context_class))) hashed
@@ -46,11 +49,19 @@ set_slot-requires c =
 pub loop-i-preserved : goal.loop-i-preserved
 loop-i-preserved c = record {
   limit = ap (λ (m : Memory). m.limit) c.set_slot.ensures ∙ c.loop-i.invariant.limit;
+  watched = ap (λ (m : Memory). m.watched) c.set_slot.ensures ∙ c.loop-i.invariant.watched;
+  dirty = ap (λ (m : Memory). m.dirty) c.set_slot.ensures ∙ still_clean c.loop-i.heap c.in-Ok.at.0 c.loop-i.invariant.watched ∙ c.loop-i.invariant.dirty;
   objects = ap (λ (m : Memory). m.objects) c.set_slot.ensures
       ∙ ap (λ v. with_slot c.loop-i.heap.objects c.in-Ok.at.0 c.loop-i.i v) c.loaded_word.ensures
       ∙ ap (λ (xs : List Object). with_slot xs c.in-Ok.at.0 c.loop-i.i (loaded_word c.args.file.now c.args.o.now.format c.args.o.now.words.now c.loop-i.i)) c.loop-i.invariant.objects
       ∙ begun_more c.args.file.now c.args.heap.now.objects c.args.birth (seen c.args.o.now) c.loop-i.i c.in-Ok.at.0 c.in-Ok.ensures.address;
 }
+
+pub returns-clause-watched : goal.returns-clause-watched
+returns-clause-watched c = c.loop-i.invariant.watched
+
+pub returns-clause-dirty : goal.returns-clause-dirty
+returns-clause-dirty c = c.loop-i.invariant.dirty
 
 pub returns-clause-limit : goal.returns-clause-limit
 returns-clause-limit c = c.loop-i.invariant.limit

@@ -11,6 +11,8 @@ use Rattle.cs_image.proofs.memory.load_objects.Goals.{then-o-ne16, else-o-ne16}
 pub loop-number-init : goal.loop-number-init
 loop-number-init c = record {
   limit = c.in_ok-heap.ensures.limit;
+  watched = c.in_ok-heap.ensures.unwatched;
+  dirty = c.in_ok-heap.ensures.clean;
   objects = rw c.in_ok-heap.ensures.empty (none_loaded c.args.births.now c.args.file.now);
 }
 
@@ -29,6 +31,8 @@ loop-number-preserved c = elim c.if-o-ne16.branch [
       ap (λ (m : Memory). m.objects) w.heap-is ∙ w.load_object.ensures.objects in
       record {
         limit = ap (λ (m : Memory). m.limit) w.heap-is ∙ w.load_object.ensures.limit ∙ c.loop-number.invariant.limit;
+        watched = ap (λ (m : Memory). m.watched) w.heap-is ∙ w.load_object.ensures.watched;
+        dirty = ap (λ (m : Memory). m.dirty) w.heap-is ∙ w.load_object.ensures.dirty ∙ c.loop-number.invariant.dirty;
         objects = rw (after, w.count-is) (loaded_visible c.args.births.now c.args.file.now c.loop-number.heap.objects c.loop-number.count c.loop-number.number
             (seen c.object-o.result) c.loop-number.invariant.objects c.object-o.ensures.value visible_one);
       }
@@ -36,6 +40,8 @@ loop-number-preserved c = elim c.if-o-ne16.branch [
       let hidden : is_visible (seen c.object-o.result) ≡ false = grind (arith, nat_tests, w.if-o-ne16.false) in
       record {
         limit = ap (λ (m : Memory). m.limit) w.heap-is ∙ c.loop-number.invariant.limit;
+        watched = ap (λ (m : Memory). m.watched) w.heap-is ∙ c.loop-number.invariant.watched;
+        dirty = ap (λ (m : Memory). m.dirty) w.heap-is ∙ c.loop-number.invariant.dirty;
         objects = rw (w.heap-is, w.count-is) (loaded_hidden c.args.births.now c.args.file.now c.loop-number.heap.objects c.loop-number.count c.loop-number.number
             (seen c.object-o.result) c.loop-number.invariant.objects c.object-o.ensures.value hidden);
       }
