@@ -30,13 +30,14 @@ EndsWithout Heap end = IsSuccess end
 EndsWithout Stack end = end ≡ ends.Entered
 
 -- A primitive called in a world of the view k and of this layout, with the view v and the store behind it, ends as in the model. It
--- finds no room only where the model succeeds, for what that makes; a context is entered from the state `from`, which is k but for
+-- finds no room only where the model succeeds, for what that makes. Where it stops, the view keeps the state in which the model stops.
+-- A context is entered from the state `from`, which is k but for
 -- arguments that are on the stack one by one by then.
 abbrev pub PrimGives : Store → Store → Option Layout → Kept → Kept → Kept → PrimEnd → Out → Type 0
 PrimGives old new l k from v Answer o = (o.end ≡ ends.Answer) × GoesOn old new v o
 PrimGives old new l k from v Entered o = (o.end ≡ ends.Entered) × GoesOn old new v o
 PrimGives old new l k from v Fail o = (o.end ≡ ends.Fail) × (v ≡ k) × GoesOn old new v o
-PrimGives old new l k from v (Stop reason) o = o.end ≡ ends.Stopped reason
+PrimGives old new l k from v (Stop reason) o = (o.end ≡ ends.Stopped reason) × GoesOn old new v o
 PrimGives old new l k from v (Full why) o = EndsWithout why o.end × CausesFull new l from o.count.objects o.state why
 
 -- where there was room

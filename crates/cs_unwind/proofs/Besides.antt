@@ -184,7 +184,7 @@ behind a b c l m n k v u w x args found led laid held done = go found done
     }
     go prim.Fail p = absurd (let e : is_block_end ends.Fail ≡ true = ap is_block_end (sym p.gives.0) ∙ block_ends v x args in cc)
     go (prim.Stop reason) p = record {
-      gives = end _ p.gives;
+      gives = (end _ p.gives.0, record { state = Keeps-trans p.gives.1.state alike_out.keeps; ready = p.gives.1.ready; names = names-trans a b c led.names p.gives.1.names });
       exact = λ none. subst (λ z. SameKept w (enter_block_out z x args).state) (same-equal v u (led.exact none)) (p.exact (led.layout ∙ none));
       layout = p.layout ∙ led.layout;
       limit = p.limit ∙ led.limit;

@@ -22,7 +22,7 @@ use Rattle.cs_acts.specs.Primed.{EndsWithout}
 use Rattle.cs_acts.specs.Ready.{IsReady}
 use Rattle.cs_unwind.specs.Blocks.{Evaluates}
 use Rattle.cs_unwind.specs.Performed.{Performs}
-use Rattle.cs_unwind.proofs.Performing.{made_none}
+use Rattle.cs_unwind.proofs.Performing.{made_none, same_names}
 
 -- what the model gives where arguments and copied values fit
 record EntersBlock (k : Kept) (x : Ref) (args : ℕ) (o : Out) : Type 0 where
@@ -74,11 +74,11 @@ stops : (k : Kept) (x : Ref) (args : ℕ) → nat_le (args + length (copied_valu
 unfolding enter_block_out
 stops k x args e = ap (λ (b : Bool). (if b then made_context (context_words (block_size k x)) (out ends.Entered (enter_block_of k x args)) else stop why.StackOver k)) e
 
-pub over : (s : Store) (l : Option Layout) (k : Kept) (x : Ref) (args : ℕ) → block_size k x < args + length (copied_values k x) → Performs s s l l k k k (prim.Stop why.StackOver) (enter_block_out k x args)
-over s l k x args less =
+pub over : (s : Store) (l : Option Layout) (k : Kept) (x : Ref) (args : ℕ) → IsReady s k → block_size k x < args + length (copied_values k x) → Performs s s l l k k k (prim.Stop why.StackOver) (enter_block_out k x args)
+over s l k x args ready less =
     let e : enter_block_out k x args ≡ stop why.StackOver k = stops k x args (grind (arith, nat_tests, less)) in
     record {
-      gives = ap (λ (o : Out). o.end) e;
+      gives = (ap (λ (o : Out). o.end) e, record { state = subst (λ (o : Out). Keeps k o.state) (sym e) ready.sound.closed; ready = ready; names = same_names s });
       exact = λ none. subst (λ (o : Out). SameKept k o.state) (sym e) (record { objects = λ i. refl; rest = refl });
       layout = refl;
       limit = refl;

@@ -1,14 +1,16 @@
 -- The numbers of the primitives.
-use Rattle.std.proofs.Common.{◌≡◌, ◌≢◌, ◌∙◌, ℕ, Bool, true, false, refl, sym, ap, subst, arith, Option, Some, None}
+use Rattle.std.proofs.Common.{◌≡◌, ◌∙◌, ◌⊎◌, ℕ, Bool, true, false, inl, inr, refl, sym, ap, subst, Option, Some, None, is_some}
 use Rattle.std.specs.Prelude.{◌==◌, ◌||◌, if◌then◌else◌}
 use Rattle.std.proofs.lemmas.Bool.{eqb-true}
-use Rattle.std.proofs.lemmas.Bool.Decides.{nat_tests}
 use Rattle.cs_model.specs.State.{Kept}
 use Rattle.cs_model.specs.PrimAnswer.{fail}
 use Rattle.cs_model.specs.PrimTable.{kept_prim}
 use Rattle.cs_model.specs.PrimUnwind.{evaluate_array_prim, evaluate_prim, handler_mark_prim, unwind_mark_prim}
 use Rattle.cs_unwind.specs.Blocks.{wanted_by}
+use Rattle.cs_unwind.specs.Numbers.{HasNumber}
 use Rattle.cs_unwind.specs.Primitive.{entered_from, unwinds}
+use Rattle.cs_unwind.specs.declared.numbers.Primitive.{Primitive}
+use Rattle.cs_unwind.specs.declared.numbers.Primitive.TheVariants.{FindUnwindMark, FindHandlerMark, Mark, Evaluate, EvaluateArray}
 
 pub prim-195 : (k : Kept) (args : ℕ) → unwind_mark_prim k args ≡ kept_prim 195 args k
 unfolding kept_prim
@@ -22,8 +24,7 @@ pub prim-206 : (k : Kept) (args : ℕ) → evaluate_array_prim k args ≡ kept_p
 unfolding kept_prim
 prim-206 k args = refl
 
-abbrev chosen : Bool → Bool → Bool → Bool → Bool → Bool → Bool → Option ℕ
-chosen a b c d e f g = if a || b then Some 0 else if c || d then Some 1 else if e then Some 2 else if f then Some 3 else if g then Some 4 else None
+-- ---- the primitives that evaluate a closure
 
 -- a number in the table that evaluates a closure
 pub record IsRow (k : Kept) (args number n : ℕ) : Type 0 where
@@ -58,6 +59,9 @@ row-205 : (k : Kept) (args : ℕ) → IsRow k args 205 4
 unfolding kept_prim
 row-205 k args = record { is = refl; from = refl }
 
+abbrev chosen : Bool → Bool → Bool → Bool → Bool → Bool → Bool → Option ℕ
+chosen a b c d e f g = if a || b then Some 0 else if c || d then Some 1 else if e then Some 2 else if f then Some 3 else if g then Some 4 else None
+
 pub evaluates_row : (k : Kept) (args number n : ℕ) → Some n ≡ wanted_by number → IsRow k args number n
 evaluates_row k args number n h = go (number == 201) (number == 221) (number == 202) (number == 222) (number == 203) (number == 204) (number == 205) refl refl refl refl refl refl refl h
   where
@@ -74,20 +78,23 @@ evaluates_row k args number n h = go (number == 201) (number == 221) (number == 
     go false false false false false false true p0 p1 p2 p3 p4 p5 p6 h = at 205 4 p6 (cc) (row-205 k args)
     go false false false false false false false p0 p1 p2 p3 p4 p5 p6 h = absurd (cc)
 
-nothing : (k : Kept) (args number : ℕ) → (number ≡ 198 → kept_prim number args k ≡ fail k) → (number ≡ 199 → kept_prim number args k ≡ fail k) → unwinds number ≡ true → number ≢ 195 → number ≢ 197 → number ≢ 206
-    → number ≢ 201 → number ≢ 221 → number ≢ 202 → number ≢ 222 → number ≢ 203 → number ≢ 204 → number ≢ 205 → kept_prim number args k ≡ fail k
-nothing k args number eight nine h q0 q1 q2 q3 q4 q5 q6 q7 q8 q9 = go (number == 198) (number == 199) refl refl
+evaluates_number : (number n : ℕ) → wanted_by number ≡ Some n → unwinds number ≡ true
+evaluates_number number n h = go (number == 201) (number == 221) (number == 202) (number == 222) (number == 203) (number == 204) (number == 205) refl refl refl refl refl refl refl h
   where
-    none : number ≢ 198 → number ≢ 199 → ⊥
-    none u v = grind (arith, nat_tests, h)
+    at : (m : ℕ) → (number == m) ≡ true → unwinds m ≡ true → unwinds number ≡ true
+    at m p e = ap unwinds (eqb-true number m p) ∙ e
 
-    differs : (m : ℕ) → (number == m) ≡ false → number ≢ m
-    differs m e = grind (arith, nat_tests, e)
+    go : (a b c d e f g : Bool) → (number == 201) ≡ a → (number == 221) ≡ b → (number == 202) ≡ c → (number == 222) ≡ d → (number == 203) ≡ e → (number == 204) ≡ f → (number == 205) ≡ g → chosen a b c d e f g ≡ Some n → unwinds number ≡ true
+    go true b c d e f g p0 p1 p2 p3 p4 p5 p6 h = at 201 p0 refl
+    go false true c d e f g p0 p1 p2 p3 p4 p5 p6 h = at 221 p1 refl
+    go false false true d e f g p0 p1 p2 p3 p4 p5 p6 h = at 202 p2 refl
+    go false false false true e f g p0 p1 p2 p3 p4 p5 p6 h = at 222 p3 refl
+    go false false false false true f g p0 p1 p2 p3 p4 p5 p6 h = at 203 p4 refl
+    go false false false false false true g p0 p1 p2 p3 p4 p5 p6 h = at 204 p5 refl
+    go false false false false false false true p0 p1 p2 p3 p4 p5 p6 h = at 205 p6 refl
+    go false false false false false false false p0 p1 p2 p3 p4 p5 p6 h = absurd (cc)
 
-    go : (a b : Bool) → (number == 198) ≡ a → (number == 199) ≡ b → kept_prim number args k ≡ fail k
-    go true b p q = eight (eqb-true number 198 p)
-    go false true p q = nine (eqb-true number 199 q)
-    go false false p q = absurd (none (differs 198 p) (differs 199 q))
+-- ---- the marks
 
 fails-198 : (k : Kept) (args : ℕ) → kept_prim 198 args k ≡ fail k
 unfolding kept_prim
@@ -97,18 +104,17 @@ fails-199 : (k : Kept) (args : ℕ) → kept_prim 199 args k ≡ fail k
 unfolding kept_prim
 fails-199 k args = refl
 
-pub fails_row : (k : Kept) (args number : ℕ) → unwinds number ≡ true → number ≢ 195 → number ≢ 197 → number ≢ 206 → None ≡ wanted_by number → kept_prim number args k ≡ fail k
-fails_row k args number u x y z h = go (number == 201) (number == 221) (number == 202) (number == 222) (number == 203) (number == 204) (number == 205) refl refl refl refl refl refl refl h
-  where
-    differs : (m : ℕ) → (number == m) ≡ false → number ≢ m
-    differs m e = grind (arith, nat_tests, e)
+pub fails_row : (k : Kept) (args number : ℕ) → (number ≡ 198) ⊎ (number ≡ 199) → kept_prim number args k ≡ fail k
+fails_row k args number (inl e) = ap (λ m. kept_prim m args k) e ∙ fails-198 k args
+fails_row k args number (inr e) = ap (λ m. kept_prim m args k) e ∙ fails-199 k args
 
-    go : (a b c d e f g : Bool) → (number == 201) ≡ a → (number == 221) ≡ b → (number == 202) ≡ c → (number == 222) ≡ d → (number == 203) ≡ e → (number == 204) ≡ f → (number == 205) ≡ g → None ≡ chosen a b c d e f g → kept_prim number args k ≡ fail k
-    go true b c d e f g p0 p1 p2 p3 p4 p5 p6 h = absurd (cc)
-    go false true c d e f g p0 p1 p2 p3 p4 p5 p6 h = absurd (cc)
-    go false false true d e f g p0 p1 p2 p3 p4 p5 p6 h = absurd (cc)
-    go false false false true e f g p0 p1 p2 p3 p4 p5 p6 h = absurd (cc)
-    go false false false false true f g p0 p1 p2 p3 p4 p5 p6 h = absurd (cc)
-    go false false false false false true g p0 p1 p2 p3 p4 p5 p6 h = absurd (cc)
-    go false false false false false false true p0 p1 p2 p3 p4 p5 p6 h = absurd (cc)
-    go false false false false false false false p0 p1 p2 p3 p4 p5 p6 h = nothing k args number (λ e. ap (λ m. kept_prim m args k) e ∙ fails-198 k args) (λ e. ap (λ m. kept_prim m args k) e ∙ fails-199 k args) u x y z (differs 201 p0) (differs 221 p1) (differs 202 p2) (differs 222 p3) (differs 203 p4) (differs 204 p5) (differs 205 p6)
+-- ---- all of them
+
+pub named : (p : Option Primitive) (number : ℕ) → HasNumber p number → is_some p ≡ unwinds number
+named None number h = sym h
+named (Some FindUnwindMark) number h = sym (ap unwinds h)
+named (Some FindHandlerMark) number h = sym (ap unwinds h)
+named (Some Mark) number (inl e) = sym (ap unwinds e)
+named (Some Mark) number (inr e) = sym (ap unwinds e)
+named (Some (Evaluate args)) number h = sym (evaluates_number number args h)
+named (Some EvaluateArray) number h = sym (ap unwinds h)

@@ -29,7 +29,7 @@ use Rattle.cs_unwind.specs.Performed.{Performs}
 
 -- ---- nothing is changed
 
-same_names : (s : Store) → KeepsNames s s
+pub same_names : (s : Store) → KeepsNames s s
 same_names s = λ o named. record { sound = named; is = refl }
 
 pub made_none : (l : Option Layout) (s : Store) → MakesAtMost 0 l s s
@@ -102,8 +102,14 @@ looked_at a b l m k v ready same layout limit made sound names = record {
 
 -- ---- stops, and no room
 
-pub too_far : (s : Store) (l : Option Layout) (k : Kept) (args : ℕ) (m : Marked) → m ≡ MarkTooFar → Performs s s l l k k k (prim.Stop why.ChainTooLong) (answer_mark k args m)
-too_far s l k args m e = subst (λ m. Performs s s l l k k k (prim.Stop why.ChainTooLong) (answer_mark k args m)) (sym e) (record { gives = refl; exact = λ none. record { objects = λ i. refl; rest = refl }; layout = refl; limit = refl; contexts = made_none l s })
+pub too_far : (s : Store) (l : Option Layout) (k : Kept) (args : ℕ) (m : Marked) → IsReady s k → m ≡ MarkTooFar → Performs s s l l k k k (prim.Stop why.ChainTooLong) (answer_mark k args m)
+too_far s l k args m ready e = subst (λ m. Performs s s l l k k k (prim.Stop why.ChainTooLong) (answer_mark k args m)) (sym e) (record {
+  gives = (refl, record { state = ready.sound.closed; ready = ready; names = same_names s });
+  exact = λ none. record { objects = λ i. refl; rest = refl };
+  layout = refl;
+  limit = refl;
+  contexts = made_none l s;
+})
 
 more_words : (s : Store) (l : Option Layout) (k t u : Kept) (made made' : ℕ) (why : Why) → made ≡ made' → words_in t ≡ words_in u → CausesFull s l k made t why → CausesFull s l k made' u why
 more_words s l k t u made made' Stack e words cause = cause

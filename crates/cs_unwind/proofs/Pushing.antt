@@ -32,6 +32,7 @@ use Rattle.cs_acts.specs.Led.{Leads}
 use Rattle.cs_acts.proofs.Leading.{along, then}
 use Rattle.cs_acts.proofs.Running.{active_context-put_active, running-edit}
 use Rattle.cs_unwind.specs.Returned.{Returns}
+use Rattle.cs_unwind.proofs.Performing.{same_names}
 use Rattle.cs_unwind.specs.declared.end.BackEnd.TheVariants as back
 
 -- ---- one call behind another
@@ -205,8 +206,8 @@ there_is_none depth size n b e h = let f : nat_le (depth + n) size ≡ false = s
 
 -- ---- what is given
 
-pub stopped : (s : Store) (l : Option Layout) (k : Kept) (local : Bool) (reason : Reason) (o : Out) → o.end ≡ ends.Stopped reason → Returns s s l l k k local (back.Stop reason) o
-stopped s l k local reason o end = record { gives = end; exact = refl; layout = refl; limit = refl; contexts = makes_none l s 0 }
+pub stopped : (s : Store) (l : Option Layout) (k : Kept) (local : Bool) (reason : Reason) (o : Out) → IsReady s k → o.end ≡ ends.Stopped reason → Returns s s l l k k local (back.Stop reason) o
+stopped s l k local reason o ready end = record { gives = (end, ready, same_names s); exact = refl; layout = refl; limit = refl; contexts = makes_none l s 0 }
 
 module _ (k : Kept) (special args : ℕ) (values : List Ref) (local : Bool) where
   pub called : (a b : Store) (l m : Option Layout) (v : Kept) → depth_of k + (length values + 1) ≤ size_of k → Leads a b l m v (with_all (ref.Obj (active_birth k) ∷ values) k) args

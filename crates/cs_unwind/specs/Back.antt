@@ -10,8 +10,9 @@ use Rattle.cs_acts.specs.declared.act.Full.TheVariants.{Heap}
 use Rattle.cs_acts.specs.Full.{CausesFull}
 use Rattle.cs_acts.specs.Layout.{LaidBy, Layout, cut, left}
 use Rattle.cs_acts.specs.Made.{MakesAtMost}
-use Rattle.cs_acts.specs.Names.{Store}
+use Rattle.cs_acts.specs.Names.{KeepsNames, Store}
 use Rattle.cs_acts.specs.Primed.{GoesOn}
+use Rattle.cs_acts.specs.Ready.{IsReady}
 use Rattle.cs_acts.specs.Targets.{dying_to}
 use Rattle.cs_unwind.specs.declared.end.BackEnd.{BackEnd}
 use Rattle.cs_unwind.specs.declared.end.BackEnd.TheVariants.{Done, Call, Stop, Full}
@@ -23,11 +24,12 @@ pub record Asks (end : End) : Type 0 where
   pub is : end ≡ ends.Call special args
 
 -- A return in a world of the view k and of this layout, with the view v and the store behind it, ends as in the model. The heap alone
--- can have no room, and the model goes on there: the value arrives, or a message is asked for that tells the active context.
+-- can have no room, and the model goes on there: the value arrives, or a message is asked for that tells the active context. Behind a
+-- stop the world is ready, and what had a name has it still.
 abbrev pub BackGives : Store → Store → Option Layout → Kept → Kept → BackEnd → Out → Type 0
 BackGives old new l k v Done o = (o.end ≡ ends.Done) × GoesOn old new v o
 BackGives old new l k v (Call special args) o = (o.end ≡ ends.Call special args) × GoesOn old new v o
-BackGives old new l k v (Stop reason) o = o.end ≡ ends.Stopped reason
+BackGives old new l k v (Stop reason) o = (o.end ≡ ends.Stopped reason) × IsReady new v × KeepsNames old new
 BackGives old new l k v (Full why) o = (why ≡ Heap) × ((o.end ≡ ends.Done) ⊎ Asks o.end) × CausesFull new l k o.count.objects o.state why
 
 -- Where it went on, and no layout is told, the view is the state of the model. Where it stops, the view is as it was: of a message

@@ -11,13 +11,13 @@ ghost use Rattle.cs_acts.specs.Names.{IsNamed, name_of};
 ghost use Rattle.cs_acts.specs.Primed.{PrimGives, PrimLaid, PrimMakes, UnlessFull};
 ghost use Rattle.cs_acts.specs.Ready.{IsReady};
 ghost use Rattle.cs_unwind.specs.Back.{BackExact, BackGives, BackLaid, BackMakes};
-ghost use Rattle.cs_unwind.specs.Blocks.{wanted_by};
 ghost use Rattle.cs_unwind.specs.Performed.{Performs};
 ghost use Rattle.cs_unwind.specs.Primitive.{entered_from, unwinds};
 
 mod blocks;
 mod end;
 mod marks;
+mod numbers;
 mod returns;
 mod search;
 
@@ -26,13 +26,7 @@ use cs_acts::{PrimEnd, World};
 use cs_word::Oop;
 pub use end::BackEnd;
 use marks::{handler_mark, unwind_mark};
-
-/// The primitives that look for a mark, and the one that evaluates a closure with the elements of an Array.
-const FIND_UNWIND_MARK: u32 = 195;
-
-const FIND_HANDLER_MARK: u32 = 197;
-
-const EVALUATE_ARRAY: u32 = 206;
+use numbers::Primitive;
 
 /// Returns a value: to the sender of the active context, or from its home to the sender of that.
 ///
@@ -67,10 +61,7 @@ pub fn give_back<W: World>(w: &mut W, value: Oop, local: bool) -> BackEnd
 pub fn unwinds(number: u32) -> bool
     ensures { result ≡ unwinds number }
 {
-    match number {
-        195 | 197..=199 | 201..=206 | 221 | 222 => true,
-        _ => false,
-    }
+    Primitive::from_number(number).is_some()
 }
 
 /// Does primitive `number` with `args` arguments.
@@ -107,31 +98,14 @@ fn perform<W: World>(w: &mut W, number: u32, args: u32) -> PrimEnd
     ensures { Performs (W.stored w.old) (W.stored w.new) (W.layout w.old) (W.layout w.new) (W.view w.old)
         (entered_from (W.view w.old) number) (W.view w.new) result (kept_prim number args (W.view w.old)) }
 {
-    if number == FIND_UNWIND_MARK {
-        return unwind_mark(w, args);
-    }
-    if number == FIND_HANDLER_MARK {
-        return handler_mark(w, args);
-    }
-    if number == EVALUATE_ARRAY {
-        return evaluate_array(w, args);
-    }
-    match wanted_by(number) {
-        Some(wanted) => evaluate(w, wanted, args),
-        None => PrimEnd::Fail,
-    }
-}
-
-/// How many arguments a primitive evaluates a closure with; None where it does something else.
-fn wanted_by(number: u32) -> Option<u32>
-    ensures { result ≡ wanted_by number }
-{
-    match number {
-        201 | 221 => Some(0),
-        202 | 222 => Some(1),
-        203 => Some(2),
-        204 => Some(3),
-        205 => Some(4),
-        _ => None,
+    let Some(primitive) = Primitive::from_number(number) else {
+        unreachable!();
+    };
+    match primitive {
+        Primitive::FindUnwindMark => unwind_mark(w, args),
+        Primitive::FindHandlerMark => handler_mark(w, args),
+        Primitive::Mark => PrimEnd::Fail,
+        Primitive::Evaluate { args: wanted } => evaluate(w, wanted, args),
+        Primitive::EvaluateArray => evaluate_array(w, args),
     }
 }

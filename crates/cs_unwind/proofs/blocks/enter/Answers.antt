@@ -15,8 +15,8 @@ returns-then-args-size g c =
     let x = name_of s c.args.closure in
     let size = size_is s k x c.args.args c.context_size-size.result c.args.method c.requires.block c.context_size-size.ensures in
     elim c.then-args-size.branch [
-      | then-args-size-via-then-args-size w ↦ over s (g.W.World.layout c.args.w.now) k x c.args.args (omega (arith, size, w.if-args-size.true))
-      | then-args-size-via-else-args-size+then-copied-size w ↦ over s (g.W.World.layout c.args.w.now) k x c.args.args (omega (arith, size, w.copied.ensures, w.if-args-size.false, w.if-copied-size.true))
+      | then-args-size-via-then-args-size w ↦ over s (g.W.World.layout c.args.w.now) k x c.args.args c.requires.ready (omega (arith, size, w.if-args-size.true))
+      | then-args-size-via-else-args-size+then-copied-size w ↦ over s (g.W.World.layout c.args.w.now) k x c.args.args c.requires.ready (omega (arith, size, w.copied.ensures, w.if-args-size.false, w.if-copied-size.true))
     ]
 
 pub enter_block-requires-clause-fits : goal.enter_block-requires-clause-fits

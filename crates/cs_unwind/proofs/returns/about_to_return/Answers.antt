@@ -21,7 +21,7 @@ pub returns-then-not-fits : goal.returns-then-not-fits
 returns-then-not-fits g c local birth at =
     let s = g.W.World.stored c.args.w.now in
     let k = g.W.World.view c.args.w.now in
-    stopped s (g.W.World.layout c.args.w.now) k local why.StackOver _
+    stopped s (g.W.World.layout c.args.w.now) k local why.StackOver _ c.requires.ready
     (call_over k 48 2 (name_of s c.args.value ∷ ref.Obj birth ∷ []) c.fits.ensures.within (there_is_none (depth_of k) (size_of k) 3 _ c.fits.ensures.value c.if-not-fits.true))
 
 pub returns-in-Err : goal.returns-in-Err

@@ -16,4 +16,4 @@ pub returns-in-TooFar : goal.returns-in-TooFar
 returns-in-TooFar g c =
     let k = g.W.World.view c.args.w.now in
     let x = name_of (g.W.World.stored c.args.w.now) c.args.value in
-    stopped (g.W.World.stored c.args.w.now) (g.W.World.layout c.args.w.now) k _ why.ChainTooLong _ (ap (λ (o : Out). o.end) (nonlocal_too_far k x c.in-TooFar.ensures))
+    stopped (g.W.World.stored c.args.w.now) (g.W.World.layout c.args.w.now) k _ why.ChainTooLong _ c.requires.ready (ap (λ (o : Out). o.end) (nonlocal_too_far k x c.in-TooFar.ensures))

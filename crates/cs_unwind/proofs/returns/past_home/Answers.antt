@@ -32,7 +32,7 @@ returns-in-NoRoom g c =
     let k = g.W.World.view c.args.w.now in
     let x = name_of (g.W.World.stored c.args.w.now) c.args.value in
     let u = c.requires.free in
-    stopped (g.W.World.stored c.args.w.now) (g.W.World.layout c.args.w.now) k _ why.StackOver _
+    stopped (g.W.World.stored c.args.w.now) (g.W.World.layout c.args.w.now) k _ why.StackOver _ c.requires.ready
     (ap (λ (o : Out). o.end) (nonlocal_arrives _ k c.args.home c.args.target c.args.dies u x ∙ nonlocal_decided _ k c.args.home c.args.target c.args.dies u x NoRoom c.in-NoRoom.ensures))
 
 pub returns-in-Ok : goal.returns-in-Ok

@@ -47,5 +47,5 @@ returns-in-TooLong g c =
     let k = g.W.World.view c.args.w.now in
     let x = name_of (g.W.World.stored c.args.w.now) c.args.value in
     let h = c.requires.home in
-    stopped (g.W.World.stored c.args.w.now) (g.W.World.layout c.args.w.now) k _ why.ChainTooLong _
+    stopped (g.W.World.stored c.args.w.now) (g.W.World.layout c.args.w.now) k _ why.ChainTooLong _ c.requires.ready
     (ap (λ (o : Out). o.end) (nonlocal_far _ k c.args.home h x (c.in-TooLong.ensures h.birth h.stands)))

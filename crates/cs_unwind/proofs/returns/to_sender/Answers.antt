@@ -33,7 +33,7 @@ pub returns-in-NoRoom : goal.returns-in-NoRoom
 returns-in-NoRoom g c =
     let k = g.W.World.view c.args.w.now in
     let x = name_of (g.W.World.stored c.args.w.now) c.args.value in
-    stopped (g.W.World.stored c.args.w.now) (g.W.World.layout c.args.w.now) k _ why.StackOver _
+    stopped (g.W.World.stored c.args.w.now) (g.W.World.layout c.args.w.now) k _ why.StackOver _ c.requires.ready
     (ap (λ (o : Out). o.end)
     (local_is k x ∙ local_decided (g.W.World.act c.args.w.now) k x c.sender-target.result c.is-dies.result NoRoom (told _ c.sender-target.ensures c.active-active.ensures)
     (λ i s. c.is-dies.ensures i (active_birth k) s c.active-active.ensures) c.in-NoRoom.ensures))
