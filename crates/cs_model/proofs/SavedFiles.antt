@@ -1,7 +1,7 @@
 -- A file that was put together is read again.
 use Rattle.std.proofs.Common.{◌≡◌, ℕ, zero, suc, ◌+◌, ◌-◌, ◌*◌, ◌/◌, ◌%◌, ◌^◌, ◌<◌, ◌≤◌, ◌==◌, ◌&&◌, Bool, true, false, cond, not, List, [], ◌∷◌, ◌++◌, length, map, take, drop, filter, replicate, refl, ap, ap₂, sym, ◌∙◌, subst, arith, leb, eqb, append_assoc, length-append, length-drop, Option, Some, None, is_some}
 use Rattle.std.proofs.Math.Seq.{take-append_seam, drop-append_seam}
-use Rattle.std.proofs.lemmas.List.{length-replicate, length-map, length-take, take-append-drop, append-nil}
+use Rattle.std.proofs.lemmas.List.{length-replicate, length-take, take-append-drop, append-nil}
 use Rattle.std.proofs.lemmas.List.FromFn.{length-map-range_with_len}
 use Rattle.std.proofs.lemmas.List.Sums.{sum_by-append}
 use Rattle.std.proofs.lemmas.List.Elements.{filter-append}
@@ -9,10 +9,10 @@ use Rattle.std.proofs.lemmas.Bool.Decides.{nat_tests}
 use Rattle.std.specs.Prelude.{flat_map}
 use Rattle.std.specs.List.{AllByRecursion, range_with_len}
 use Rattle.cs_model.specs.Words.{bytes_of_words}
-use Rattle.cs_model.specs.ImageFile.{number_at, u32_at, u64_at, u32s_at, u64s_at, heap_size, old_base, special_address, last_hash_in, header_in, words_in, has_births, birth_count, births_in, next_birth_in, FileObject, Cut, File, cut_of, cut_from, file_of, visible, stands, is_visible}
+use Rattle.cs_model.specs.ImageFile.{number_at, u32_at, u64_at, u32s_at, u64s_at, heap_size, header_in, words_in, has_births, birth_count, births_in, FileObject, Cut, File, cut_of, file_of, visible, stands, is_visible}
 use Rattle.cs_model.specs.SavedFile.{SavedObject, SavedBirths, SavedFile, FitsObject, FitsFile, FitsBirths, IsWordValue, IsSeen, IsReadAgain, IsSeenAgain, saved_bits, saved_words, overflow_words, body_size, saved_size, saved_sizes, placed_at, placed_from, saved_base, free_lists, page_place, page_address, table_root, table_page, all_saved, saved_heap, halves, birth_words, header_words, saved_bytes}
-use Rattle.cs_model.proofs.SavedNumbers.{number_behind, number_before, u32s_behind, u64s_behind, four, word_read, words_read, long_read, longs_read, length-bytes_of_words, bytes_of_words-cons, length-halves}
-use Rattle.cs_model.proofs.SavedObjects.{saved_words_is, body_words, length-saved, sizes-cons, cut_there, whole_cut, placed_append}
+use Rattle.cs_model.proofs.SavedNumbers.{number_behind, number_before, u32s_behind, u64s_behind, four, word_read, words_read, long_read, longs_read, length-bytes_of_words, length-halves}
+use Rattle.cs_model.proofs.SavedObjects.{body_words, length-saved, sizes-cons, cut_there, whole_cut, placed_append}
 
 -- ---- what holds of all
 

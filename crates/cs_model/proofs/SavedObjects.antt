@@ -1,13 +1,13 @@
 -- Objects that were put one behind the other are cut apart again.
-use Rattle.std.proofs.Common.{◌≡◌, ℕ, zero, suc, ◌+◌, ◌-◌, ◌*◌, ◌/◌, ◌%◌, ◌^◌, ◌<◌, ◌≤◌, ◌==◌, Bool, true, false, cond, List, [], ◌∷◌, ◌++◌, length, take, drop, replicate, get_or, refl, ap, ap₂, sym, ◌∙◌, arith, min, leb, eqb, append_assoc, length-append, Option, Some, None}
+use Rattle.std.proofs.Common.{◌≡◌, ℕ, zero, suc, ◌+◌, ◌-◌, ◌*◌, ◌/◌, ◌%◌, ◌^◌, ◌<◌, ◌≤◌, ◌==◌, Bool, true, false, cond, List, [], ◌∷◌, ◌++◌, length, take, drop, replicate, refl, ap, ap₂, sym, ◌∙◌, arith, min, leb, eqb, append_assoc, length-append, Some, None}
 use Rattle.std.proofs.Math.Seq.{take-append_seam, drop-append-add}
 use Rattle.std.proofs.lemmas.List.{length-replicate}
 use Rattle.std.proofs.lemmas.List.Sums.{sum_by-cons}
 use Rattle.std.proofs.lemmas.Bool.Decides.{nat_tests}
 use Rattle.std.specs.Prelude.{flat_map}
 use Rattle.std.specs.List.{AllByRecursion}
-use Rattle.cs_model.specs.ImageFile.{FileObject, Cut, in_front, cut_behind, cut_from, object_from, object_within, object_with, bits_at, top_byte, end_at, end_of}
-use Rattle.cs_model.specs.SavedFile.{SavedObject, FitsObject, saved_bits, saved_words, overflow_words, words_before, body_size, saved_size, saved_sizes, placed_at, placed_from, IsWordValue}
+use Rattle.cs_model.specs.ImageFile.{FileObject, Cut, in_front, cut_from, object_from, object_with, bits_at, top_byte, end_at, end_of}
+use Rattle.cs_model.specs.SavedFile.{SavedObject, FitsObject, saved_bits, saved_words, overflow_words, words_before, body_size, saved_size, saved_sizes, placed_at, placed_from}
 use Rattle.cs_model.proofs.SavedNumbers.{get_behind}
 
 -- ---- the words of one object

@@ -3,7 +3,7 @@
 use Rattle.std.specs.Prelude.{◌≡◌, ℕ, ◌+◌, ◌*◌, ◌-◌, ◌/◌, ◌%◌, ◌^◌, ◌<◌, ◌≤◌, ◌==◌, ◌&&◌, Bool, true, false, not, nat_le, max, min, if◌then◌else◌, List, [], ◌∷◌, ◌++◌, length, map, flat_map, sum_by, take, drop, replicate, Option, Some, None, is_some}
 use Rattle.std.specs.List.{AllByRecursion, range_with_len}
 use Rattle.cs_model.specs.Words.{bytes_of_words}
-use Rattle.cs_model.specs.ImageFile.{number_at, heap_size, old_base, special_address, last_hash_in, header_in, words_in, has_births, birth_count, births_in, next_birth_in, FileObject, cut_of, file_of, visible, stands, is_visible}
+use Rattle.cs_model.specs.ImageFile.{number_at, heap_size, old_base, special_address, last_hash_in, header_in, words_in, has_births, birth_count, births_in, next_birth_in, FileObject, cut_of, file_of, visible, stands}
 
 -- ---- one object
 
