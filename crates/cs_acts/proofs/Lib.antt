@@ -1,3 +1,4 @@
+mod Bits
 pub mod Held
 pub mod Methods
 pub mod Firsts

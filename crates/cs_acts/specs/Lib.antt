@@ -1,3 +1,4 @@
+pub mod Arithmetic
 pub mod Full
 pub mod Layout
 pub mod Led

@@ -6,6 +6,7 @@
 
 mod act;
 pub mod answer;
+pub mod arithmetic;
 pub mod method;
 mod prim;
 pub mod read;

@@ -5,4 +5,4 @@ use Rattle.cs_model.specs.Operation.{pop_of}
 
 -- which may still be on the stack
 abbrev pub bare_of : Bool → Kept → Kept
-bare_of kept k = if kept then pop_of k else k
+bare_of on_stack k = if on_stack then pop_of k else k

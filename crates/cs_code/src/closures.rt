@@ -18,7 +18,8 @@ ghost use Rattle.cs_code.specs.Gives.{Gives, Refuses, is_refused};
 
 use crate::CodeEnd;
 use crate::jumps::pc_after;
-use crate::pushes::{has_room, small_word};
+use crate::pushes::has_room;
+use cs_acts::arithmetic::small_word;
 use cs_acts::{Full, World};
 use cs_model::Stop;
 use cs_word::Oop;

@@ -1,6 +1,5 @@
 //! Pushes of single values, and what is done to the top of the stack alone.
 ghost use Rattle.std.specs.Prelude.{◌≡◌, nat_lt};
-ghost use Rattle.cs_word.specs.Word.{IsSmall};
 ghost use Rattle.cs_model.specs.Number.{boolean as boolean_of};
 ghost use Rattle.cs_model.specs.Operation.{nil_of};
 ghost use Rattle.cs_model.specs.Read.{depth_of, receiver_of, size_of};
@@ -8,12 +7,13 @@ ghost use Rattle.cs_model.specs.Ref.{Ref};
 ghost use Rattle.cs_model.specs.Ref as ref;
 ghost use Rattle.cs_model.specs.Exec.{push_out, push_temp_out, push_literal_out, pop_out, dup_out};
 ghost use Rattle.cs_acts.specs.Made.{MakesAtMost};
-ghost use Rattle.cs_acts.specs.Names.{IsNamed, Names, Store, name_of};
+ghost use Rattle.cs_acts.specs.Names.{IsNamed, name_of};
 ghost use Rattle.cs_acts.specs.Ready.{IsReady};
 ghost use Rattle.cs_code.specs.Gives.{Gives};
 
 use crate::CodeEnd;
 use cs_acts::World;
+use cs_acts::arithmetic::small_word;
 use cs_acts::read::{boolean, from_top, literal, nil, temporary};
 use cs_model::Stop;
 use cs_word::Oop;
@@ -127,18 +127,6 @@ pub fn push_small<W: World>(w: &mut W, z: i8) -> CodeEnd
 {
     let x = small_word(i32::from(z));
     push(w, x)
-}
-
-/// The word of a SmallInteger.
-#[tactic(auto, unfolding(cs_classes::specs::Meaning::ref_of, cs_classes::specs::Sound::is_reference))]
-pub fn small_word(z: i32) -> Oop
-    requires { IsSmall z }
-    ensures { (s : Store) → Names s result (ref.Small z) }
-{
-    let Some(word) = Oop::small(z) else {
-        unreachable!();
-    };
-    word
 }
 
 /// Drops the topmost value.

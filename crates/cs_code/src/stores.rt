@@ -18,9 +18,10 @@ ghost use Rattle.cs_code.specs.Built.{built_exec};
 ghost use Rattle.cs_code.specs.Gives.{Gives};
 
 use crate::CodeEnd;
-use crate::pushes::{push, small_word};
+use crate::pushes::push;
 use crate::sends::send_special;
 use cs_acts::World;
+use cs_acts::arithmetic::small_word;
 use cs_acts::read::{from_top, is_context, is_read_only, literal, slot, slot_if_any, temporary};
 use cs_model::Stop;
 use cs_word::Oop;
@@ -73,23 +74,23 @@ fn refuse_store<W: World>(w: &mut W, target: Oop, i: u8, x: Oop) -> CodeEnd
 }
 
 /// Stores into slot `i` of a pointer object. A read-only one refuses: the value is popped then, where it is still on
-/// the stack, which `kept` says, and the object is told of it.
+/// the stack, which `on_stack` says, and the object is told of it.
 #[tactic(auto, unfolding(cs_model::specs::Exec::store_slot))]
-fn store_slot<W: World>(w: &mut W, target: Oop, i: u8, x: Oop, kept: bool) -> CodeEnd
+fn store_slot<W: World>(w: &mut W, target: Oop, i: u8, x: Oop, on_stack: bool) -> CodeEnd
     requires ready { IsReady (W.stored w.old) (W.view w.old) }
     requires there { is_storable (object_of (W.view w.old) (name_of (W.stored w.old) target)) i ≡ true }
     requires object { IsNamed (W.stored w.old) target }
     requires named { IsNamed (W.stored w.old) x }
-    requires on_top { kept ≡ true → 0 < depth_of (W.view w.old) }
+    requires on_top { on_stack ≡ true → 0 < depth_of (W.view w.old) }
     ensures gives { Gives (W.stored w.old) (W.stored w.new) (W.layout w.old) (W.view w.new) result
-        (slot_stored (W.view w.old) (bare_of kept (W.view w.old)) (name_of (W.stored w.old) target) i
+        (slot_stored (W.view w.old) (bare_of on_stack (W.view w.old)) (name_of (W.stored w.old) target) i
         (name_of (W.stored w.old) x)) }
     ensures layout { W.layout w.new ≡ W.layout w.old }
     ensures limit { (W.stored w.new).memory.limit ≡ (W.stored w.old).memory.limit }
     ensures contexts { MakesAtMost 0 (W.layout w.old) (W.stored w.old) (W.stored w.new) }
 {
     if is_read_only(w, target) {
-        if kept {
+        if on_stack {
             w.pop();
         }
         return refuse_store(w, target, i, x);
@@ -120,12 +121,12 @@ fn store_temporary<W: World>(w: &mut W, i: u8, x: Oop) -> CodeEnd
 
 /// Stores into literal variable `i` a value that may still be on the stack.
 #[tactic(auto, unfolding(cs_model::specs::Exec::store_variable_out, cs_model::specs::Exec::variable_at))]
-fn store_variable<W: World>(w: &mut W, i: u8, x: Oop, kept: bool) -> CodeEnd
+fn store_variable<W: World>(w: &mut W, i: u8, x: Oop, on_stack: bool) -> CodeEnd
     requires ready { IsReady (W.stored w.old) (W.view w.old) }
     requires named { IsNamed (W.stored w.old) x }
-    requires on_top { kept ≡ true → 0 < depth_of (W.view w.old) }
+    requires on_top { on_stack ≡ true → 0 < depth_of (W.view w.old) }
     ensures gives { Gives (W.stored w.old) (W.stored w.new) (W.layout w.old) (W.view w.new) result
-        (store_variable_out (W.view w.old) (bare_of kept (W.view w.old)) i (name_of (W.stored w.old) x)) }
+        (store_variable_out (W.view w.old) (bare_of on_stack (W.view w.old)) i (name_of (W.stored w.old) x)) }
     ensures layout { W.layout w.new ≡ W.layout w.old }
     ensures limit { (W.stored w.new).memory.limit ≡ (W.stored w.old).memory.limit }
     ensures contexts { MakesAtMost 0 (W.layout w.old) (W.stored w.old) (W.stored w.new) }
@@ -134,19 +135,19 @@ fn store_variable<W: World>(w: &mut W, i: u8, x: Oop, kept: bool) -> CodeEnd
         return CodeEnd::Stop(Stop::BadLiteral);
     };
     match slot(w, variable, 2, 1) {
-        Some(_) => store_slot(w, variable, 1, x, kept),
+        Some(_) => store_slot(w, variable, 1, x, on_stack),
         None => CodeEnd::Stop(Stop::BadLiteral),
     }
 }
 
 /// Stores into slot `k` of the vector that is stack value `j` a value that may still be on the stack.
 #[tactic(auto, unfolding(cs_model::specs::Exec::store_vector_out))]
-fn store_vector<W: World>(w: &mut W, k: u8, j: u8, x: Oop, kept: bool) -> CodeEnd
+fn store_vector<W: World>(w: &mut W, k: u8, j: u8, x: Oop, on_stack: bool) -> CodeEnd
     requires ready { IsReady (W.stored w.old) (W.view w.old) }
     requires named { IsNamed (W.stored w.old) x }
-    requires on_top { kept ≡ true → 0 < depth_of (W.view w.old) }
+    requires on_top { on_stack ≡ true → 0 < depth_of (W.view w.old) }
     ensures gives { Gives (W.stored w.old) (W.stored w.new) (W.layout w.old) (W.view w.new) result
-        (store_vector_out (W.view w.old) (bare_of kept (W.view w.old)) k j (name_of (W.stored w.old) x)) }
+        (store_vector_out (W.view w.old) (bare_of on_stack (W.view w.old)) k j (name_of (W.stored w.old) x)) }
     ensures layout { W.layout w.new ≡ W.layout w.old }
     ensures limit { (W.stored w.new).memory.limit ≡ (W.stored w.old).memory.limit }
     ensures contexts { MakesAtMost 0 (W.layout w.old) (W.stored w.old) (W.stored w.new) }
@@ -155,27 +156,27 @@ fn store_vector<W: World>(w: &mut W, k: u8, j: u8, x: Oop, kept: bool) -> CodeEn
         return CodeEnd::Stop(Stop::BadField);
     };
     match slot_if_any(w, vector, u32::from(k)) {
-        Some(_) => store_slot(w, vector, k, x, kept),
+        Some(_) => store_slot(w, vector, k, x, on_stack),
         None => CodeEnd::Stop(Stop::BadField),
     }
 }
 
 /// Stores into field `i` of the receiver, which is no context, a value that may still be on the stack.
 #[tactic(auto, unfolding(cs_model::specs::Exec::store_receiver_out))]
-fn store_field<W: World>(w: &mut W, i: u8, x: Oop, kept: bool) -> CodeEnd
+fn store_field<W: World>(w: &mut W, i: u8, x: Oop, on_stack: bool) -> CodeEnd
     requires ready { IsReady (W.stored w.old) (W.view w.old) }
     requires named { IsNamed (W.stored w.old) x }
     requires plain { is_context_ref (W.view w.old) (receiver_of (W.view w.old)) ≡ false }
-    requires on_top { kept ≡ true → 0 < depth_of (W.view w.old) }
+    requires on_top { on_stack ≡ true → 0 < depth_of (W.view w.old) }
     ensures gives { Gives (W.stored w.old) (W.stored w.new) (W.layout w.old) (W.view w.new) result
-        (store_receiver_out (W.view w.old) (bare_of kept (W.view w.old)) i (name_of (W.stored w.old) x)) }
+        (store_receiver_out (W.view w.old) (bare_of on_stack (W.view w.old)) i (name_of (W.stored w.old) x)) }
     ensures layout { W.layout w.new ≡ W.layout w.old }
     ensures limit { (W.stored w.new).memory.limit ≡ (W.stored w.old).memory.limit }
     ensures contexts { MakesAtMost 0 (W.layout w.old) (W.stored w.old) (W.stored w.new) }
 {
     let receiver = w.receiver();
     match slot_if_any(w, receiver, u32::from(i)) {
-        Some(_) => store_slot(w, receiver, i, x, kept),
+        Some(_) => store_slot(w, receiver, i, x, on_stack),
         None => CodeEnd::Stop(Stop::BadField),
     }
 }
@@ -287,7 +288,7 @@ pub fn pop_vector<W: World>(w: &mut W, k: u8, j: u8) -> CodeEnd
 
 /// Stores the topmost value into field `i` of the receiver and leaves it on the stack, where the receiver is no
 /// context.
-#[tactic(auto, unfolding(crate::specs::Built::built_exec, cs_model::specs::Exec::exec, cs_model::specs::Exec::store_into))]
+#[tactic(auto, unfolding(crate::specs::Built::built_exec, cs_model::specs::Exec::exec))]
 pub fn keep_field<W: World>(w: &mut W, i: u8) -> CodeEnd
     requires { IsReady (W.stored w.old) (W.view w.old) }
     ensures gives { Gives (W.stored w.old) (W.stored w.new) (W.layout w.old) (W.view w.new) result
@@ -300,6 +301,20 @@ pub fn keep_field<W: World>(w: &mut W, i: u8) -> CodeEnd
     if is_context(w, receiver) {
         return CodeEnd::Stop(Stop::NotBuilt);
     }
+    keep_slot(w, i)
+}
+
+/// Stores the topmost value into slot `i` of the receiver, which is no context, and leaves it on the stack.
+#[tactic(auto, unfolding(cs_model::specs::Exec::store_into))]
+fn keep_slot<W: World>(w: &mut W, i: u8) -> CodeEnd
+    requires ready { IsReady (W.stored w.old) (W.view w.old) }
+    requires plain { is_context_ref (W.view w.old) (receiver_of (W.view w.old)) ≡ false }
+    ensures gives { Gives (W.stored w.old) (W.stored w.new) (W.layout w.old) (W.view w.new) result
+        (store_into (W.view w.old) (λ t bare x. store_receiver_out t bare i x)) }
+    ensures layout { W.layout w.new ≡ W.layout w.old }
+    ensures limit { (W.stored w.new).memory.limit ≡ (W.stored w.old).memory.limit }
+    ensures contexts { MakesAtMost 0 (W.layout w.old) (W.stored w.old) (W.stored w.new) }
+{
     match from_top(w, 0) {
         Some(x) => store_field(w, i, x, true),
         None => CodeEnd::Stop(Stop::StackUnder),
@@ -307,7 +322,7 @@ pub fn keep_field<W: World>(w: &mut W, i: u8) -> CodeEnd
 }
 
 /// Pops the topmost value into field `i` of the receiver, where that is no context.
-#[tactic(auto, unfolding(crate::specs::Built::built_exec, cs_model::specs::Exec::exec, cs_model::specs::Exec::pop_into))]
+#[tactic(auto, unfolding(crate::specs::Built::built_exec, cs_model::specs::Exec::exec))]
 pub fn pop_field<W: World>(w: &mut W, i: u8) -> CodeEnd
     requires { IsReady (W.stored w.old) (W.view w.old) }
     ensures gives { Gives (W.stored w.old) (W.stored w.new) (W.layout w.old) (W.view w.new) result
@@ -320,6 +335,20 @@ pub fn pop_field<W: World>(w: &mut W, i: u8) -> CodeEnd
     if is_context(w, receiver) {
         return CodeEnd::Stop(Stop::NotBuilt);
     }
+    pop_slot(w, i)
+}
+
+/// Pops the topmost value into slot `i` of the receiver, which is no context.
+#[tactic(auto, unfolding(cs_model::specs::Exec::pop_into))]
+fn pop_slot<W: World>(w: &mut W, i: u8) -> CodeEnd
+    requires ready { IsReady (W.stored w.old) (W.view w.old) }
+    requires plain { is_context_ref (W.view w.old) (receiver_of (W.view w.old)) ≡ false }
+    ensures gives { Gives (W.stored w.old) (W.stored w.new) (W.layout w.old) (W.view w.new) result
+        (pop_into (W.view w.old) (λ t bare x. store_receiver_out t bare i x)) }
+    ensures layout { W.layout w.new ≡ W.layout w.old }
+    ensures limit { (W.stored w.new).memory.limit ≡ (W.stored w.old).memory.limit }
+    ensures contexts { MakesAtMost 0 (W.layout w.old) (W.stored w.old) (W.stored w.new) }
+{
     match from_top(w, 0) {
         Some(x) => {
             w.pop();

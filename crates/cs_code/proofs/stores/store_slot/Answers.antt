@@ -6,7 +6,7 @@ use Rattle.cs_code.specs.Bare.{bare_of}
 use Rattle.cs_code.specs.Gives.{Gives}
 use Rattle.cs_code.proofs.Refusing.{refused-behind, slot-refused}
 use Rattle.cs_code.proofs.stores.store_slot.Goals as goal
-use Rattle.cs_code.proofs.stores.store_slot.Goals.{then-kept, else-kept}
+use Rattle.cs_code.proofs.stores.store_slot.Goals.{then-on_stack, else-on_stack}
 
 pub returns-then-is_read_only-clause-gives : goal.returns-then-is_read_only-clause-gives
 returns-then-is_read_only-clause-gives g c =
@@ -17,14 +17,14 @@ returns-then-is_read_only-clause-gives g c =
     let v2 = g.W.World.view c.refuse_store.new.w in
     let e = c.refuse_store.result in
     let given = c.refuse_store.ensures.gives in
-    slot-refused s0 s2 l k (bare_of c.args.kept k) v2 e (name_of s0 c.args.target) (name_of s0 c.args.x) c.args.i (sym c.is_read_only.ensures ∙ c.if-is_read_only.true)
-    (elim c.if-kept.branch [
-      | then-kept w ↦
-          subst (λ (b : Bool). Gives s0 s2 l v2 e (refuse_store (bare_of b k) (name_of s0 c.args.target) c.args.i (name_of s0 c.args.x))) (sym w.if-kept.true)
+    slot-refused s0 s2 l k (bare_of c.args.on_stack k) v2 e (name_of s0 c.args.target) (name_of s0 c.args.x) c.args.i (sym c.is_read_only.ensures ∙ c.if-is_read_only.true)
+    (elim c.if-on_stack.branch [
+      | then-on_stack w ↦
+          subst (λ (b : Bool). Gives s0 s2 l v2 e (refuse_store (bare_of b k) (name_of s0 c.args.target) c.args.i (name_of s0 c.args.x))) (sym w.if-on_stack.true)
           (refused-behind s0 (g.W.World.stored w.pop.new.self) s2 l (g.W.World.layout w.pop.new.self) k (g.W.World.view w.pop.new.self) v2 e c.args.target c.args.x c.args.i c.requires.object c.requires.named
           w.pop.ensures.ready (w.pop.ensures.state k c.requires.ready.sound.closed) w.pop.ensures.exact w.pop.ensures.layout w.pop.ensures.names
           (subst (λ u. Gives (g.W.World.stored u) s2 (g.W.World.layout u) v2 e (refuse_store (g.W.World.view u) (name_of (g.W.World.stored u) c.args.target) c.args.i (name_of (g.W.World.stored u) c.args.x))) w.w-is given))
-      | else-kept w ↦
-          subst (λ (b : Bool). Gives s0 s2 l v2 e (refuse_store (bare_of b k) (name_of s0 c.args.target) c.args.i (name_of s0 c.args.x))) (sym w.if-kept.false)
+      | else-on_stack w ↦
+          subst (λ (b : Bool). Gives s0 s2 l v2 e (refuse_store (bare_of b k) (name_of s0 c.args.target) c.args.i (name_of s0 c.args.x))) (sym w.if-on_stack.false)
           (subst (λ u. Gives (g.W.World.stored u) s2 (g.W.World.layout u) v2 e (refuse_store (g.W.World.view u) (name_of (g.W.World.stored u) c.args.target) c.args.i (name_of (g.W.World.stored u) c.args.x))) w.w-is given)
     ])

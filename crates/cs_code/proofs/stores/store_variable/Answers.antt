@@ -14,5 +14,5 @@ returns-in-Some-slot-clause-gives g c =
     let k = g.W.World.view c.args.w.now in
     let s = g.W.World.stored c.args.w.now in
     subst (λ o. Gives s (g.W.World.stored c.store_slot.new.w) (g.W.World.layout c.args.w.now) (g.W.World.view c.store_slot.new.w) c.store_slot.result o)
-    (sym (variable-stored k (bare_of c.args.kept k) c.args.i (name_of s c.args.x) (name_of s c.in-Some.variable) (name_of s c.in-Some-slot.field-0) (c.in-Some.ensures.is ∙ ap (literal_at k) c.from.ensures) c.in-Some-slot.ensures.is))
+    (sym (variable-stored k (bare_of c.args.on_stack k) c.args.i (name_of s c.args.x) (name_of s c.in-Some.variable) (name_of s c.in-Some-slot.field-0) (c.in-Some.ensures.is ∙ ap (literal_at k) c.from.ensures) c.in-Some-slot.ensures.is))
     c.store_slot.ensures.gives

@@ -15,7 +15,7 @@ returns-in-Some-slot_if_any-clause-gives g c =
     let k = g.W.World.view c.args.w.now in
     let s = g.W.World.stored c.args.w.now in
     subst (λ o. Gives s (g.W.World.stored c.store_slot.new.w) (g.W.World.layout c.args.w.now) (g.W.World.view c.store_slot.new.w) c.store_slot.result o)
-    (sym (vector-stored k (bare_of c.args.kept k) c.args.k c.args.j (name_of s c.args.x) (name_of s c.in-Some.vector) (name_of s c.in-Some-slot_if_any.field-0)
+    (sym (vector-stored k (bare_of c.args.on_stack k) c.args.k c.args.j (name_of s c.args.x) (name_of s c.in-Some.vector) (name_of s c.in-Some-slot_if_any.field-0)
     (c.in-Some.ensures.value.is ∙ ap (slice_get (stack_of k)) c.from.ensures)
     (c.in-Some-slot_if_any.ensures.is ∙ ap (λ i. option_and_then (λ (slots : List Ref). slice_get slots i) (slots_in (object_of k (name_of s c.in-Some.vector)))) c.from-2.ensures)))
     c.store_slot.ensures.gives

@@ -1,0 +1,32 @@
+-- What a special selector does, by what its index names.
+use Rattle.std.proofs.Common.{◌≡◌, ◌∙◌, ℕ, ℤ, refl, sym, ap, Option, Some, None, option_and_then}
+use Rattle.cs_model.specs.Ref.{Ref}
+use Rattle.cs_model.specs.State.{Kept}
+use Rattle.cs_model.specs.End.{done, given}
+use Rattle.cs_model.specs.Exec.{send_selector_out, small_operands, special_out}
+use Rattle.cs_model.specs.Number.{number_result, selector_primitive}
+use Rattle.cs_model.specs.Operation.{drop_of, push_of}
+use Rattle.cs_acts.specs.declared.arithmetic.Operation.{Operation}
+use Rattle.cs_code.specs.Selectors.{HasIndex}
+use Rattle.cs_code.specs.declared.arithmetic.Selector.{Selector}
+use Rattle.cs_code.specs.declared.arithmetic.Selector.TheVariants.{Computes, Compares, TellsClass, IsSent}
+
+pub special-computes : (k : Kept) (i n : ℕ) (x : Option Ref) → selector_primitive i ≡ n → x ≡ option_and_then (λ p. number_result k n p.0 p.1) (small_operands k) → special_out k i ≡ given x (send_selector_out k i) (λ y. done (push_of (drop_of k 2) y))
+unfolding special_out
+special-computes k i n x e is =
+    ap (λ (o : Option Ref). given o (send_selector_out k i) (λ y. done (push_of (drop_of k 2) y))) (ap (λ m. option_and_then (λ p. number_result k m p.0 p.1) (small_operands k)) e ∙ sym is)
+
+nothing_of : (k : Kept) (o : Option (ℤ × ℤ)) → option_and_then (λ p. number_result k 0 p.0 p.1) o ≡ None
+unfolding number_result
+nothing_of k None = refl
+nothing_of k (Some p) = refl
+
+pub special-sent : (k : Kept) (i : ℕ) → selector_primitive i ≡ 0 → special_out k i ≡ send_selector_out k i
+special-sent k i e = special-computes k i 0 None e (sym (nothing_of k (small_operands k)))
+
+-- what computes nothing has no primitive
+pub sent_alone : (q : Selector) (i : ℕ) → HasIndex q i → ((o : Operation) → q ≡ Computes o → ⊥) → selector_primitive i ≡ 0
+sent_alone (Computes o) i h not = absurd (not o refl)
+sent_alone Compares i h not = ap selector_primitive h
+sent_alone TellsClass i h not = ap selector_primitive h
+sent_alone IsSent i h not = h.primitive
