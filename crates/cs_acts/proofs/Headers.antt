@@ -1,11 +1,12 @@
 -- A method that a word names, as it lies in the heap.
-use Rattle.std.proofs.Common.{◌≡◌, ℕ, ◌+◌, ◌-◌, ◌*◌, ◌<◌, ◌≤◌, Bool, true, false, refl, sym, ap, subst, ◌∙◌, arith, Option, Some, None, List, [], ◌∷◌, length, get_or, nat_le}
+use Rattle.std.proofs.Common.{◌≡◌, ℕ, ◌+◌, ◌-◌, ◌*◌, ◌<◌, ◌≤◌, true, false, refl, sym, ap, subst, ◌∙◌, arith, Option, Some, None, List, [], ◌∷◌, length, get_or, nat_le}
 use Rattle.std.specs.Prelude.{unwrap_or, ◌==◌, ◌&&◌, if◌then◌else◌}
 use Rattle.std.proofs.lemmas.Bool.{false≢true}
 use Rattle.std.proofs.lemmas.Bool.Decides.{nat_tests}
 use Rattle.cs_word.specs.declared.Oop.{Oop}
 use Rattle.cs_heap.specs.Format.{is_method}
 use Rattle.cs_heap.specs.Object.{Memory, Object, byte_of, format_of, is_object, object_at, slot_count_of, slot_of}
+use Rattle.cs_classes.proofs.Refs.{both_true}
 use Rattle.cs_classes.specs.Meaning.{code_in, count_of, header_in, ref_of, unused_bytes, used_bytes}
 use Rattle.cs_classes.proofs.Sorts.{not_pointers, obj_of-method}
 use Rattle.cs_classes.proofs.Sounds.{method_other, sound_at}
@@ -19,10 +20,6 @@ use Rattle.cs_acts.specs.Reading.{IsMethodNamed, number_between, object_named}
 use Rattle.cs_acts.proofs.Held.{Says, says}
 use Rattle.cs_acts.proofs.Methods.{IsMethodAt, code_byte, end_is, header_is}
 use Rattle.cs_acts.proofs.Named.{Place, There, Nowhere, field_at, method_read, place}
-
-both : (a b : Bool) → (a && b) ≡ true → b ≡ true
-both true b h = h
-both false b h = absurd (false≢true h)
 
 method_here : (s : Store) (k : Kept) (o : Oop) → Holds s k → IsMethodNamed s k o → IsMethodAt s.memory.objects (object_of k (name_of s o)) o.0
 method_here s k o holds m = go (place s.memory.objects o.0)
@@ -48,7 +45,7 @@ method_here s k o holds m = go (place s.memory.objects o.0)
 
     go : Place s.memory.objects o.0 → IsMethodAt s.memory.objects (object_of k (name_of s o)) o.0
     go (There x f at is) =
-        there x f at (ap is_method (sym (field_at (λ y. y.format) s.memory.objects o.0 x at)) ∙ both (is_object s.memory.objects o.0) (is_method (format_of s.memory.objects o.0)) in_heap)
+        there x f at (ap is_method (sym (field_at (λ y. y.format) s.memory.objects o.0 x at)) ∙ (both_true (is_object s.memory.objects o.0) (is_method (format_of s.memory.objects o.0)) in_heap).1)
     go (Nowhere f is) = absurd (false≢true (sym (ap obj.is_method (said None f)) ∙ m.method))
 
 -- the same of the heap that the code reads

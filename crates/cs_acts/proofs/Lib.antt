@@ -13,3 +13,6 @@ pub mod Leading
 pub mod Filling
 pub mod ContextKinds
 pub mod Dirty
+pub mod Naturals
+pub mod Storing
+pub mod Allocating

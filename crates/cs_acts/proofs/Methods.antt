@@ -12,12 +12,13 @@ use Rattle.cs_heap.specs.Format.{is_method}
 use Rattle.cs_heap.specs.Object.{Memory, Object, byte_in, byte_of, field_of, format_of, is_object, object_at, slot_count_of, slot_of}
 use Rattle.cs_classes.specs.Meaning.{bytes_of, ref_of, obj_of, is_context, header_in, literals_in, used_bytes, code_in, count_of, unused_bytes, head_of}
 use Rattle.cs_classes.specs.Sound.{IsSoundMethod, IsSoundObject, is_reference}
+pub use Rattle.cs_classes.proofs.Counting.{length-bytes_of}
 use Rattle.cs_classes.proofs.Heaps.{is_object-object_at}
 use Rattle.cs_classes.proofs.Sorts.{AContext, AMethod, Bytes, Pointers, Sort, sort_of, obj_of-pointers, obj_of-method, obj_of-bytes, references-method}
 use Rattle.cs_classes.proofs.Sounds.{sound_at}
 use Rattle.cs_model.specs.Ref.{Ref}
 use Rattle.cs_model.specs.Obj as obj
-use Rattle.cs_model.specs.Obj.{Obj, Context, Ptr, Raw, Method, Ctx, is_context_at, first_pc, lies_in, literal_count}
+use Rattle.cs_model.specs.Obj.{Obj, Ptr, Raw, Method, Ctx, is_context_at, first_pc, lies_in, literal_count}
 use Rattle.cs_model.specs.State.{Kept, object_of}
 use Rattle.cs_model.specs.Read.{active_context, bytecodes_of, method_of, pc_of, literals_of}
 use Rattle.cs_acts.specs.Names.{Store, Names, NamesOption}
@@ -158,11 +159,6 @@ pub no_literal_names : (s : Store) (k : Kept) (i : ℕ) → length (literals_of 
 no_literal_names s k i h = record { sound = tt; is = sym (slice_get_past (literals_of k) i h) }
 
 -- ---- bytes
-
-pub length-bytes_of : (ws : List ℕ) → length (bytes_of ws) ≡ 4 * length ws
-unfolding bytes_of
-length-bytes_of [] = refl
-length-bytes_of (w ∷ ws) = omega (arith, length-bytes_of ws)
 
 -- byte i is in word i / 4
 pub get_or-bytes_of : (ws : List ℕ) (i : ℕ) → i < 4 * length ws → get_or (bytes_of ws) i 0 ≡ byte_in (get_or ws (i / 4) 0) (i % 4)

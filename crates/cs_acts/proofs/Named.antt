@@ -15,7 +15,7 @@ use Rattle.cs_word.specs.Word.{kind_of, small_value}
 use Rattle.cs_word.specs.Header.{flag_bits, is_immutable}
 use Rattle.cs_word.proofs.Words.{kind_of-object}
 use Rattle.cs_heap.specs.Format.{is_pointers, is_method}
-use Rattle.cs_heap.specs.Object.{Memory, Object, birth_of, class_of, field_of, format_of, index_of, is_fixed, is_object, object_at, slot_count_of, slot_of}
+use Rattle.cs_heap.specs.Object.{Memory, Object, birth_of, class_of, field_of, format_of, index_of, is_immutable_at, is_object, object_at, slot_count_of, slot_of}
 use Rattle.cs_heap.proofs.Laws.{object_placed}
 use Rattle.cs_classes.specs.declared.Roots.{Roots}
 use Rattle.cs_classes.proofs.Wholes.{get-classes_of}
@@ -28,7 +28,7 @@ use Rattle.cs_classes.proofs.Sounds.{sound_at, method_other}
 use Rattle.cs_model.specs.Ref.{Ref, same_ref}
 use Rattle.cs_model.specs.Ref as ref
 use Rattle.cs_model.specs.Obj as obj
-use Rattle.cs_model.specs.Obj.{Obj, Context, Ptr, Raw, Method, Ctx, at_least, context_class, context_in, is_context_at, is_fixed_at, slots_in}
+use Rattle.cs_model.specs.Obj.{Obj, Ptr, Raw, Method, Ctx, at_least, context_class, context_in, is_context_at, is_fixed_at, slots_in}
 use Rattle.cs_model.specs.State.{Kept, Rest, is_read_only, object_of, slots_of, special_at}
 use Rattle.cs_model.specs.Read.{class_index_of, class_of as class_in_table, index_of_class}
 use Rattle.cs_model.specs.Context.{closure_class, has_class_index, is_context_ref}
@@ -303,7 +303,7 @@ read_only_read s k m o e holds named = subst (λ (m : Memory). reading.is_read_o
     go (There x f at is) =
         ap₂ (λ b n. b && n % 2 == 1) is (field_at (λ y. flag_bits y.flags) s.memory.objects o.0 x at)
         ∙ is_it x (is_context x) (sound_at s.memory.objects o.0 x holds.whole.heap at) refl (said (Some x) f)
-    go (Nowhere f is) = ap (λ b. b && is_fixed s.memory.objects o.0) is ∙ sym (ap is_fixed_at (said None f))
+    go (Nowhere f is) = ap (λ b. b && is_immutable_at s.memory.objects o.0) is ∙ sym (ap is_fixed_at (said None f))
 
 -- ---- special objects and classes
 

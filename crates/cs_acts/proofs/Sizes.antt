@@ -10,6 +10,7 @@ use Rattle.cs_word.specs.declared.Kind.TheVariants as kind
 use Rattle.cs_word.specs.Word.{kind_of}
 use Rattle.cs_heap.specs.Object.{Object, size, slot_counts, used}
 use Rattle.cs_classes.specs.Meaning.{bytes_of, code_in, header_in, is_context, literals_in, method_of, obj_of, ref_of, unused_bytes, used_bytes, head_of}
+use Rattle.cs_classes.proofs.Counting.{length-bytes_of}
 use Rattle.cs_classes.proofs.Heaps.{stands}
 use Rattle.cs_classes.proofs.Sorts.{AContext, AMethod, Bytes, Pointers, Sort, obj_of-bytes, obj_of-method, obj_of-pointers, sort_of}
 use Rattle.cs_model.specs.Ref.{Ref}
@@ -29,11 +30,6 @@ slots-used [] k x h = absurd (cc)
 slots-used (y ∷ os) zero x h = let is : y ≡ x = cc in subst (λ z. length z.words ≤ used (y ∷ os)) is (omega (arith, sum_by-cons size (length y.words) (slot_counts os), slots-size (length y.words)))
 slots-used (y ∷ os) (suc k) x h = omega (arith, sum_by-cons size (length y.words) (slot_counts os), slots-used os k x h)
 
-bytes-length : (words : List ℕ) → length (bytes_of words) ≡ 4 * length words
-unfolding bytes_of
-bytes-length [] = refl
-bytes-length (w ∷ words) = omega (arith, bytes-length words)
-
 -- a pc that lies in a method is at most 4 for each of its words and 5
 method-pc : (refer : ℕ → Ref) (x : Object) (pc : ℕ) → lies_in (Some (method_of refer x)) pc ≡ true → pc ≤ 4 * length x.words + 5
 unfolding method_of
@@ -43,7 +39,7 @@ method-pc refer x pc h =
     let behind = length-drop 1 x.words in
     let code = length-take (4 * length (code_in x.words) - unused_bytes x.format) (bytes_of (code_in x.words)) in
     let rest = length-drop (1 + literal_count (header_in x.words)) x.words in
-    let bytes = bytes-length (code_in x.words) in
+    let bytes = length-bytes_of (code_in x.words) in
     grind (arith, nat_tests, h, lits, few, behind, code, rest, bytes)
 
 -- where a pc lies, a method stands in the heap

@@ -4,8 +4,10 @@ pub mod Layout
 pub mod Led
 pub mod Made
 pub mod Names
+pub mod Opened
 pub mod Primed
 pub mod Ready
 pub mod Reading
 pub mod Shaped
+pub mod Storing
 pub mod Targets

@@ -5,7 +5,7 @@ use Rattle.cs_word.specs.declared.Kind.{Kind}
 use Rattle.cs_word.specs.declared.Kind.TheVariants as kind
 use Rattle.cs_word.specs.Word.{kind_of}
 use Rattle.cs_heap.specs.Format.{is_pointers}
-use Rattle.cs_heap.specs.Object.{Object, byte_of, class_of, format_of, is_fixed, is_object, object_at, slot_count_of}
+use Rattle.cs_heap.specs.Object.{Object, byte_of, class_of, format_of, is_immutable_at, is_object, object_at, slot_count_of}
 use Rattle.cs_model.specs.Obj as obj
 use Rattle.cs_model.specs.Obj.{context_class}
 use Rattle.cs_model.specs.State.{Kept, object_of}
@@ -41,7 +41,7 @@ is_context_at objects word = is_object objects word && class_of objects word == 
 
 -- a word is the address of a read-only object
 abbrev pub is_read_only_at : List Object → ℕ → Bool
-is_read_only_at objects word = is_object objects word && is_fixed objects word
+is_read_only_at objects word = is_object objects word && is_immutable_at objects word
 
 abbrev pub class_index_of_kind : List Object → Kind → ℕ
 class_index_of_kind objects (kind.Small value) = 1

@@ -11,6 +11,7 @@ pub mod method;
 mod prim;
 pub mod read;
 mod shape;
+mod store;
 mod words;
 mod world;
 
@@ -18,4 +19,5 @@ pub use act::{Act, Full};
 pub use cs_classes::{Loaded, Roots};
 pub use prim::PrimEnd;
 pub use shape::{Shape, shape_of};
+pub use store::{StoreTarget, store_target};
 pub use world::World;

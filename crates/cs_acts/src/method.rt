@@ -10,23 +10,24 @@ ghost use Rattle.cs_acts.specs.Ready.{IsSound};
 ghost use Rattle.cs_acts.specs.Reading.{IsMethodNamed, number_between};
 
 use crate::World;
-use crate::words::{byte_count, count, count_of_literals, is_between};
+use crate::words::{byte_count, count_of_literals, is_between};
+use cs_classes::method_header;
 use cs_heap::Heap;
-use cs_word::Oop;
+use cs_word::{MethodHeader, Oop};
 
 /// The bytecode that a method with a primitive begins with.
 const CALL_PRIMITIVE: u8 = 139;
 
-/// How many arguments a method takes: bits 24 to 27 of its header.
+/// How many arguments a method takes.
 pub fn argument_count<W: World>(w: &W, method: Oop) -> u32
     requires sound { IsSound (W.stored w.now) (W.view w.now) }
     requires method { IsMethodNamed (W.stored w.now) (W.view w.now) method }
     ensures { result ≡ argument_count (header_in (object_of (W.view w.now) (name_of (W.stored w.now) method))) }
 {
-    header(w, method) / (1 << 24) % (1 << 4)
+    header(w, method).arguments()
 }
 
-/// The primitive of a method; None exactly where bit 16 of its header isn't set, or its bytecodes begin with none.
+/// The primitive of a method; None exactly where its header says that it has none, or its bytecodes begin with none.
 pub fn primitive<W: World>(w: &W, method: Oop) -> Option<u32>
     requires sound { IsSound (W.stored w.now) (W.view w.now) }
     requires method { IsMethodNamed (W.stored w.now) (W.view w.now) method }
@@ -34,24 +35,20 @@ pub fn primitive<W: World>(w: &W, method: Oop) -> Option<u32>
         (bytecodes_in (object_of (W.view w.now) (name_of (W.stored w.now) method))) }
 {
     let header = header(w, method);
-    if header / (1 << 16) % 2 == 1 {
-        first_number(w, method, 4 * (header % (1 << 15) + 1))
+    if header.has_primitive() {
+        first_number(w, method, 4 * (header.literals() + 1))
     } else {
         None
     }
 }
 
-/// How many values the stack of a method's contexts may hold: 56 where bit 17 of its header is set, else 16.
+/// How many values the stack of a method's contexts may hold: 56 or 16.
 pub fn context_size<W: World>(w: &W, method: Oop) -> u32
     requires sound { IsSound (W.stored w.now) (W.view w.now) }
     requires method { IsMethodNamed (W.stored w.now) (W.view w.now) method }
     ensures { result ≡ context_size (header_in (object_of (W.view w.now) (name_of (W.stored w.now) method))) }
 {
-    if header(w, method) / (1 << 17) % 2 == 1 {
-        56
-    } else {
-        16
-    }
+    header(w, method).context_size()
 }
 
 /// Whether a pc lies in a method: from its first bytecode to the one behind its last.
@@ -95,10 +92,10 @@ fn number_between(heap: &Heap, method: Oop, first: u32, end: u32) -> Option<u32>
 }
 
 /// The header of a method, which its first slot holds.
-fn header<W: World>(w: &W, method: Oop) -> u32
+fn header<W: World>(w: &W, method: Oop) -> MethodHeader
     requires sound { IsSound (W.stored w.now) (W.view w.now) }
     requires method { IsMethodNamed (W.stored w.now) (W.view w.now) method }
-    ensures { result ≡ header_in (object_of (W.view w.now) (name_of (W.stored w.now) method)) }
+    ensures { result.0 ≡ header_in (object_of (W.view w.now) (name_of (W.stored w.now) method)) }
 {
-    count(w.heap().slot(method, 0))
+    method_header(w.heap(), method)
 }

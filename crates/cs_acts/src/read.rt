@@ -17,6 +17,7 @@ use crate::World;
 use crate::words::{
     self, behind, byte_before, byte_count, class_index, count_of_literals, is_between,
 };
+use cs_classes::slots::{ACTIVE_PROCESS, ASSOCIATION_SLOTS, SCHEDULER_SLOTS, VALUE};
 use cs_decode::decode;
 use cs_heap::BASE;
 use cs_model::Instr;
@@ -173,7 +174,7 @@ pub fn is_context<W: World>(w: &W, o: Oop) -> bool
     requires named { IsNamed (W.stored w.now) o }
     ensures { result ≡ is_context_ref (W.view w.now) (name_of (W.stored w.now) o) }
 {
-    words::is_context(w.heap(), o)
+    cs_classes::is_context(w.heap(), o)
 }
 
 /// Whether a word names a method.
@@ -201,7 +202,7 @@ pub fn scheduler<W: World>(w: &W) -> Option<Oop>
     ensures { NamesOption (W.stored w.now) result (scheduler_of (W.view w.now)) }
 {
     match special(w, 3) {
-        Some(link) => slot(w, link, 2, 1),
+        Some(association) => slot(w, association, ASSOCIATION_SLOTS, VALUE),
         None => None,
     }
 }
@@ -213,7 +214,7 @@ pub fn active_process<W: World>(w: &W) -> Option<Oop>
     ensures { NamesOption (W.stored w.now) result (active_process (W.view w.now)) }
 {
     match scheduler(w) {
-        Some(scheduler) => slot(w, scheduler, 2, 1),
+        Some(scheduler) => slot(w, scheduler, SCHEDULER_SLOTS, ACTIVE_PROCESS),
         None => None,
     }
 }

@@ -9,6 +9,7 @@ ghost use Rattle.cs_acts.specs.Shaped.{fault_in, is_idle_in, process_in};
 
 use crate::World;
 use crate::read::{active_process, has_slots, nil, same, scheduler, special};
+use cs_classes::slots::PROCESS_SLOTS;
 use cs_model::Stop;
 use cs_word::Oop;
 
@@ -53,7 +54,7 @@ fn is_process<W: World>(w: &W, p: Oop) -> bool
     requires named { IsNamed (W.stored w.now) p }
     ensures { result ≡ is_process (W.view w.now) (name_of (W.stored w.now) p) }
 {
-    has_slots(w, p, 4) && !is(w, scheduler(w), p) && !is(w, special(w, 3), p)
+    has_slots(w, p, PROCESS_SLOTS) && !is(w, scheduler(w), p) && !is(w, special(w, 3), p)
 }
 
 /// Whether two words name the same, where the first may be none.

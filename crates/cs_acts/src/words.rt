@@ -6,24 +6,16 @@ ghost use Rattle.cs_heap.specs.Object.{format_of, is_object, next_of, slot_count
 ghost use Rattle.cs_classes.specs.Meaning.{count_of, unused_bytes};
 ghost use Rattle.cs_classes.specs.Sound.{is_method_address, is_reference};
 ghost use Rattle.cs_model.specs.Obj.{literal_count};
-ghost use Rattle.cs_acts.specs.Reading.{byte_before, class_index_of, has_slots, is_context_at};
-ghost use Rattle.cs_acts.specs.Reading.{is_read_only_at};
+ghost use Rattle.cs_acts.specs.Reading.{byte_before, class_index_of, has_slots, is_read_only_at};
+ghost use Rattle.cs_acts.specs.Storing.{target_at};
 
+use crate::StoreTarget;
+use cs_classes::{CONTEXT_CLASS, method_header};
 use cs_heap::Heap;
 use cs_word::{Kind, Oop};
 
-/// The class index of contexts.
-const CONTEXT: u32 = 36;
-
 /// The formats below this one have pointers in their slots.
 const POINTERS_END: u8 = 6;
-
-/// Whether a word is the address of a context.
-pub(crate) fn is_context(heap: &Heap, o: Oop) -> bool
-    ensures { result ≡ is_context_at heap.now.objects o.0 }
-{
-    heap.is_object(o) && heap.class_index(o) == CONTEXT
-}
 
 /// The class index of what a word names: 1 of a SmallInteger, 2 of a Character, and for an object that in its header.
 #[tactic(auto, unfolding(cs_classes::specs::Sound::is_reference, crate::specs::Reading::class_index_of))]
@@ -58,28 +50,35 @@ pub(crate) fn has_slots(heap: &Heap, o: Oop, least: u32) -> bool
     ensures { result ≡ has_slots heap.now.objects least o.0 }
 {
     heap.is_object(o)
-        && heap.class_index(o) != CONTEXT
+        && heap.class_index(o) != CONTEXT_CLASS
         && heap.format(o) < POINTERS_END
         && heap.slot_count(o) >= least
 }
 
-/// How many literals a method's header says: its 15 low bits.
+/// What a store into slot `i` of what a word is the address of meets.
+pub(crate) fn store_target(heap: &Heap, o: Oop, i: u32) -> StoreTarget
+    ensures { result ≡ target_at heap.now.objects o.0 i }
+{
+    if !heap.is_object(o) {
+        return StoreTarget::Missing;
+    }
+    let header = heap.header(o);
+    let is_pointers = header.class != CONTEXT_CLASS && header.format < POINTERS_END;
+    if !is_pointers || i >= heap.slot_count(o) {
+        StoreTarget::Missing
+    } else if header.is_read_only() {
+        StoreTarget::ReadOnly
+    } else {
+        StoreTarget::Writable
+    }
+}
+
+/// How many literals a method's header says.
 pub(crate) fn count_of_literals(heap: &Heap, method: Oop) -> u32
     requires { 0 < slot_count_of heap.now.objects method.0 }
     ensures { result ≡ literal_count (unwrap_or (count_of (slot_of heap.now.objects method.0 0)) 0) }
 {
-    count(heap.slot(method, 0)) % (1 << 15)
-}
-
-/// The number that a word is, and 0 where it is no SmallInteger or a negative one.
-#[tactic(auto, unfolding(cs_classes::specs::Meaning::count_of))]
-pub(crate) fn count(word: Oop) -> u32
-    ensures { result ≡ unwrap_or (count_of word.0) 0 }
-{
-    match word.kind() {
-        Kind::Small(value) if value >= 0 => value as u32,
-        _ => 0,
-    }
+    method_header(heap, method).literals()
 }
 
 /// The object behind another one that isn't the last.

@@ -6,7 +6,7 @@ use Rattle.std.proofs.lemmas.List.{length-replicate, length-set}
 use Rattle.std.proofs.lemmas.Bool.Decides.{nat_tests}
 use Rattle.std.specs.Prelude.{slice_get, slice_set, sum_by}
 use Rattle.std.specs.Option.{option_map_or}
-use Rattle.cs_heap.specs.Object.{Object, address_among, address_of, at_index, base, birth_of, class_of, format_of, byte_in, byte_of, field_of, hash_of, header_address, index_among, index_of, is_fixed, is_object, new_object, new_slot, next_address, next_of, object_at, set_word, size, slot_count_of, slot_counts, slot_of, units, used, with_byte, with_byte_in, with_fixed, with_hash, with_object, with_slot}
+use Rattle.cs_heap.specs.Object.{Object, address_among, address_of, at_index, base, birth_of, class_of, format_of, byte_in, byte_of, field_of, hash_of, header_address, index_among, index_of, is_immutable_at, is_object, new_object, new_slot, next_address, next_of, object_at, set_word, size, slot_count_of, slot_counts, slot_of, units, used, with_byte, with_byte_in, with_fixed, with_hash, with_object, with_slot}
 use Rattle.cs_word.specs.Header.{flag_bits, with_immutable}
 use Rattle.cs_heap.proofs.Places.{Found, address_past, found_by_address, found_by_index, has_index, index_split, next_of-found, object_at-found, split_by_index, used-append, used-cons, used-push}
 
@@ -348,22 +348,22 @@ lowest : (on : Bool) (n : ℕ) → eqb ((n / 2 * 2 + cond on 1 0) % 2) 1 ≡ on
 lowest true n = grind (arith, nat_tests)
 lowest false n = grind (arith, nat_tests)
 
-pub is_fixed-with_fixed_same : (xs : List Object) (a : ℕ) (on : Bool) → is_object xs a ≡ true → is_fixed (with_fixed xs a on) a ≡ on
-is_fixed-with_fixed_same xs a on h =
+pub is_immutable_at-with_fixed_same : (xs : List Object) (a : ℕ) (on : Bool) → is_object xs a ≡ true → is_immutable_at (with_fixed xs a on) a ≡ on
+is_immutable_at-with_fixed_same xs a on h =
     let f = has_index xs a h in
     ap (λ (n : ℕ). eqb (n % 2) 1) (field_of-with_object_same (λ (x : Object). flag_bits x.flags) xs a (give_fixed on) (λ x. refl)
     ∙ ap (λ (o : Option Object). option_map_or (λ (x : Object). flag_bits x.flags / 2 * 2 + cond on 1 0) o 0) (object_at-found xs a f.0 f.1))
     ∙ lowest on (flag_bits f.1.split.x.flags)
 
-pub is_fixed-with_fixed_other : (xs : List Object) (a : ℕ) (on : Bool) (b : ℕ) → a ≢ b → is_fixed (with_fixed xs a on) b ≡ is_fixed xs b
-is_fixed-with_fixed_other xs a on b other = ap (λ (n : ℕ). eqb (n % 2) 1) (field_of-with_object_other (λ (x : Object). flag_bits x.flags) xs a b (give_fixed on) (λ x. refl) other)
+pub is_immutable_at-with_fixed_other : (xs : List Object) (a : ℕ) (on : Bool) (b : ℕ) → a ≢ b → is_immutable_at (with_fixed xs a on) b ≡ is_immutable_at xs b
+is_immutable_at-with_fixed_other xs a on b other = ap (λ (n : ℕ). eqb (n % 2) 1) (field_of-with_object_other (λ (x : Object). flag_bits x.flags) xs a b (give_fixed on) (λ x. refl) other)
 
 -- stores and hashes leave it
-pub is_fixed-with_slot : (xs : List Object) (a i v b : ℕ) → is_fixed (with_slot xs a i v) b ≡ is_fixed xs b
-is_fixed-with_slot xs a i v b = ap (λ (n : ℕ). eqb (n % 2) 1) (field_of-with_slot (λ (x : Object). flag_bits x.flags) xs a i v b (λ x. refl))
+pub is_immutable_at-with_slot : (xs : List Object) (a i v b : ℕ) → is_immutable_at (with_slot xs a i v) b ≡ is_immutable_at xs b
+is_immutable_at-with_slot xs a i v b = ap (λ (n : ℕ). eqb (n % 2) 1) (field_of-with_slot (λ (x : Object). flag_bits x.flags) xs a i v b (λ x. refl))
 
-pub is_fixed-with_hash : (xs : List Object) (a hash b : ℕ) → is_fixed (with_hash xs a hash) b ≡ is_fixed xs b
-is_fixed-with_hash xs a hash b = ap (λ (n : ℕ). eqb (n % 2) 1) (field_of-with_hash (λ (x : Object). flag_bits x.flags) xs a hash b (λ x. refl))
+pub is_immutable_at-with_hash : (xs : List Object) (a hash b : ℕ) → is_immutable_at (with_hash xs a hash) b ≡ is_immutable_at xs b
+is_immutable_at-with_hash xs a hash b = ap (λ (n : ℕ). eqb (n % 2) 1) (field_of-with_hash (λ (x : Object). flag_bits x.flags) xs a hash b (λ x. refl))
 
 -- ---- a byte is stored
 
@@ -471,8 +471,8 @@ next_address-set_word xs y a i v h = h ∙ ap (next_address xs) (sym (set_word_k
 pub with_hash-new : (xs : List Object) (y : Object) (a hash : ℕ) → a ≡ next_address xs (length y.words) → with_hash (pushed xs y) a hash ≡ pushed xs (give_hash hash y)
 with_hash-new xs y a hash h = with_object-new xs y a (give_hash hash) h
 
-pub is_fixed-new : (xs : List Object) (a class format slots birth : ℕ) → a ≡ next_address xs slots → is_fixed (pushed xs (new_object class format slots birth)) a ≡ false
-is_fixed-new xs a class format slots birth h =
+pub is_immutable_at-new : (xs : List Object) (a class format slots birth : ℕ) → a ≡ next_address xs slots → is_immutable_at (pushed xs (new_object class format slots birth)) a ≡ false
+is_immutable_at-new xs a class format slots birth h =
     ap (λ (n : ℕ). eqb (n % 2) 1) (field_of-new (λ (x : Object). flag_bits x.flags) xs (new_object class format slots birth) a (next_address-new xs a class format slots birth h))
 
 -- before, nothing was there
@@ -545,4 +545,4 @@ pub used-pushed : (xs : List Object) (y : Object) → used (pushed xs y) ≡ use
 used-pushed xs y = used-push xs y
 
 -- what the tactics may use of a heap after a call
-pub ruleset heap_laws = (is_object-with_slot, class_of-with_slot, format_of-with_slot, hash_of-with_slot, birth_of-with_slot, slot_count_of-with_slot, slot_of-with_slot_same, slot_of-with_slot_other_slot, slot_of-with_slot_other_object, used-with_slot, is_object-with_hash, class_of-with_hash, format_of-with_hash, birth_of-with_hash, slot_count_of-with_hash, slot_of-with_hash, hash_of-with_hash_same, hash_of-with_hash_other, used-with_hash, is_object-with_fixed, class_of-with_fixed, format_of-with_fixed, hash_of-with_fixed, birth_of-with_fixed, slot_count_of-with_fixed, slot_of-with_fixed, used-with_fixed, is_fixed-with_fixed_same, is_fixed-with_fixed_other, is_fixed-with_slot, is_fixed-with_hash, is_fixed-new, next_address-new, next_address-set_word, is_object-new, field_of-new, with_slot-new, with_hash-new, is_object-old, field_of-old)
+pub ruleset heap_laws = (is_object-with_slot, class_of-with_slot, format_of-with_slot, hash_of-with_slot, birth_of-with_slot, slot_count_of-with_slot, slot_of-with_slot_same, slot_of-with_slot_other_slot, slot_of-with_slot_other_object, used-with_slot, is_object-with_hash, class_of-with_hash, format_of-with_hash, birth_of-with_hash, slot_count_of-with_hash, slot_of-with_hash, hash_of-with_hash_same, hash_of-with_hash_other, used-with_hash, is_object-with_fixed, class_of-with_fixed, format_of-with_fixed, hash_of-with_fixed, birth_of-with_fixed, slot_count_of-with_fixed, slot_of-with_fixed, used-with_fixed, is_immutable_at-with_fixed_same, is_immutable_at-with_fixed_other, is_immutable_at-with_slot, is_immutable_at-with_hash, is_immutable_at-new, next_address-new, next_address-set_word, is_object-new, field_of-new, with_slot-new, with_hash-new, is_object-old, field_of-old)

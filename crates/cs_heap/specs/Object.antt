@@ -112,9 +112,9 @@ birth_of = field_of (λ x. x.birth)
 abbrev pub flags_of : List Object → ℕ → ℕ
 flags_of = field_of (λ x. flag_bits x.flags)
 
--- an object is fixed, which is read-only, where its header says isImmutable
-abbrev pub is_fixed : List Object → ℕ → Bool
-is_fixed objects address = flags_of objects address % 2 == 1
+-- whether the object at an address is read-only, as its header says by isImmutable
+abbrev pub is_immutable_at : List Object → ℕ → Bool
+is_immutable_at objects address = flags_of objects address % 2 == 1
 
 abbrev pub slot_count_of : List Object → ℕ → ℕ
 slot_count_of = field_of (λ x. length x.words)

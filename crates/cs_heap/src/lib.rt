@@ -18,7 +18,7 @@ ghost use Rattle.std.specs.FinSet.{empty};
 ghost use Rattle.cs_word.specs.Header.{IsWritable};
 ghost use Rattle.cs_heap.specs.Format.{format_allows};
 ghost use Rattle.cs_heap.specs.Object.{address_of, birth_of, byte_of, class_of, format_of, hash_of, header_seen};
-ghost use Rattle.cs_heap.specs.Object.{is_fixed, is_watched};
+ghost use Rattle.cs_heap.specs.Object.{is_immutable_at, is_watched};
 ghost use Rattle.cs_heap.specs.Object.{is_object, next_address, next_of, size as size_of, slot_count_of, slot_of, used};
 ghost use Rattle.cs_heap.specs.Writes.{byte_stored, cleaned, fixed_stored, hash_stored, object_added, slot_stored};
 ghost use Rattle.cs_heap.specs.Writes.{watch_begun};
@@ -267,7 +267,7 @@ impl Heap {
     /// Whether the object is read-only.
     pub fn is_fixed(&self, o: Oop) -> bool
         requires { IsTrue (is_object self.now.objects o.0) }
-        ensures { result ≡ is_fixed self.now.objects o.0 }
+        ensures { result ≡ is_immutable_at self.now.objects o.0 }
     {
         self.header(o).is_read_only()
     }

@@ -8,9 +8,7 @@ ghost use Rattle.cs_image.specs.Heap.{seen};
 use crate::cut::word_at;
 use crate::file::{FileHeap, FileObject};
 use crate::shape::{self, is_pc, natural};
-
-/// The class index of contexts.
-pub(crate) const CONTEXT: u32 = 36;
+use cs_classes::CONTEXT_CLASS;
 
 /// Whether a sender is nil or a context.
 fn is_sender(file: &FileHeap, word: u32) -> bool
@@ -20,7 +18,7 @@ fn is_sender(file: &FileHeap, word: u32) -> bool
         return true;
     }
     match file.named(word) {
-        Some(o) => o.class == CONTEXT,
+        Some(o) => o.class == CONTEXT_CLASS,
         None => false,
     }
 }
@@ -107,7 +105,7 @@ fn is_bad(file: &FileHeap, o: &FileObject<'_>) -> bool
     ensures { result ≡ (is_visible (seen o.now) && (is_context (seen o.now)
         && not (is_sound_context file.now (seen o.now)))) }
 {
-    o.class == CONTEXT && !is_sound(file, o)
+    o.class == CONTEXT_CLASS && !is_sound(file, o)
 }
 
 /// The place of the first object of class index 36 that isn't what a context is.

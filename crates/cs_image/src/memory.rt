@@ -15,14 +15,13 @@ ghost use Rattle.cs_image.specs.Heap.{seen};
 ghost use Rattle.cs_image.specs.Loading.{address_named, addresses_of, classes_at, loaded, loaded_from};
 ghost use Rattle.cs_image.specs.Loading.{loaded_word as loaded_word_of, refers, translated as translated_of};
 
-use crate::context::CONTEXT;
 use crate::cut::word_at;
 use crate::error::ImageError;
 use crate::file::{FileHeap, FileObject};
 use crate::header::u32_at;
 use crate::shape::{is_method, literal_count};
-use crate::table::{ENTRIES, entry};
-use cs_classes::{Classes, Roots};
+use crate::table::entry;
+use cs_classes::{CONTEXT_CLASS, Classes, ENTRIES, Roots};
 use cs_heap::{BASE, Heap};
 use cs_word::Oop;
 use std::alloc::{AllocError, Global};
@@ -125,7 +124,7 @@ fn loaded_word(file: &FileHeap, addresses: &[u32], o: &FileObject<'_>, i: usize)
 fn is_fixed(o: &FileObject<'_>) -> bool
     ensures { result ≡ (o.now.fixed && not (o.now.class == context_class)) }
 {
-    o.fixed && o.class != CONTEXT
+    o.fixed && o.class != CONTEXT_CLASS
 }
 
 /// Adds an object of the file with its hash and its slots, read-only where its header says so and it is no context.

@@ -6,16 +6,16 @@ ghost use Rattle.cs_model.specs.ImageFault.{active_process_in, fields_in, fields
 ghost use Rattle.cs_model.specs.ImageFault.{is_process, special_in};
 ghost use Rattle.cs_image.specs.Heap.{seen};
 
-use crate::context::CONTEXT;
 use crate::cut::word_at;
 use crate::file::{FileHeap, FileObject};
 use crate::shape::natural;
+use cs_classes::CONTEXT_CLASS;
 
 /// The slots of a visible pointer object with `least` slots or more; None where it isn't that, or is a context.
 fn fields<'a>(o: &FileObject<'a>, least: usize) -> Option<&'a [u32]>
     ensures { option_map (λ words. words.now) result ≡ fields_of least (seen o.now) }
 {
-    if o.class != 16 && o.format < 6 && o.class != CONTEXT && least <= o.words.len() {
+    if o.class != 16 && o.format < 6 && o.class != CONTEXT_CLASS && least <= o.words.len() {
         Some(o.words)
     } else {
         None
@@ -57,7 +57,7 @@ fn is_live(file: &FileHeap, word: u32) -> bool
     ensures { result ≡ names file.now is_live_context word }
 {
     match file.named(word) {
-        Some(o) => o.class == CONTEXT && natural(word_at(o.words, 1)).is_some(),
+        Some(o) => o.class == CONTEXT_CLASS && natural(word_at(o.words, 1)).is_some(),
         None => false,
     }
 }

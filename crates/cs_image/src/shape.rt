@@ -4,19 +4,17 @@ ghost use Rattle.std.specs.Prelude.{◌≡◌, ◌<◌, ◌≤◌, ◌+◌, ◌*
 ghost use Rattle.cs_model.specs.Words.{bytecode_count, header_in_words, literals_in_words};
 ghost use Rattle.cs_model.specs.Words.{is_method_format as is_method_of, natural_in_word};
 ghost use Rattle.cs_model.specs.ImageFault.{is_body as is_body_of, is_method_body as is_method_body_of};
-ghost use Rattle.cs_model.specs.Obj.{is_header as is_header_of, lies_between, literal_count as literal_count_of};
+ghost use Rattle.cs_model.specs.Obj.{lies_between, literal_count as literal_count_of};
 
 use crate::cut::word_at;
+use cs_word::{MethodHeader, Oop};
 
 /// A word that is a SmallInteger and isn't negative, as a number.
+#[tactic(auto, using(crate::proofs::Naturals::word_natural))]
 pub(crate) fn natural(word: u32) -> Option<u32>
     ensures { result ≡ natural_in_word word }
 {
-    if word % 2 == 1 && word < 1 << 31 {
-        Some(word / 2)
-    } else {
-        None
-    }
+    Oop(word).natural()
 }
 
 /// Whether objects of this format are compiled methods.
@@ -24,16 +22,6 @@ pub(crate) fn is_method(format: u8) -> bool
     ensures { result ≡ is_method_of format }
 {
     24 <= format && format < 28
-}
-
-/// Whether a method's header is valid: arguments are not more than temporaries, and these fit the context.
-fn is_header(header: u32) -> bool
-    ensures { result ≡ is_header_of header }
-{
-    let arguments = header / (1 << 24) % 16;
-    let temporaries = header / (1 << 18) % 64;
-    let size = if header / (1 << 17) % 2 == 1 { 56 } else { 16 };
-    header < 1 << 30 && arguments <= temporaries && temporaries <= size
 }
 
 /// The literals of a method, which stand behind its header.
@@ -48,7 +36,7 @@ pub(crate) fn literals(words: &[u32]) -> &[u32]
 pub(crate) fn literal_count(words: &[u32]) -> usize
     ensures { result ≡ literal_count_of (header_in_words words.now) }
 {
-    natural(word_at(words, 0)).unwrap_or(0) as usize % (1 << 15)
+    MethodHeader(natural(word_at(words, 0)).unwrap_or(0)).literals() as usize
 }
 
 /// Whether a pc lies in a method: from its first bytecode on to behind the last one.
@@ -68,12 +56,12 @@ fn is_method_body(format: u8, words: &[u32]) -> bool
     requires method { IsTrue (is_method_of format) }
     ensures { result ≡ is_method_body_of format words.now }
 {
-    let Some(header) = natural(word_at(words, 0)) else {
+    let Some(bits) = natural(word_at(words, 0)) else {
         return false;
     };
-    let literals = header as usize % (1 << 15);
+    let header = MethodHeader(bits);
     let spare = if format > 24 { 1 } else { 0 };
-    is_header(header) && literals + spare < words.len()
+    header.is_valid() && header.literals() as usize + spare < words.len()
 }
 
 /// Whether an object of this format may have these slots: their number fits it, and a method's header is valid and

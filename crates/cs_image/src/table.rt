@@ -11,9 +11,7 @@ ghost use Rattle.cs_image.specs.Heap.{seen};
 
 use crate::cut::word_at;
 use crate::file::{FileHeap, FileObject};
-
-/// How many entries the class table has.
-pub(crate) const ENTRIES: u32 = 16384;
+use cs_classes::ENTRIES;
 
 /// How many entries a page of it has.
 const PAGE: u32 = 1024;

@@ -1,4 +1,3 @@
-pub mod Counts
 pub mod Places
 pub mod Objects
 pub mod Agreeing

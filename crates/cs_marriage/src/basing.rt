@@ -8,8 +8,9 @@ ghost use Rattle.cs_frame.specs.Page.{IsTop, frames_of, on_page, on_top, top, us
 ghost use Rattle.cs_marriage.specs.Agree.{Agree, HasContext, IsContextAt};
 ghost use Rattle.cs_marriage.specs.Marriage.{CanBase, base_frame, cleared_from, linked, stack_words};
 
-use crate::words::{count, link_word};
-use crate::{CLOSURE, METHOD, NIL, PC, RECEIVER, SENDER, STACK, STACKP};
+use crate::NIL;
+use crate::words::link_word;
+use cs_classes::slots::{CLOSURE, FIRST_STACK, METHOD, PC, RECEIVER, SENDER, STACK_POINTER};
 use cs_frame::{FrameRef, Frames, NewFrame};
 use cs_heap::Heap;
 use cs_word::Oop;
@@ -67,9 +68,18 @@ fn copy_stack(heap: &Heap, frames: &mut Frames, ctx: Oop, f: FrameRef)
     requires empty { (top (frames_of frames.old f.page)).stack ≡ [] }
     ensures copied { frames.new ≡ on_page frames.old f.page (on_top (with_stack (stack_words heap.now.objects ctx.0))) }
 {
-    for i in 0..count(heap.slot(ctx, STACKP)) {
-        frames.push(f, heap.slot(ctx, STACK + i));
+    for i in 0..stack_depth(heap, ctx) {
+        frames.push(f, heap.slot(ctx, FIRST_STACK + i));
     }
+}
+
+/// How many values the stack of a context holds, as its words say.
+#[tactic(auto, using(cs_classes::proofs::Naturals::natural_is))]
+fn stack_depth(heap: &Heap, ctx: Oop) -> u32
+    requires { 2 < slot_count_of heap.now.objects ctx.0 }
+    ensures { result ≡ unwrap_or (count_of (slot_of heap.now.objects ctx.0 2)) 0 }
+{
+    heap.slot(ctx, STACK_POINTER).natural().unwrap_or(0)
 }
 
 /// Writes to a context, in the place of what its frame has now, that its frame is there.
@@ -82,7 +92,7 @@ fn vacate(heap: &mut Heap, ctx: Oop, f: FrameRef)
 {
     heap.set_slot(ctx, SENDER, link_word(f));
     heap.set_slot(ctx, PC, NIL);
-    heap.set_slot(ctx, STACKP, NIL);
+    heap.set_slot(ctx, STACK_POINTER, NIL);
     clear_stack(heap, ctx);
 }
 
@@ -92,7 +102,7 @@ fn clear_stack(heap: &mut Heap, ctx: Oop)
     requires counted { (heap.old.dirty || is_watched heap.old ctx.0) ≡ heap.old.dirty }
     ensures heap { heap.new ≡ record heap.old { objects = with_object heap.old.objects ctx.0 (cleared_from 6) } }
 {
-    for i in STACK..heap.slot_count(ctx) {
+    for i in FIRST_STACK..heap.slot_count(ctx) {
         heap.set_slot(ctx, i, NIL);
     }
 }

@@ -4,7 +4,8 @@ ghost use Rattle.cs_heap.specs.Writes.{slots_stored};
 ghost use Rattle.cs_marriage.specs.Agree.{Agree, IsContextAt, IsWidowed};
 ghost use Rattle.cs_marriage.specs.Marriage.{buried};
 
-use crate::{NIL, PC, SENDER, STACKP};
+use crate::NIL;
+use cs_classes::slots::{PC, SENDER, STACK_POINTER};
 use cs_frame::Frames;
 use cs_heap::Heap;
 use cs_word::Oop;
@@ -21,5 +22,5 @@ pub fn bury(heap: &mut Heap, frames: &Frames, ctx: Oop)
 {
     heap.set_slot(ctx, SENDER, NIL);
     heap.set_slot(ctx, PC, NIL);
-    heap.set_slot(ctx, STACKP, Oop(1));
+    heap.set_slot(ctx, STACK_POINTER, Oop::from_natural(0));
 }

@@ -29,27 +29,5 @@ pub use search::spouse;
 pub use state::Spouse;
 pub use words::names_place;
 
-/// The class index of contexts.
-const CONTEXT: u32 = 36;
-
-/// The format of contexts: pointers, of which the named ones come first.
-const CONTEXT_FORMAT: u8 = 3;
-
-/// The slots of a context, in the order of the Blue Book: sender, pc, stackp, method, closure, receiver, and then its
-/// stack.
-const SENDER: u32 = 0;
-
-const PC: u32 = 1;
-
-const STACKP: u32 = 2;
-
-const METHOD: u32 = 3;
-
-const CLOSURE: u32 = 4;
-
-const RECEIVER: u32 = 5;
-
-const STACK: u32 = 6;
-
 /// The word of nil.
 const NIL: Oop = Oop(BASE);

@@ -6,8 +6,10 @@ ghost use Rattle.cs_frame.specs.Page.{IsFrame, frame, on_frame};
 ghost use Rattle.cs_marriage.specs.Agree.{Agree, HasContext, IsContextAt};
 ghost use Rattle.cs_marriage.specs.Marriage.{married_objects, new_size, new_spouse, spouse_address};
 
-use crate::words::{link_word, size_for};
-use crate::{CLOSURE, CONTEXT, CONTEXT_FORMAT, METHOD, NIL, RECEIVER, SENDER, STACK};
+use crate::NIL;
+use crate::words::link_word;
+use cs_classes::slots::{CLOSURE, FIRST_STACK, METHOD, RECEIVER, SENDER};
+use cs_classes::{CONTEXT_CLASS, FIELDS_AND_INDICES, method_header};
 use cs_frame::{FrameRef, Frames};
 use cs_heap::{Heap, HeapFull};
 use cs_word::Oop;
@@ -60,8 +62,9 @@ fn new_context(heap: &mut Heap, frames: &Frames, f: FrameRef) -> Result<Oop, Hea
     }) }
 {
     let method = frames.method(f);
-    let size = size_for(heap, method);
-    let made = heap.allocate(CONTEXT, CONTEXT_FORMAT, STACK + size, frames.birth(f))?;
+    let size = method_header(heap, method).context_size();
+    let birth = frames.birth(f);
+    let made = heap.allocate(CONTEXT_CLASS, FIELDS_AND_INDICES, FIRST_STACK + size, birth)?;
     heap.set_slot(made, SENDER, link_word(f));
     heap.set_slot(made, METHOD, method);
     heap.set_slot(made, CLOSURE, frames.closure(f));

@@ -4,8 +4,9 @@ ghost use Rattle.cs_marriage.specs.Agree.{Agree, HasContext, IsContextAt, IsSpou
 ghost use Rattle.cs_marriage.specs.Place.{names_place};
 ghost use Rattle.cs_marriage.specs.Marriage.{PageLacks};
 
+use crate::Spouse;
 use crate::words::{names_place, page_named};
-use crate::{SENDER, Spouse};
+use cs_classes::slots::SENDER;
 use cs_frame::{FrameRef, Frames};
 use cs_heap::Heap;
 use cs_word::Oop;

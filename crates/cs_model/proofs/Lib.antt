@@ -1,3 +1,4 @@
+pub mod Bools
 pub mod Objects
 pub mod SavedNumbers
 pub mod SavedObjects

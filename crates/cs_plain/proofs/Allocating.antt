@@ -1,7 +1,6 @@
 -- An object is made: the heap has one more, and so has the state.
-use Rattle.std.proofs.Common.{◌≡◌, ◌∙◌, inl, inr, ℕ, ◌+◌, ◌*◌, ◌-◌, ◌<◌, ◌≤◌, ◌^◌, Bool, true, false, refl, sym, ap, subst, Option, Some, None, is_some, option_map, List, [], ◌∷◌, ◌++◌, replicate, arith}
-use Rattle.std.specs.Prelude.{◌==◌, ◌≢◌, ◌||◌, if◌then◌else◌, nat_lt, option_and_then, slice_get}
-use Rattle.std.proofs.lemmas.Bool.Decides.{nat_tests}
+use Rattle.std.proofs.Common.{◌≡◌, ◌∙◌, inl, inr, ℕ, ◌+◌, ◌*◌, ◌-◌, ◌<◌, ◌≤◌, ◌^◌, Bool, true, false, refl, sym, ap, subst, Option, Some, None, is_some, List, [], ◌∷◌, ◌++◌, replicate, arith}
+use Rattle.std.specs.Prelude.{◌==◌, ◌≢◌, if◌then◌else◌, option_and_then, slice_get}
 use Rattle.std.specs.FinMap.{get}
 use Rattle.std.proofs.lemmas.Bool.{false≢true}
 use Rattle.cs_word.specs.declared.Oop.{Oop}
@@ -15,11 +14,11 @@ use Rattle.cs_classes.proofs.Heaps.{birth_of-object_at}
 use Rattle.cs_classes.proofs.Makings.{Makes, makes-bytes, makes-pointers}
 use Rattle.cs_classes.proofs.Objects.{get-objects_of-fresh}
 use Rattle.cs_classes.proofs.Refs.{is_reference-object, is_reference-push, ref_of-object, ref_of-push}
-use Rattle.cs_classes.proofs.Wholes.{after_birth, get-classes_of, kind_of-entry, next_is_fresh}
+use Rattle.cs_classes.proofs.Wholes.{after_birth, kind_of-entry, next_is_fresh}
 use Rattle.cs_model.specs.Ref as ref
 use Rattle.cs_model.specs.Obj.{Context, Ctx, Obj, Raw, lies_in, new_head}
 use Rattle.cs_model.specs.State as state
-use Rattle.cs_model.specs.State.{Kept, NamesHeld, PcLies, is_class_index, put}
+use Rattle.cs_model.specs.State.{Kept, NamesHeld, is_class_index, put}
 use Rattle.cs_model.specs.Keeps.{Keeps}
 use Rattle.cs_model.specs.Demand.{words_in}
 use Rattle.cs_model.specs.Read.{IsRunning, active_birth, active_context, pc_of}
@@ -32,6 +31,7 @@ use Rattle.cs_acts.specs.Made.{CanAllocate, blank_of}
 use Rattle.cs_acts.specs.Names.{KeepsNames, Names}
 use Rattle.cs_acts.specs.Ready.{IsReady, IsSound}
 use Rattle.cs_acts.proofs.ContextKinds.{kinds-allocate}
+use Rattle.cs_acts.proofs.Allocating.{class_below, entry_in, no_context_class, no_immediate_class, no_method_format, no_weak_format}
 use Rattle.cs_plain.specs.declared.PlainWorld.{PlainWorld}
 use Rattle.cs_plain.specs.View.{active_in, birth_at, birth_in, stored_of, view_of}
 use Rattle.cs_plain.proofs.Active.{sound_world}
@@ -41,32 +41,6 @@ use Rattle.cs_plain.proofs.Words.{words_of-kept}
 -- the world with an object more
 abbrev pub with_made : PlainWorld → List Object → PlainWorld
 with_made w us = record w { heap = record w.heap { objects = us }; roots = after_birth w.roots }
-
-last_apart : (a b c d : Bool) → (a || b || c || d) ≡ false → d ≡ false
-last_apart a b c false h = refl
-last_apart true b c true h = absurd (cc)
-last_apart false true c true h = absurd (cc)
-last_apart false false true true h = absurd (cc)
-last_apart false false false true h = absurd (cc)
-
-last_otherwise : (a b c : Bool) → (a || b || c) ≡ false → c ≡ false
-last_otherwise a b false h = refl
-last_otherwise true b true h = absurd (cc)
-last_otherwise false true true h = absurd (cc)
-last_otherwise false false true h = absurd (cc)
-
-first_otherwise : (a b c : Bool) → (a || b || c) ≡ false → (a || b) ≡ false
-first_otherwise false false c h = refl
-first_otherwise true b c h = absurd (cc)
-first_otherwise false true c h = absurd (cc)
-
--- an index that isn't made apart is none of the first ones
-first_apart : (n : ℕ) → (n == 1 || n == 2 || n == 3 || n == 36) ≡ false → (n ≢ 1) × (n ≢ 2) × (n ≢ 3)
-first_apart n h = (grind (arith, nat_tests, h), grind (arith, nat_tests, h), grind (arith, nat_tests, h))
-
-mapped : (f : ℕ → ℕ) (o : Option ℕ) → is_some (option_map f o) ≡ true → is_some o ≡ true
-mapped f None e = e
-mapped f (Some n) e = refl
 
 module _ (w : PlainWorld) (class format slots : ℕ) (sound : IsSound (stored_of w) (view_of w)) (fits : CanAllocate (view_of w) class format slots) where
   abbrev os : List Object
@@ -85,27 +59,22 @@ module _ (w : PlainWorld) (class format slots : ℕ) (sound : IsSound (stored_of
   made = add_of k (blank_of k class format slots)
 
   entry : is_some (get w.classes class) ≡ true
-  entry = mapped _ (get w.classes class) (ap is_some (sym (get-classes_of os w.classes class)) ∙ fits.entry)
+  entry = entry_in os w.classes class fits.entry
 
-  -- no class index from the table's length on has an entry
-  pub class_below : ((index : ℕ) → 16384 ≤ index → get w.classes index ≡ None) → class < 2 ^ 22
-  class_below beyond = go (nat_lt class 16384) refl
-    where
-      go : (b : Bool) → nat_lt class 16384 ≡ b → class < 2 ^ 22
-      go true e = let less : class < 16384 = grind (arith, nat_tests, e) in omega (arith, less)
-      go false e = absurd (false≢true (sym (ap is_some (beyond class (grind (arith, nat_tests, e)))) ∙ entry))
+  pub below : ((index : ℕ) → 16384 ≤ index → get w.classes index ≡ None) → class < 2 ^ 22
+  below = class_below w.classes class entry
 
   other : (class == 36) ≡ false
-  other = last_apart (class == 1) (class == 2) (class == 3) (class == 36) fits.common
+  other = no_context_class (view_of w) class format slots fits
 
   no_method : is_method format ≡ false
-  no_method = last_otherwise (format == 4) (format == 5) (is_method format) fits.plain
+  no_method = no_method_format (view_of w) class format slots fits
 
   no_weak : is_weak format ≡ false
-  no_weak = first_otherwise (format == 4) (format == 5) (is_method format) fits.plain
+  no_weak = no_weak_format (view_of w) class format slots fits
 
   kind : is_class_index class ≡ true
-  kind = let apart = first_apart class fits.common in kind_of-entry os w.classes w.roots class sound.holds.whole entry apart.0 apart.1 apart.2
+  kind = let apart = no_immediate_class (view_of w) class format slots fits in kind_of-entry os w.classes w.roots class sound.holds.whole entry apart.0 apart.1 apart.2
 
   abbrev blank_by : Bool → Kept → Obj
   blank_by b m = if b then new_pointers m class format slots else Raw (new_head class format) (replicate (4 * slots - unused_bytes format) 0)
@@ -214,10 +183,3 @@ module _ (w : PlainWorld) (class format slots : ℕ) (sound : IsSound (stored_of
         sound = is_reference-object all o.0 there;
         is = ref_of-object all o.0 there ∙ ap (λ n. ref.Obj n) (birth_of-object_at all o.0 new (object_at-new os new o.0 next));
       }
-
-pub within : (limit words : ℕ) → (limit < words → ⊥) → words ≤ limit
-within limit words not_over = go (nat_lt limit words) refl
-  where
-    go : (b : Bool) → nat_lt limit words ≡ b → words ≤ limit
-    go true e = absurd (not_over (grind (arith, nat_tests, e)))
-    go false e = grind (arith, nat_tests, e)

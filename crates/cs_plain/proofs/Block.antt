@@ -12,6 +12,7 @@ use Rattle.cs_word.specs.declared.Kind.{Kind}
 use Rattle.cs_word.specs.declared.Kind.TheVariants as kind
 use Rattle.cs_word.specs.Word.{kind_of, small_word}
 use Rattle.cs_heap.specs.Object.{Object, is_object, object_at, slot_count_of, slot_of}
+use Rattle.cs_model.proofs.Bools.{and_five}
 use Rattle.cs_classes.specs.Meaning.{context_of, count_of, obj_of, ref_of, ref_of_kind}
 use Rattle.cs_classes.specs.Sound.{is_reference, is_reference_kind}
 use Rattle.cs_classes.proofs.Heaps.{birth_of-object_at, is_object-object_at, object_there}
@@ -72,14 +73,6 @@ found w v o sound named h = go (kind_of v.0) refl named h
 
 -- ---- the closure and its outer context
 
-five : (a b c d e : Bool) → (a && b && c && d && e) ≡ true → (a ≡ true) × (b ≡ true) × (c ≡ true) × (d ≡ true) × (e ≡ true)
-five true true true true true h = (refl, refl, refl, refl, refl)
-five true true true true false h = absurd (cc)
-five true true true false e h = absurd (cc)
-five true true false d e h = absurd (cc)
-five true false c d e h = absurd (cc)
-five false b c d e h = absurd (cc)
-
 -- the pointer object that a closure is
 record Slots (o : Option Obj) : Type 0 where
   head : Head
@@ -136,7 +129,7 @@ module _ (w : PlainWorld) (v : Oop) (args : ℕ) (ready : IsReady (stored_of w) 
   can : (nat_le 3 (length (closure_slots (object_of k x))) ≡ true) × (is_some (outer_context k x) ≡ true) × (obj.is_method (object_of k (closure_method k x)) ≡ true)
       × (lies_if_index (object_of k (closure_method k x)) (index_of (closure_slot k x 1)) ≡ true) × (is_count args (index_of (closure_slot k x 2)) ≡ true)
   unfolding can_evaluate
-  can = five _ _ _ _ _ fits.closure
+  can = and_five _ _ _ _ _ fits.closure
 
   shape : Slots (object_of k x)
   shape = slots_there (object_of k x) can.0

@@ -1,6 +1,6 @@
 -- Entering a method: its header, and what the new context is.
 use Rattle.std.proofs.Common.{◌≡◌, ◌≢◌, ℕ, pos, ◌+◌, ◌*◌, ◌/◌, ◌-◌, ◌%◌, ◌<◌, ◌≤◌, ◌^◌, Bool, true, false, refl, sym, ap, ap₂, subst, ◌∙◌, Option, Some, None, unwrap_or, List, [], ◌∷◌, ◌++◌, length, map, take, drop, replicate, arith}
-use Rattle.std.specs.Prelude.{slice_get, ◌==◌, ◌||◌, ◌&&◌, if◌then◌else◌, nat_le}
+use Rattle.std.specs.Prelude.{slice_get, ◌==◌, ◌||◌, if◌then◌else◌, nat_le}
 use Rattle.std.specs.List.{AllPass}
 use Rattle.std.proofs.lemmas.Bool.Decides.{nat_tests}
 use Rattle.std.proofs.lemmas.List.{length-map}
@@ -9,7 +9,7 @@ use Rattle.cs_word.specs.declared.Kind.{Kind}
 use Rattle.cs_word.specs.declared.Kind.TheVariants as kind
 use Rattle.cs_word.specs.Word.{kind_of, small_word}
 use Rattle.cs_heap.specs.Object.{Object, slot_count_of, slot_of, base, birth_of, is_object, object_at}
-use Rattle.cs_classes.specs.Meaning.{context_of, count_of, depth_in, header_in, is_context, kept_of, literals_in, obj_of, objects_of, ref_of, ref_of_kind, used_bytes, code_in}
+use Rattle.cs_classes.specs.Meaning.{count_of, header_in, literals_in, obj_of, ref_of, ref_of_kind}
 use Rattle.cs_classes.specs.Meaning as meaning
 use Rattle.cs_classes.specs.Sound.{is_reference, is_reference_kind}
 use Rattle.cs_classes.proofs.Heaps.{birth_of-object_at, is_object-object_at, object_there}
@@ -17,14 +17,15 @@ use Rattle.cs_classes.proofs.Makings.{is_nil_or_closure-base, nil_is_object, ref
 use Rattle.cs_classes.proofs.Refs.{count_of-small, is_reference-small, ref_of-object, small_natural}
 use Rattle.cs_classes.proofs.Sorts.{AContext, AMethod, Bytes, Pointers, Sort, obj_of-bytes, obj_of-context, obj_of-method, obj_of-pointers, sort_of}
 use Rattle.cs_classes.proofs.Sounds.{sound_at}
+use Rattle.cs_model.proofs.Bools.{and_three}
 use Rattle.cs_model.specs.Ref.{Ref}
 use Rattle.cs_model.specs.Ref as ref
-use Rattle.cs_model.specs.Obj.{Context, Ctx, Method, Obj, Ptr, Raw, argument_count, bytecodes_in, context_size, first_pc, has_primitive, is_header, lies_between, lies_in, literal_count, number_in, popped, primitive_number, temporary_count}
+use Rattle.cs_model.specs.Obj.{Ctx, Method, Obj, Ptr, Raw, argument_count, bytecodes_in, context_size, first_pc, has_primitive, is_header, lies_between, lies_in, literal_count, number_in, primitive_number, temporary_count}
 use Rattle.cs_model.specs.Obj as obj
 use Rattle.cs_model.specs.State as state
-use Rattle.cs_model.specs.State.{Kept, PcLies, object_of, put, with_rest}
+use Rattle.cs_model.specs.State.{Kept, object_of}
 use Rattle.cs_model.specs.Read.{active_birth, depth_of, stack_of}
-use Rattle.cs_model.specs.Operation.{activate, add_of, drop_of, enter_of, enter_with, entry_pc, last_values, method_context, receiver_below}
+use Rattle.cs_model.specs.Operation.{enter_of, enter_with, entry_pc, last_values, receiver_below}
 use Rattle.cs_model.specs.Operation as operation
 use Rattle.cs_acts.specs.Names.{IsNamed, Names, name_of}
 use Rattle.cs_acts.specs.Ready.{IsReady, IsSound}
@@ -116,22 +117,16 @@ pub record Header (k : Kept) (x : Ref) (header : ℕ) : Type 0 where
   pub size : temporary_count header ≤ context_size header
   pub sizes : (context_size header == 16 || context_size header == 56) ≡ true
 
-three : (a b c : Bool) → (a && b && c) ≡ true → (b ≡ true) × (c ≡ true)
-three true true true h = (refl, refl)
-three true true false h = absurd (cc)
-three true false c h = absurd (cc)
-three false b c h = absurd (cc)
-
 pub header_at : (os : List Object) (k : Kept) (x : Ref) (m header : ℕ) → (at : IsMethodAt os (object_of k x) m) → header ≡ header_in at.object.words → Header k x header
 header_at os k x m header at e =
     let valid = (parts os (object_of k x) m at).valid in
-    let both = three _ _ _ (ap is_header e ∙ valid) in
+    let both = and_three _ _ _ (ap is_header e ∙ valid) in
     record {
       is = e ∙ sym (ap obj.header_in at.means);
       first = ap (λ o. first_pc (obj.literals_in o)) at.means
           ∙ ap (λ n. 4 * (n + 1) + 1) (length-map (literals_in at.object.words) (ref_of os) ∙ length-literals os (object_of k x) m at ∙ ap literal_count (sym e));
-      temporaries = most (argument_count header) (temporary_count header) both.0;
-      size = most (temporary_count header) (context_size header) both.1;
+      temporaries = most (argument_count header) (temporary_count header) both.1;
+      size = most (temporary_count header) (context_size header) both.2;
       sizes = either (header / 2 ^ 17 % 2 == 1);
     }
   where

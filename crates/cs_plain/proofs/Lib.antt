@@ -6,9 +6,7 @@ mod Written
 mod Writing
 mod Storing
 mod Opening
-mod Scheduled
 mod Copying
-mod Counts
 mod Words
 mod Acts
 mod Ways

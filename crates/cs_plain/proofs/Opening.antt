@@ -31,7 +31,8 @@ use Rattle.cs_acts.proofs.ContextKinds.{kinds-rest, kinds-store}
 use Rattle.cs_acts.proofs.Dirty.{sound-dirtied}
 use Rattle.cs_plain.proofs.Written.{dirtied}
 use Rattle.cs_plain.specs.declared.PlainWorld.{PlainWorld}
-use Rattle.cs_plain.specs.View.{active_in, birth_at, birth_in, stored_of, taken_of, view_of}
+use Rattle.cs_acts.specs.Opened.{taken_of}
+use Rattle.cs_plain.specs.View.{active_in, birth_at, birth_in, stored_of, view_of}
 use Rattle.cs_plain.proofs.Active.{meaning_there, sound_world}
 use Rattle.cs_plain.proofs.Pcs.{KeepsPcs, pcs-rest, pcs-store}
 use Rattle.cs_plain.proofs.Storing.{kind_address}

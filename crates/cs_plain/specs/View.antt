@@ -4,9 +4,7 @@ use Rattle.cs_word.specs.declared.Oop.{Oop}
 use Rattle.cs_heap.specs.Object.{Object, object_at}
 use Rattle.cs_classes.specs.Meaning.{is_context, kept_of}
 use Rattle.cs_classes.specs.declared.Loaded.{Loaded}
-use Rattle.cs_model.specs.Ref.{Ref, birth_of}
 use Rattle.cs_model.specs.State.{Kept}
-use Rattle.cs_model.specs.Settle.{context_kept, open_at}
 use Rattle.cs_acts.specs.declared.act.Act.{Act}
 use Rattle.cs_acts.specs.declared.act.Act.TheVariants as act
 use Rattle.cs_acts.specs.Names.{Store}
@@ -29,10 +27,6 @@ view_of w = kept_of w.heap.objects w.classes w.roots (active_in w.heap.objects w
 -- what a loaded image stands for: no context is active
 abbrev pub loaded_kept : Loaded → Kept
 loaded_kept l = kept_of l.heap.objects l.classes l.roots None
-
--- the context that a process keeps is active, and the process keeps nil
-abbrev pub taken_of : Kept → Ref → Kept
-taken_of k p = open_at k p (option_and_then (λ x. birth_of x) (context_kept k p))
 
 abbrev pub stored_of : PlainWorld → Store
 stored_of w = record { memory = w.heap; table = w.classes; roots = w.roots }

@@ -4,19 +4,20 @@
 //! marriage stands between.
 #![tactic(auto)]
 
-ghost use Rattle.std.specs.Prelude.{◌≡◌, ◌<◌, ◌≤◌, ◌+◌, ◌*◌, ◌^◌, false, if◌then◌else◌, is_some, pos, Some, unwrap_or};
-ghost use Rattle.cs_word.specs.Word.{small_word};
+ghost use Rattle.std.specs.Prelude.{◌≡◌, ◌<◌, ◌≤◌, ◌+◌, ◌*◌, ◌^◌, false, if◌then◌else◌, Some};
 ghost use Rattle.cs_heap.specs.Object.{is_watched, slot_count_of};
 ghost use Rattle.cs_heap.specs.Writes.{slots_stored};
-ghost use Rattle.cs_classes.specs.Meaning.{count_of};
 ghost use Rattle.cs_model.specs.Obj.{context_size, literal_count};
-ghost use Rattle.cs_acts.specs.Reading.{is_context_at};
 ghost use Rattle.cs_acts.specs.Ready.{IsReady};
 ghost use Rattle.cs_plain.specs.Storing.{buried, copied, with_fields};
 
 use cs_acts::read::{active_process, nil, same, slot};
 use cs_acts::{Act, Full, Loaded, Roots, World};
-use cs_classes::Classes;
+use cs_classes::slots::{
+    CLOSURE, FIRST_COPIED, FIRST_STACK, METHOD, OUTER_CONTEXT, PC, PROCESS_SLOTS, RECEIVER, SENDER,
+    STACK_POINTER, START_PC, SUSPENDED_CONTEXT,
+};
+use cs_classes::{CONTEXT_CLASS, Classes, FIELDS_AND_INDICES, is_context, method_header};
 use cs_heap::{BASE, Heap};
 use cs_word::{MethodHeader, Oop};
 use std::alloc::{AllocError, Global};
@@ -30,83 +31,14 @@ pub struct PlainWorld {
     active: Option<Oop>,
 }
 
-/// The slots of a context, in the order of the Blue Book: sender, pc, stackp, method, closure, receiver, and then its
-/// stack.
-const SENDER: u32 = 0;
-
-const PC: u32 = 1;
-
-const STACKP: u32 = 2;
-
-const METHOD: u32 = 3;
-
-const CLOSURE: u32 = 4;
-
-const RECEIVER: u32 = 5;
-
-const STACK: u32 = 6;
-
-/// The slots of a closure: outerContext, startpc, numArgs, and then its copied values.
-const OUTER_CONTEXT: u32 = 0;
-
-const START_PC: u32 = 1;
-
-const FIRST_COPIED: u32 = 3;
-
-/// The class index of contexts, and their format: one with named and indexed fields.
-const CONTEXT: u32 = 36;
-
-const FIELDS_AND_INDICES: u8 = 3;
-
 /// How many links a walk along the senders follows.
 const LINKS: u32 = 1_048_576;
-
-/// The slots of a process, and the one in which it keeps its context while it doesn't run.
-const PROCESS_SLOTS: u32 = 4;
-
-const SUSPENDED_CONTEXT: u32 = 1;
-
-/// The number that a word is, and 0 where it is no SmallInteger or a negative one.
-fn count(word: Oop) -> u32
-    ensures { result ≡ unwrap_or (count_of word.0) 0 }
-{
-    word.natural().unwrap_or(0)
-}
-
-/// The header that a method's first word is.
-fn header_of(word: Oop) -> MethodHeader
-    ensures { result.0 ≡ unwrap_or (count_of word.0) 0 }
-{
-    MethodHeader(count(word))
-}
-
-/// The word of a count below 2^30.
-fn count_word(count: u32) -> Oop
-    requires { count < 2 ^ 30 }
-    ensures { result.0 ≡ small_word (pos count) }
-{
-    Oop(2 * count + 1)
-}
-
-/// Whether a word is a SmallInteger that isn't negative.
-fn is_count(word: Oop) -> bool
-    ensures { result ≡ is_some (count_of word.0) }
-{
-    word.natural().is_some()
-}
-
-/// Whether a word is the address of a context.
-fn is_context(heap: &Heap, o: Oop) -> bool
-    ensures { result ≡ is_context_at heap.now.objects o.0 }
-{
-    heap.is_object(o) && heap.class_index(o) == CONTEXT
-}
 
 /// How many slots a context has for a method of this header: 56 values fit on a large stack, and 16 on another.
 fn context_slots(header: MethodHeader) -> u32
     ensures { result ≡ 6 + context_size header.0 }
 {
-    STACK + header.context_size()
+    FIRST_STACK + header.context_size()
 }
 
 /// The pc at which a method of this header is entered: its first one, or with `skip` that behind the three bytes that
@@ -138,7 +70,7 @@ fn write_fields(heap: &mut Heap, context: Oop, fields: Fields)
 {
     heap.set_slot(context, SENDER, fields.sender);
     heap.set_slot(context, PC, fields.pc);
-    heap.set_slot(context, STACKP, fields.stackp);
+    heap.set_slot(context, STACK_POINTER, fields.stackp);
     heap.set_slot(context, METHOD, fields.method);
     heap.set_slot(context, CLOSURE, fields.closure);
     heap.set_slot(context, RECEIVER, fields.receiver);
@@ -168,7 +100,7 @@ fn bury(heap: &mut Heap, context: Oop)
 {
     heap.set_slot(context, SENDER, Oop(BASE));
     heap.set_slot(context, PC, Oop(BASE));
-    heap.set_slot(context, STACKP, count_word(0));
+    heap.set_slot(context, STACK_POINTER, Oop::from_natural(0));
 }
 
 impl PlainWorld {
@@ -189,7 +121,8 @@ impl PlainWorld {
     ghost use Rattle.cs_acts.specs.Targets.{CanCut};
     ghost use Rattle.cs_plain.specs.Calling.{CanCall, called_context, called_of};
     ghost use Rattle.cs_plain.specs.Cutting.{AtHome, CanLand, landed_of};
-    ghost use Rattle.cs_plain.specs.View.{birth_at, loaded_kept, stored_of, taken_of, view_of};
+    ghost use Rattle.cs_acts.specs.Opened.{taken_of};
+    ghost use Rattle.cs_plain.specs.View.{birth_at, loaded_kept, stored_of, view_of};
 
     /// Opens a loaded image: the active process gives its context to the machine. With no active process no context is
     /// active.
@@ -300,13 +233,27 @@ impl PlainWorld {
         let birth = self.roots.next_birth;
         let slots = context_slots(header);
         let heap = &mut self.heap;
-        let Ok(context) = heap.allocate(CONTEXT, FIELDS_AND_INDICES, slots, birth) else {
+        let Ok(context) = heap.allocate(CONTEXT_CLASS, FIELDS_AND_INDICES, slots, birth) else {
             return Err(Full::Heap);
         };
         write_fields(heap, context, fields);
-        copy_slots(heap, sender, STACK + left + 1, context, STACK, args);
-        copy_slots(heap, closure, FIRST_COPIED, context, STACK + args, copied);
-        heap.set_slot(sender, STACKP, count_word(left));
+        copy_slots(
+            heap,
+            sender,
+            FIRST_STACK + left + 1,
+            context,
+            FIRST_STACK,
+            args,
+        );
+        copy_slots(
+            heap,
+            closure,
+            FIRST_COPIED,
+            context,
+            FIRST_STACK + args,
+            copied,
+        );
+        heap.set_slot(sender, STACK_POINTER, Oop::from_natural(left));
         self.roots.next_birth = birth + 1;
         self.active = Some(context);
         Ok(())
@@ -416,7 +363,7 @@ impl World for PlainWorld {
 
     fn act_live(&self, a: Act) -> bool {
         match a {
-            Act::Context(context) => is_count(self.heap.slot(context, PC)),
+            Act::Context(context) => self.heap.slot(context, PC).natural().is_some(),
             _ => unreachable!(),
         }
     }
@@ -424,7 +371,12 @@ impl World for PlainWorld {
     fn act_full(&self, a: Act) -> bool {
         match a {
             Act::Context(context) => {
-                count(self.heap.slot(context, STACKP)) >= self.heap.slot_count(context) - STACK
+                let depth = self
+                    .heap
+                    .slot(context, STACK_POINTER)
+                    .natural()
+                    .unwrap_or(0);
+                depth >= self.heap.slot_count(context) - FIRST_STACK
             }
             _ => unreachable!(),
         }
@@ -457,29 +409,35 @@ impl World for PlainWorld {
     }
 
     fn pc(&self) -> u32 {
-        count(self.heap.slot(self.active_context(), PC))
+        self.heap
+            .slot(self.active_context(), PC)
+            .natural()
+            .unwrap_or(0)
     }
 
     fn set_pc(&mut self, pc: u32) {
         let context = self.active_context();
-        self.heap.set_slot(context, PC, count_word(pc));
+        self.heap.set_slot(context, PC, Oop::from_natural(pc));
     }
 
     fn depth(&self) -> u32 {
-        count(self.heap.slot(self.active_context(), STACKP))
+        self.heap
+            .slot(self.active_context(), STACK_POINTER)
+            .natural()
+            .unwrap_or(0)
     }
 
     fn size(&self) -> u32 {
-        self.heap.slot_count(self.active_context()) - STACK
+        self.heap.slot_count(self.active_context()) - FIRST_STACK
     }
 
     fn stack_at(&self, i: u32) -> Oop {
-        self.heap.slot(self.active_context(), STACK + i)
+        self.heap.slot(self.active_context(), FIRST_STACK + i)
     }
 
     fn set_stack(&mut self, i: u32, v: Oop) {
         let context = self.active_context();
-        self.heap.set_slot(context, STACK + i, v);
+        self.heap.set_slot(context, FIRST_STACK + i, v);
     }
 
     fn store(&mut self, o: Oop, i: u32, v: Oop) {
@@ -489,15 +447,17 @@ impl World for PlainWorld {
     fn push(&mut self, v: Oop) {
         let context = self.active_context();
         let depth = self.depth();
-        self.heap.set_slot(context, STACK + depth, v);
-        self.heap.set_slot(context, STACKP, count_word(depth + 1));
+        self.heap.set_slot(context, FIRST_STACK + depth, v);
+        self.heap
+            .set_slot(context, STACK_POINTER, Oop::from_natural(depth + 1));
     }
 
     fn pop(&mut self) -> Oop {
         let context = self.active_context();
         let depth = self.depth();
         let value = self.stack_at(depth - 1);
-        self.heap.set_slot(context, STACKP, count_word(depth - 1));
+        self.heap
+            .set_slot(context, STACK_POINTER, Oop::from_natural(depth - 1));
         value
     }
 
@@ -517,8 +477,8 @@ impl World for PlainWorld {
 
     fn context_get(&mut self, ctx: Oop, i: u32) -> Result<Oop, Full> {
         let value = self.heap.slot(ctx, i);
-        if i == STACKP {
-            Ok(count_word(count(value)))
+        if i == STACK_POINTER {
+            Ok(Oop::from_natural(value.natural().unwrap_or(0)))
         } else {
             Ok(value)
         }
@@ -538,11 +498,11 @@ impl World for PlainWorld {
     }
 
     fn enter(&mut self, method: Oop, args: u32, skip: bool) -> Result<(), Full> {
-        let header = header_of(self.heap.slot(method, 0));
+        let header = method_header(&self.heap, method);
         let fields = Fields {
             sender: self.active_context(),
-            pc: count_word(entry_pc(header, skip)),
-            stackp: count_word(header.temporaries()),
+            pc: Oop::from_natural(entry_pc(header, skip)),
+            stackp: Oop::from_natural(header.temporaries()),
             method,
             closure: Oop(BASE),
             receiver: self.stack_at(self.depth() - (args + 1)),
@@ -553,12 +513,12 @@ impl World for PlainWorld {
     fn enter_block(&mut self, closure: Oop, args: u32) -> Result<(), Full> {
         let outer = self.heap.slot(closure, OUTER_CONTEXT);
         let method = self.heap.slot(outer, METHOD);
-        let header = header_of(self.heap.slot(method, 0));
+        let header = method_header(&self.heap, method);
         let copied = self.heap.slot_count(closure) - FIRST_COPIED;
         let fields = Fields {
             sender: self.active_context(),
             pc: self.heap.slot(closure, START_PC),
-            stackp: count_word(args + copied),
+            stackp: Oop::from_natural(args + copied),
             method,
             closure,
             receiver: self.heap.slot(outer, RECEIVER),

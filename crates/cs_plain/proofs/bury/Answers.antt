@@ -13,6 +13,6 @@ returns c =
     let two : List Object = with_slot one a 1 base in
     let three : List Object = buried m.objects a in
     c.set_slot-3.ensures
-    ∙ ap (slot_stored c.set_slot-2.new.self a 2) c.count_word.ensures
+    ∙ ap (slot_stored c.set_slot-2.new.self a 2) c.from_natural.ensures
     ∙ ap (λ (h : Memory). slot_stored h a 2 1) (c.set_slot-2.ensures ∙ ap (λ (h : Memory). slot_stored h a 1 base) c.set_slot.ensures)
     ∙ slots_stored-twice (slots_stored m a one) a two three ∙ slots_stored-twice m a one three

@@ -1,5 +1,5 @@
-use Rattle.std.proofs.Common.{◌≡◌, ℕ, ◌<◌, List, [], ◌∷◌, ◌++◌, take, unwrap_or, ap, sym, ◌∙◌, arith}
-use Rattle.cs_classes.specs.Meaning.{count_of, depth_in}
+use Rattle.std.proofs.Common.{◌≡◌, ℕ, ◌<◌, List, [], ◌∷◌, ◌++◌, take, ap, sym, ◌∙◌, arith}
+use Rattle.cs_classes.specs.Meaning.{depth_in}
 use Rattle.cs_frame.specs.Frame.{Frame, pushed, with_stack}
 use Rattle.cs_frame.specs.Page.{frames_of, on_page, on_top}
 use Rattle.cs_frame.proofs.PageLaws.{on_page-on_page, page_in}
@@ -15,8 +15,8 @@ loop-i-preserved c =
     let p = c.args.f.page in
     let i = c.loop-i.i in
     let xs = stack_words os a in
-    let v = c.slot-in-loop-i.result.0 in
-    let ends : c.count-i-end.result ≡ depth_in (words_at os a) = c.count-i-end.ensures ∙ (ap (λ n. unwrap_or (count_of n) 0) c.slot.ensures ∙ depth_is os a) in
+    let v = c.slot.result.0 in
+    let ends : c.stack_depth-i-end.result ≡ depth_in (words_at os a) = c.stack_depth-i-end.ensures ∙ depth_is os a in
     let inside : i < depth_in (words_at os a) = omega (arith, c.loop-i-test.true, ends) in
     record {
       frames =
@@ -24,6 +24,6 @@ loop-i-preserved c =
           ∙ ap (λ (qs : List (List Frame)). on_page qs p (on_top (pushed v))) c.loop-i.invariant.frames
           ∙ on_page-on_page ps p (on_top (with_stack (take i xs))) (on_top (pushed v)) (page_in ps p c.requires.top.0)
           ∙ ap (λ (fs : List Frame). on_page ps p (λ _. fs)) (stacked_more (take i xs) v (frames_of ps p))
-          ∙ ap (λ n. on_page ps p (on_top (with_stack (take i xs ++ n ∷ [])))) c.slot-in-loop-i.ensures
+          ∙ ap (λ n. on_page ps p (on_top (with_stack (take i xs ++ n ∷ [])))) c.slot.ensures
           ∙ ap (λ (ys : List ℕ). on_page ps p (on_top (with_stack ys))) (sym (stack_more os a c.requires.context i inside));
     }

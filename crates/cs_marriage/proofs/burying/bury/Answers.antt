@@ -16,6 +16,7 @@ returns-clause-heap c =
     let two : List Object = with_slot one a 1 65536 in
     let three : List Object = with_slot two a 2 1 in
     c.set_slot-3.ensures
+    ∙ ap (λ v. slot_stored c.set_slot-2.new.self a 2 v) c.from_natural.ensures
     ∙ ap (λ (h : Memory). slot_stored h a 2 1) (c.set_slot-2.ensures ∙ ap (λ (h : Memory). slot_stored h a 1 65536) c.set_slot.ensures)
     ∙ slots_stored-twice (slots_stored m a one) a two three ∙ slots_stored-twice m a one three
 
@@ -29,6 +30,7 @@ returns-clause-agree c =
     let three : Object → Object = λ x. set_word 2 1 (two x) in
     let written : c.set_slot-3.new.self.objects ≡ with_slot (with_slot (with_slot os a 0 65536) a 1 65536) a 2 1 =
     ap (λ (h : Memory). h.objects) (c.set_slot-3.ensures
+    ∙ ap (λ v. slot_stored c.set_slot-2.new.self a 2 v) c.from_natural.ensures
     ∙ ap (λ (h : Memory). slot_stored h a 2 1) (c.set_slot-2.ensures
     ∙ ap (λ (h : Memory). slot_stored h a 1 65536) c.set_slot.ensures)) in
     let whole : c.set_slot-3.new.self.objects ≡ with_object os a three =

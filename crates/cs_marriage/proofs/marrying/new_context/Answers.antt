@@ -17,10 +17,16 @@ unwatched_stays d w h = ap (λ v. (((d || v) || v) || v) || v) h ∙ at d
     at true = refl
     at false = refl
 
+pub set_slot-requires : goal.set_slot-requires
+set_slot-requires c =
+    let a = c.in_ok-made.made.0 in
+    let n = ap (λ (h : Memory). slot_count_of h.objects a) c.in_ok-made.ensures.added ∙ new_count c.args.heap.now.objects c.context_size-size.result _ a c.in_ok-made.ensures.address in
+    omega (arith, n)
+
 pub set_slot-requires-2 : goal.set_slot-requires-2
 set_slot-requires-2 c =
     let a = c.in_ok-made.made.0 in
-    let n = ap (λ (h : Memory). slot_count_of h.objects a) c.in_ok-made.ensures.added ∙ new_count c.args.heap.now.objects c.size_for-size.result _ a c.in_ok-made.ensures.address in
+    let n = ap (λ (h : Memory). slot_count_of h.objects a) c.in_ok-made.ensures.added ∙ new_count c.args.heap.now.objects c.context_size-size.result _ a c.in_ok-made.ensures.address in
     let one = ap (λ (h : Memory). slot_count_of h.objects a) c.set_slot.ensures in
     let first = slot_count_of-with_slot c.allocate.new.self.objects a 0 c.link_word.result.0 a in
     omega (arith, n, one, first)
@@ -28,7 +34,7 @@ set_slot-requires-2 c =
 pub set_slot-requires-3 : goal.set_slot-requires-3
 set_slot-requires-3 c =
     let a = c.in_ok-made.made.0 in
-    let n = ap (λ (h : Memory). slot_count_of h.objects a) c.in_ok-made.ensures.added ∙ new_count c.args.heap.now.objects c.size_for-size.result _ a c.in_ok-made.ensures.address in
+    let n = ap (λ (h : Memory). slot_count_of h.objects a) c.in_ok-made.ensures.added ∙ new_count c.args.heap.now.objects c.context_size-size.result _ a c.in_ok-made.ensures.address in
     let one = ap (λ (h : Memory). slot_count_of h.objects a) c.set_slot.ensures in
     let first = slot_count_of-with_slot c.allocate.new.self.objects a 0 c.link_word.result.0 a in
     let two = ap (λ (h : Memory). slot_count_of h.objects a) c.set_slot-2.ensures in
@@ -38,7 +44,7 @@ set_slot-requires-3 c =
 pub set_slot-requires-4 : goal.set_slot-requires-4
 set_slot-requires-4 c =
     let a = c.in_ok-made.made.0 in
-    let n = ap (λ (h : Memory). slot_count_of h.objects a) c.in_ok-made.ensures.added ∙ new_count c.args.heap.now.objects c.size_for-size.result _ a c.in_ok-made.ensures.address in
+    let n = ap (λ (h : Memory). slot_count_of h.objects a) c.in_ok-made.ensures.added ∙ new_count c.args.heap.now.objects c.context_size-size.result _ a c.in_ok-made.ensures.address in
     let one = ap (λ (h : Memory). slot_count_of h.objects a) c.set_slot.ensures in
     let first = slot_count_of-with_slot c.allocate.new.self.objects a 0 c.link_word.result.0 a in
     let two = ap (λ (h : Memory). slot_count_of h.objects a) c.set_slot-2.ensures in
@@ -52,18 +58,18 @@ returns-clause-added c =
     let a = c.in_ok-made.made.0 in
     let m : Memory = c.args.heap.now in
     let os = m.objects in
-    let size = c.size_for-size.result in
+    let size = c.context_size-size.result in
     let f = frame c.args.frames.now c.args.f in
     let unwatched : is_watched m a ≡ false = ap (λ (h : Memory). is_watched h a) (sym c.in_ok-made.ensures.added) ∙ c.in_ok-made.ensures.unwatched in
-    let made : List Object = os ++ new_object 36 3 (6 + size) c.birth.result ∷ [] in
+    let made : List Object = os ++ new_object 36 3 (6 + size) c.birth-birth.result ∷ [] in
     let all : List Object = with_slot (with_slot (with_slot (with_slot made a 0 c.link_word.result.0) a 3 c.method-method.result.0) a 4 c.closure.result.0) a 5 c.receiver.result.0 in
-    let sized : size ≡ new_size os f = c.size_for-size.ensures ∙ ap (λ (n : ℕ). context_size (header_at os n)) c.method-method.ensures.method in
+    let sized : size ≡ new_size os f = (c.context_size-size.ensures.value ∙ ap context_size c.method_header.ensures) ∙ ap (λ (n : ℕ). context_size (header_at os n)) c.method-method.ensures.method in
     c.set_slot-4.ensures
     ∙ ap (λ (h : Memory). slot_stored h a 5 c.receiver.result.0) (c.set_slot-3.ensures
     ∙ ap (λ (h : Memory). slot_stored h a 4 c.closure.result.0) (c.set_slot-2.ensures
     ∙ ap (λ (h : Memory). slot_stored h a 3 c.method-method.result.0) (c.set_slot.ensures
     ∙ ap (λ (h : Memory). slot_stored h a 0 c.link_word.result.0) c.in_ok-made.ensures.added)))
     ∙ ap (λ d. let stored : Memory = record m { objects = all; dirty = d } in stored) (unwatched_stays m.dirty (is_watched m a) unwatched)
-    ∙ ap (λ (xs : List Object). record m { objects = xs }) (written os size c.birth.result a c.in_ok-made.ensures.address c.link_word.result.0 c.method-method.result.0 c.closure.result.0 c.receiver.result.0)
-    ∙ ap (λ (y : Object). record m { objects = pushed os y }) (spouse_written os c.args.f f size c.birth.result c.link_word.result.0 c.method-method.result.0 c.closure.result.0 c.receiver.result.0
-    sized c.birth.ensures.birth c.link_word.ensures c.method-method.ensures.method c.closure.ensures.closure c.receiver.ensures.receiver)
+    ∙ ap (λ (xs : List Object). record m { objects = xs }) (written os size c.birth-birth.result a c.in_ok-made.ensures.address c.link_word.result.0 c.method-method.result.0 c.closure.result.0 c.receiver.result.0)
+    ∙ ap (λ (y : Object). record m { objects = pushed os y }) (spouse_written os c.args.f f size c.birth-birth.result c.link_word.result.0 c.method-method.result.0 c.closure.result.0 c.receiver.result.0
+    sized c.birth-birth.ensures.birth c.link_word.ensures c.method-method.ensures.method c.closure.ensures.closure c.receiver.ensures.receiver)

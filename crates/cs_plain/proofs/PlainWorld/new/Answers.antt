@@ -6,7 +6,7 @@ use Rattle.cs_model.specs.Step.{shape_fault}
 use Rattle.cs_plain.specs.declared.PlainWorld.{PlainWorld}
 use Rattle.cs_plain.specs.View.{loaded_kept}
 use Rattle.cs_plain.proofs.Active.{sound_world}
-use Rattle.cs_plain.proofs.Scheduled.{scheduled}
+use Rattle.cs_model.proofs.Opening.{scheduled}
 use Rattle.cs_plain.proofs.PlainWorld.new.Goals as goal
 
 pub open-requires-clause-sound : goal.open-requires-clause-sound

@@ -64,8 +64,8 @@ copy_slots-requires-2-clause-small c = omega (arith, stack_few c.args.self.now c
 pub overflow_add-args : goal.overflow_add-args
 overflow_add-args c = omega (arith, stack_few c.args.self.now c.args.header.0 c.args.args c.args.copied c.depth.result c.args.fields c.requires.ready c.requires.sender c.requires.fits c.depth.ensures.value)
 
-pub count_word-requires : goal.count_word-requires
-count_word-requires c = omega (arith, depth_few c.args.self.now c.args.header.0 c.args.args c.args.copied c.depth.result c.args.fields c.requires.ready c.requires.sender c.requires.fits c.depth.ensures.value)
+pub from_natural-requires : goal.from_natural-requires
+from_natural-requires c = omega (arith, depth_few c.args.self.now c.args.header.0 c.args.args c.args.copied c.depth.result c.args.fields c.requires.ready c.requires.sender c.requires.fits c.depth.ensures.value)
 
 pub set_slot-requires : goal.set_slot-requires
 set_slot-requires c =
@@ -80,23 +80,23 @@ set_slot-requires c =
 pub returns-clause-view : goal.returns-clause-view
 returns-clause-view c =
     let heap = written-heap c.args.self.now.heap c.allocate.new.self c.write_fields.new.heap c.copy_slots.new.heap c.copy_slots-2.new.heap c.set_slot.new.self c.context_slots-slots.result c.args.self.now.roots.next_birth c.args.fields c.in-Ok.context.0
-    (c.depth.result - (c.args.args + 1)) c.args.args c.args.copied c.count_word.result.0
-    c.in-Ok.ensures.added c.write_fields.ensures c.copy_slots.ensures c.copy_slots-2.ensures c.set_slot.ensures c.count_word.ensures in
+    (c.depth.result - (c.args.args + 1)) c.args.args c.args.copied c.from_natural.result.0
+    c.in-Ok.ensures.added c.write_fields.ensures c.copy_slots.ensures c.copy_slots-2.ensures c.set_slot.ensures c.from_natural.ensures in
     (enters c.args.self.now c.args.header.0 c.args.args c.args.copied c.depth.result c.args.fields c.requires.ready c.requires.sender c.requires.fits c.depth.ensures.value
     c.context_slots-slots.result c.context_slots-slots.ensures c.set_slot.new.self c.in-Ok.context c.in-Ok.ensures.address (λ over. absurd (false≢true (c.in-Ok.ensures.full.1 over))) heap).view
 
 pub returns-clause-ready : goal.returns-clause-ready
 returns-clause-ready c =
     let heap = written-heap c.args.self.now.heap c.allocate.new.self c.write_fields.new.heap c.copy_slots.new.heap c.copy_slots-2.new.heap c.set_slot.new.self c.context_slots-slots.result c.args.self.now.roots.next_birth c.args.fields c.in-Ok.context.0
-    (c.depth.result - (c.args.args + 1)) c.args.args c.args.copied c.count_word.result.0
-    c.in-Ok.ensures.added c.write_fields.ensures c.copy_slots.ensures c.copy_slots-2.ensures c.set_slot.ensures c.count_word.ensures in
+    (c.depth.result - (c.args.args + 1)) c.args.args c.args.copied c.from_natural.result.0
+    c.in-Ok.ensures.added c.write_fields.ensures c.copy_slots.ensures c.copy_slots-2.ensures c.set_slot.ensures c.from_natural.ensures in
     (enters c.args.self.now c.args.header.0 c.args.args c.args.copied c.depth.result c.args.fields c.requires.ready c.requires.sender c.requires.fits c.depth.ensures.value
     c.context_slots-slots.result c.context_slots-slots.ensures c.set_slot.new.self c.in-Ok.context c.in-Ok.ensures.address (λ over. absurd (false≢true (c.in-Ok.ensures.full.1 over))) heap).ready
 
 pub returns-clause-names : goal.returns-clause-names
 returns-clause-names c =
     let heap = written-heap c.args.self.now.heap c.allocate.new.self c.write_fields.new.heap c.copy_slots.new.heap c.copy_slots-2.new.heap c.set_slot.new.self c.context_slots-slots.result c.args.self.now.roots.next_birth c.args.fields c.in-Ok.context.0
-    (c.depth.result - (c.args.args + 1)) c.args.args c.args.copied c.count_word.result.0
-    c.in-Ok.ensures.added c.write_fields.ensures c.copy_slots.ensures c.copy_slots-2.ensures c.set_slot.ensures c.count_word.ensures in
+    (c.depth.result - (c.args.args + 1)) c.args.args c.args.copied c.from_natural.result.0
+    c.in-Ok.ensures.added c.write_fields.ensures c.copy_slots.ensures c.copy_slots-2.ensures c.set_slot.ensures c.from_natural.ensures in
     (enters c.args.self.now c.args.header.0 c.args.args c.args.copied c.depth.result c.args.fields c.requires.ready c.requires.sender c.requires.fits c.depth.ensures.value
     c.context_slots-slots.result c.context_slots-slots.ensures c.set_slot.new.self c.in-Ok.context c.in-Ok.ensures.address (λ over. absurd (false≢true (c.in-Ok.ensures.full.1 over))) heap).names

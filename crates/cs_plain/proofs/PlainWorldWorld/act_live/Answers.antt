@@ -1,6 +1,7 @@
 use Rattle.std.proofs.Common.{◌≡◌, IfSome, IsSome, ap, arith, is_some, subst, sym, ◌∙◌}
 use Rattle.cs_classes.specs.Meaning.{count_of}
 use Rattle.cs_model.specs.Return.{is_live}
+use Rattle.cs_classes.proofs.Naturals.{natural_is}
 use Rattle.cs_plain.specs.View.{act_of, view_of}
 use Rattle.cs_plain.proofs.Acts.{context_at, field_within, of_birth, live_read}
 use Rattle.cs_plain.proofs.PlainWorldWorld.act_live.Goals as goal
@@ -11,5 +12,5 @@ slot-requires c = field_within c.args.self.now c.in-Context.context 1 c.requires
 pub returns : goal.returns
 returns c =
     let a = context_at c.args.self.now c.in-Context.context c.requires.sound (subst (λ a. IsSome (act_of c.args.self.now a)) c.in-Context.is c.requires.stands) in
-    subst (λ a. IfSome (act_of c.args.self.now a) (λ birth. c.is_count.result ≡ is_live (view_of c.args.self.now) birth)) (sym c.in-Context.is)
-    (of_birth c.requires.sound a.1 (λ birth. c.is_count.result ≡ is_live (view_of c.args.self.now) birth) (c.is_count.ensures ∙ ap (λ n. is_some (count_of n)) c.slot.ensures ∙ live_read c.requires.sound a.1))
+    subst (λ a. IfSome (act_of c.args.self.now a) (λ birth. c.is_some.result ≡ is_live (view_of c.args.self.now) birth)) (sym c.in-Context.is)
+    (of_birth c.requires.sound a.1 (λ birth. c.is_some.result ≡ is_live (view_of c.args.self.now) birth) ((c.is_some.ensures ∙ ap is_some (c.natural.ensures.value ∙ natural_is _)) ∙ ap (λ n. is_some (count_of n)) c.slot.ensures ∙ live_read c.requires.sound a.1))

@@ -8,12 +8,13 @@ use Rattle.cs_acts.specs.Made.{blank_of}
 use Rattle.cs_acts.specs.Names.{KeepsNames, Names}
 use Rattle.cs_acts.specs.Ready.{IsReady, IsSound}
 use Rattle.cs_plain.specs.View.{stored_of, view_of}
-use Rattle.cs_plain.proofs.Allocating.{class_below, full_made, made_names, made_ready, made_sound, made_state, made_value, made_view, within}
+use Rattle.cs_acts.proofs.Allocating.{within}
+use Rattle.cs_plain.proofs.Allocating.{below, full_made, made_names, made_ready, made_sound, made_state, made_value, made_view}
 use Rattle.cs_plain.proofs.Writing.{same_kept}
 use Rattle.cs_plain.proofs.PlainWorldWorld.allocate.Goals as goal
 
 pub allocate-requires-clause-class : goal.allocate-requires-clause-class
-allocate-requires-clause-class c = class_below c.args.self.now c.args.class c.args.format c.args.slots c.requires.sound c.requires.fits c.len-entries.ensures.beyond
+allocate-requires-clause-class c = below c.args.self.now c.args.class c.args.format c.args.slots c.requires.sound c.requires.fits c.len-entries.ensures.beyond
 
 pub returns-in_default-clause-full : goal.returns-in_default-clause-full
 returns-in_default-clause-full c =

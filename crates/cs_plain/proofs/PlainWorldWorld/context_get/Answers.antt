@@ -2,6 +2,7 @@ use Rattle.std.proofs.Common.{◌≡◌, ap, arith, subst, sym, ◌∙◌, Some,
 use Rattle.std.proofs.lemmas.Bool.Decides.{nat_tests}
 use Rattle.cs_heap.specs.Object.{slot_of}
 use Rattle.cs_classes.specs.Meaning.{count_of}
+use Rattle.cs_classes.proofs.Naturals.{natural_is}
 use Rattle.cs_acts.specs.Names.{NamesOption, name_of}
 use Rattle.cs_acts.specs.Targets.{field_of}
 use Rattle.cs_plain.specs.View.{stored_of, view_of}
@@ -12,23 +13,23 @@ pub slot-value-requires : goal.slot-value-requires
 slot-value-requires c =
     asked_within c.requires.sound (asked c.args.self.now c.args.ctx c.args.i c.requires.sound c.requires.named c.requires.there).1 c.args.i c.requires.there
 
-pub count_word-requires : goal.count_word-requires
-count_word-requires c =
+pub from_natural-requires : goal.from_natural-requires
+from_natural-requires c =
     let at = asked c.args.self.now c.args.ctx c.args.i c.requires.sound c.requires.named c.requires.there in
-    let is : c.args.i ≡ 2 = grind (arith, nat_tests, c.if-i-eq-STACKP.true) in
-    depth_few c.requires.sound at.1 c.count.result
-    (c.count.ensures ∙ ap (λ v. unwrap_or (count_of v) 0) (c.slot-value.ensures ∙ ap (slot_of c.args.self.now.heap.objects c.args.ctx.0) is))
+    let is : c.args.i ≡ 2 = grind (arith, nat_tests, c.if-i-eq-STACK_POINTER.true) in
+    depth_few c.requires.sound at.1 c.unwrap_or.result
+    ((c.unwrap_or.ensures ∙ ap (λ o. unwrap_or o 0) (c.natural.ensures.value ∙ natural_is _)) ∙ ap (λ v. unwrap_or (count_of v) 0) (c.slot-value.ensures ∙ ap (slot_of c.args.self.now.heap.objects c.args.ctx.0) is))
 
-pub returns-then-i-eq-STACKP-clause-value : goal.returns-then-i-eq-STACKP-clause-value
-returns-then-i-eq-STACKP-clause-value c =
+pub returns-then-i-eq-STACK_POINTER-clause-value : goal.returns-then-i-eq-STACK_POINTER-clause-value
+returns-then-i-eq-STACK_POINTER-clause-value c =
     let w = c.args.self.now in
     let at = asked w c.args.ctx c.args.i c.requires.sound c.requires.named c.requires.there in
-    let is : c.args.i ≡ 2 = grind (arith, nat_tests, c.if-i-eq-STACKP.true) in
-    subst (λ n. NamesOption (stored_of w) (Some c.count_word.result) (field_of (view_of w) (name_of (stored_of w) c.args.ctx) n)) (sym is)
-    (depth_names c.requires.sound at.1 c.count_word.result c.count.result
-    (c.count.ensures ∙ ap (λ v. unwrap_or (count_of v) 0) (c.slot-value.ensures ∙ ap (slot_of w.heap.objects c.args.ctx.0) is)) c.count_word.ensures)
+    let is : c.args.i ≡ 2 = grind (arith, nat_tests, c.if-i-eq-STACK_POINTER.true) in
+    subst (λ n. NamesOption (stored_of w) (Some c.from_natural.result) (field_of (view_of w) (name_of (stored_of w) c.args.ctx) n)) (sym is)
+    (depth_names c.requires.sound at.1 c.from_natural.result c.unwrap_or.result
+    ((c.unwrap_or.ensures ∙ ap (λ o. unwrap_or o 0) (c.natural.ensures.value ∙ natural_is _)) ∙ ap (λ v. unwrap_or (count_of v) 0) (c.slot-value.ensures ∙ ap (slot_of w.heap.objects c.args.ctx.0) is)) c.from_natural.ensures)
 
-pub returns-else-i-eq-STACKP-clause-value : goal.returns-else-i-eq-STACKP-clause-value
-returns-else-i-eq-STACKP-clause-value c =
+pub returns-else-i-eq-STACK_POINTER-clause-value : goal.returns-else-i-eq-STACK_POINTER-clause-value
+returns-else-i-eq-STACK_POINTER-clause-value c =
     field_names c.requires.sound (asked c.args.self.now c.args.ctx c.args.i c.requires.sound c.requires.named c.requires.there).1 c.slot-value.result c.args.i
-    (λ e. grind (arith, nat_tests, c.if-i-eq-STACKP.false, e)) c.slot-value.ensures c.requires.there
+    (λ e. grind (arith, nat_tests, c.if-i-eq-STACK_POINTER.false, e)) c.slot-value.ensures c.requires.there

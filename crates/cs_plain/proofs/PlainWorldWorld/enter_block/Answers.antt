@@ -1,6 +1,7 @@
-use Rattle.std.proofs.Common.{arith, sym, subst, ◌∙◌, ◌-◌, None}
+use Rattle.std.proofs.Common.{refl, arith, sym, subst, ◌∙◌, ◌-◌, None}
 use Rattle.std.specs.Result.{IfErr}
 use Rattle.std.proofs.lemmas.Result.{on_ok_weaker}
+use Rattle.cs_heap.specs.Object.{slot_of}
 use Rattle.cs_model.specs.Keeps.{Keeps}
 use Rattle.cs_model.specs.Enter.{enter_block_of}
 use Rattle.cs_model.proofs.Entering.{enter_block_moved}
@@ -18,8 +19,8 @@ slot-outer-requires c = omega (arith, three_slots c.args.self.now c.args.closure
 pub slot-method-requires : goal.slot-method-requires
 slot-method-requires c = omega (arith, outer_slots c.args.self.now c.args.closure c.args.args c.requires.ready c.requires.named c.requires.fits c.slot-outer.result c.slot-outer.ensures)
 
-pub slot-requires : goal.slot-requires
-slot-requires c =
+pub method_header-header-requires : goal.method_header-header-requires
+method_header-header-requires c =
     header_there c.args.self.now c.slot-method.result c.requires.ready.sound (method_names c.args.self.now c.args.closure c.args.args c.requires.ready c.requires.named c.requires.fits c.slot-outer.result c.slot-outer.ensures c.slot-method.result c.slot-method.ensures).sound
     (method_is c.args.self.now c.args.closure c.args.args c.requires.ready c.requires.named c.requires.fits c.slot-outer.result c.slot-outer.ensures c.slot-method.result c.slot-method.ensures)
 
@@ -29,36 +30,36 @@ slot_count-copied-requires c = closure_there c.args.self.now c.args.closure c.ar
 pub overflow_sub-copied : goal.overflow_sub-copied
 overflow_sub-copied c = omega (arith, c.slot_count-copied.ensures.value, three_slots c.args.self.now c.args.closure c.args.args c.requires.ready c.requires.named c.requires.fits)
 
-pub slot-requires-2 : goal.slot-requires-2
-slot-requires-2 c = omega (arith, three_slots c.args.self.now c.args.closure c.args.args c.requires.ready c.requires.named c.requires.fits)
+pub slot-requires : goal.slot-requires
+slot-requires c = omega (arith, three_slots c.args.self.now c.args.closure c.args.args c.requires.ready c.requires.named c.requires.fits)
 
-pub slot-requires-3 : goal.slot-requires-3
-slot-requires-3 c = omega (arith, outer_slots c.args.self.now c.args.closure c.args.args c.requires.ready c.requires.named c.requires.fits c.slot-outer.result c.slot-outer.ensures)
+pub slot-requires-2 : goal.slot-requires-2
+slot-requires-2 c = omega (arith, outer_slots c.args.self.now c.args.closure c.args.args c.requires.ready c.requires.named c.requires.fits c.slot-outer.result c.slot-outer.ensures)
 
 pub new_context-requires-clause-fits : goal.new_context-requires-clause-fits
 new_context-requires-clause-fits c =
     can_call c.args.self.now c.args.closure c.args.args c.requires.ready c.requires.named c.requires.fits c.slot-outer.result c.slot-outer.ensures
-    c.slot-method.result c.active_context.result c.slot-2.result c.count_word.result c.slot-3.result (c.slot_count-copied.result - 3) c.slot.result.0 c.header_of-header.result.0 c.slot-method.ensures c.slot.ensures c.header_of-header.ensures
-    (omega (arith, c.slot_count-copied.ensures.value, three_slots c.args.self.now c.args.closure c.args.args c.requires.ready c.requires.named c.requires.fits)) c.active_context.ensures c.slot-2.ensures c.count_word.ensures c.slot-3.ensures
+    c.slot-method.result c.active_context.result c.slot.result c.from_natural.result c.slot-2.result (c.slot_count-copied.result - 3) (slot_of c.args.self.now.heap.objects c.slot-method.result.0 0) c.method_header-header.result.0 c.slot-method.ensures refl c.method_header-header.ensures
+    (omega (arith, c.slot_count-copied.ensures.value, three_slots c.args.self.now c.args.closure c.args.args c.requires.ready c.requires.named c.requires.fits)) c.active_context.ensures c.slot.ensures c.from_natural.ensures c.slot-2.ensures
 
 pub returns-clause-state : goal.returns-clause-state
 returns-clause-state c =
     let is = called_is c.args.self.now c.args.closure c.args.args c.requires.ready c.requires.named c.requires.fits c.slot-outer.result c.slot-outer.ensures
-    c.slot-method.result c.active_context.result c.slot-2.result c.count_word.result c.slot-3.result (c.slot_count-copied.result - 3) c.slot.result.0 c.header_of-header.result.0 c.slot-method.ensures c.slot.ensures c.header_of-header.ensures
-    (omega (arith, c.slot_count-copied.ensures.value, three_slots c.args.self.now c.args.closure c.args.args c.requires.ready c.requires.named c.requires.fits)) c.active_context.ensures c.slot-2.ensures c.count_word.ensures c.slot-3.ensures in
+    c.slot-method.result c.active_context.result c.slot.result c.from_natural.result c.slot-2.result (c.slot_count-copied.result - 3) (slot_of c.args.self.now.heap.objects c.slot-method.result.0 0) c.method_header-header.result.0 c.slot-method.ensures refl c.method_header-header.ensures
+    (omega (arith, c.slot_count-copied.ensures.value, three_slots c.args.self.now c.args.closure c.args.args c.requires.ready c.requires.named c.requires.fits)) c.active_context.ensures c.slot.ensures c.from_natural.ensures c.slot-2.ensures in
     on_ok_weaker c.new_context.result (λ view m k. subst (λ t. Keeps t (enter_block_of m (name_of (stored_of c.args.self.now) c.args.closure) c.args.args)) (sym (view ∙ is))
     (enter_block_moved k (held_by c.args.self.now c.args.closure c.requires.ready c.requires.named) c.args.args).keeps) c.new_context.ensures.view
 
 pub returns-clause-exact : goal.returns-clause-exact
 returns-clause-exact c =
     let is = called_is c.args.self.now c.args.closure c.args.args c.requires.ready c.requires.named c.requires.fits c.slot-outer.result c.slot-outer.ensures
-    c.slot-method.result c.active_context.result c.slot-2.result c.count_word.result c.slot-3.result (c.slot_count-copied.result - 3) c.slot.result.0 c.header_of-header.result.0 c.slot-method.ensures c.slot.ensures c.header_of-header.ensures
-    (omega (arith, c.slot_count-copied.ensures.value, three_slots c.args.self.now c.args.closure c.args.args c.requires.ready c.requires.named c.requires.fits)) c.active_context.ensures c.slot-2.ensures c.count_word.ensures c.slot-3.ensures in
+    c.slot-method.result c.active_context.result c.slot.result c.from_natural.result c.slot-2.result (c.slot_count-copied.result - 3) (slot_of c.args.self.now.heap.objects c.slot-method.result.0 0) c.method_header-header.result.0 c.slot-method.ensures refl c.method_header-header.ensures
+    (omega (arith, c.slot_count-copied.ensures.value, three_slots c.args.self.now c.args.closure c.args.args c.requires.ready c.requires.named c.requires.fits)) c.active_context.ensures c.slot.ensures c.from_natural.ensures c.slot-2.ensures in
     on_ok_weaker c.new_context.result (λ view none. same_kept _ _ (view ∙ is)) c.new_context.ensures.view
 
 pub returns-clause-full : goal.returns-clause-full
 returns-clause-full c =
     let is = called_is c.args.self.now c.args.closure c.args.args c.requires.ready c.requires.named c.requires.fits c.slot-outer.result c.slot-outer.ensures
-    c.slot-method.result c.active_context.result c.slot-2.result c.count_word.result c.slot-3.result (c.slot_count-copied.result - 3) c.slot.result.0 c.header_of-header.result.0 c.slot-method.ensures c.slot.ensures c.header_of-header.ensures
-    (omega (arith, c.slot_count-copied.ensures.value, three_slots c.args.self.now c.args.closure c.args.args c.requires.ready c.requires.named c.requires.fits)) c.active_context.ensures c.slot-2.ensures c.count_word.ensures c.slot-3.ensures in
+    c.slot-method.result c.active_context.result c.slot.result c.from_natural.result c.slot-2.result (c.slot_count-copied.result - 3) (slot_of c.args.self.now.heap.objects c.slot-method.result.0 0) c.method_header-header.result.0 c.slot-method.ensures refl c.method_header-header.ensures
+    (omega (arith, c.slot_count-copied.ensures.value, three_slots c.args.self.now c.args.closure c.args.args c.requires.ready c.requires.named c.requires.fits)) c.active_context.ensures c.slot.ensures c.from_natural.ensures c.slot-2.ensures in
     subst (λ t. IfErr c.new_context.result (CausesFull (stored_of c.new_context.new.self) None (view_of c.args.self.now) 0 t)) is c.new_context.ensures.full

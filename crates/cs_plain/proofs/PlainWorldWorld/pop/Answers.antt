@@ -9,8 +9,8 @@ use Rattle.cs_plain.proofs.Slots.{depth_within, few_slots, fields_within, slots_
 use Rattle.cs_plain.proofs.Writing.{along, writes-pop}
 use Rattle.cs_plain.proofs.PlainWorldWorld.pop.Goals as goal
 
-pub count_word-requires : goal.count_word-requires
-count_word-requires c =
+pub from_natural-requires : goal.from_natural-requires
+from_natural-requires c =
     let a = active_is _ _ c.requires.ready c.active_context-context.ensures in
     omega (arith, c.depth-depth.ensures.value, depth_within c.requires.ready a.1, few_slots c.requires.ready a.1)
 
@@ -20,16 +20,16 @@ set_slot-requires c =
     omega (arith, slots_are c.requires.ready a.1, fields_within c.requires.ready a.1)
 
 pub returns-clause-state : goal.returns-clause-state
-returns-clause-state c m k = (along c.args.self.now _ _ (λ m. drop_of m 1) (c.set_slot.ensures ∙ ap (λ v. slot_stored c.args.self.now.heap c.active_context-context.result.0 2 v) c.count_word.ensures) (writes-pop c.requires.ready (active_is _ _ c.requires.ready c.active_context-context.ensures).1 c.depth-depth.result c.depth-depth.ensures.value)).state m k
+returns-clause-state c m k = (along c.args.self.now _ _ (λ m. drop_of m 1) (c.set_slot.ensures ∙ ap (λ v. slot_stored c.args.self.now.heap c.active_context-context.result.0 2 v) c.from_natural.ensures) (writes-pop c.requires.ready (active_is _ _ c.requires.ready c.active_context-context.ensures).1 c.depth-depth.result c.depth-depth.ensures.value)).state m k
 
 pub returns-clause-exact : goal.returns-clause-exact
-returns-clause-exact c none = (along c.args.self.now _ _ (λ m. drop_of m 1) (c.set_slot.ensures ∙ ap (λ v. slot_stored c.args.self.now.heap c.active_context-context.result.0 2 v) c.count_word.ensures) (writes-pop c.requires.ready (active_is _ _ c.requires.ready c.active_context-context.ensures).1 c.depth-depth.result c.depth-depth.ensures.value)).exact
+returns-clause-exact c none = (along c.args.self.now _ _ (λ m. drop_of m 1) (c.set_slot.ensures ∙ ap (λ v. slot_stored c.args.self.now.heap c.active_context-context.result.0 2 v) c.from_natural.ensures) (writes-pop c.requires.ready (active_is _ _ c.requires.ready c.active_context-context.ensures).1 c.depth-depth.result c.depth-depth.ensures.value)).exact
 
 pub returns-clause-ready : goal.returns-clause-ready
-returns-clause-ready c = (along c.args.self.now _ _ (λ m. drop_of m 1) (c.set_slot.ensures ∙ ap (λ v. slot_stored c.args.self.now.heap c.active_context-context.result.0 2 v) c.count_word.ensures) (writes-pop c.requires.ready (active_is _ _ c.requires.ready c.active_context-context.ensures).1 c.depth-depth.result c.depth-depth.ensures.value)).ready
+returns-clause-ready c = (along c.args.self.now _ _ (λ m. drop_of m 1) (c.set_slot.ensures ∙ ap (λ v. slot_stored c.args.self.now.heap c.active_context-context.result.0 2 v) c.from_natural.ensures) (writes-pop c.requires.ready (active_is _ _ c.requires.ready c.active_context-context.ensures).1 c.depth-depth.result c.depth-depth.ensures.value)).ready
 
 pub returns-clause-names : goal.returns-clause-names
-returns-clause-names c = (along c.args.self.now _ _ (λ m. drop_of m 1) (c.set_slot.ensures ∙ ap (λ v. slot_stored c.args.self.now.heap c.active_context-context.result.0 2 v) c.count_word.ensures) (writes-pop c.requires.ready (active_is _ _ c.requires.ready c.active_context-context.ensures).1 c.depth-depth.result c.depth-depth.ensures.value)).names
+returns-clause-names c = (along c.args.self.now _ _ (λ m. drop_of m 1) (c.set_slot.ensures ∙ ap (λ v. slot_stored c.args.self.now.heap c.active_context-context.result.0 2 v) c.from_natural.ensures) (writes-pop c.requires.ready (active_is _ _ c.requires.ready c.active_context-context.ensures).1 c.depth-depth.result c.depth-depth.ensures.value)).names
 
 pub returns-clause-value : goal.returns-clause-value
 returns-clause-value c =
