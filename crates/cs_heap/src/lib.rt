@@ -39,11 +39,10 @@ const WATCHED: u8 = 2;
 
 /// The object memory.
 ///
-/// It is seen as `limit`, the words that its objects may take, and `objects`, the list of them in
-/// the order of their addresses, each with class, flags, format, hash, birth and words; and beside
-/// them `watched`, the addresses of the watched ones, and `dirty`. A call that takes an object has the condition that
-/// it is one of this heap, which `is_object` tests, and one
-/// that takes an index that it is in range, by `slot_count`.
+/// It is seen as `limit`, the words that its objects may take, and `objects`, the list of them in the order of their
+/// addresses, each with class, flags, format, hash, birth and words; and beside them `watched`, the addresses of the
+/// watched ones, and `dirty`. A call that takes an object has the condition that it is one of this heap, which
+/// `is_object` tests, and one that takes an index that it is in range, by `slot_count`.
 #[derive(Drop)]
 pub struct Heap {
     /// All objects' words, one object right behind another.

@@ -20,10 +20,11 @@ mod roots;
 mod shape;
 mod table;
 
-ghost use Rattle.std.specs.Prelude.{◌≡◌, ℕ, ◌≤◌, ◌^◌, true, false, is_some, length, map, take, Bool, List, Some, None, Ok};
-ghost use Rattle.std.specs.Prelude.{IfOk, ⊤};
+ghost use Rattle.std.specs.Prelude.{◌≡◌, ℕ, ◌≤◌, ◌^◌, true, false, is_some, length, take, Bool, List, Some, None, Ok};
+ghost use Rattle.std.specs.Prelude.{IfOk, map, ⊤};
 ghost use Rattle.std.specs.FinSet.{empty};
-ghost use Rattle.cs_model.specs.ImageFile.{births_in, file_of, visible, words_in, cut_of, special_address, last_hash_in};
+ghost use Rattle.cs_model.specs.ImageFile.{births_in};
+ghost use Rattle.cs_model.specs.ImageFile.{file_of, visible, words_in, cut_of, special_address, last_hash_in};
 ghost use Rattle.cs_model.specs.ImageFault as fault;
 ghost use Rattle.cs_model.specs.ImageFault.{bad_object, is_over, table_size};
 ghost use Rattle.cs_model.specs.Image.{at_word, fault_of, image_of};

@@ -1,16 +1,12 @@
 //! Laws of keeping, of settling a state and opening it again, and of what a step leaves of a valid state.
 //!
 //! One state keeps another where it lacks nothing of it but contexts that nothing in it names. A representation of the
-//! machine
-//! need not have the whole state of the model; it is enough that it keeps it. What is read of both is the same, the
-//! same done to
-//! both ends in the same way, and then the one keeps the other again. So what is proved of the state that a world has
-//! holds of
-//! each state that it keeps.
+//! machine need not have the whole state of the model; it is enough that it keeps it. What is read of both is the same,
+//! the same done to both ends in the same way, and then the one keeps the other again. So what is proved of the state
+//! that a world has holds of each state that it keeps.
 //!
 //! The definitions stand in `specs/Keeps.antt` and `specs/Alike.antt`. Each law is a function with an empty body: what
-//! it ensures
-//! is the law. A state is closed where it keeps itself, which is where all that it names is there.
+//! it ensures is the law. A state is closed where it keeps itself, which is where all that it names is there.
 ghost use Rattle.std.specs.Prelude.{◌≡◌, ◌≢◌, ◌<◌, ◌≤◌, ◌+◌, ℕ, ℤ, Bool, true, false, nat_lt, if◌then◌else◌, Option};
 ghost use Rattle.std.specs.Prelude.{Some, None, List, [], ◌∷◌, length, slice_get, IsSome};
 ghost use Rattle.std.specs.List.{AllByRecursion, Contains};
@@ -69,8 +65,7 @@ pub fn a_write_stands()
 {}
 
 /// A state that keeps another one keeps itself, and all that this one keeps. States with the same objects and the same
-/// rest stand
-/// for each other.
+/// rest stand for each other.
 pub fn keeping_is_transitive()
     ensures itself { (v m : Kept) → Keeps v m → Keeps v v }
     ensures transitive { (u v m : Kept) → Keeps u v → Keeps v m → Keeps u m }
@@ -320,8 +315,7 @@ pub fn keeping_survives_a_bytecode()
 {}
 
 /// A step of a state that keeps another one, and a step of that one, end in the same way, with the same counts, equal
-/// run parts and
-/// the same next birth; the results keep each other again, and so do the states that they saved.
+/// run parts and the same next birth; the results keep each other again, and so do the states that they saved.
 pub fn keeping_survives_a_step()
     ensures ending { (s t : State) → KeepsState s t → (step s).ending ≡ (step t).ending }
     ensures count { (s t : State) → KeepsState s t → (step s).count ≡ (step t).count }
@@ -368,8 +362,7 @@ pub fn births_never_fall()
 {}
 
 /// A birth that was given is never given again: below the next birth nothing comes where nothing is. So the birth of
-/// each new object
-/// is not below the old next birth.
+/// each new object is not below the old next birth.
 pub fn no_birth_is_given_again()
     ensures step { (s : State) (i : ℕ) → IsValid s → i < s.kept.rest.next → object_at s.kept i ≡ None
         → object_at (step s).state.kept i ≡ None }
@@ -392,8 +385,7 @@ pub fn no_object_leaves()
 {}
 
 /// The states that a run is said to pass are those behind each event that is due, one for each event that is done, and
-/// behind each
-/// step: entry n is what is left where the first n + 1 events alone are there.
+/// behind each step: entry n is what is left where the first n + 1 events alone are there.
 pub fn a_run_passes_what_its_steps_leave()
     ensures event { (s : State) (n : ℕ) (k : Kept) → slice_get (before_bytecode s) n ≡ Some k
         → (due (first_events (n + 1) s)).state.kept ≡ k }
@@ -414,10 +406,9 @@ pub fn a_step_does_its_bytecode_there()
 {}
 
 /// What an instruction leads to is what the send gives that it leads to, and that is what the primitives give that it
-/// tries: without
-/// one nothing becomes of the run, and else it is what the last of them gives, the method of which is entered where it
-/// fails, or at
-/// once where it is a perform that a perform found. So where it answers, one of them gives that very answer.
+/// tries: without one nothing becomes of the run, and else it is what the last of them gives, the method of which is
+/// entered where it fails, or at once where it is a perform that a perform found. So where it answers, one of them
+/// gives that very answer.
 pub fn a_bytecode_gives_what_its_last_primitive_gives()
     ensures sent { (r : Run) (o : Out) (a : Sending) → sending_from o ≡ Some a
         → SameButCount (followed r o) (sent r (sent_out a)) }
@@ -432,8 +423,7 @@ pub fn a_bytecode_gives_what_its_last_primitive_gives()
 {}
 
 /// Where 196 answers, the contexts that are said to end are those that die, and the receiver gets the argument as its
-/// sender; where 74
-/// answers for a context, the field of its index is what is written.
+/// sender; where 74 answers for a context, the field of its index is what is written.
 pub fn the_contexts_changed_are_those_of_the_primitives()
     ensures ended { (k : Kept) (i : ℕ) → context_birth k (receiver k 1) ≡ Some i → is_answer
         (end_between_prim k 1).end ≡ true
@@ -445,8 +435,7 @@ pub fn the_contexts_changed_are_those_of_the_primitives()
 {}
 
 /// What is built is said of the send that an instruction leads to, and by the primitive that this send offers; where
-/// nothing is
-/// found it isn't built.
+/// nothing is found it isn't built.
 pub fn what_is_built_is_what_a_send_finds()
     ensures out { (o : Out) → is_built_out o ≡ given (sending_from o) true (λ a. is_built_send a.state a.message) }
     ensures found { (k : Kept) (m : Message) → look_from k m.selector (begins_at k m.args m.above) ≢ sought.Missing

@@ -31,7 +31,7 @@ impl MethodHeader {
         self.0 % (1 << 15)
     }
 
-    /// Whether the method has a primitive, which its bytecodes then begin with.
+    /// Whether the header says that the method has a primitive. Its bytecodes name one only where they begin with 139.
     pub fn has_primitive(self) -> bool
         ensures { result ≡ has_primitive self.0 }
     {
