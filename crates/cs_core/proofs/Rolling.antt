@@ -376,8 +376,7 @@ finish_leads {k = k} {s = s} {v = v} n all h = (h.ready.sound, subst (λ m. Stan
 pub stop_leads : {k : Kept} {old now new : Option (List ℕ)} {i : ℕ} {s : Store} {v : Kept} {l : Option Layout} (t : Store) (w : Kept) (b : Option Layout) (n : ℕ) (reason : Reason) → i < n → Stands k old now i s v l → StepGives v l now new t w b (how.Stopped reason)
     → IsSound t w → (can_begin v ≡ false → w ≡ v) → RunLeads k n t w (hows.Stopped reason)
 stop_leads {k = k} {i = i} {v = v} t w b n reason below h g sound untouched =
-    let state : (run_of k n).state ≡ (run_of k i).state = (stops_there t w b n reason below h g).state in
-    (
+    let state : (run_of k n).state ≡ (run_of k i).state = (stops_there t w b n reason below h g).state in (
       sound,
       λ none.
           let there : can_begin v ≡ false = sym (begin_kept v (state_of k i) h.keeps) ∙ ap (λ (s : State). can_begin s.kept) (sym state) ∙ none in
