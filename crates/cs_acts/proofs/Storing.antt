@@ -1,5 +1,5 @@
 -- What a store into a slot meets, as the heap and as the state tell it.
-use Rattle.std.proofs.Common.{◌≡◌, ℕ, ◌+◌, ◌<◌, ◌≤◌, Bool, true, false, refl, sym, ap, ap₂, subst, ◌∙◌, arith, Option, Some, None, List, length, option_and_then}
+use Rattle.std.proofs.Common.{◌≡◌, ℕ, ◌+◌, ◌<◌, ◌≤◌, Bool, true, false, refl, sym, ap, ap₂, ◌∙◌, arith, Option, Some, None, List, length, option_and_then}
 use Rattle.std.specs.Prelude.{◌==◌, ◌&&◌, if◌then◌else◌, nat_le, nat_lt, not, slice_get}
 use Rattle.std.proofs.lemmas.Bool.Decides.{nat_tests}
 use Rattle.std.proofs.lemmas.Option.{slice_get_past}
@@ -25,10 +25,9 @@ by_count true false c i n = refl
 by_count true true false i n = refl
 by_count true true true i n = rw (none_least n) refl
 
-of_slots : (a b c f : Bool) (n : ℕ) → (a && b && c && nat_le 0 n) ≡ true → f ≡ (a && b && f)
+of_slots : (a b c f : Bool) (n : ℕ) → (a && b && c && nat_le 0 n) ≡ true → f ≡ (a && f)
 of_slots false b c f n h = absurd (cc)
-of_slots true false c f n h = absurd (cc)
-of_slots true true c f n h = refl
+of_slots true b c f n h = refl
 
 module _ (s : Store) (k : Kept) (i : ℕ) (o : Oop) (holds : Holds s k) (named : IsNamed s o) where
   abbrev os : List Object

@@ -1,7 +1,6 @@
 mod Lasting
 mod Piecing
 mod Portions
-mod Summing
 pub mod Laying
 mod Chaining
 mod Settling

@@ -1,5 +1,5 @@
 -- The turn that is next is that of a state that is kept.
-use Rattle.std.proofs.Common.{◌+◌, Bool, sym, ap, ◌∙◌, nat_lt, Option, None, option_map}
+use Rattle.std.proofs.Common.{◌≡◌, ◌+◌, ◌&&◌, not, Bool, sym, ap, ap₂, ◌∙◌, nat_lt, Option, None, is_some, option_map}
 use Rattle.cs_model.specs.declared.instruction.Instr.{Instr}
 use Rattle.cs_model.specs.Ref.{Ref}
 use Rattle.cs_model.specs.State.{IsHeld, Kept, Rest, Run}
@@ -11,7 +11,7 @@ use Rattle.cs_model.specs.Operation.{set_pc_of}
 use Rattle.cs_model.specs.Read.{pc_of}
 use Rattle.cs_model.specs.Return.{back}
 use Rattle.cs_model.specs.Step.{birth_limit, instruction_at, with_kept}
-use Rattle.cs_model.proofs.Agreeing.{is_idle-kept}
+use Rattle.cs_model.proofs.Agreeing.{instruction_at-kept, is_idle-kept}
 use Rattle.cs_model.proofs.Building.{is_built_bytecode_same}
 use Rattle.cs_model.proofs.Combining.{end_same}
 use Rattle.cs_model.proofs.Executing.{exec_alike}
@@ -19,11 +19,14 @@ use Rattle.cs_model.proofs.Operating.{set_pc_moved}
 use Rattle.cs_model.proofs.Reading.{pc_same}
 use Rattle.cs_model.proofs.Same.{Any, SameOption, none, some, equal, value}
 use Rattle.cs_model.proofs.Stepping.{bytecode_alike, instruction_at_same, return_in_same}
-use Rattle.cs_core.specs.Stepped.{IsNext, next_turn, told_by}
+use Rattle.cs_core.specs.Stepped.{IsNext, can_begin, next_turn, told_by}
 use Rattle.cs_core.proofs.Carrying.{IsSame, TellsToo, alike_turns, tells_nothing, tells_return}
 
 pub next_kept : (v m : Kept) → Keeps v m → IsNext v → IsNext m
 next_kept v m k h = record { births = ap (λ (r : Rest). nat_lt birth_limit r.next) (sym k.rest) ∙ h.births; active = is_idle-kept v m k ∙ h.active }
+
+pub begin_kept : (v m : Kept) → Keeps v m → can_begin m ≡ can_begin v
+begin_kept v m k = ap₂ (λ (r : Rest) (o : Option Instr). not (nat_lt birth_limit r.next) && is_some o) (sym k.rest) (instruction_at-kept v m k)
 
 -- ---- the return that it makes
 

@@ -30,17 +30,19 @@ use Rattle.cs_heap.specs.Object.{used}
 use Rattle.cs_acts.specs.Ready.{IsReady, IsSound}
 use Rattle.cs_core.specs.declared.step.StepEnd.TheVariants as how
 use Rattle.cs_core.specs.declared.run.Ran.{Ran as Report}
-use Rattle.cs_core.specs.Stepped.{CausesNoRoom, IsNext, Needs, whole, unheld, untold, Overfills, StepGives, Turn, least_of_return, next_turn, run_at, state_at, step_at}
+use Rattle.cs_core.specs.Stepped.{CausesNoRoom, IsNext, Needs, whole, unheld, untold, Overfills, StepGives, Turn, can_begin, least_of_return, next_turn, run_at, state_at, step_at}
 use Rattle.cs_core.proofs.Growing.{part_of_more, run_writes}
 use Rattle.cs_core.specs.declared.run.RunError.TheVariants.{Full, WriteFault}
-use Rattle.cs_core.specs.Deep.{AllBegun, IsDeep, most_of, run_of}
+use Rattle.cs_core.specs.Deep.{AllBegun, IsDeep, most_of, run_of, state_of}
 use Rattle.cs_core.specs.Stacked.{IsStacked}
-use Rattle.cs_core.specs.Running.{HasNoRoom, RunGives, RunFails, ending_of, ending_at_rest, place_by}
+use Rattle.cs_core.specs.declared.run.Ending.{Ending as How}
+use Rattle.cs_core.specs.declared.run.Ending.TheVariants as hows
+use Rattle.cs_core.specs.Running.{HasNoRoom, RunBreaks, RunGives, RunFails, RunLeads, StandsFor, as_kept, at_rest, ending_of, ending_at_rest, place_by}
 use Rattle.cs_core.proofs.Carrying.{overfills_too}
 use Rattle.cs_core.proofs.Deepening.{begun_at_start, begun_on, is_deep}
 use Rattle.cs_core.proofs.Laying.{fills_by_words, page_words_kept}
 use Rattle.cs_core.proofs.Stacking.{fresh_stacked}
-use Rattle.cs_core.proofs.Nexting.{next_kept, next_same}
+use Rattle.cs_core.proofs.Nexting.{begin_kept, next_kept, next_same}
 use Rattle.cs_core.proofs.Places.{idle_place}
 
 -- ---- a run that has ended stays
@@ -280,19 +282,31 @@ goes_idle {k = k} {old = old} {now = now} {new = new} {i = i} {w = w} b n r belo
     rests_gives k old new (h.output ++ g.0) (i + 1) n w.rest.next r within (f.ending ∙ done.0) (f.run ∙ done.1) (is_idle-kept _ _ f.keeps ∙ none.0)
     (sym (ap (λ (r : Rest). r.next) f.keeps.rest) ∙ none.1) (appends_then old now new h.output g.0 h.written g.1) steps place ending
 
-pub goes_no_further : {k : Kept} {old now new : Option (List ℕ)} {i : ℕ} {s : Store} {v : Kept} {l : Option Layout} (t : Store) (w : Kept) (b : Option Layout) (n : ℕ) (r : Report) (reason : Reason) → i < n → Stands k old now i s v l → StepGives v l now new t w b (how.Stopped reason)
-    → r.steps ≡ i → place_of v ≡ place_by r.place → ending_of r.ending ≡ Stopped reason → RunGives k old new n r
-goes_no_further {k = k} {old = old} {now = now} {new = new} {i = i} {v = v} t w b n r reason below h g steps place ending =
+-- the run stops in the step that follows, and stands before it
+record StopsThere (k : Kept) (i n : ℕ) (reason : Reason) : Type 0 where
+  pub ending : (run_of k n).ending ≡ Stopped reason
+  pub state : (run_of k n).state ≡ (run_of k i).state
+
+stops_there : {k : Kept} {old now new : Option (List ℕ)} {i : ℕ} {s : Store} {v : Kept} {l : Option Layout} (t : Store) (w : Kept) (b : Option Layout) (n : ℕ) (reason : Reason) → i < n → Stands k old now i s v l → StepGives v l now new t w b (how.Stopped reason) → StopsThere k i n reason
+stops_there {k = k} {i = i} t w b n reason below h g =
     let f = follows h in
     let m = more h in
     let stopped : (run_of k (i + 1)).ending ≡ Stopped reason = f.ending ∙ g.1 h.output i in
-    let apart : n ≡ (i + 1) + (n - (i + 1)) = omega arith in
+    let apart : n ≡ (i + 1) + (n - (i + 1)) = omega (arith, below) in
     let stay : run_of k n ≡ run_of k (i + 1) = stays built_step (i + 1) (n - (i + 1)) n (state_at k [] 0) apart (λ e. let no : Stopped reason ≡ Steps = sym stopped ∙ e in cc) in
     let back : (built_step (run_of k i).state).state ≡ (run_of k i).state = built_back (run_of k i).state reason (sym (ap (λ (r : Ran). r.ending) m) ∙ stopped) in
-    let state : (run_of k n).state ≡ (run_of k i).state = ap (λ (r : Ran). r.state) stay ∙ ap (λ (r : Ran). r.state) m ∙ back in
+    record {
+      ending = ap (λ (r : Ran). r.ending) stay ∙ stopped;
+      state = ap (λ (r : Ran). r.state) stay ∙ ap (λ (r : Ran). r.state) m ∙ back;
+    }
+
+pub goes_no_further : {k : Kept} {old now new : Option (List ℕ)} {i : ℕ} {s : Store} {v : Kept} {l : Option Layout} (t : Store) (w : Kept) (b : Option Layout) (n : ℕ) (r : Report) (reason : Reason) → i < n → Stands k old now i s v l → StepGives v l now new t w b (how.Stopped reason)
+    → r.steps ≡ i → place_of v ≡ place_by r.place → ending_of r.ending ≡ Stopped reason → RunGives k old new n r
+goes_no_further {k = k} {old = old} {now = now} {new = new} {i = i} {v = v} t w b n r reason below h g steps place ending =
+    let state = (stops_there t w b n reason below h g).state in
     let runs : (run_of k n).state.run ≡ run_at h.output i = ap (λ (s : State). s.run) state ∙ h.run in
     record {
-      ending = ap (λ (r : Ran). r.ending) stay ∙ stopped ∙ sym ending;
+      ending = (stops_there t w b n reason below h g).ending ∙ sym ending;
       steps = ap (λ (q : Run). q.steps) runs ∙ sym steps;
       place = ap (λ (s : State). place_of s.kept) state ∙ place_of-kept v (run_of k i).state.kept h.keeps ∙ place;
       written = subst (λ (o : Option (List ℕ)). Appends old o (run_of k n).state.run.output) (sym g.0) (subst (λ (bytes : List ℕ). Appends old now bytes) (sym (ap (λ (q : Run). q.output) runs)) h.written);
@@ -325,6 +339,66 @@ finishes {k = k} {old = old} {now = now} {i = i} {v = v} n r all h steps place e
       place = place_of-kept v (run_of k i).state.kept h.keeps ∙ place;
       written = subst (λ (bytes : List ℕ). Appends old now bytes) (sym (ap (λ (q : Run). q.output) h.run)) h.written;
     })
+
+-- ---- the world behind a run
+
+-- nothing changes in the state of a run at rest
+rests_stand : (k w : Kept) (output : List ℕ) (i n : ℕ) → i ≤ n → (run_of k i).ending ≡ Steps → (run_of k i).state.run ≡ run_at output i → is_idle (state_of k i) ≡ true → StandsFor w (state_of k i) → StandsFor w (state_of k n)
+rests_stand k w output i n within ended run is_none stands =
+    let rests : Rests k i n = rests_at k output i n (i == n) refl within ended run is_none in
+    subst (λ (s : State). StandsFor w s.kept) (sym rests.state) stands
+
+leads_by : (k : Kept) (n : ℕ) (s : Store) (v : Kept) (e : How) → IsSound s v → StandsFor v (state_of k n) → RunLeads k n s v e
+leads_by k n s v hows.Steps sound stands = (sound, stands)
+leads_by k n s v hows.Idle sound stands = (sound, stands)
+leads_by k n s v (hows.Stopped reason) sound stands = (sound, λ none. stands)
+
+pub idle_leads : (k : Kept) (n : ℕ) (s : Store) (e : How) → IsSound s k → is_idle k ≡ true → RunLeads k n s k e
+idle_leads k n s e sound is_none =
+    let within : 0 ≤ n = omega arith in
+    let start : StandsFor k (state_of k 0) = subst (λ (s : State). StandsFor k s.kept) (sym (started_state k)) (as_kept sound.closed) in
+    leads_by k n s k e sound
+    (rests_stand k k [] 0 n within (started_ending k) (ap (λ (s : State). s.run) (started_state k)) (subst (λ (s : State). is_idle s.kept ≡ true) (sym (started_state k)) is_none) start)
+
+pub rests_leads : {k : Kept} {old now new : Option (List ℕ)} {i : ℕ} {s t : Store} {v w : Kept} {l : Option Layout} (b : Option Layout) (n : ℕ) (e : How) → i < n → Stands k old now i s v l → StepGives v l now new t w b how.Idle → RunLeads k n t w e
+rests_leads {k = k} {i = i} {t = t} {w = w} b n e below h g =
+    let f = follows h in
+    let done = g.2 h.output i in
+    let none = g.3 h.output i in
+    let within : i + 1 ≤ n = omega arith in
+    let is_none : is_idle (state_of k (i + 1)) ≡ true = is_idle-kept _ _ f.keeps ∙ none.0 in
+    leads_by k n t w e g.4 (rests_stand k w (h.output ++ g.0) (i + 1) n within (f.ending ∙ done.0) (f.run ∙ done.1) is_none (at_rest is_none (Keeps-trans none.2 f.keeps)))
+
+pub finish_leads : {k : Kept} {old now : Option (List ℕ)} {i : ℕ} {s : Store} {v : Kept} {l : Option Layout} (n : ℕ) → i ≡ n → Stands k old now i s v l → RunLeads k n s v hows.Steps
+finish_leads {k = k} {s = s} {v = v} n all h = (h.ready.sound, subst (λ m. StandsFor v (state_of k m)) all (as_kept h.keeps))
+
+-- a step that can't begin leaves the view
+pub stop_leads : {k : Kept} {old now new : Option (List ℕ)} {i : ℕ} {s : Store} {v : Kept} {l : Option Layout} (t : Store) (w : Kept) (b : Option Layout) (n : ℕ) (reason : Reason) → i < n → Stands k old now i s v l → StepGives v l now new t w b (how.Stopped reason)
+    → IsSound t w → (can_begin v ≡ false → w ≡ v) → RunLeads k n t w (hows.Stopped reason)
+stop_leads {k = k} {i = i} {v = v} t w b n reason below h g sound untouched =
+    let state : (run_of k n).state ≡ (run_of k i).state = (stops_there t w b n reason below h g).state in (
+      sound,
+      λ none.
+          let there : can_begin v ≡ false = sym (begin_kept v (state_of k i) h.keeps) ∙ ap (λ (s : State). can_begin s.kept) (sym state) ∙ none in
+          subst (λ (s : State). StandsFor w s.kept) (sym state) (subst (λ (u : Kept). StandsFor u (state_of k i)) (sym (untouched there)) (as_kept h.keeps)),
+    )
+
+-- the step in which the sink fails
+pub breaks : {k : Kept} {old now new : Option (List ℕ)} {i : ℕ} {s : Store} {v : Kept} {l : Option Layout} (t : Store) (w : Kept) (b : Option Layout) (n : ℕ) → i < n → Stands k old now i s v l → StepGives v l now new t w b how.WriteFault → RunBreaks k old new n
+breaks {k = k} {old = old} {now = now} {new = new} {i = i} t w b n below h g =
+    let f = follows h in
+    let written : (run_of k i).state.run.output ≡ h.output = ap (λ (q : Run). q.output) h.run in
+    let output : (run_of k (i + 1)).state.run.output ≡ h.output ++ g.0 = ap (λ (q : Run). q.output) (f.run ∙ (g.2 h.output i).1) in
+    record {
+      done = i;
+      fewer = below;
+      ending = h.ending;
+      bytes = g.0;
+      next = output ∙ ap (λ (bytes : List ℕ). bytes ++ g.0) (sym written);
+      part = g.1.0;
+      less = g.1.1;
+      written = subst (λ (bytes : List ℕ). Appends old new (bytes ++ take g.1.0 g.0)) (sym written) (appends_then old now new h.output (take g.1.0 g.0) h.written g.1.2);
+    }
 
 -- ---- no room
 

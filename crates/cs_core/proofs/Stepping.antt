@@ -1,5 +1,6 @@
 -- From what the instruction did to the whole step.
-use Rattle.std.proofs.Common.{◌≡◌, ℕ, ◌+◌, ◌<◌, ◌≤◌, Bool, true, sym, ap, subst, ◌∙◌, arith, Option, Some, List}
+use Rattle.std.proofs.Common.{◌≡◌, ℕ, ◌+◌, ◌<◌, ◌≤◌, ◌&&◌, not, Bool, true, false, sym, ap, ap₂, subst, ◌∙◌, arith, Option, Some, List, is_some}
+use Rattle.std.proofs.lemmas.Bool.{false≢true}
 use Rattle.cs_model.specs.declared.stop.Stop.{Stop as Reason}
 use Rattle.cs_model.specs.declared.stop.Stop.TheVariants as why
 use Rattle.cs_model.specs.declared.instruction.Instr.{Instr}
@@ -13,17 +14,17 @@ use Rattle.cs_model.proofs.Objects.{rest-put}
 use Rattle.cs_model.specs.Built.{is_built_op}
 use Rattle.cs_model.specs.End as ends
 use Rattle.cs_model.specs.End.{End}
-use Rattle.cs_model.specs.Step.{Message}
+use Rattle.cs_model.specs.Step.{Message, instruction_at}
 use Rattle.cs_model.proofs.Stepping.{MessageHeld}
 use Rattle.cs_acts.specs.declared.act.Full.{Full as Why}
 use Rattle.cs_acts.specs.Layout.{Layout}
 use Rattle.cs_acts.specs.Names.{Store}
 use Rattle.cs_acts.specs.Ready.{IsReady}
-use Rattle.cs_core.specs.Stepped.{EndsBy, StepGives, TurnGives, least_of_return, returning, sending}
+use Rattle.cs_core.specs.Stepped.{EndsBy, StepGives, TurnGives, WhereStopped, can_begin, least_of_return, returning, sending}
 use Rattle.cs_core.specs.declared.step.StepEnd.{StepEnd}
-use Rattle.cs_core.specs.declared.step.StepEnd.TheVariants.{Stopped as Stop, Full}
+use Rattle.cs_core.specs.declared.step.StepEnd.TheVariants.{Active, Idle, Stopped as Stop, Full, WriteFault}
 use Rattle.cs_core.proofs.Asking.{behind_return, behind_send}
-use Rattle.cs_core.proofs.Beginning.{Executed, Refused, did, did_not}
+use Rattle.cs_core.proofs.Beginning.{Executed, Refused, births_left, did, did_not}
 use Rattle.cs_core.proofs.Carrying.{carried, done_turn, full_turn, returns_same, sends_same, stop_turn, unbuilt_turn}
 use Rattle.cs_core.proofs.Laying.{fills_by_words}
 use Rattle.cs_core.proofs.Settling.{IsFree, Runs, Stays, exec_settles, free_on, runs_on, set_pc_stays, stays_on}
@@ -46,6 +47,21 @@ reason_in other ends.Snapshot = other
 same_reason : (a b : Reason) → ends.Stopped a ≡ ends.Stopped b → a ≡ b
 unfolding reason_in
 same_reason a b e = ap (reason_in a) e
+
+-- ---- a step that has begun
+
+pub begun : (k : Kept) (n : ℕ) (i : Instr) (e : StepEnd) (P : Type 0) → n ≡ k.rest.next → n ≤ 4611686018427387840 → instruction_at k ≡ Some i → WhereStopped e (can_begin k ≡ false → P)
+begun k n i e P is few instruction = at e
+  where
+    can : can_begin k ≡ true
+    can = ap₂ (λ (b : Bool) (o : Option Instr). not b && is_some o) (births_left k n is few) instruction
+
+    at : (e : StepEnd) → WhereStopped e (can_begin k ≡ false → P)
+    at Active = tt
+    at Idle = tt
+    at (Stop reason) = λ no. absurd (false≢true (sym no ∙ can))
+    at (Full why) = tt
+    at WriteFault = tt
 
 past_rest : (k : Kept) (i : Instr) → (past k i).rest ≡ k.rest
 unfolding set_pc_of

@@ -128,15 +128,6 @@ sum_gives k v method x args l n told s e count one h keeps ready frames by =
 
 -- ---- output
 
--- the two topmost values
-pub receiver_named : (k : Kept) (i : ℕ) (x : Ref) → i ≡ depth_of k - 2 → x ≡ unwrap_or (slice_get (stack_of k) i) (nil_of k) → receiver k 1 ≡ x
-receiver_named k i x at is = sym (is ∙ ap (λ n. unwrap_or (slice_get (stack_of k) n) (nil_of k)) at)
-
-pub argument_named : (k : Kept) (i : ℕ) (y : Ref) → 1 < depth_of k → i ≡ depth_of k - 1 → y ≡ unwrap_or (slice_get (stack_of k) i) (nil_of k) → argument k 1 0 ≡ y
-argument_named k i y there at is =
-    let some : nat_lt 0 (length (stack_of k)) ≡ true = grind (arith, nat_tests, there) in
-    ap (λ b. unwrap_or (if b then slice_get (stack_of k) (length (stack_of k) - 1) else None) (nil_of k)) some ∙ sym (is ∙ ap (λ n. unwrap_or (slice_get (stack_of k) n) (nil_of k)) at)
-
 prim_write : (k : Kept) (x y : Ref) (bytes output : List ℕ) (steps : ℕ) → receiver k 1 ≡ x → argument k 1 0 ≡ y → bytes_to_write k y ≡ Some bytes
     → prim 900 1 (state_at k output steps) ≡ result (answer k 1 x) (run_at (output ++ bytes) steps)
 unfolding prim write_prim

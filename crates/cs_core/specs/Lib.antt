@@ -1,5 +1,5 @@
 pub mod Pieces
-pub mod Sum
+pub mod Numbers
 pub mod Stacked
 pub mod Stepped
 pub mod Deep

@@ -1,8 +1,10 @@
 -- What a run gives, beside the run of the model.
-use Rattle.std.specs.Prelude.{◌≡◌, ℕ, ◌+◌, ◌*◌, ◌<◌, ◌==◌, nat_lt, true, if◌then◌else◌, List, Option, IfSome, IsSomeAnd}
+use Rattle.std.specs.Prelude.{◌≡◌, ℕ, ◌+◌, ◌*◌, ◌<◌, ◌==◌, nat_lt, true, false, if◌then◌else◌, List, ◌++◌, length, take, Option, IfSome, IsSomeAnd}
 use Rattle.cs_shelf.specs.Outside.{Appends, AppendsPart, Rose}
 use Rattle.cs_model.specs.declared.stop.Stop.TheVariants as why
 use Rattle.cs_model.specs.State.{Kept}
+use Rattle.cs_model.specs.Keeps.{Keeps}
+use Rattle.cs_model.specs.Due.{is_idle, without_context}
 use Rattle.cs_model.specs.End as ends
 use Rattle.cs_model.specs.End.{Out}
 use Rattle.cs_model.specs.Built.{is_built_bytecode}
@@ -13,6 +15,7 @@ use Rattle.cs_acts.specs.declared.act.Full.{Full as Why}
 use Rattle.cs_acts.specs.declared.act.Full.TheVariants.{Heap, Stack}
 use Rattle.cs_acts.specs.Layout.{Layout}
 use Rattle.cs_acts.specs.Names.{Store}
+use Rattle.cs_acts.specs.Ready.{IsSound}
 use Rattle.cs_heap.specs.Object.{used}
 use Rattle.cs_model.specs.Demand.{words_in}
 use Rattle.cs_core.specs.declared.run.Ending.{Ending}
@@ -22,7 +25,7 @@ use Rattle.cs_core.specs.declared.run.Ran.{Ran}
 use Rattle.cs_core.specs.declared.run.RunError.{RunError}
 use Rattle.cs_core.specs.declared.run.RunError.TheVariants.{Full, WriteFault}
 use Rattle.cs_core.specs.Deep.{IsDeep, run_of, state_of}
-use Rattle.cs_core.specs.Stepped.{IsNext, Needs, next_turn}
+use Rattle.cs_core.specs.Stepped.{IsNext, Needs, can_begin, next_turn}
 
 -- what an ending and a place of the code mean in the model
 abbrev pub ending_of : Ending → model.Ending
@@ -43,6 +46,22 @@ pub record RunGives (k : Kept) (old new : Option (List ℕ)) (n : ℕ) (r : Ran)
   pub steps : (run_of k n).state.run.steps ≡ r.steps
   pub place : place_of (run_of k n).state.kept ≡ place_by r.place
   pub written : Appends old new (run_of k n).state.run.output
+
+-- ---- the world behind a run
+
+-- The view keeps the state; or no process is active in the state, and the view without its active context keeps it.
+pub data StandsFor (v m : Kept) : Type 0 where
+  as_kept : Keeps v m → StandsFor v m
+  at_rest : is_idle m ≡ true → Keeps (without_context v) m → StandsFor v m
+
+-- Behind a run of n steps from the state k the world is sound, and its view stands for the state that the model's run comes to. A step
+-- that stops where it had begun leaves the world within it, and for no state between two steps.
+abbrev pub RunLeads : Kept → ℕ → Store → Kept → Ending → Type 0
+RunLeads k n s v Steps = IsSound s v × StandsFor v (state_of k n)
+RunLeads k n s v Idle = IsSound s v × StandsFor v (state_of k n)
+RunLeads k n s v (Stopped reason) = IsSound s v × (can_begin (state_of k n) ≡ false → StandsFor v (state_of k n))
+
+-- ---- a run that breaks off
 
 -- The words of the state to which the next bytecode leads exceed the limit of the heap; or those of a state on its way there, where it
 -- stops behind an object that it made, or where its return doesn't arrive and is to be told. In a world with pages the heap has besides
@@ -75,10 +94,27 @@ pub record RunFills (k : Kept) (s : Store) (l : Option Layout) (old new : Option
   pub written : Appends old new (run_of k done).state.run.output
   pub room : HasNoRoom k s l done why
 
+-- So many steps of n are done, and the sink fails in the next one: all that they write is written, and a first part of what that one
+-- writes.
+pub record RunBreaks (k : Kept) (old new : Option (List ℕ)) (n : ℕ) : Type 0 where
+  pub done : ℕ
+  pub fewer : done < n
+  pub ending : (run_of k done).ending ≡ model.Steps
+  pub bytes : List ℕ
+  pub next : (run_of k (done + 1)).state.run.output ≡ (run_of k done).state.run.output ++ bytes
+  pub part : ℕ
+  pub less : part < length bytes
+  pub written : Appends old new ((run_of k done).state.run.output ++ take part bytes)
+
 -- A run that breaks off. Where the sink fails, a first part was written of what the model writes in so many steps.
 abbrev pub RunFails : Kept → Store → Option Layout → Option (List ℕ) → Option (List ℕ) → ℕ → RunError → Type 0
 RunFails k s l old new n (Full why) = RunFills k s l old new n why
 RunFails k s l old new n WriteFault = AppendsPart old new (run_of k n).state.run.output
+
+-- and in which step it fails
+abbrev pub BreaksIn : Kept → Option (List ℕ) → Option (List ℕ) → ℕ → RunError → Type 0
+BreaksIn k old new n (Full why) = Unit {0}
+BreaksIn k old new n WriteFault = RunBreaks k old new n
 
 -- a fault of the sink has been counted where that is why
 abbrev pub CausedByFault : ℕ → ℕ → RunError → Type 0

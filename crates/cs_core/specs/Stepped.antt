@@ -1,5 +1,5 @@
 -- What a step gives, beside the step of the model.
-use Rattle.std.specs.Prelude.{◌≡◌, ◌⊎◌, ℕ, ◌+◌, ◌<◌, nat_lt, Bool, true, false, List, ◌++◌, [], length, Option, Some, None, option_map}
+use Rattle.std.specs.Prelude.{◌≡◌, ◌⊎◌, ℕ, ◌+◌, ◌<◌, nat_lt, ◌&&◌, not, Bool, true, false, List, ◌++◌, [], length, Option, Some, None, is_some, option_map}
 use Rattle.cs_shelf.specs.Outside.{Appends, AppendsPart, Rose}
 use Rattle.cs_model.specs.declared.stop.Stop.{Stop as Reason}
 use Rattle.cs_model.specs.declared.stop.Stop.TheVariants as why
@@ -168,6 +168,18 @@ StepGives k l old new s v n Idle = (bytes : List ℕ) × Appends old new bytes �
 StepGives k l old new s v n (Stop reason) = (new ≡ old) × ((output : List ℕ) (steps : ℕ) → (step_at k output steps).ending ≡ Stopped reason)
 StepGives k l old new s v n (Full why) = (new ≡ old) × IsNext k × ((output : List ℕ) (steps : ℕ) → Overfills s l k (next_turn (state_at k output steps)) why)
 StepGives k l old new s v n WriteFault = (bytes : List ℕ) × AppendsPart old new bytes × Completes k bytes
+
+-- where a step stops, this holds
+abbrev pub WhereStopped : StepEnd → Type 0 → Type 0
+WhereStopped Active P = Unit {0}
+WhereStopped Idle P = Unit {0}
+WhereStopped (Stop reason) P = P
+WhereStopped (Full why) P = Unit {0}
+WhereStopped WriteFault P = Unit {0}
+
+-- births are left, and an instruction stands at the pc; else a step stops before it changes anything
+abbrev pub can_begin : Kept → Bool
+can_begin k = not (nat_lt birth_limit k.rest.next) && is_some (instruction_at k)
 
 -- a fault of the sink has been counted
 abbrev pub CausedByFault : ℕ → ℕ → StepEnd → Type 0

@@ -1,29 +1,75 @@
 //! The primitives that no crate of their own has yet: 1, the sum of two SmallIntegers, and 900, which writes bytes.
 ghost use Rattle.std.specs.Prelude.{◌≡◌, ◌<◌, ◌≤◌, ◌+◌, ◌*◌, ◌-◌, [], ◌∷◌, true, IfSome, OnErr, OnOk, Some, drop};
-ghost use Rattle.std.specs.Prelude.{is_some, option_and_then, option_map, take};
+ghost use Rattle.std.specs.Prelude.{option_and_then, option_map, take};
 ghost use Rattle.arrayvec.specs.ArrayVec.{array_vec_len};
 ghost use Rattle.cs_model.specs.Exec.{small_operands};
 ghost use Rattle.cs_model.specs.Number.{number_result};
 ghost use Rattle.cs_model.specs.PrimRun.{bytes_to_write, small_byte};
+ghost use Rattle.cs_model.specs.Read.{depth_of};
 ghost use Rattle.cs_acts.specs.Names.{IsNamed, NamesOption, name_of};
 ghost use Rattle.cs_acts.specs.Ready.{IsReady, IsSound};
 ghost use Rattle.cs_classes.specs.Meaning.{count_of, unused_bytes};
 ghost use Rattle.cs_heap.specs.Object.{format_of, slot_count_of};
+ghost use Rattle.cs_prim_ctx.specs.Numbers.{reads_context};
 ghost use Rattle.cs_shelf.specs.Outside.{Appends, AppendsPart, Rose};
-ghost use Rattle.cs_word.specs.declared.Kind.TheVariants as kind;
-ghost use Rattle.cs_word.specs.Word.{kind_of};
 ghost use Rattle.cs_core.specs.Pieces.{IsPieceOf, all_bytes_at, bytes_at, bytes_of_piece, is_bytes_at, is_piece};
-ghost use Rattle.cs_core.specs.Sum.{sum_in};
+ghost use Rattle.cs_core.specs.Numbers.{HasNumber};
 
 use arrayvec::ArrayVec;
 use cs_acts::World;
-use cs_acts::read::from_top;
+use cs_acts::answer::receiver;
+use cs_acts::arithmetic::{Operation, number_result, operands};
+use cs_acts::read::is_context;
 use cs_heap::Heap;
 use cs_shelf::{Failed, Sink, write_whole};
-use cs_word::{Kind, Oop, add};
+use cs_unwind::unwinds;
+use cs_word::{Kind, Oop};
 
 /// The most bytes that are handed to the sink at once.
 const AT_ONCE: u32 = 256;
+
+/// A primitive that is built.
+#[derive(Clone, Copy, PartialEq, Eq, Debug)]
+pub enum Primitive {
+    /// 1: the sum of two SmallIntegers.
+    Add,
+    /// 900: writes bytes.
+    Write,
+    /// One that evaluates a closure or looks for a mark, or that is a mark.
+    Unwind,
+    /// One that reads a context: 210 or 212, or 73 where its receiver is a context.
+    ReadContext,
+}
+
+impl Primitive {
+    /// The primitive of this number, called with `args` arguments; None exactly where it isn't built.
+    pub fn from_number<W: World>(w: &W, number: u32, args: u32) -> Option<Primitive>
+        requires ready { IsReady (W.stored w.now) (W.view w.now) }
+        requires there { args < depth_of (W.view w.now) }
+        ensures { HasNumber (W.view w.now) args result number }
+    {
+        match number {
+            1 => Some(Primitive::Add),
+            900 => Some(Primitive::Write),
+            _ if unwinds(number) => Some(Primitive::Unwind),
+            _ if reads_context(w, number, args) => Some(Primitive::ReadContext),
+            _ => None,
+        }
+    }
+}
+
+/// Whether the primitive of this number, with so many arguments, is one that reads a context.
+fn reads_context<W: World>(w: &W, number: u32, args: u32) -> bool
+    requires ready { IsReady (W.stored w.now) (W.view w.now) }
+    requires there { args < depth_of (W.view w.now) }
+    ensures { result ≡ reads_context (W.view w.now) number args }
+{
+    match number {
+        210 | 212 => true,
+        73 => is_context(w, receiver(w, args)),
+        _ => false,
+    }
+}
 
 /// The sum of receiver and argument, as primitive 1 gives it (Blue Book); None exactly where they aren't two
 /// SmallIntegers or the sum doesn't fit.
@@ -32,28 +78,8 @@ pub fn sum<W: World>(w: &W) -> Option<Oop>
     ensures { NamesOption (W.stored w.now) result
         (option_and_then (λ p. number_result (W.view w.now) 1 p.0 p.1) (small_operands (W.view w.now))) }
 {
-    let Some(receiver) = from_top(w, 1) else {
-        return None;
-    };
-    let Some(argument) = from_top(w, 0) else {
-        return None;
-    };
-    small_sum(receiver, argument)
-}
-
-/// The sum of two words that are SmallIntegers, as a word; None exactly where one isn't, or where the sum doesn't fit.
-fn small_sum(a: Oop, b: Oop) -> Option<Oop>
-    ensures some { is_some result ≡ is_some (sum_in (kind_of a.0) (kind_of b.0)) }
-    ensures kind { IfSome result (λ o. option_map (λ z. kind.Small z) (sum_in (kind_of a.0) (kind_of b.0)) ≡ Some
-        (kind_of o.0)) }
-{
-    match (a.kind(), b.kind()) {
-        (Kind::Small(a), Kind::Small(b)) => match add(a, b) {
-            Some(sum) => Oop::small(sum),
-            None => None,
-        },
-        _ => None,
-    }
+    let (a, b) = operands(w)?;
+    number_result(w, Operation::Add, a, b)
 }
 
 /// What primitive 900 writes, which is this machine's own.

@@ -7,7 +7,8 @@ ghost use Rattle.cs_model.specs.Report.{no_place, place_of};
 ghost use Rattle.cs_acts.specs.Layout.{IsFresh, IsLaidOut};
 ghost use Rattle.cs_acts.specs.Names.{IsNamed, name_of};
 ghost use Rattle.cs_acts.specs.Ready.{IsSound};
-ghost use Rattle.cs_core.specs.Running.{CausedByFault, RunFails, RunGives, ending_at_rest, ending_of, place_by};
+ghost use Rattle.cs_core.specs.Running.{BreaksIn, CausedByFault, RunFails, RunGives, RunLeads, ending_at_rest};
+ghost use Rattle.cs_core.specs.Running.{ending_of, place_by};
 
 use crate::step::{BIRTH_LIMIT, StepEnd, step};
 use cs_acts::read::{active_process, nil, same};
@@ -114,6 +115,9 @@ fn is_idle<W: World>(w: &W) -> bool
 
 /// Runs `n` steps, or fewer where one of them ends the run.
 ///
+/// Behind `Steps` and `Idle` the world stands where the run does, and another run may begin there. Behind `Stopped` it
+/// has begun a step that isn't completed.
+///
 /// An error breaks the run off. Where the sink failed, it has taken a first part of what the run writes; where there is
 /// no room for what a bytecode leads to, it has taken all that the steps before wrote.
 pub fn run<W: World, K: Sink>(
@@ -128,6 +132,8 @@ pub fn run<W: World, K: Sink>(
     ensures ran { IfOk result (λ r. RunGives (W.view w.old) (K.taken out.old) (K.taken out.new) n r) }
     ensures failed { IfErr result (λ e. RunFails (W.view w.old) (W.stored w.new) (W.layout w.old) (K.taken out.old)
         (K.taken out.new) n e) }
+    ensures world { IfOk result (λ r. RunLeads (W.view w.old) n (W.stored w.new) (W.view w.new) r.ending) }
+    ensures breaks { IfErr result (λ e. BreaksIn (W.view w.old) (K.taken out.old) (K.taken out.new) n e) }
     ensures limit { (W.stored w.new).memory.limit ≡ (W.stored w.old).memory.limit }
     ensures never_falls { K.fault_count out.old ≤ K.fault_count out.new }
     ensures cause { IfErr result (λ e. CausedByFault (K.fault_count out.old) (K.fault_count out.new) e) }

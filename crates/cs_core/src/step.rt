@@ -1,25 +1,24 @@
 //! One step: one bytecode and all that it leads to.
-ghost use Rattle.std.specs.Prelude.{◌≡◌, ◌<◌, ◌≤◌, ℕ, false, true, IfSome, List, Option};
+ghost use Rattle.std.specs.Prelude.{◌≡◌, ◌≤◌, ℕ, false, true, IfSome, List, Option};
 ghost use Rattle.cs_model.specs.Due.{is_idle};
-ghost use Rattle.cs_model.specs.Read.{depth_of};
 ghost use Rattle.cs_acts.specs.Names.{IsNamed, name_of};
 ghost use Rattle.cs_acts.specs.Ready.{IsReady, IsSound};
 ghost use Rattle.cs_acts.specs.Targets.{CanEnter};
 ghost use Rattle.cs_prim_ctx.specs.Numbers.{reads_context};
 ghost use Rattle.cs_send.specs.Sent.{message_of};
 ghost use Rattle.cs_unwind.specs.Primitive.{unwinds};
-ghost use Rattle.cs_core.specs.Stepped.{CausedByFault, EndsBy, Fails, StepGives, TurnGives, calling, returning};
-ghost use Rattle.cs_core.specs.Stepped.{sending, trying};
+ghost use Rattle.cs_core.specs.Stepped.{CausedByFault, EndsBy, Fails, StepGives, TurnGives, WhereStopped, calling};
+ghost use Rattle.cs_core.specs.Stepped.{can_begin, returning, sending, trying};
 
-use crate::primitive::{piece_of, sum, write};
-use cs_acts::answer::answer;
-use cs_acts::read::{instruction, is_context, special};
+use crate::primitive::{Primitive, piece_of, sum, write};
+use cs_acts::answer::{answer, argument, receiver};
+use cs_acts::read::{instruction, special};
 use cs_acts::{Full, PrimEnd, Shape, World, shape_of};
 use cs_code::{CodeEnd, exec};
 use cs_model::Stop;
 use cs_send::{SendEnd, Sender, enter};
 use cs_shelf::Sink;
-use cs_unwind::{BackEnd, unwinds};
+use cs_unwind::BackEnd;
 use cs_word::Oop;
 
 /// Births end so far below 2^62 that a step can't pass it.
@@ -32,7 +31,7 @@ pub enum StepEnd {
     Active,
     /// A bytecode is completed, and no process is active.
     Idle,
-    /// The step stops: nothing of it has happened.
+    /// The step stops. It has written nothing; where it had begun, the world stands within it.
     Stopped(Stop),
     /// The world has no room for what the bytecode leads to, or makes on its way.
     Full(Full),
@@ -46,6 +45,8 @@ pub fn step<W: World, K: Sink>(w: &mut W, sender: &mut Sender, out: &mut K) -> S
     requires active { is_idle (W.view w.old) ≡ false }
     ensures gives { StepGives (W.view w.old) (W.layout w.old) (K.taken out.old) (K.taken out.new) (W.stored w.new)
         (W.view w.new) (W.layout w.new) result }
+    ensures sound { WhereStopped result (IsSound (W.stored w.new) (W.view w.new)) }
+    ensures untouched { WhereStopped result (can_begin (W.view w.old) ≡ false → W.view w.new ≡ W.view w.old) }
     ensures limit { (W.stored w.new).memory.limit ≡ (W.stored w.old).memory.limit }
     ensures never_falls { K.fault_count out.old ≤ K.fault_count out.new }
     ensures cause { CausedByFault (K.fault_count out.old) (K.fault_count out.new) result }
@@ -85,6 +86,7 @@ fn send<W: World, K: Sink>(
     requires above { IfSome above (λ o. IsNamed (W.stored w.old) o) }
     ensures gives { TurnGives (sending (W.view w.old) (message_of (W.stored w.old) selector args above)) (W.view w.old)
         (W.layout w.old) (K.taken out.old) (K.taken out.new) (W.stored w.new) (W.view w.new) (W.layout w.new) result }
+    ensures sound { WhereStopped result (IsSound (W.stored w.new) (W.view w.new)) }
     ensures limit { (W.stored w.new).memory.limit ≡ (W.stored w.old).memory.limit }
     ensures never_falls { K.fault_count out.old ≤ K.fault_count out.new }
     ensures cause { CausedByFault (K.fault_count out.old) (K.fault_count out.new) result }
@@ -110,16 +112,19 @@ fn try_primitive<W: World, K: Sink>(
     requires enters { CanEnter (W.view w.old) (name_of (W.stored w.old) method) args true }
     ensures gives { TurnGives (trying (W.view w.old) (name_of (W.stored w.old) method) number) (W.view w.old)
         (W.layout w.old) (K.taken out.old) (K.taken out.new) (W.stored w.new) (W.view w.new) (W.layout w.new) result }
+    ensures sound { WhereStopped result (IsSound (W.stored w.new) (W.view w.new)) }
     ensures limit { (W.stored w.new).memory.limit ≡ (W.stored w.old).memory.limit }
     ensures never_falls { K.fault_count out.old ≤ K.fault_count out.new }
     ensures cause { CausedByFault (K.fault_count out.old) (K.fault_count out.new) result }
 {
-    match number {
-        1 => add_or_enter(w, method, args),
-        900 => write_or_enter(w, out, method, args),
-        _ if unwinds(number) => unwind_or_enter(w, method, args, number),
-        _ if reads_context(w, number, args) => read_or_enter(w, method, args, number),
-        _ => StepEnd::Stopped(Stop::NotBuilt),
+    let Some(primitive) = Primitive::from_number(w, number, args) else {
+        return StepEnd::Stopped(Stop::NotBuilt);
+    };
+    match primitive {
+        Primitive::Add => add_or_enter(w, method, args),
+        Primitive::Write => write_or_enter(w, out, method, args),
+        Primitive::Unwind => unwind_or_enter(w, method, args, number),
+        Primitive::ReadContext => read_or_enter(w, method, args, number),
     }
 }
 
@@ -130,6 +135,7 @@ fn add_or_enter<W: World>(w: &mut W, method: Oop, args: u32) -> StepEnd
     requires enters { CanEnter (W.view w.old) (name_of (W.stored w.old) method) args true }
     ensures gives { (told : Option (List ℕ)) → TurnGives (trying (W.view w.old) (name_of (W.stored w.old) method) 1)
         (W.view w.old) (W.layout w.old) told told (W.stored w.new) (W.view w.new) (W.layout w.new) result }
+    ensures sound { WhereStopped result (IsSound (W.stored w.new) (W.view w.new)) }
     ensures limit { (W.stored w.new).memory.limit ≡ (W.stored w.old).memory.limit }
     ensures cause { (faults : ℕ) → CausedByFault faults faults result }
 {
@@ -153,6 +159,7 @@ fn write_or_enter<W: World, K: Sink>(w: &mut W, out: &mut K, method: Oop, args: 
     requires enters { CanEnter (W.view w.old) (name_of (W.stored w.old) method) args true }
     ensures gives { TurnGives (trying (W.view w.old) (name_of (W.stored w.old) method) 900) (W.view w.old)
         (W.layout w.old) (K.taken out.old) (K.taken out.new) (W.stored w.new) (W.view w.new) (W.layout w.new) result }
+    ensures sound { WhereStopped result (IsSound (W.stored w.new) (W.view w.new)) }
     ensures limit { (W.stored w.new).memory.limit ≡ (W.stored w.old).memory.limit }
     ensures never_falls { K.fault_count out.old ≤ K.fault_count out.new }
     ensures cause { CausedByFault (K.fault_count out.old) (K.fault_count out.new) result }
@@ -160,9 +167,8 @@ fn write_or_enter<W: World, K: Sink>(w: &mut W, out: &mut K, method: Oop, args: 
     if args != 1 {
         return enter_behind(w, method, args);
     }
-    let depth = w.depth();
-    let receiver = w.stack_at(depth - 2);
-    let argument = w.stack_at(depth - 1);
+    let receiver = receiver(w, 1);
+    let argument = argument(w);
     let Some(piece) = piece_of(w, argument) else {
         return enter_behind(w, method, args);
     };
@@ -186,6 +192,7 @@ fn read_or_enter<W: World>(w: &mut W, method: Oop, args: u32, number: u32) -> St
     ensures gives { (told : Option (List ℕ)) → TurnGives
         (trying (W.view w.old) (name_of (W.stored w.old) method) number) (W.view w.old) (W.layout w.old) told told
         (W.stored w.new) (W.view w.new) (W.layout w.new) result }
+    ensures sound { WhereStopped result (IsSound (W.stored w.new) (W.view w.new)) }
     ensures limit { (W.stored w.new).memory.limit ≡ (W.stored w.old).memory.limit }
     ensures cause { (faults : ℕ) → CausedByFault faults faults result }
 {
@@ -206,6 +213,7 @@ fn unwind_or_enter<W: World>(w: &mut W, method: Oop, args: u32, number: u32) -> 
     ensures gives { (told : Option (List ℕ)) → TurnGives
         (trying (W.view w.old) (name_of (W.stored w.old) method) number) (W.view w.old) (W.layout w.old) told told
         (W.stored w.new) (W.view w.new) (W.layout w.new) result }
+    ensures sound { WhereStopped result (IsSound (W.stored w.new) (W.view w.new)) }
     ensures limit { (W.stored w.new).memory.limit ≡ (W.stored w.old).memory.limit }
     ensures cause { (faults : ℕ) → CausedByFault faults faults result }
 {
@@ -217,20 +225,6 @@ fn unwind_or_enter<W: World>(w: &mut W, method: Oop, args: u32, number: u32) -> 
     }
 }
 
-/// Whether the primitive of this number, with so many arguments, is one that reads a context: 210 or 212, or 73 where
-/// its receiver is a context.
-fn reads_context<W: World>(w: &W, number: u32, args: u32) -> bool
-    requires ready { IsReady (W.stored w.now) (W.view w.now) }
-    requires there { args < depth_of (W.view w.now) }
-    ensures { result ≡ reads_context (W.view w.now) number args }
-{
-    match number {
-        210 | 212 => true,
-        73 => is_context(w, w.stack_at(w.depth() - (args + 1))),
-        _ => false,
-    }
-}
-
 /// Enters a method whose primitive, of a number that is built, has failed.
 fn enter_behind<W: World>(w: &mut W, method: Oop, args: u32) -> StepEnd
     requires ready { IsReady (W.stored w.old) (W.view w.old) }
@@ -239,6 +233,7 @@ fn enter_behind<W: World>(w: &mut W, method: Oop, args: u32) -> StepEnd
     ensures gives { (told : Option (List ℕ)) (number : ℕ) → Fails (W.view w.old) (name_of (W.stored w.old) method)
         number → TurnGives (trying (W.view w.old) (name_of (W.stored w.old) method) number) (W.view w.old)
         (W.layout w.old) told told (W.stored w.new) (W.view w.new) (W.layout w.new) result }
+    ensures sound { WhereStopped result (IsSound (W.stored w.new) (W.view w.new)) }
     ensures limit { (W.stored w.new).memory.limit ≡ (W.stored w.old).memory.limit }
     ensures cause { (faults : ℕ) → CausedByFault faults faults result }
 {
@@ -261,6 +256,7 @@ fn give_back<W: World, K: Sink>(
     requires named { IsNamed (W.stored w.old) value }
     ensures gives { TurnGives (returning (W.view w.old) (name_of (W.stored w.old) value) local) (W.view w.old)
         (W.layout w.old) (K.taken out.old) (K.taken out.new) (W.stored w.new) (W.view w.new) (W.layout w.new) result }
+    ensures sound { WhereStopped result (IsSound (W.stored w.new) (W.view w.new)) }
     ensures limit { (W.stored w.new).memory.limit ≡ (W.stored w.old).memory.limit }
     ensures never_falls { K.fault_count out.old ≤ K.fault_count out.new }
     ensures cause { CausedByFault (K.fault_count out.old) (K.fault_count out.new) result }
@@ -285,6 +281,7 @@ fn call<W: World, K: Sink>(
     requires births { (W.view w.old).rest.next ≤ 4611686018427387840 }
     ensures gives { TurnGives (calling (W.view w.old) number args) (W.view w.old) (W.layout w.old) (K.taken out.old)
         (K.taken out.new) (W.stored w.new) (W.view w.new) (W.layout w.new) result }
+    ensures sound { WhereStopped result (IsSound (W.stored w.new) (W.view w.new)) }
     ensures limit { (W.stored w.new).memory.limit ≡ (W.stored w.old).memory.limit }
     ensures never_falls { K.fault_count out.old ≤ K.fault_count out.new }
     ensures cause { CausedByFault (K.fault_count out.old) (K.fault_count out.new) result }
@@ -298,7 +295,8 @@ fn call<W: World, K: Sink>(
 /// The end of a step that did its bytecode.
 fn finish<W: World>(w: &W) -> StepEnd
     requires { IsSound (W.stored w.now) (W.view w.now) }
-    ensures { EndsBy (W.view w.now) result }
+    ensures by { EndsBy (W.view w.now) result }
+    ensures sound { WhereStopped result (IsSound (W.stored w.now) (W.view w.now)) }
 {
     match shape_of(w) {
         Shape::Active(_) => StepEnd::Active,

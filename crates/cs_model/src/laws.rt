@@ -209,8 +209,7 @@ pub fn keeping_survives_opening()
 {}
 
 /// A valid state that is settled and opened again is as it was, but for the slot in which its active process keeps a
-/// context:
-/// that is nil, as it is while a process runs. The run begins anew.
+/// context: that is nil, as it is while a process runs. The run begins anew.
 pub fn opening_undoes_settling()
     ensures kept { (s : State) (events : List Event) (snapping : Bool) → IsValid s
         → SameKept (opened (settled s) events snapping).kept (forgotten s.kept) }

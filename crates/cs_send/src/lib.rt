@@ -7,8 +7,8 @@
 ghost use Rattle.std.specs.Prelude.{◌≡◌, ◌<◌, ◌≤◌, IfErr, IfOk, IfSome, OnOk, option_map, true};
 ghost use Rattle.cs_model.specs.Lookup.{lookup};
 ghost use Rattle.cs_model.specs.Read.{depth_of};
-ghost use Rattle.cs_model.specs.Send.{begins_at, enter_out, receiver_at};
-ghost use Rattle.cs_acts.specs.Names.{IsNamed, Names, NamesOption, name_of};
+ghost use Rattle.cs_model.specs.Send.{begins_at, enter_out};
+ghost use Rattle.cs_acts.specs.Names.{IsNamed, NamesOption, name_of};
 ghost use Rattle.cs_acts.specs.Reading.{IsMethodNamed};
 ghost use Rattle.cs_acts.specs.Ready.{IsReady, IsSound};
 ghost use Rattle.cs_acts.specs.Targets.{CanEnter};
@@ -16,6 +16,7 @@ ghost use Rattle.cs_lookup.specs.Found.{sought_of};
 ghost use Rattle.cs_send.specs.Resolved.{FindsMethod, LooksUpMethod, resolve_method, resolve_of, resolved_by};
 ghost use Rattle.cs_send.specs.Sent.{Enters, Finds, Refuses, Sends, Still, counted, looks_up, message_of};
 
+use cs_acts::answer::receiver;
 use cs_acts::method::{argument_count, primitive};
 use cs_acts::read::{class_of, slot};
 use cs_acts::{Full, World};
@@ -185,15 +186,6 @@ fn begins_at<W: World>(w: &W, args: u32, above: Option<Oop>) -> Option<Oop>
         None => class_of(w, receiver(w, args)),
         Some(above) => slot(w, above, 3, 0),
     }
-}
-
-/// The receiver below so many arguments.
-fn receiver<W: World>(w: &W, args: u32) -> Oop
-    requires ready { IsReady (W.stored w.now) (W.view w.now) }
-    requires there { args < depth_of (W.view w.now) }
-    ensures { Names (W.stored w.now) result (receiver_at (W.view w.now) args) }
-{
-    w.stack_at(w.depth() - (args + 1))
 }
 
 /// What a method that was found leads to.

@@ -3,7 +3,7 @@ use Rattle.std.proofs.Common.{◌≡◌, ◌≢◌, ℕ, suc, ◌+◌, ◌-◌, 
 use Rattle.std.specs.Prelude.{◌==◌, ◌||◌, if◌then◌else◌, nat_lt, pos, slice_index, slice_set}
 use Rattle.std.specs.Option.{option_map_or}
 use Rattle.std.specs.FinMap.{get}
-use Rattle.std.proofs.lemmas.Bool.{cases_eq, eq-eqb}
+use Rattle.std.proofs.lemmas.Bool.{cases_eq, eq-eqb, or_right}
 use Rattle.std.proofs.lemmas.Bool.Decides.{eqb_tells}
 use Rattle.std.proofs.lemmas.List.Folds.{list_any_at}
 use Rattle.std.proofs.lemmas.List.{get_or-set_other, get_or-set_same, length-map, length-set}
@@ -185,13 +185,9 @@ pub record HasBody (a : ℕ) (ps : List (List Frame)) : Type 0 where
   pub on : IsOn f gs (frames_of ps p)
   pub is : f.context ≡ a
 
-or_true : (b : Bool) → (b || true) ≡ true
-or_true true = refl
-or_true false = refl
-
 has_on : {f : Frame} {gs fs : List Frame} (a : ℕ) → IsOn f gs fs → f.context ≡ a → has_context a fs ≡ true
 has_on {f = f} {gs = gs} a here e = ap (λ b. b || has_context a gs) (eq-eqb f.context a e)
-has_on a (above e es on) is = ap (λ b. (e.context == a) || b) (has_on a on is) ∙ or_true (e.context == a)
+has_on a (above e es on) is = ap (λ b. (e.context == a) || b) (has_on a on is) ∙ or_right (e.context == a) true refl
 
 some_on : {f : Frame} {gs fs : List Frame} → IsOn f gs fs → 0 < length fs
 some_on here = omega arith

@@ -1,9 +1,7 @@
 -- An object is made: the heap has one more, and so has the state.
-use Rattle.std.proofs.Common.{◌≡◌, ◌∙◌, inr, ℕ, zero, suc, ◌+◌, ◌*◌, ◌-◌, ◌<◌, ◌≤◌, ◌^◌, Bool, true, false, refl, sym, ap, ap₂, subst, Option, Some, None, is_some, option_map, List, [], ◌∷◌, ◌++◌, replicate, arith}
-use Rattle.std.specs.Prelude.{◌==◌, ◌||◌, if◌then◌else◌, nat_lt}
+use Rattle.std.proofs.Common.{◌≡◌, ◌∙◌, inr, ℕ, zero, suc, ◌+◌, ◌*◌, ◌-◌, ◌<◌, ◌≤◌, ◌^◌, Bool, true, false, refl, sym, ap, ap₂, subst, Option, None, is_some, List, [], ◌∷◌, ◌++◌, replicate, arith}
+use Rattle.std.specs.Prelude.{◌==◌, if◌then◌else◌}
 use Rattle.std.specs.FinMap.{get}
-use Rattle.std.proofs.lemmas.Bool.{false≢true}
-use Rattle.std.proofs.lemmas.Bool.Decides.{nat_tests}
 use Rattle.std.proofs.lemmas.List.{length-replicate}
 use Rattle.cs_word.specs.declared.Oop.{Oop}
 use Rattle.cs_heap.specs.Format.{is_method, is_pointers}
@@ -14,7 +12,7 @@ use Rattle.cs_classes.specs.Sound.{IsWhole, is_weak}
 use Rattle.cs_classes.proofs.Heaps.{birth_of-object_at}
 use Rattle.cs_classes.proofs.Makings.{Makes, makes-bytes, makes-pointers}
 use Rattle.cs_classes.proofs.Refs.{is_reference-object, is_reference-push, ref_of-object, ref_of-push}
-use Rattle.cs_classes.proofs.Wholes.{after_birth, get-classes_of, kind_of-entry}
+use Rattle.cs_classes.proofs.Wholes.{after_birth, kind_of-entry}
 use Rattle.cs_frame.specs.Page.{frames_of}
 use Rattle.cs_marriage.proofs.Laws.{agree_grown}
 use Rattle.cs_model.specs.Ref as ref
@@ -30,12 +28,14 @@ use Rattle.cs_acts.specs.Full.{IsFullHeap}
 use Rattle.cs_acts.specs.Made.{CanAllocate, blank_of, contexts_in}
 use Rattle.cs_acts.specs.Names.{KeepsNames, Names}
 use Rattle.cs_acts.specs.Ready.{IsReady, IsSound}
+use Rattle.cs_acts.proofs.Allocating.{class_below, entry_in, no_context_class, no_immediate_class, no_method_format, no_weak_format}
 use Rattle.cs_stack.specs.declared.parts.Parts.{Parts}
 use Rattle.cs_stack.specs.View.{active_in, active_page, bare, layout_of, over, stored_of, view_of}
 use Rattle.cs_stack.specs.Good.{IsGood}
 use Rattle.cs_stack.proofs.Maps.{Objects}
 use Rattle.cs_stack.proofs.Bare.{bare_push, bare_whole, plain_unlinked, unlinked}
-use Rattle.cs_stack.proofs.Counting.{few_unused, raw_slots, some_slot, words_heap}
+use Rattle.cs_classes.proofs.Counting.{few_unused, raw_slots, some_slot}
+use Rattle.cs_stack.proofs.Counting.{words_heap}
 use Rattle.cs_stack.proofs.Grown.{frames_grown, lacks_next, links_grown, pages_grown, pcs_grown, senders_grown}
 use Rattle.cs_stack.proofs.Closed.{good_sound}
 use Rattle.cs_stack.proofs.Tops.{ready_again}
@@ -44,23 +44,6 @@ use Rattle.cs_stack.proofs.Stores.{pages_insert}
 -- the world with an object more
 abbrev pub with_made : Parts → List Object → Parts
 with_made w us = record w { heap = record w.heap { objects = us }; roots = after_birth w.roots }
-
-last_apart : (a b c d : Bool) → (a || b || c || d) ≡ false → d ≡ false
-last_apart a b c false h = refl
-last_apart true b c true h = absurd (cc)
-last_apart false true c true h = absurd (cc)
-last_apart false false true true h = absurd (cc)
-last_apart false false false true h = absurd (cc)
-
-last_otherwise : (a b c : Bool) → (a || b || c) ≡ false → c ≡ false
-last_otherwise a b false h = refl
-last_otherwise true b true h = absurd (cc)
-last_otherwise false true true h = absurd (cc)
-last_otherwise false false true h = absurd (cc)
-
-mapped : (f : ℕ → ℕ) (o : Option ℕ) → is_some (option_map f o) ≡ true → is_some o ≡ true
-mapped f None e = e
-mapped f (Some n) e = refl
 
 -- ---- words
 
@@ -107,32 +90,23 @@ module _ (w : Parts) (good : IsGood w) (class format slots : ℕ) (fits : CanAll
   made = add_of (view_of w) (blank_of (view_of w) class format slots)
 
   entry : is_some (get w.classes class) ≡ true
-  entry = mapped _ (get w.classes class) (ap is_some (sym (get-classes_of (bare os) w.classes class)) ∙ fits.entry)
+  entry = entry_in (bare os) w.classes class fits.entry
 
-  -- no class index from the table's length on has an entry
-  pub class_below : ((index : ℕ) → 16384 ≤ index → get w.classes index ≡ None) → class < 2 ^ 22
-  class_below beyond = go (nat_lt class 16384) refl
-    where
-      go : (b : Bool) → nat_lt class 16384 ≡ b → class < 2 ^ 22
-      go true e = let less : class < 16384 = grind (arith, nat_tests, e) in omega (arith, less)
-      go false e = absurd (false≢true (sym (ap is_some (beyond class (grind (arith, nat_tests, e)))) ∙ entry))
+  pub index_below : ((index : ℕ) → 16384 ≤ index → get w.classes index ≡ None) → class < 2 ^ 22
+  index_below = class_below w.classes class entry
 
   other : (class == 36) ≡ false
-  other = last_apart (class == 1) (class == 2) (class == 3) (class == 36) fits.common
+  other = no_context_class (view_of w) class format slots fits
 
   no_method : is_method format ≡ false
-  no_method = last_otherwise (format == 4) (format == 5) (is_method format) fits.plain
+  no_method = no_method_format (view_of w) class format slots fits
 
   no_weak : is_weak format ≡ false
-  no_weak = grind (arith, nat_tests, fits.plain)
+  no_weak = no_weak_format (view_of w) class format slots fits
 
   -- the class is none of an immediate's
   kind : (xs : List Object) → IsWhole xs w.classes w.roots → is_class_index class ≡ true
-  kind xs whole = kind_of-entry xs w.classes w.roots class whole entry
-      (λ e. let no : true ≡ false = common 1 refl e in cc) (λ e. let no : true ≡ false = common 2 refl e in cc) (λ e. let no : true ≡ false = common 3 refl e in cc)
-    where
-      common : (n : ℕ) → (n == 1 || n == 2 || n == 3 || n == 36) ≡ true → class ≡ n → true ≡ false
-      common n is e = sym is ∙ ap (λ m. m == 1 || m == 2 || m == 3 || m == 36) (sym e) ∙ fits.common
+  kind xs whole = let apart = no_immediate_class (view_of w) class format slots fits in kind_of-entry xs w.classes w.roots class whole entry apart.0 apart.1 apart.2
 
   abbrev blank_by : Bool → Kept → Obj
   blank_by b m = if b then new_pointers m class format slots else Raw (new_head class format) (replicate (4 * slots - unused_bytes format) 0)
@@ -251,10 +225,3 @@ call-allocate u w v class format slots e good is =
       sound = good_sound v good;
       ready = λ ready. ready_again w v good ready (ap (λ (k : Kept). k.rest.active) view ∙ rest-add (view_of w) (blank_of (view_of w) class format slots));
     }
-
-pub within : (limit words : ℕ) → (limit < words → ⊥) → words ≤ limit
-within limit words not_over = go (nat_lt limit words) refl
-  where
-    go : (b : Bool) → nat_lt limit words ≡ b → words ≤ limit
-    go true e = absurd (not_over (grind (arith, nat_tests, e)))
-    go false e = grind (arith, nat_tests, e)

@@ -4,7 +4,7 @@ use Rattle.std.specs.Prelude.{◌&&◌, ◌||◌, ◌==◌, IsTrue, slice_get, s
 use Rattle.std.specs.Option.{option_map_or}
 use Rattle.std.specs.Ordering.{nat_cmp}
 use Rattle.std.specs.FinMap.{FinMap, entries, from_entries, get}
-use Rattle.std.proofs.lemmas.Bool.{eq-eqb}
+use Rattle.std.proofs.lemmas.Bool.{eq-eqb, or_left, or_right}
 use Rattle.std.proofs.lemmas.List.{length-map, length-set, map-append}
 use Rattle.cs_word.specs.declared.Kind.{Kind}
 use Rattle.cs_word.specs.declared.Kind.TheVariants as kind
@@ -27,7 +27,7 @@ use Rattle.cs_marriage.specs.Place.{names_place}
 use Rattle.cs_marriage.proofs.Places.{place_small}
 use Rattle.cs_model.specs.Ref.{Ref}
 use Rattle.cs_model.specs.Ref as ref
-use Rattle.cs_model.specs.Obj.{Ctx, Obj, context_class}
+use Rattle.cs_model.specs.Obj.{Obj, context_class}
 use Rattle.cs_model.specs.Obj as obj
 use Rattle.cs_model.specs.State.{Rest}
 use Rattle.cs_stack.specs.View.{bare, dead_words, is_linked, loaded_kept, unframed}
@@ -186,25 +186,17 @@ nil_object os first is = go (address_of os 0) refl (address_of-below os 0 (omega
     go None e some at = absurd (cc)
     go (Some a) e some at = ap is_some (index_of-address os nil 0 (e ∙ ap (λ n. Some n) at))
 
-or_here : (b c : Bool) → b ≡ true → (b || c) ≡ true
-or_here true c h = refl
-or_here false c h = absurd (cc)
-
-or_there : (b c : Bool) → c ≡ true → (b || c) ≡ true
-or_there true c h = refl
-or_there false c h = h
-
 pub dead_sound : (os : List Object) (x : Object) → 3 ≤ length os → nil_of os ≡ base → IsSoundObject os x → is_context x ≡ true → IsSoundObject os (dead_object x)
 dead_sound os x first nil_is sound c =
     let there : is_reference os nil ≡ true = is_reference-object os nil (nil_object os first nil_is) in
-    let is_nil : IsTrue (nil == nil_of os || is_some (count_of nil)) = or_here (nil == nil_of os) (is_some (count_of nil)) (eq-eqb nil (nil_of os) (sym nil_is)) in
+    let is_nil : IsTrue (nil == nil_of os || is_some (count_of nil)) = or_left (nil == nil_of os) (is_some (count_of nil)) (eq-eqb nil (nil_of os) (sym nil_is)) in
     let none : count_of (small_word (pos 0)) ≡ Some 0 = count_of-small 0 (omega arith) in
     let sender = sender_sound os nil nil_is (nil_or_nil context_class os (nil_object os first nil_is)) in
     let one = sound-set_context os x 0 nil sound c (write_sender os x nil sender) in
     let two = sound-set_context os (set_word 0 nil x) 1 nil one c (write_pc os (set_word 0 nil x) nil there is_nil) in
     sound-set_context os (set_word 1 nil (set_word 0 nil x)) 2 (small_word (pos 0)) two c
     (write_stackp os (set_word 1 nil (set_word 0 nil x)) (small_word (pos 0)) (is_reference-small os (pos 0) (small_natural 0 (omega arith)))
-    (or_there (small_word (pos 0) == nil_of os) (is_some (count_of (small_word (pos 0)))) (ap is_some none)) (omega (arith, ap (λ o. unwrap_or o 0) none)))
+    (or_right (small_word (pos 0) == nil_of os) (is_some (count_of (small_word (pos 0)))) (ap is_some none)) (omega (arith, ap (λ o. unwrap_or o 0) none)))
 
 linked_context : (x : Object) → is_linked x ≡ true → is_context x ≡ true
 linked_context x h = go (is_context x) refl h

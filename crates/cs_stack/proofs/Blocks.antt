@@ -1,6 +1,6 @@
 -- The frame of a block is a new frame, and its context is that of the model.
 use Rattle.std.proofs.Common.{◌≡◌, ◌≢◌, ℕ, ◌+◌, ◌-◌, ◌<◌, ◌≤◌, Bool, true, false, refl, sym, ap, ap₂, subst, ◌∙◌, arith, Some, is_some, List, ◌++◌, length, length-drop, unwrap_or, option_map}
-use Rattle.std.specs.Prelude.{◌&&◌, nat_le, slice_get, slice_index}
+use Rattle.std.specs.Prelude.{nat_le, slice_get, slice_index}
 use Rattle.std.specs.Option.{option_map_or}
 use Rattle.std.proofs.lemmas.Bool.Decides.{nat_tests}
 use Rattle.std.proofs.lemmas.List.{length-map, take_all}
@@ -11,6 +11,7 @@ use Rattle.cs_word.specs.declared.Kind.TheVariants as kind
 use Rattle.cs_word.specs.declared.Oop.{Oop}
 use Rattle.cs_word.specs.Word.{kind_of}
 use Rattle.cs_heap.specs.Object.{Object, birth_of, class_of, is_object, slot_count_of, slot_of}
+use Rattle.cs_model.proofs.Bools.{and_five}
 use Rattle.cs_classes.specs.Meaning.{context_of, count_of, count_of_kind, objects_of, ref_of, ref_of_kind}
 use Rattle.cs_classes.specs.Sound.{is_reference, is_reference_kind}
 use Rattle.cs_classes.proofs.Heaps.{birth_of-object_at, is_object-object_at}
@@ -133,13 +134,6 @@ record Evaluates (k : Kept) (x : Ref) : Type 0 where
   outer : is_some (outer_context k x) ≡ true
   method : is_method (object_of k (closure_method k x)) ≡ true
   lies : lies_if_index (object_of k (closure_method k x)) (index_of (closure_slot k x 1)) ≡ true
-
-and_five : (a b c d e : Bool) → (a && b && c && d && e) ≡ true → (a ≡ true) × (b ≡ true) × (c ≡ true) × (d ≡ true)
-and_five true true true true e h = (refl, refl, refl, refl)
-and_five true true true false e h = absurd (cc)
-and_five true true false d e h = absurd (cc)
-and_five true false c d e h = absurd (cc)
-and_five false b c d e h = absurd (cc)
 
 less : (a b : ℕ) → nat_le a b ≡ true → a ≤ b
 less a b h = grind (arith, nat_tests, h)

@@ -1,8 +1,8 @@
 -- A context of the heap dies where no frame is left.
 use Rattle.std.proofs.Common.{◌≡◌, ◌≢◌, ◌⊎◌, ℕ, pos, set, ◌≤◌, Bool, true, false, refl, sym, ap, subst, ◌∙◌, arith, Option, Some, None, IfSome, IsSome, List, [], ◌∷◌, length, length-set, option_map, inl, inr}
-use Rattle.std.specs.Prelude.{slice_get, slice_index, ◌&&◌, ◌||◌, if◌then◌else◌}
+use Rattle.std.specs.Prelude.{slice_get, slice_index, ◌||◌, if◌then◌else◌}
 use Rattle.std.specs.FinMap.{get}
-use Rattle.std.proofs.lemmas.Bool.{cases_eq}
+use Rattle.std.proofs.lemmas.Bool.{and_right, cases_eq}
 use Rattle.std.proofs.lemmas.Bool.Decides.{eqb_tells}
 use Rattle.cs_word.specs.Word.{small_word}
 use Rattle.cs_word.specs.declared.Oop.{Oop}
@@ -27,7 +27,7 @@ use Rattle.cs_model.specs.Ref as ref
 use Rattle.cs_model.specs.Obj.{Context, Ctx, Obj, dead, lies_in}
 use Rattle.cs_model.specs.Context.{lies_if_live}
 use Rattle.cs_model.specs.State as state
-use Rattle.cs_model.specs.State.{Kept, Rest}
+use Rattle.cs_model.specs.State.{Kept}
 use Rattle.cs_model.specs.Operation.{activate, edit_object}
 use Rattle.cs_acts.specs.declared.act.Act.{Act}
 use Rattle.cs_acts.specs.declared.act.Act.TheVariants as act
@@ -80,10 +80,6 @@ dead_context refer hash n ws h is =
     by_six (λ us. context_of refer hash (dead_words us) ≡ record (context_of refer hash us) { sender = refer nil; pc = None; stack = [] }) (λ a b c d e f rest. refl) ws h
     ∙ ap (λ r. record (context_of refer hash ws) { sender = r; pc = None; stack = [] }) is
 
-and_false : (p q : Bool) → q ≡ false → (p && q) ≡ false
-and_false true q e = e
-and_false false q e = refl
-
 context_lies : (refer : ℕ → Ref) (y : Object) (pc : ℕ) → is_context y ≡ true → lies_in (Some (obj_of refer y)) pc ≡ false
 context_lies refer y pc c = ap (λ o. lies_in (Some o) pc) (obj_of-context refer y c)
 
@@ -127,7 +123,7 @@ module _ {u : Parts} (good : IsGood u) (closed : u.pages.recent ≡ []) {a : ℕ
   entombed_other m apart = object_at-with_object_other os a m entomb entomb_edit.slots (λ e. apart (sym e))
 
   alone : is_linked (entomb x) ≡ false
-  alone = and_false (is_context (entomb x)) (names_place (slice_index (dead_words x.words) 0)) (ap names_place (dead_sender x.words long))
+  alone = and_right (is_context (entomb x)) (names_place (slice_index (dead_words x.words) 0)) (ap names_place (dead_sender x.words long))
 
   -- pcs lie where they lay
   lies_kept : (m pc : ℕ) → lies_in (meaning_at us m) pc ≡ lies_in (meaning_at os m) pc

@@ -3,6 +3,7 @@ use Rattle.std.proofs.Common.{◌≡◌, ◌≢◌, ℕ, Bool, true, false, refl
 use Rattle.std.specs.Prelude.{◌==◌, ◌||◌}
 use Rattle.std.proofs.lemmas.Bool.Decides.{eqb_tells}
 use Rattle.std.proofs.lemmas.List.Folds.{list_any-append}
+use Rattle.std.proofs.lemmas.Bool.{or_right}
 use Rattle.cs_model.specs.Ref.{Ref}
 use Rattle.cs_model.specs.Obj.{Obj, Context, Ctx, dead, is_context}
 use Rattle.cs_model.specs.State.{IsHeld, Kept, Rest, object_at, put}
@@ -121,10 +122,6 @@ killed_all k (a ∷ dying) there =
     let is : kill_of k a ≡ put k a (Ctx (dead k.rest.nil first.0)) = kills_one k a first.0 first.1 in
     killed_more k (kill_of k a) (kill_all dying (kill_of k a)) a dying first.0 first.1 is (killed_all (kill_of k a) dying (λ i h. still first.0 is i h))
   where
-    or_true : (b : Bool) → (b || true) ≡ true
-    or_true true = refl
-    or_true false = refl
-
     here : (n : ℕ) → (n == n) ≡ true
     here n = elim (eqb_tells n n) [ inl e ↦ e.0 | inr e ↦ absurd (e.1 refl) ]
 
@@ -132,7 +129,7 @@ killed_all k (a ∷ dying) there =
     still d is i h = elim (eqb_tells i a) [
       | inl e ↦ (dead k.rest.nil d, ap (object_at (kill_of k a)) e.1 ∙ ap (λ n. object_at n a) is ∙ object_at-put_same k a (Ctx (dead k.rest.nil d)))
       | inr e ↦
-          let old = there i (ap (λ b. (i == a) || b) h ∙ or_true (i == a)) in
+          let old = there i (ap (λ b. (i == a) || b) h ∙ or_right (i == a) true refl) in
           (old.0, ap (λ n. object_at n i) is ∙ object_at-put_other k a i (Ctx (dead k.rest.nil d)) e.1 ∙ old.1)
     ]
 

@@ -1,7 +1,7 @@
 -- One context after another dies, from the active one on.
-use Rattle.std.proofs.Common.{◌≡◌, ◌≢◌, ◌⊎◌, ℕ, ◌+◌, ◌≤◌, Bool, true, false, refl, sym, ap, subst, ◌∙◌, arith, append_assoc, Option, Some, None, IfSome, IsSome, is_some, List, [], ◌∷◌, ◌++◌, length, unwrap_or, inl, inr}
+use Rattle.std.proofs.Common.{◌≡◌, ◌≢◌, ◌⊎◌, ℕ, ◌+◌, ◌≤◌, true, false, refl, sym, ap, subst, ◌∙◌, arith, append_assoc, Option, Some, None, IfSome, IsSome, is_some, List, [], ◌∷◌, ◌++◌, length, unwrap_or, inl, inr}
 use Rattle.std.specs.Prelude.{◌==◌, ◌||◌}
-use Rattle.std.proofs.lemmas.Bool.{ne_eqb}
+use Rattle.std.proofs.lemmas.Bool.{ne_eqb, or_right}
 use Rattle.cs_model.specs.State.{Rest}
 use Rattle.cs_model.specs.Read.{active_birth}
 use Rattle.cs_model.specs.Return.{is_among, sender_birth}
@@ -149,11 +149,7 @@ module _ {w v : Parts} {dying : List ℕ} {t n : ℕ} {a : Act} (go : Going w v 
 
     among_middle : (xs : List ℕ) (i : ℕ) (ys : List ℕ) → is_among i (xs ++ i ∷ ys) ≡ true
     among_middle [] i ys = among_here i ys
-    among_middle (x ∷ xs) i ys = ap (λ b. (i == x) || b) (among_middle xs i ys) ∙ or_true (i == x)
-      where
-        or_true : (b : Bool) → (b || true) ≡ true
-        or_true true = refl
-        or_true false = refl
+    among_middle (x ∷ xs) i ys = ap (λ b. (i == x) || b) (among_middle xs i ys) ∙ or_right (i == x) true refl
 
     all_is : dying ≡ go.gone ++ (on.i ∷ on.is)
     all_is = go.all ∙ ap (λ is. go.gone ++ is) on.rest_is

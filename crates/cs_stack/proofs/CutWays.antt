@@ -1,7 +1,7 @@
 -- The way along the senders: what a search passes, and that no context is passed twice.
 use Rattle.std.proofs.Common.{◌≡◌, ◌≢◌, ◌⊎◌, ℕ, zero, suc, ◌<◌, ◌≤◌, Bool, true, false, refl, sym, ap, subst, ◌∙◌, arith, Option, Some, None, option_and_then, List, [], ◌∷◌, ◌++◌, length, inl, inr}
 use Rattle.std.specs.Prelude.{◌==◌, ◌||◌, if◌then◌else◌}
-use Rattle.std.proofs.lemmas.Bool.{eq-eqb}
+use Rattle.std.proofs.lemmas.Bool.{eq-eqb, or_right}
 use Rattle.std.proofs.lemmas.Bool.Decides.{eqb_tells}
 use Rattle.cs_model.specs.Obj.{Context, context_in}
 use Rattle.cs_model.specs.State.{Kept, object_at}
@@ -151,16 +151,12 @@ way_kept k u t (i ∷ is) way same = (
   way_kept k u t is way.2 (λ j h. same j (elim h [ inl e ↦ inl (later j e) | inr e ↦ inr e ])),
 )
   where
-    or_true : (b : Bool) → (b || true) ≡ true
-    or_true true = refl
-    or_true false = refl
-
     later : (j : ℕ) → is_among j is ≡ true → is_among j (i ∷ is) ≡ true
-    later j e = ap (λ b. (j == i) || b) e ∙ or_true (j == i)
+    later j e = ap (λ b. (j == i) || b) e ∙ or_right (j == i) true refl
 
     next : (js : List ℕ) → (is_among (ahead t js) (i ∷ js) ≡ true) ⊎ (ahead t js ≡ t)
     next [] = inr refl
-    next (j ∷ js) = inl (ap (λ b. (j == i) || b) (among_here j js) ∙ or_true (j == i))
+    next (j ∷ js) = inl (ap (λ b. (j == i) || b) (among_here j js) ∙ or_right (j == i) true refl)
 
 pub way_on : (k u : Kept) (t i : ℕ) (is : List ℕ) → IsWay k t (i ∷ is) → ((j : ℕ) → i ≢ j → object_at u j ≡ object_at k j) → IsWay u t is
 way_on k u t i is way same = way_kept k u t is way.2 (λ j h. same j (λ e. elim h [

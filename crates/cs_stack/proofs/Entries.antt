@@ -14,6 +14,7 @@ use Rattle.cs_classes.proofs.Makings.{nil_is_object}
 use Rattle.cs_classes.proofs.Refs.{either_true, is_reference-object, same_births}
 use Rattle.cs_classes.proofs.Sorts.{AContext, AMethod, Bytes, Pointers, Sort, obj_of-bytes, obj_of-method, not_pointers, obj_of-pointers, sort_of}
 use Rattle.cs_classes.proofs.Sounds.{method_other, sound_at}
+use Rattle.cs_model.proofs.Bools.{and_three}
 use Rattle.cs_model.specs.Obj.{Ctx, Method, Obj, Ptr, Raw, argument_count, bytecodes_in, context_size, has_primitive, is_context_at, lies_in, literal_count, number_in, primitive_number, temporary_count, Head}
 use Rattle.cs_model.specs.Obj as obj
 use Rattle.cs_model.specs.Context.{closure_class, has_class_index}
@@ -194,12 +195,6 @@ pub record Entry (os : List Object) (o : Option Obj) (m args : ℕ) (skip : Bool
 less : (a b : ℕ) → nat_le a b ≡ true → a ≤ b
 less a b h = grind (arith, nat_tests, h)
 
-and_three : (a b c : Bool) → (a && b && c) ≡ true → (b ≡ true) × (c ≡ true)
-and_three true true true h = (refl, refl)
-and_three true true false h = absurd (cc)
-and_three true false c h = absurd (cc)
-and_three false b c h = absurd (cc)
-
 pub entry : (s : Store) (k : Kept) (o : Oop) (args : ℕ) (skip : Bool) → Holds s k → IsNamed s o → CanEnter k (name_of s o) args skip
     → Entry s.memory.objects (object_of k (name_of s o)) o.0 args skip
 entry s k o args skip holds named can =
@@ -208,7 +203,7 @@ entry s k o args skip holds named can =
     let m = method_named s k o holds named can.method in
     let words = m.object.words in
     let header = header_in words in
-    let valid : (nat_le (argument_count header) (temporary_count header) ≡ true) × (nat_le (temporary_count header) (context_size header) ≡ true) =
+    let valid =
     and_three (nat_lt header (2 ^ 30)) (nat_le (argument_count header) (temporary_count header)) (nat_le (temporary_count header) (context_size header)) (m.sound.method m.format).valid in
     let model : obj.header_in found ≡ header = ap obj.header_in m.means in
     let literals : length (obj.literals_in found) ≡ literal_count header =
@@ -222,8 +217,8 @@ entry s k o args skip holds named can =
       header_is = header_is os found o.0 m;
       model_header = model;
       takes = takes;
-      few = omega (arith, less (argument_count header) (temporary_count header) valid.0, takes);
-      fits = less (temporary_count header) (context_size header) valid.1;
+      few = omega (arith, less (argument_count header) (temporary_count header) valid.1, takes);
+      fits = less (temporary_count header) (context_size header) valid.2;
       pc = ap (λ n. 4 * (n + 1) + 1 + (if skip then 3 else 0)) literals;
       lies = ap (λ p. lies_in p (entry_of header skip)) m.means
           ∙ ap (λ n. nat_le (4 * (n + 1) + 1) (entry_of header skip) && nat_le (entry_of header skip) (4 * (n + 1) + 1 + length bytes)) (length-map (literals_in words) (ref_of os) ∙ length-literals os found o.0 m)

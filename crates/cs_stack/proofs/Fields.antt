@@ -235,10 +235,6 @@ module _ {w : Parts} {p at : ℕ} (good : IsGood w) (a : FrameAct w p at) where
 
 -- ---- of a context that has no frame
 
-both_right : (b c : Bool) → (b && c) ≡ true → c ≡ true
-both_right true c h = h
-both_right false c h = absurd (cc)
-
 module _ {w : Parts} {a : ℕ} (good : IsGood w) (c : ContextAct w a) (o : Oop) (is_o : o.0 ≡ a) where
   abbrev words : List ℕ
   words = (unframed c.x).words

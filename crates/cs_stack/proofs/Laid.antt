@@ -6,6 +6,7 @@ use Rattle.std.specs.FinMap.{get}
 use Rattle.std.proofs.lemmas.Bool.Decides.{eqb_tells}
 use Rattle.std.proofs.lemmas.List.{length-map}
 use Rattle.std.proofs.lemmas.Map.Keys.{IsDistinct-head, IsDistinct-tail}
+use Rattle.std.proofs.lemmas.Bool.{or_from, or_left, or_right}
 use Rattle.cs_classes.specs.Meaning.{objects_of, ref_of}
 use Rattle.cs_frame.specs.Frame.{Frame}
 use Rattle.cs_frame.specs.Page.{frames_of, used}
@@ -24,23 +25,11 @@ use Rattle.cs_stack.proofs.Places.{page_few}
 
 -- ---- lists of births
 
-or_left : (b c : Bool) → b ≡ true → (b || c) ≡ true
-or_left true c h = refl
-or_left false c h = absurd (cc)
-
-or_right : (b c : Bool) → c ≡ true → (b || c) ≡ true
-or_right true c h = refl
-or_right false c h = h
-
-neither : (b c : Bool) → b ≡ false → c ≡ false → (b || c) ≡ false
-neither true c h k = absurd (cc)
-neither false c h k = k
-
 pub off_births : (i : ℕ) (es : List Frame) → Lacks i es → is_on i (births_of es) ≡ false
 off_births i [] l = refl
 off_births i (e ∷ es) l = elim (eqb_tells i e.birth) [
   | inl h ↦ absurd (l.0 h.1)
-  | inr h ↦ neither (i == e.birth) (is_on i (births_of es)) h.0 (off_births i es l.1)
+  | inr h ↦ or_from (i == e.birth) (is_on i (births_of es)) h.0 (off_births i es l.1)
 ]
 
 same_birth : (i j : ℕ) → i ≡ j → (i == j) ≡ true
@@ -56,7 +45,7 @@ off_both i (x ∷ xs) ys h k = go (i == x) refl (λ l. off_both i xs ys l k)
   where
     go : (b : Bool) → (i == x) ≡ b → (is_on i xs ≡ false → is_on i (xs ++ ys) ≡ false) → ((i == x) || is_on i (xs ++ ys)) ≡ false
     go true e rest = absurd (let no = or_left (i == x) (is_on i xs) e in cc)
-    go false e rest = neither (i == x) (is_on i (xs ++ ys)) e (rest (sym (ap (λ b. b || is_on i xs) e) ∙ h))
+    go false e rest = or_from (i == x) (is_on i (xs ++ ys)) e (rest (sym (ap (λ b. b || is_on i xs) e) ∙ h))
 
 -- a frame is on a page of the layout
 pub on_laid : {f : Frame} {gs : List Frame} (ps : List (List Frame)) (rs : List ℕ) (i p : ℕ) → Contains rs p → IsOn f gs (frames_of ps p) → i ≡ f.birth → is_frame i (laid_pages ps rs) ≡ true
@@ -200,7 +189,7 @@ fresh_one w few alone = go w.pages.recent few alone
     one [] few birth h = absurd (cc)
     one (f ∷ []) few birth h = elim (eqb_tells birth f.birth) [
       | inl e ↦ ap (λ n. Some n) (sym e.1)
-      | inr e ↦ absurd (let no = neither (birth == f.birth) false e.0 refl in cc)
+      | inr e ↦ absurd (let no = or_from (birth == f.birth) false e.0 refl in cc)
     ]
     one (f ∷ g ∷ gs) few birth h = absurd (omega (arith, few))
 

@@ -18,7 +18,6 @@ pub mod Based
 pub mod Freeing
 pub mod Taking
 pub mod Opening
-pub mod Scheduled
 pub mod Laid
 pub mod Counting
 pub mod Changes

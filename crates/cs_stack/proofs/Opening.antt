@@ -38,7 +38,7 @@ use Rattle.cs_model.specs.Settle.{open_if, open_kept}
 use Rattle.cs_stack.specs.declared.parts.Parts.{Parts}
 use Rattle.cs_stack.specs.View.{active_in, bare, first_of, is_linked, loaded_kept, unframed, view_of}
 use Rattle.cs_stack.specs.Good.{AreApart, FramesFit, IsChain, IsGood, LinkFits, PcFits, SenderFits, is_nil_or}
-use Rattle.cs_stack.specs.Moved.{taken_of}
+use Rattle.cs_acts.specs.Opened.{taken_of}
 use Rattle.cs_stack.proofs.Bare.{bare_get, bare_loaded}
 use Rattle.cs_stack.proofs.Dying.{dead_sender, unframed_linked}
 use Rattle.cs_stack.proofs.Rebasing.{bare_objects}

@@ -8,7 +8,7 @@ use Rattle.cs_heap.specs.Object.{Object, birth_of, class_of, is_object, object_a
 use Rattle.cs_heap.proofs.Laws.{object_placed}
 use Rattle.cs_classes.specs.Meaning.{context_of, is_context, ref_of}
 use Rattle.cs_classes.proofs.Heaps.{birth_of-object_at, is_object-object_at, object_there}
-use Rattle.cs_classes.proofs.Refs.{is_reference-object, ref_of-object, same_births}
+use Rattle.cs_classes.proofs.Refs.{both_true, is_reference-object, ref_of-object, same_births}
 use Rattle.cs_classes.proofs.Sounds.{sound_at}
 use Rattle.cs_frame.specs.declared.FrameRef.{FrameRef}
 use Rattle.cs_frame.specs.Frame.{Frame, nil}
@@ -38,7 +38,7 @@ use Rattle.cs_model.specs.Read.{active_birth}
 use Rattle.cs_acts.specs.Ready.{IsReady}
 use Rattle.cs_stack.specs.Moved.{active_number}
 use Rattle.cs_stack.proofs.Tops.{good_ready, opened, opened_at}
-use Rattle.std.proofs.lemmas.Bool.{eq-eqb}
+use Rattle.std.proofs.lemmas.Bool.{and_right, eq-eqb}
 use Rattle.cs_stack.specs.View.{act_of, active_page, birth_from, dead_words, is_linked, is_married, stored_of, unframed, view_of}
 use Rattle.cs_stack.specs.Good.{IsGood}
 use Rattle.cs_stack.proofs.Closed.{good_sound}
@@ -173,10 +173,6 @@ context_stands_for w good o named known (act.Context v) value here other =
 
 -- ---- the sender of a context that has no frame
 
-both_true : (a b : Bool) → (a && b) ≡ true → b ≡ true
-both_true true b h = h
-both_true false b h = absurd (cc)
-
 -- a word that names a place is no address
 place_no_object : (os : List Object) (v : ℕ) → names_place v ≡ true → is_object os v ≡ false
 place_no_object os v h = go (is_object os v) refl
@@ -188,12 +184,8 @@ place_no_object os v h = go (is_object os v) refl
 nil_no_context : (w : Parts) → IsGood w → reading.is_context_at w.heap.objects nil ≡ false
 nil_no_context w good = elim (eqb_tells (class_of w.heap.objects nil) context_class) [
   | inl e ↦ absurd (good.agree.nil_class e.1)
-  | inr e ↦ ap (λ b. is_object w.heap.objects nil && b) e.0 ∙ and_false (is_object w.heap.objects nil)
+  | inr e ↦ ap (λ b. is_object w.heap.objects nil && b) e.0 ∙ and_right (is_object w.heap.objects nil) false refl
 ]
-  where
-    and_false : (b : Bool) → (b && false) ≡ false
-    and_false true = refl
-    and_false false = refl
 
 pub sender_dead : (ws : List ℕ) → 6 ≤ length ws → slice_index (dead_words ws) 0 ≡ nil
 sender_dead [] h = absurd (omega (arith, h))
@@ -217,7 +209,7 @@ context_sender {w = w} {a = a} good c v e = go (is_linked c.x) refl
 
     go : (b : Bool) → is_linked c.x ≡ b → context_birth (view_of w) (ref_of os v.0) ≡ sender_birth (view_of w) c.x.birth
     go true l =
-        let place : names_place v.0 ≡ true = ap names_place word ∙ both_true (is_context c.x) _ l in
+        let place : names_place v.0 ≡ true = ap names_place word ∙ (both_true (is_context c.x) _ l).1 in
         let none = names_none w good v (field_named c 0 v.0 (omega arith) e) (ap (λ b. b && (class_of os v.0 == context_class)) (place_no_object os v.0 place)) in
         let none_nil = names_none w good nil_oop (is_reference-object os nil good.agree.nil_there) (nil_no_context w good) in
         let dead : slice_index (unframed c.x).words 0 ≡ nil = ap (λ b. slice_index (if b then record c.x { words = dead_words c.x.words } else c.x).words 0) l ∙ sender_dead c.x.words c.whole.fields in

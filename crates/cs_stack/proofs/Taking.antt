@@ -22,7 +22,8 @@ use Rattle.cs_acts.specs.Ready.{is_storable}
 use Rattle.cs_stack.specs.declared.parts.Parts.{Parts}
 use Rattle.cs_stack.specs.View.{active_in, bare, first_of, stored_of, view_of}
 use Rattle.cs_stack.specs.Good.{IsGood}
-use Rattle.cs_stack.specs.Moved.{Takes, based_parts, taken_of}
+use Rattle.cs_acts.specs.Opened.{taken_of}
+use Rattle.cs_stack.specs.Moved.{Takes, based_parts}
 use Rattle.cs_stack.proofs.Based.{based_good, based_view}
 use Rattle.cs_stack.proofs.Rebasing.{IsLive, bare_objects, can_base, live_at}
 use Rattle.cs_stack.proofs.Unwinding.{address_of-object}

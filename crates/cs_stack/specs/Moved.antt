@@ -19,17 +19,12 @@ use Rattle.cs_model.specs.Read.{active_birth, active_context, depth_of, stack_of
 use Rattle.cs_model.specs.Operation.{activate, enter_with, last_values, nil_of}
 use Rattle.cs_model.specs.Enter.{copied_values}
 use Rattle.cs_model.specs.Context.{closure_class, context_get, has_class_index, lies_if_index}
-use Rattle.cs_model.specs.Settle.{context_kept, open_at}
 use Rattle.cs_acts.specs.Layout.{LaidBy, left}
 use Rattle.cs_acts.specs.Names.{IsNamed, KeepsNames, Store, name_of}
 use Rattle.cs_pages.specs.Order.{IsFree, Order}
 use Rattle.cs_stack.specs.declared.parts.Parts.{Parts}
 use Rattle.cs_stack.specs.Good.{IsGood}
 use Rattle.cs_stack.specs.View.{layout_of, stored_of, view_of}
-
--- the context that a process keeps is active, and the process keeps nil
-abbrev pub taken_of : Kept → Ref → Kept
-taken_of k p = open_at k p (option_and_then (λ x. ref.birth_of x) (context_kept k p))
 
 -- the number of the most recent page
 abbrev pub active_number : Parts → ℕ

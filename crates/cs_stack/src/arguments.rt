@@ -6,12 +6,10 @@ ghost use Rattle.cs_frame.specs.Frame.{IsValue, nil, with_stack};
 ghost use Rattle.cs_frame.specs.Page.{IsFrame, IsTop, frame, frames_of, on_page, on_top, top, used};
 
 use crate::parts::NIL;
+use cs_classes::slots::FIRST_COPIED;
 use cs_frame::{FrameRef, Frames};
 use cs_heap::Heap;
 use cs_word::Oop;
-
-/// The slot of a closure from which on its copied values stand, behind outer context, first pc and count of arguments.
-pub(crate) const FIRST_COPIED: u32 = 3;
 
 /// Pushes the last `args` values of one frame onto the last frame of another page, in their order.
 pub(crate) fn copy_arguments(frames: &mut Frames, caller: FrameRef, callee: FrameRef, args: u32)

@@ -18,9 +18,9 @@ ghost use Rattle.cs_stack.specs.Cuts.{Arrives, CutPast, Fades, Leads, Stepped, S
 ghost use Rattle.cs_stack.specs.Good.{IsGood};
 ghost use Rattle.cs_stack.specs.View.{act_of, layout_of, stored_of, view_of};
 
-use crate::parts::{NIL, PC, Parts, SENDER, STACKP};
-use crate::words::count_word;
+use crate::parts::{NIL, Parts};
 use cs_acts::Act;
+use cs_classes::slots::{PC, SENDER, STACK_POINTER};
 use cs_heap::Heap;
 use cs_word::Oop;
 
@@ -141,5 +141,5 @@ fn bury_words(heap: &mut Heap, context: Oop)
 {
     heap.set_slot(context, SENDER, NIL);
     heap.set_slot(context, PC, NIL);
-    heap.set_slot(context, STACKP, count_word(0));
+    heap.set_slot(context, STACK_POINTER, Oop::from_natural(0));
 }

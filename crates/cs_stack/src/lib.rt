@@ -14,11 +14,11 @@ mod cuts;
 mod looks;
 mod moves;
 mod parts;
-mod words;
 
 use cs_acts::read::{active_process, nil, same, slot};
 use cs_acts::{Act, Full, Loaded, Roots, World};
 use cs_classes::Classes;
+use cs_classes::slots::{PROCESS_SLOTS, SUSPENDED_CONTEXT};
 use cs_frame::Frames;
 use cs_heap::Heap;
 use cs_pages::Pages;
@@ -50,9 +50,6 @@ impl Model for StackWorld {
     ghost invariant = { λ s. IsGood s.parts };
 }
 
-/// The slots of a process.
-const PROCESS_SLOTS: u32 = 4;
-
 impl StackWorld {
     ghost use Rattle.std.specs.Prelude.{◌≤◌, ◌<◌, length, ℕ, IfOk, false, None, Some, [], option_map};
     ghost use Rattle.cs_classes.specs.Sound.{IsWhole};
@@ -67,7 +64,7 @@ impl StackWorld {
     ghost use Rattle.cs_acts.specs.Layout.{IsFresh, Layout};
     ghost use Rattle.cs_acts.specs.Names.{IsNamed, Names, name_of};
     ghost use Rattle.cs_acts.specs.Ready.{IsReady, IsSound};
-    ghost use Rattle.cs_stack.specs.Moved.{taken_of};
+    ghost use Rattle.cs_acts.specs.Opened.{taken_of};
     ghost use Rattle.cs_stack.specs.View.{active_page, layout_of, loaded_kept, stored_of, view_of};
 
     /// Opens a loaded image on so many stack pages, 2 to 64 of 4,096 words each: the active process gives its context
@@ -152,7 +149,7 @@ impl StackWorld {
         ensures total { self.new.pages.total ≡ self.old.pages.total }
         ensures limit { self.new.heap.limit ≡ self.old.heap.limit }
     {
-        if let Some(context) = slot(self, process, PROCESS_SLOTS, parts::SUSPENDED_CONTEXT) {
+        if let Some(context) = slot(self, process, PROCESS_SLOTS, SUSPENDED_CONTEXT) {
             self.parts.take(process, nil, context);
         }
     }

@@ -14,9 +14,9 @@ ghost use Rattle.cs_stack.specs.Good.{IsGood};
 ghost use Rattle.cs_stack.specs.Moved.{IsContextOf, field_at};
 ghost use Rattle.cs_stack.specs.View.{act_of, layout_of, stored_of, view_of};
 
-use crate::parts::{CLOSURE, METHOD, NIL, PC, Parts, RECEIVER, SENDER, STACK, STACKP};
-use crate::words::{count, count_word};
+use crate::parts::{NIL, Parts};
 use cs_acts::{Act, Full};
+use cs_classes::slots::{CLOSURE, FIRST_STACK, METHOD, PC, RECEIVER, SENDER, STACK_POINTER};
 use cs_frame::FrameRef;
 use cs_marriage::{marry, names_place};
 use cs_word::Oop;
@@ -129,11 +129,11 @@ impl Parts {
         match i {
             SENDER => self.sender_of(f),
             PC => Ok(self.frames.saved_pc(f)),
-            STACKP => Ok(count_word(self.frames.depth(f))),
+            STACK_POINTER => Ok(Oop::from_natural(self.frames.depth(f))),
             METHOD => Ok(self.frames.method(f)),
             CLOSURE => Ok(self.frames.closure(f)),
             RECEIVER => Ok(self.frames.receiver(f)),
-            _ => Ok(self.frames.slot(f, i - STACK)),
+            _ => Ok(self.frames.slot(f, i - FIRST_STACK)),
         }
     }
 
@@ -170,7 +170,7 @@ impl Parts {
         let word = self.heap.slot(ctx, i);
         match i {
             SENDER if names_place(word) => NIL,
-            STACKP => count_word(count(word)),
+            STACK_POINTER => Oop::from_natural(word.natural().unwrap_or(0)),
             _ => word,
         }
     }

@@ -18,24 +18,23 @@ ghost use Rattle.cs_acts.specs.Ready.{IsReady};
 ghost use Rattle.cs_acts.specs.Targets.{CanArrive, CanEnter, CanEnterBlock};
 ghost use Rattle.cs_stack.specs.Good.{IsGood};
 ghost use Rattle.cs_stack.specs.Moved.{CanBegin, Takes, Unwound, active_number, based_parts, begun_parts, begun_state};
-ghost use Rattle.cs_stack.specs.Moved.{called_parts, entry_of, taken_of};
+ghost use Rattle.cs_acts.specs.Opened.{taken_of};
+ghost use Rattle.cs_stack.specs.Moved.{called_parts, entry_of};
 ghost use Rattle.cs_stack.specs.View.{active_page, layout_of, stored_of, view_of};
 
-use crate::arguments::{FIRST_COPIED, copy_arguments, drop_values, push_copied, push_nils};
-use crate::parts::{METHOD, NIL, Parts, RECEIVER, SUSPENDED_CONTEXT};
-use crate::words::{count_word, header};
+use crate::arguments::{copy_arguments, drop_values, push_copied, push_nils};
+use crate::parts::{NIL, Parts};
 use cs_acts::Full;
+use cs_classes::method_header;
+use cs_classes::slots::{
+    FIRST_COPIED, METHOD, OUTER_CONTEXT, RECEIVER, START_PC, SUSPENDED_CONTEXT,
+};
 use cs_frame::{FrameRef, NewFrame};
 use cs_marriage::{base, marry};
 use cs_word::{MethodHeader, Oop};
 
 /// The words that must be free where a frame is made: its ten, and those of 56 values.
 const FRAME_ROOM: u32 = 66;
-
-/// The first slots of a closure, as of V3PlusClosures: its outer context, and the pc of its block.
-const OUTER_CONTEXT: u32 = 0;
-
-const START_PC: u32 = 1;
 
 /// How many bytes of bytecodes name a primitive.
 const PRIMITIVE_BYTES: u32 = 3;
@@ -81,7 +80,7 @@ impl Parts {
         ensures full { IfErr result (CausesFull (stored_of self.new) (layout_of self.old) (view_of self.old) 0
             (enter_of (view_of self.old) (name_of (stored_of self.old) method) args skip)) }
     {
-        let head = header(&self.heap, method);
+        let header = method_header(&self.heap, method);
         let top = self.top();
         let receiver = self.frames.slot(top, self.frames.depth(top) - args - 1);
         let new = NewFrame {
@@ -90,9 +89,9 @@ impl Parts {
             receiver,
             birth: self.roots.next_birth,
             args,
-            fill: head.temporaries() - args,
+            fill: header.temporaries() - args,
         };
-        self.begin(new, count_word(entry_pc(head, skip)), 0)
+        self.begin(new, Oop::from_natural(entry_pc(header, skip)), 0)
     }
 
     /// Enters the block of a closure on a frame of its own, as a method is entered.

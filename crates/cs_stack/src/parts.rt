@@ -21,9 +21,9 @@ ghost use Rattle.cs_stack.specs.View.{act_of, active_page, layout_of, stored_of,
 ghost use Rattle.cs_stack.specs.Moved.{active_number};
 ghost use Rattle.cs_stack.specs.Good.{IsGood};
 
-use crate::words::{count, count_word, header, is_context, is_count};
 use cs_acts::{Act, Full, Roots};
-use cs_classes::Classes;
+use cs_classes::slots::{CLOSURE, FIRST_STACK, METHOD, PC, SENDER, STACK_POINTER};
+use cs_classes::{Classes, is_context, method_header};
 use cs_frame::{FrameRef, Frames};
 use cs_heap::{BASE, Heap};
 use cs_marriage::{Spouse, spouse};
@@ -44,25 +44,6 @@ pub struct Parts {
     /// The frames of the pages.
     pub frames: Frames,
 }
-
-/// The slots of a context, in the order of the Blue Book: sender, pc, stackp, method, closure, receiver, and then its
-/// stack.
-pub(crate) const SENDER: u32 = 0;
-
-pub(crate) const PC: u32 = 1;
-
-pub(crate) const STACKP: u32 = 2;
-
-pub(crate) const METHOD: u32 = 3;
-
-pub(crate) const CLOSURE: u32 = 4;
-
-pub(crate) const RECEIVER: u32 = 5;
-
-pub(crate) const STACK: u32 = 6;
-
-/// The slot in which a process keeps its context while it doesn't run.
-pub(crate) const SUSPENDED_CONTEXT: u32 = 1;
 
 /// The word of nil.
 pub(crate) const NIL: Oop = Oop(BASE);
@@ -132,9 +113,9 @@ impl Parts {
     {
         let context = self.frames.context(f);
         if context == NIL {
-            header(&self.heap, self.frames.method(f)).context_size()
+            method_header(&self.heap, self.frames.method(f)).context_size()
         } else {
-            self.heap.slot_count(context) - STACK
+            self.heap.slot_count(context) - FIRST_STACK
         }
     }
 
@@ -187,7 +168,7 @@ impl Parts {
     {
         match a {
             Act::Frame { .. } => true,
-            Act::Context(context) => is_count(self.heap.slot(context, PC)),
+            Act::Context(context) => self.heap.slot(context, PC).natural().is_some(),
             Act::Gone => unreachable!(),
         }
     }
@@ -202,7 +183,12 @@ impl Parts {
         match a {
             Act::Frame { page, at } => self.is_full(FrameRef { page, at }),
             Act::Context(context) => {
-                count(self.heap.slot(context, STACKP)) >= self.heap.slot_count(context) - STACK
+                let depth = self
+                    .heap
+                    .slot(context, STACK_POINTER)
+                    .natural()
+                    .unwrap_or(0);
+                depth >= self.heap.slot_count(context) - FIRST_STACK
             }
             Act::Gone => unreachable!(),
         }
@@ -271,7 +257,7 @@ impl Parts {
         requires ready { IsReady (stored_of self.now) (view_of self.now) }
         ensures { result ≡ pc_of (view_of self.now) }
     {
-        count(self.frames.saved_pc(self.top()))
+        self.frames.saved_pc(self.top()).natural().unwrap_or(0)
     }
 
     /// How many values the active stack holds.
@@ -316,7 +302,7 @@ impl Parts {
         ensures limit { self.new.heap.limit ≡ self.old.heap.limit }
     {
         let top = self.top();
-        self.frames.set_saved_pc(top, count_word(pc));
+        self.frames.set_saved_pc(top, Oop::from_natural(pc));
     }
 
     /// Writes value i of the active stack.

@@ -8,9 +8,8 @@ use std::alloc::{AllocError, Global};
 /// The size of the small image: its header and a heap of 4,560 bytes.
 const SIZE: usize = 4624;
 
-/// The words of the small image that aren't 0, each with its place in the file. The old base is 0, and nil comes first,
-/// so
-/// that a word of 0 names nil.
+/// The words of the small image that aren't 0, each with its place in the file. The old base is 0, and nil comes
+/// first, so that a word of 0 names nil.
 const WORDS: [(usize, u32); 43] = [
     // the header: the heap's size, the special objects at 80, and 2^22 + 5 as the last hash
     (0, 6521),
@@ -75,9 +74,8 @@ const DAMAGES: [(usize, u32, ImageError); 34] = [
     (8, 4564, ImageError::BadLength),
     (12, 4, ImageError::BadLength),
     (12, 0xffff_fff8, ImageError::BadLength),
-    // no header of count 255 behind an overflow word; one that has no count behind it; a format that isn't accepted; a
-    // slot
-    // of an object without fields; and a method whose first slot is no number
+    // no header of count 255 behind an overflow word; one that has no count behind it; a format that isn't accepted;
+    // a slot of an object without fields; and a method whose first slot is no number
     (524, 0, ImageError::BadObject { at: 448 }),
     (380, 0xff00_0000, ImageError::BadObject { at: 312 }),
     (80, 0x0600_0020, ImageError::BadObject { at: 16 }),
@@ -265,8 +263,7 @@ fn bit_23_is_kept_but_for_contexts(rt: HostRuntime) -> Result<(), AllocError> {
 }
 
 /// The small image with one object more behind the others, of so many slots that are 0, in a number that is even. It
-/// has a
-/// raw format, so that none of them names an object.
+/// has a raw format, so that none of them names an object.
 fn with_object(alloc: Global, slots: u32) -> Result<Vec<u8>, AllocError> {
     let mut bytes = vec![in alloc; 0u8; SIZE]?;
     for (place, word) in WORDS {
@@ -283,8 +280,7 @@ fn with_object(alloc: Global, slots: u32) -> Result<Vec<u8>, AllocError> {
 }
 
 // The other objects take 104 words: four for each of nil, false, true, the association and the scheduler, 54 for the
-// special
-// objects, and six for each of the five classes. The one that is added takes its slots, and four before them.
+// special objects, and six for each of the five classes. The one that is added takes its slots, and four before them.
 #[test]
 fn tells_that_objects_pass_the_limit(rt: HostRuntime) -> Result<(), AllocError> {
     let alloc = rt.alloc();

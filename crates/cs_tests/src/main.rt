@@ -1,6 +1,5 @@
 //! The rows of the file `rows`: each is run by the call that the program makes, and printed with what that call
-//! answers.
-//! The tests beside it call what the other crates offer.
+//! answers. The tests beside it call what the other crates offer.
 #![tactic(auto)]
 
 #[cfg(test)]

@@ -31,8 +31,7 @@ struct Given {
 }
 
 /// Runs the line of these words over the outside that a row gives, and prints its status, what it wrote and how many
-/// calls of the
-/// shelf and of the sink failed.
+/// calls of the shelf and of the sink failed.
 pub fn take(rt: &(impl Files + Print + Alloc<A = Global>), given: &str, words: &str) -> Result<()> {
     let alloc = rt.alloc();
     let given = given_by(rt, given)?;
@@ -67,8 +66,7 @@ fn tell(rt: &impl Print, status: u8, reads: u64, out: &MemSink) -> Result<()> {
 }
 
 /// Each word of `text` is `file=NAME`, `length=BYTES`, `zeros=BYTES`, `room=BYTES`, `read=CALL`, `write=CALL`, or a
-/// place in the
-/// image and the bytes that stand there, in hexadecimal digits, as `71=01`.
+/// place in the image and the bytes that stand there, in hexadecimal digits, as `71=01`.
 fn given_by(rt: &(impl Files + Alloc<A = Global>), text: &str) -> Result<Given> {
     let alloc = rt.alloc();
     let mut given = Given {

@@ -1,6 +1,6 @@
 use Rattle.std.proofs.Common.{◌∙◌, ◌≡◌, sym, refl, arith}
 use Rattle.cs_core.proofs.Deepening.{most_stays}
-use Rattle.cs_core.proofs.Rolling.{begins, begins_idle, goes_on, goes_idle, goes_no_further, fails, fills, finishes, rose_before}
+use Rattle.cs_core.proofs.Rolling.{begins, begins_idle, breaks, finish_leads, idle_leads, rests_leads, stop_leads, goes_on, goes_idle, goes_no_further, fails, fills, finishes, rose_before}
 use Rattle.cs_core.proofs.run.run.Goals as goal
 
 pub returns-then-is_idle-clause-ran : goal.returns-then-is_idle-clause-ran
@@ -98,3 +98,22 @@ returns-in-WriteFault-clause-limit g c = c.step.ensures.limit ∙ c.loop-steps.i
 
 pub returns-clause-limit : goal.returns-clause-limit
 returns-clause-limit g c = c.loop-steps.invariant.limit
+
+pub returns-then-is_idle-clause-world : goal.returns-then-is_idle-clause-world
+returns-then-is_idle-clause-world g c = idle_leads (g.W.World.view c.args.w.now) c.args.n (g.W.World.stored c.args.w.now) c.at_rest.result.ending c.requires.sound (sym c.is_idle.ensures ∙ c.if-is_idle.true)
+
+pub returns-in-Idle-clause-world : goal.returns-in-Idle-clause-world
+returns-in-Idle-clause-world g c = rests_leads (g.W.World.layout c.step.new.w) c.args.n c.at_rest-in-Idle.result.ending c.loop-steps-test.true c.loop-steps.invariant.stands c.in-Idle.ensures.gives
+
+pub returns-clause-world : goal.returns-clause-world
+returns-clause-world g c =
+    let all : c.loop-steps.steps ≡ c.args.n = omega (arith, c.loop-steps-test.false, c.loop-steps.auto.steps-end) in
+    finish_leads c.args.n all c.loop-steps.invariant.stands
+
+pub returns-in-WriteFault-clause-breaks : goal.returns-in-WriteFault-clause-breaks
+returns-in-WriteFault-clause-breaks g c =
+    breaks (g.W.World.stored c.step.new.w) (g.W.World.view c.step.new.w) (g.W.World.layout c.step.new.w) c.args.n c.loop-steps-test.true c.loop-steps.invariant.stands c.in-WriteFault.ensures.gives
+
+pub returns-in-Stopped-clause-world : goal.returns-in-Stopped-clause-world
+returns-in-Stopped-clause-world g c =
+    stop_leads (g.W.World.stored c.step.new.w) (g.W.World.view c.step.new.w) (g.W.World.layout c.step.new.w) c.args.n c.in-Stopped.reason c.loop-steps-test.true c.loop-steps.invariant.stands c.in-Stopped.ensures.gives c.in-Stopped.ensures.sound c.in-Stopped.ensures.untouched

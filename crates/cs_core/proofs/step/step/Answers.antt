@@ -8,8 +8,9 @@ use Rattle.cs_code.specs.Gives.{IsNamedEnd, Refuses, end_of, is_refused}
 use Rattle.cs_send.specs.Sent.{message_of}
 use Rattle.cs_core.proofs.Beginning.{Executed, births_beyond, births_left, executed, held_above, lies_behind, refused}
 use Rattle.cs_core.proofs.Settling.{free_next}
-use Rattle.cs_core.proofs.Stepping.{births_back, births_few, births_past, done_gives, full_gives, return_gives, send_gives, stop_gives}
+use Rattle.cs_core.proofs.Stepping.{begun, births_back, births_few, births_past, done_gives, full_gives, return_gives, send_gives, stop_gives}
 use Rattle.cs_core.proofs.Turning.{Begins, births_used, no_instruction}
+use Rattle.cs_core.specs.declared.step.StepEnd.TheVariants.{Stopped}
 use Rattle.cs_core.proofs.step.step.Goals as goal
 
 pub returns-then-next_birth-gt-BIRTH_LIMIT-clause-gives : goal.returns-then-next_birth-gt-BIRTH_LIMIT-clause-gives
@@ -40,7 +41,7 @@ returns-in-Done-clause-gives g c =
     let x = executed (g.W.World.view c.args.w.now) (g.W.World.view c.set_pc.new.self) (g.W.World.view c.exec.new.w) c.in-Some.instruction (c.pc.result + c.from.result) _ (ap₂ (λ a b. a + b) c.pc.ensures c.from.ensures) c.set_pc.ensures.state c.requires.ready.sound.closed
     (c.exec.ensures.gives (ap is_refused c.in-Done.is)).end (c.exec.ensures.gives (ap is_refused c.in-Done.is)).state in
     done_gives (g.W.World.view c.args.w.now) c.in-Some.instruction (g.W.World.layout c.args.w.now) (g.W.World.layout c.exec.new.w) (g.W.World.stored c.exec.new.w) (g.W.World.view c.exec.new.w) begins _ c.finish.result c.requires.ready.running (free_next (g.W.World.stored c.args.w.now) (g.W.World.view c.args.w.now) c.requires.ready.sound) (subst (Executed (g.W.World.view c.args.w.now) c.in-Some.instruction (g.W.World.view c.exec.new.w)) (ap (end_of (g.W.World.stored c.exec.new.w)) c.in-Done.is) x) (c.exec.ensures.gives (ap is_refused c.in-Done.is)).ready
-    (c.exec.ensures.layout (ap is_refused c.in-Done.is) ∙ c.set_pc.ensures.layout) c.finish.ensures
+    (c.exec.ensures.layout (ap is_refused c.in-Done.is) ∙ c.set_pc.ensures.layout) c.finish.ensures.by
 
 pub send-requires-clause-births : goal.send-requires-clause-births
 send-requires-clause-births g c =
@@ -106,3 +107,18 @@ returns-in-Full-clause-gives g c =
     full_gives (g.W.World.view c.args.w.now) c.in-Some.instruction (g.W.World.layout c.args.w.now) (g.W.World.layout c.exec.new.w) (g.W.World.stored c.exec.new.w) (g.W.World.view c.exec.new.w) begins (g.K.Sink.taken c.args.out.now) c.in-Full.why
     (refused (g.W.World.stored c.exec.new.w) (g.W.World.layout c.args.w.now) (g.W.World.view c.args.w.now) (g.W.World.view c.set_pc.new.self) c.in-Some.instruction (c.pc.result + c.from.result) c.in-Full.why
     (ap₂ (λ a b. a + b) c.pc.ensures c.from.ensures) c.set_pc.ensures.state c.requires.ready.sound.closed refusal)
+
+pub returns-in-Done-clause-untouched : goal.returns-in-Done-clause-untouched
+returns-in-Done-clause-untouched g c = begun (g.W.World.view c.args.w.now) c.next_birth.result c.in-Some.instruction c.finish.result _ c.next_birth.ensures c.if-next_birth-gt-BIRTH_LIMIT.false (sym c.instruction.ensures.value ∙ c.in-Some.is)
+
+pub returns-in-Send-clause-untouched : goal.returns-in-Send-clause-untouched
+returns-in-Send-clause-untouched g c = begun (g.W.World.view c.args.w.now) c.next_birth.result c.in-Some.instruction c.send.result _ c.next_birth.ensures c.if-next_birth-gt-BIRTH_LIMIT.false (sym c.instruction.ensures.value ∙ c.in-Some.is)
+
+pub returns-in-Return-clause-untouched : goal.returns-in-Return-clause-untouched
+returns-in-Return-clause-untouched g c = begun (g.W.World.view c.args.w.now) c.next_birth.result c.in-Some.instruction c.give_back.result _ c.next_birth.ensures c.if-next_birth-gt-BIRTH_LIMIT.false (sym c.instruction.ensures.value ∙ c.in-Some.is)
+
+pub returns-in-Stop-clause-untouched : goal.returns-in-Stop-clause-untouched
+returns-in-Stop-clause-untouched g c = begun (g.W.World.view c.args.w.now) c.next_birth.result c.in-Some.instruction (Stopped c.in-Stop.reason) _ c.next_birth.ensures c.if-next_birth-gt-BIRTH_LIMIT.false (sym c.instruction.ensures.value ∙ c.in-Some.is)
+
+pub returns-in-Stop-clause-sound : goal.returns-in-Stop-clause-sound
+returns-in-Stop-clause-sound g c = (c.exec.ensures.gives (ap is_refused c.in-Stop.is)).ready.sound

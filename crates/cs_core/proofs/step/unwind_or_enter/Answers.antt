@@ -6,7 +6,7 @@ use Rattle.cs_core.proofs.step.unwind_or_enter.Goals as goal
 pub returns-in-Answer-clause-gives : goal.returns-in-Answer-clause-gives
 returns-in-Answer-clause-gives g c = λ told.
     unwind_over (g.W.World.view c.args.w.now) (name_of (g.W.World.stored c.args.w.now) c.args.method) c.args.number c.args.args c.requires.enters.count c.requires.unwinds (g.W.World.view c.primitive.new.w) (g.W.World.layout c.args.w.now) (g.W.World.layout c.primitive.new.w) told
-    (g.W.World.stored c.args.w.now) (g.W.World.stored c.primitive.new.w) c.finish.result c.primitive.result c.requires.ready.running c.in-Answer.is c.primitive.ensures.gives c.primitive.ensures.layout c.finish.ensures
+    (g.W.World.stored c.args.w.now) (g.W.World.stored c.primitive.new.w) c.finish.result c.primitive.result c.requires.ready.running c.in-Answer.is c.primitive.ensures.gives c.primitive.ensures.layout c.finish.ensures.by
 
 pub returns-in-Fail-clause-gives : goal.returns-in-Fail-clause-gives
 returns-in-Fail-clause-gives g c = λ told.
@@ -22,9 +22,12 @@ returns-in-Fail-clause-gives g c = λ told.
 pub returns-in-Stop-clause-gives : goal.returns-in-Stop-clause-gives
 returns-in-Stop-clause-gives g c = λ told.
     unwind_stops (g.W.World.view c.args.w.now) (name_of (g.W.World.stored c.args.w.now) c.args.method) c.args.number c.args.args c.requires.enters.count c.requires.unwinds (g.W.World.view c.primitive.new.w) (g.W.World.layout c.args.w.now) (g.W.World.layout c.primitive.new.w) told
-    (g.W.World.stored c.primitive.new.w) c.in-Stop.reason c.in-Stop.ensures.gives
+    (g.W.World.stored c.primitive.new.w) c.in-Stop.reason c.in-Stop.ensures.gives.0
 
 pub returns-in-Full-clause-gives : goal.returns-in-Full-clause-gives
 returns-in-Full-clause-gives g c = λ told.
     unwind_full (g.W.World.view c.args.w.now) (name_of (g.W.World.stored c.args.w.now) c.args.method) c.args.number c.args.args c.requires.enters.count c.requires.unwinds (g.W.World.view c.primitive.new.w) (g.W.World.layout c.args.w.now) (g.W.World.layout c.primitive.new.w) told
     (g.W.World.stored c.args.w.now) (g.W.World.stored c.primitive.new.w) c.in-Full.why c.requires.ready.running c.in-Full.ensures.gives
+
+pub returns-in-Stop-clause-sound : goal.returns-in-Stop-clause-sound
+returns-in-Stop-clause-sound g c = c.in-Stop.ensures.gives.1.ready.sound

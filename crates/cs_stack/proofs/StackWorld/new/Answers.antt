@@ -7,7 +7,7 @@ use Rattle.cs_stack.specs.View.{loaded_kept}
 use Rattle.cs_stack.proofs.Closed.{good_sound}
 use Rattle.cs_stack.proofs.Laid.{fresh_one}
 use Rattle.cs_stack.proofs.Opening.{made_good, made_runs, made_view}
-use Rattle.cs_stack.proofs.Scheduled.{scheduled}
+use Rattle.cs_model.proofs.Opening.{scheduled}
 use Rattle.cs_stack.proofs.StackWorld.new.Goals as goal
 
 pub invariant_of-world : goal.invariant_of-world

@@ -12,6 +12,6 @@ returns c =
     let two : List Object = with_slot one a 1 65536 in
     let three : List Object = with_slot two a 2 1 in
     c.set_slot-3.ensures
-    ∙ ap (λ v. slot_stored c.set_slot-2.new.self a 2 v) c.count_word.ensures
+    ∙ ap (λ v. slot_stored c.set_slot-2.new.self a 2 v) c.from_natural.ensures
     ∙ ap (λ (h : Memory). slot_stored h a 2 1) (c.set_slot-2.ensures ∙ ap (λ (h : Memory). slot_stored h a 1 65536) c.set_slot.ensures)
     ∙ slots_stored-twice (slots_stored m a one) a two three ∙ slots_stored-twice m a one three

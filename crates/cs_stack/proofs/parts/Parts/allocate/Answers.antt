@@ -7,11 +7,12 @@ use Rattle.cs_acts.specs.Made.{blank_of, contexts_in}
 use Rattle.cs_acts.specs.Names.{KeepsNames, Names}
 use Rattle.cs_stack.specs.View.{stored_of, view_of}
 use Rattle.cs_stack.specs.Good.{IsGood}
-use Rattle.cs_stack.proofs.Allocating.{class_below, full_made, made_contexts, made_good, made_names, made_value, made_view, within}
+use Rattle.cs_acts.proofs.Allocating.{within}
+use Rattle.cs_stack.proofs.Allocating.{full_made, index_below, made_contexts, made_good, made_names, made_value, made_view}
 use Rattle.cs_stack.proofs.parts.Parts.allocate.Goals as goal
 
 pub allocate-requires-clause-class : goal.allocate-requires-clause-class
-allocate-requires-clause-class c = class_below c.args.self.now c.requires.good c.args.class c.args.format c.args.slots c.requires.fits c.len-entries.ensures.beyond
+allocate-requires-clause-class c = index_below c.args.self.now c.requires.good c.args.class c.args.format c.args.slots c.requires.fits c.len-entries.ensures.beyond
 
 pub returns-in-Ok-clause-good : goal.returns-in-Ok-clause-good
 returns-in-Ok-clause-good c =

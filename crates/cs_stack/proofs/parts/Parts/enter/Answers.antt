@@ -12,8 +12,8 @@ use Rattle.cs_stack.proofs.Called.{top_frame, top_is_frame}
 use Rattle.cs_stack.proofs.Methods.{enough, method_begins, method_header, method_temporaries}
 use Rattle.cs_stack.proofs.parts.Parts.enter.Goals as goal
 
-pub header-head-requires : goal.header-head-requires
-header-head-requires c =
+pub method_header-header-requires : goal.method_header-header-requires
+method_header-header-requires c =
     method_header c.requires.ready (opened c.args.self.now c.requires.good c.requires.ready) c.args.method c.args.args c.args.skip c.requires.named c.requires.fits
 
 pub depth-requires : goal.depth-requires
@@ -43,7 +43,7 @@ slot-receiver-requires-clause-index c =
 pub overflow_sub-new : goal.overflow_sub-new
 overflow_sub-new c =
     let o = opened c.args.self.now c.requires.good c.requires.ready in
-    subst (λ n. c.args.args ≤ n) (sym (c.temporaries.ensures.value ∙ ap temporary_count c.header-head.ensures)) (method_temporaries c.requires.ready o c.args.method c.args.args c.args.skip c.requires.named c.requires.fits)
+    subst (λ n. c.args.args ≤ n) (sym (c.temporaries.ensures.value ∙ ap temporary_count c.method_header-header.ensures)) (method_temporaries c.requires.ready o c.args.method c.args.args c.args.skip c.requires.named c.requires.fits)
 
 pub begin-requires-clause-can : goal.begin-requires-clause-can
 begin-requires-clause-can c =
@@ -52,9 +52,9 @@ begin-requires-clause-can c =
     let at : c.depth.result - c.args.args - 1 ≡ length o.f.stack - (c.args.args + 1) = omega (arith, deep) in
     let received = c.slot-receiver.ensures.value ∙ ap (λ (f : Frame). slice_index f.stack (c.depth.result - c.args.args - 1)) (top_frame o c.top-top.result c.top-top.ensures.is)
     ∙ ap (slice_index o.f.stack) at in
-    let filled = ap (λ n. n - c.args.args) (c.temporaries.ensures.value ∙ ap temporary_count c.header-head.ensures) in
-    let pc = c.count_word.ensures ∙ ap (λ n. small_word (pos n)) (c.entry_pc.ensures ∙ ap (λ h. entry_of h c.args.skip) c.header-head.ensures) in
-    let b = method_begins c.requires.ready o c.args.method c.args.args c.args.skip c.requires.named c.requires.fits c.slot-receiver.result (c.temporaries.result - c.args.args) c.count_word.result received filled pc in
+    let filled = ap (λ n. n - c.args.args) (c.temporaries.ensures.value ∙ ap temporary_count c.method_header-header.ensures) in
+    let pc = c.from_natural.ensures ∙ ap (λ n. small_word (pos n)) (c.entry_pc.ensures ∙ ap (λ h. entry_of h c.args.skip) c.method_header-header.ensures) in
+    let b = method_begins c.requires.ready o c.args.method c.args.args c.args.skip c.requires.named c.requires.fits c.slot-receiver.result (c.temporaries.result - c.args.args) c.from_natural.result received filled pc in
     b.can
 
 pub returns-clause-view : goal.returns-clause-view
@@ -64,9 +64,9 @@ returns-clause-view c =
     let at : c.depth.result - c.args.args - 1 ≡ length o.f.stack - (c.args.args + 1) = omega (arith, deep) in
     let received = c.slot-receiver.ensures.value ∙ ap (λ (f : Frame). slice_index f.stack (c.depth.result - c.args.args - 1)) (top_frame o c.top-top.result c.top-top.ensures.is)
     ∙ ap (slice_index o.f.stack) at in
-    let filled = ap (λ n. n - c.args.args) (c.temporaries.ensures.value ∙ ap temporary_count c.header-head.ensures) in
-    let pc = c.count_word.ensures ∙ ap (λ n. small_word (pos n)) (c.entry_pc.ensures ∙ ap (λ h. entry_of h c.args.skip) c.header-head.ensures) in
-    let b = method_begins c.requires.ready o c.args.method c.args.args c.args.skip c.requires.named c.requires.fits c.slot-receiver.result (c.temporaries.result - c.args.args) c.count_word.result received filled pc in
+    let filled = ap (λ n. n - c.args.args) (c.temporaries.ensures.value ∙ ap temporary_count c.method_header-header.ensures) in
+    let pc = c.from_natural.ensures ∙ ap (λ n. small_word (pos n)) (c.entry_pc.ensures ∙ ap (λ h. entry_of h c.args.skip) c.method_header-header.ensures) in
+    let b = method_begins c.requires.ready o c.args.method c.args.args c.args.skip c.requires.named c.requires.fits c.slot-receiver.result (c.temporaries.result - c.args.args) c.from_natural.result received filled pc in
     subst (λ (t : Kept). OnOk c.begin.result (view_of c.begin.new.self ≡ t)) b.state c.begin.ensures.view
 
 pub returns-clause-full : goal.returns-clause-full
@@ -76,7 +76,7 @@ returns-clause-full c =
     let at : c.depth.result - c.args.args - 1 ≡ length o.f.stack - (c.args.args + 1) = omega (arith, deep) in
     let received = c.slot-receiver.ensures.value ∙ ap (λ (f : Frame). slice_index f.stack (c.depth.result - c.args.args - 1)) (top_frame o c.top-top.result c.top-top.ensures.is)
     ∙ ap (slice_index o.f.stack) at in
-    let filled = ap (λ n. n - c.args.args) (c.temporaries.ensures.value ∙ ap temporary_count c.header-head.ensures) in
-    let pc = c.count_word.ensures ∙ ap (λ n. small_word (pos n)) (c.entry_pc.ensures ∙ ap (λ h. entry_of h c.args.skip) c.header-head.ensures) in
-    let b = method_begins c.requires.ready o c.args.method c.args.args c.args.skip c.requires.named c.requires.fits c.slot-receiver.result (c.temporaries.result - c.args.args) c.count_word.result received filled pc in
+    let filled = ap (λ n. n - c.args.args) (c.temporaries.ensures.value ∙ ap temporary_count c.method_header-header.ensures) in
+    let pc = c.from_natural.ensures ∙ ap (λ n. small_word (pos n)) (c.entry_pc.ensures ∙ ap (λ h. entry_of h c.args.skip) c.method_header-header.ensures) in
+    let b = method_begins c.requires.ready o c.args.method c.args.args c.args.skip c.requires.named c.requires.fits c.slot-receiver.result (c.temporaries.result - c.args.args) c.from_natural.result received filled pc in
     subst (λ (t : Kept). IfErr c.begin.result (CausesFull (stored_of c.begin.new.self) (layout_of c.args.self.now) (view_of c.args.self.now) 0 t)) b.state c.begin.ensures.full

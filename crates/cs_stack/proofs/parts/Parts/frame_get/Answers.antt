@@ -26,8 +26,8 @@ pub returns-in-2-clause-value : goal.returns-in-2-clause-value
 returns-in-2-clause-value c =
     let w = c.args.self.now in
     let a = frame_at w c.args.f c.requires.good c.requires.frame in
-    subst (λ i. NamesOption (stored_of w) (Some c.count_word.result) (field_at (view_of w) (act_of w (act.Frame c.args.f.page c.args.f.at)) i)) (sym c.in-2.is)
-    (frame_get_depth c.requires.good a c.count_word.result c.depth.result c.depth.ensures.depth c.count_word.ensures (depth_small c.requires.good a c.depth.result c.depth.ensures.depth))
+    subst (λ i. NamesOption (stored_of w) (Some c.from_natural.result) (field_at (view_of w) (act_of w (act.Frame c.args.f.page c.args.f.at)) i)) (sym c.in-2.is)
+    (frame_get_depth c.requires.good a c.from_natural.result c.depth.result c.depth.ensures.depth c.from_natural.ensures (depth_small c.requires.good a c.depth.result c.depth.ensures.depth))
 
 pub returns-in-3-clause-value : goal.returns-in-3-clause-value
 returns-in-3-clause-value c =

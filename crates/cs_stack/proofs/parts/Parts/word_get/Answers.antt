@@ -1,7 +1,8 @@
-use Rattle.std.proofs.Common.{Some, ap, arith, refl, subst, sym, ◌∙◌, ℕ}
+use Rattle.std.proofs.Common.{unwrap_or, Some, ap, arith, refl, subst, sym, ◌∙◌, ℕ}
 use Rattle.std.specs.Prelude.{pos}
 use Rattle.cs_word.specs.Word.{small_word}
 use Rattle.cs_heap.specs.Object.{slot_of}
+use Rattle.cs_classes.proofs.Naturals.{natural_is}
 use Rattle.cs_acts.specs.declared.act.Act.TheVariants as act
 use Rattle.cs_acts.specs.Names.{NamesOption}
 use Rattle.cs_stack.specs.Moved.{field_at}
@@ -15,11 +16,11 @@ slot-word-requires c =
     let x = context_act c.args.self.now c.args.ctx c.requires.good c.requires.stands in
     omega (arith, slots_are x, word_within c.requires.good x c.args.ctx refl c.args.i c.requires.there)
 
-pub count_word-requires : goal.count_word-requires
-count_word-requires c =
+pub from_natural-requires : goal.from_natural-requires
+from_natural-requires c =
     let w = c.args.self.now in
     let x = context_act w c.args.ctx c.requires.good c.requires.stands in
-    omega (arith, c.count.ensures, depth_few c.requires.good x c.args.ctx refl c.slot-word.result.0 (c.slot-word.ensures ∙ ap (λ (i : ℕ). slot_of w.heap.objects c.args.ctx.0 i) c.in-2.is))
+    omega (arith, (c.unwrap_or.ensures ∙ ap (λ o. unwrap_or o 0) (c.natural.ensures.value ∙ natural_is _)), depth_few c.requires.good x c.args.ctx refl c.slot-word.result.0 (c.slot-word.ensures ∙ ap (λ (i : ℕ). slot_of w.heap.objects c.args.ctx.0 i) c.in-2.is))
 
 pub returns-in-0 : goal.returns-in-0
 returns-in-0 c =
@@ -32,9 +33,9 @@ pub returns-in-2 : goal.returns-in-2
 returns-in-2 c =
     let w = c.args.self.now in
     let x = context_act w c.args.ctx c.requires.good c.requires.stands in
-    subst (λ i. NamesOption (stored_of w) (Some c.count_word.result) (field_at (view_of w) (act_of w (act.Context c.args.ctx)) i)) (sym c.in-2.is)
-    (word_get_depth c.requires.good x c.args.ctx refl c.count_word.result c.slot-word.result.0 (c.slot-word.ensures ∙ ap (λ (i : ℕ). slot_of w.heap.objects c.args.ctx.0 i) c.in-2.is)
-    (c.count_word.ensures ∙ ap (λ (n : ℕ). small_word (pos n)) c.count.ensures))
+    subst (λ i. NamesOption (stored_of w) (Some c.from_natural.result) (field_at (view_of w) (act_of w (act.Context c.args.ctx)) i)) (sym c.in-2.is)
+    (word_get_depth c.requires.good x c.args.ctx refl c.from_natural.result c.slot-word.result.0 (c.slot-word.ensures ∙ ap (λ (i : ℕ). slot_of w.heap.objects c.args.ctx.0 i) c.in-2.is)
+    (c.from_natural.ensures ∙ ap (λ (n : ℕ). small_word (pos n)) (c.unwrap_or.ensures ∙ ap (λ o. unwrap_or o 0) (c.natural.ensures.value ∙ natural_is _))))
 
 pub returns-in_default : goal.returns-in_default
 returns-in_default c =

@@ -1,0 +1,16 @@
+-- Which of the built primitives a number names.
+use Rattle.std.specs.Prelude.{◌≡◌, ℕ, true, false, Option, Some, None}
+use Rattle.cs_model.specs.Built.{is_built_number}
+use Rattle.cs_model.specs.State.{Kept}
+use Rattle.cs_prim_ctx.specs.Numbers.{reads_context}
+use Rattle.cs_unwind.specs.Primitive.{unwinds}
+use Rattle.cs_core.specs.declared.primitive.Primitive.{Primitive}
+use Rattle.cs_core.specs.declared.primitive.Primitive.TheVariants.{Add, Write, Unwind, ReadContext}
+
+-- this is the number of a primitive that is called with so many arguments, or that of one that isn't built
+abbrev pub HasNumber : Kept → ℕ → Option Primitive → ℕ → Type 0
+HasNumber k args None number = is_built_number k args (Some number) ≡ false
+HasNumber k args (Some Add) number = number ≡ 1
+HasNumber k args (Some Write) number = number ≡ 900
+HasNumber k args (Some Unwind) number = unwinds number ≡ true
+HasNumber k args (Some ReadContext) number = reads_context k number args ≡ true
