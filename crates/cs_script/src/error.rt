@@ -5,8 +5,8 @@ use thiserror::Error;
 
 /// Why a script is refused: its first fault. Lines are counted from 1.
 ///
-/// A script that is too large is refused before any line is read. Then the first line with a fault decides, and within a
-/// line `BadLine` comes before `NotRising`.
+/// A script that is too large is refused before any line is read. Then the first line with a fault decides, and within
+/// a line `BadLine` comes before `NotRising`.
 #[derive(Clone, Copy, PartialEq, Eq, Debug, Error)]
 pub enum ScriptError {
     /// The script has more than 16,777,216 bytes or 262,144 lines.

@@ -49,7 +49,7 @@ impl Script {
         self.events.is_empty()
     }
 
-    /// The event of this place, counted from 0.
+    /// The event of this place, counted from 0, which lies below the number of events.
     pub fn event(&self, i: u32) -> Event
         requires inside { i < length self.now }
         ensures { result ≡ get_or self.now i result }
@@ -59,8 +59,8 @@ impl Script {
 }
 
 /// Reads a script: a line an event, `S signal K`, `S clock M` or `S byte B`, with single spaces. Numbers are decimal
-/// without leading zeros: S from 1 to 1,000,000,000,000, K from 1 to 65,535, M from 0 to 1,073,741,823, B from 0 to 255.
-/// S never falls, and the last line feed may lack.
+/// without leading zeros: S from 1 to 1,000,000,000,000, K from 1 to 65,535, M from 0 to 1,073,741,823, B from 0 to
+/// 255. S never falls, and the last line feed may lack.
 ///
 /// An error says what the first fault is (see `ScriptError`), and comes exactly where there is one; `NoMemory` alone is
 /// free. The form is this machine's own.

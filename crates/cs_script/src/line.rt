@@ -40,8 +40,8 @@ fn read_event(words: &[&[u8]]) -> Option<Event>
     Some(Event { before, kind })
 }
 
-/// What happens: the number of a semaphore that is signalled, the moment to which the clock is set, or a byte that comes
-/// in.
+/// What happens: the number of a semaphore that is signalled, the moment to which the clock is set, or a byte that
+/// comes in.
 fn read_kind(word: &[u8], value: &[u8]) -> Option<EventKind>
     ensures { result ≡ kind_said word.now value.now }
 {

@@ -4,8 +4,8 @@ ghost use Rattle.std.specs.Prelude.{◌≡◌, ◌≤◌, IfSome, option_and_the
 ghost use Rattle.cs_model.specs.Line.{at_most, most_steps, number_in};
 ghost use Rattle.cs_model.specs.Text.{number_between};
 
-/// The number that a word is in decimal digits without leading zeros, where it lies between these two. The word may be of
-/// any length.
+/// The number that a word is in decimal digits without leading zeros, where it lies between these two. The word may be
+/// of any length.
 pub(crate) fn number_between(lowest: u64, highest: u64, word: &[u8]) -> Option<u64>
     requires small { highest ≤ most_steps }
     ensures value { result ≡ number_between lowest highest word.now }

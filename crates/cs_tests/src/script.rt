@@ -48,10 +48,7 @@ fn a_script_is_refused_for_its_first_fault(rt: HostRuntime) {
         ("5 byte 01", BadLine { number: 1 }),
         ("0 byte 1", BadLine { number: 1 }),
         ("1 signal 0", BadLine { number: 1 }),
-        (
-            "1 clock 99999999999999999999999999",
-            BadLine { number: 1 },
-        ),
+        ("1 clock 99999999999999999999999999", BadLine { number: 1 }),
     ];
     for (text, fault) in rows {
         let read = read_script(rt.alloc(), text.as_bytes());
