@@ -475,7 +475,7 @@ whole-last_hash os table roots hash fits w = record {
   special = w.special;
   array = record { format = w.array.format; slots = w.array.slots };
   last_hash = fits;
-  header = record { format = w.header.format; size = w.header.size; profile = w.header.profile };
+  header = w.header;
 }
 
 pub kept_of-last_hash : (os : List Object) (table : FinMap nat_cmp ℕ) (roots : Roots) (active : Option ℕ) (hash : ℕ)

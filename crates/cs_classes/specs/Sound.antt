@@ -130,6 +130,10 @@ pub record IsImageHeader (header : List ℕ) : Type 0 where
   pub size : is_bad_header_size header ≡ false
   pub profile : is_bad_profile header ≡ false
 
+-- the same, closed: whoever reads or writes a file looks into it, and nobody else
+unfoldable pub IsSoundHeader : List ℕ → Type 0
+IsSoundHeader header = IsImageHeader header
+
 -- A heap with its class table and roots: nil, false and true are there without slots, nil at the first address, which new slots
 -- hold; births are below the next one; each object's class index has an entry; each entry and the special-object array are objects;
 -- the table, the array and the image header are sound; and identity hashes have 22 bits.
@@ -145,4 +149,4 @@ pub record IsWhole (objects : List Object) (table : FinMap nat_cmp ℕ) (roots :
   pub special : is_object objects roots.special.0 ≡ true
   pub array : IsSpecialArray objects roots.special.0
   pub last_hash : roots.last_hash < 4194304
-  pub header : IsImageHeader roots.header
+  pub header : IsSoundHeader roots.header

@@ -22,7 +22,7 @@ use Rattle.cs_heap.specs.Object.{Object, address_among, address_of, base, class_
 use Rattle.cs_heap.specs.Format.{format_allows}
 use Rattle.cs_word.specs.Header.{flag_bits, with_immutable}
 use Rattle.cs_classes.specs.Meaning.{count_of, depth_in, header_in}
-use Rattle.cs_classes.specs.Sound.{is_closure_address, is_method_address, is_sender, is_weak, IsImageHeader, IsSound, IsSoundClass, IsSoundTable, IsSpecialArray, is_reference, nil_of, references_in, IsSoundContext, IsSoundMethod, IsSoundObject, IsWhole}
+use Rattle.cs_classes.specs.Sound.{is_closure_address, is_method_address, is_sender, is_weak, IsImageHeader, IsSound, IsSoundClass, IsSoundHeader, IsSoundTable, IsSpecialArray, is_reference, nil_of, references_in, IsSoundContext, IsSoundMethod, IsSoundObject, IsWhole}
 use Rattle.cs_classes.specs.declared.Roots.{Roots}
 use Rattle.cs_classes.proofs.Tables.{ties_same, ties_other}
 use Rattle.cs_image.specs.Loading.{address_named, classes_at, loaded, loaded_from, number_of, translated}
@@ -711,6 +711,7 @@ memory_sound births f special next g known = record {
 
 pub memory_whole : (births : List ℕ) (f : File) (special : ℕ) (roots : Roots) → Ground f special → roots.special.0 ≡ address_named f special → AreBirths births (length (visible f)) roots.next_birth → roots.last_hash < 4194304
     → IsImageHeader roots.header → IsWhole (memory_of births f) (classes_at f table_size) roots
+unfolding IsSoundHeader
 memory_whole births f special roots g at known small checked = record {
   heap = memory_sound births f special roots.next_birth g known;
   first = let l = length-loaded_from births f 0 (visible f) in let three = visible_three f g.table in omega (arith, l, three);

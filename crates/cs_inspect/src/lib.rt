@@ -90,10 +90,10 @@ fn push_process(text: &mut Vec<u8>, l: &Loaded) -> Result<(), AllocError>
 /// The text of an image: a line that begins `image`, and one for each object in the order of births.
 ///
 /// The first line has the next birth, the last hash that was given, and the active process, if there is one. A
-/// reference is a SmallInteger in decimal, `$` and the code of a Character, or `@` and the birth of an object. The line of an
-/// object begins with its birth and the word `ptr`, `raw`, `method` or `context`, and goes on with class index, format
-/// and hash as far as the word doesn't tell them. Behind a colon follow its slots, its bytes in hex digits, its literals
-/// and its bytecodes, or its stack, of which nothing is beyond the top. The text is this machine's own.
+/// reference is a SmallInteger in decimal, `$` and the code of a Character, or `@` and the birth of an object. The line
+/// of an object begins with its birth and the word `ptr`, `raw`, `method` or `context`, and goes on with class index,
+/// format and hash as far as the word doesn't tell them. Behind a colon follow its slots, its bytes in hex digits, its
+/// literals and its bytecodes, or its stack, of which nothing is beyond the top. The text is this machine's own.
 pub fn print(alloc: Global, l: &Loaded) -> Result<Vec<u8>, AllocError>
     requires { IsWhole l.now.heap.objects l.now.classes l.now.roots }
     ensures { IfOk result (λ text. text.items

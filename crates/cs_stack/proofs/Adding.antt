@@ -69,7 +69,7 @@ later_whole os table roots whole = record {
   special = whole.special;
   array = record { format = whole.array.format; slots = whole.array.slots };
   last_hash = whole.last_hash;
-  header = record { format = whole.header.format; size = whole.header.size; profile = whole.header.profile };
+  header = whole.header;
 }
 
 -- ---- pages behind the first
