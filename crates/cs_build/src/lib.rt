@@ -1,0 +1,7 @@
+//! The builder of images: from a text in lines to the bytes of an image, and the generator of large texts.
+#![tactic(auto)]
+
+mod error;
+mod form;
+
+pub use error::BuildError;
