@@ -3,5 +3,10 @@
 
 mod error;
 mod form;
+mod generate;
+mod mention;
+mod number;
+mod word;
 
 pub use error::BuildError;
+pub use generate::{NoMemory, gen_text};
