@@ -1,12 +1,9 @@
 -- Where a byte stands first in a text.
-use Rattle.std.proofs.Common.{◌≡◌, ℕ, Bool, true, false, ◌+◌, ◌-◌, ◌<◌, ◌≤◌, ◌==◌, ◌||◌, lit<, cond, Some, None, nat_lt, if◌then◌else◌, List, [], ◌∷◌, ◌++◌, length, suc, get_or, refl, arith, ap, map, rules}
+use Rattle.std.proofs.Common.{◌≡◌, ℕ, Bool, true, false, ◌+◌, ◌<◌, ◌≤◌, ◌==◌, ◌||◌, cond, Some, None, nat_lt, if◌then◌else◌, List, [], ◌∷◌, length, suc, refl, arith, rules}
 use Rattle.std.specs.Prelude.{not, Option, IfSome, IfNone}
 use Rattle.std.proofs.lemmas.Bool.Decides.{nat_tests}
-use Rattle.std.specs.Borrow.{Bor}
-use Rattle.cs_model.specs.Text.{is_empty, lines_in}
 use Rattle.std.specs.List.{position_or_len}
 use Rattle.cs_model.specs.BuilderText.{has_byte}
-use Rattle.cs_build.specs.Narrow.{texts}
 
 -- a byte is there exactly where its first place is below the length
 pub has_byte-place : (b : ℕ) (text : List ℕ) → position_or_len (λ c. c == b) text < length text → has_byte b text ≡ true

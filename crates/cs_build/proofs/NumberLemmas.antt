@@ -2,10 +2,9 @@
 use Rattle.std.proofs.Common.{◌≡◌, ℕ, Bool, true, false, ◌+◌, ◌*◌, ◌-◌, ◌<◌, ◌≤◌, List, [], ◌∷◌, Some, None, option_map, length, get_or, drop, drop-cons, add-one, refl, arith, if◌then◌else◌, ◌==◌, nat_lt, min, ap}
 use Rattle.std.proofs.lemmas.Bool.Decides.{nat_tests}
 use Rattle.std.proofs.lemmas.List.{drop_all}
-use Rattle.std.specs.Prelude.{ℤ, pos, negsuc, neg_ℤ, Option, option_and_then}
+use Rattle.std.specs.Prelude.{pos, Option}
 use Rattle.std.specs.Char.{is_ascii_digit}
 use Rattle.cs_model.specs.Line.{digits_from, number_in}
-use Rattle.cs_model.specs.Text.{negative_in}
 use Rattle.cs_build.specs.Narrow.{narrow}
 
 -- what a number of digits comes to, where one above the bound is the bound

@@ -17,7 +17,8 @@ impl From<AllocError> for NoMemory {
 }
 
 /// The method that recurs as often as its argument says, and answers 0.
-const DOWN: &str = "method Object down: 1 1\nlit #down:\npushTemp 0\nint 0\nop 6\njumpFalse d\nint 0\nreturnTop\n:d\nself\npushTemp 0\nint 1\nop 1\nsend 0 1\nint 1\nop 0\nreturnTop\nend\n";
+const DOWN: &str =
+    "method Object down: 1 1\nlit #down:\npushTemp 0\nint 0\nop 6\njumpFalse d\nint 0\nreturnTop\n:d\nself\npushTemp 0\nint 1\nop 1\nsend 0 1\nint 1\nop 0\nreturnTop\nend\n";
 
 /// The text of a large image for each number: 1,000 to 16,000 arrays of one slot, and a process that recurs over and
 /// over to a depth of 100 to 4,099.

@@ -56,7 +56,11 @@ fn read_at(text: &[u8]) -> Option<Mention<'_>>
     if let Some((class, part)) = split_at_byte(text, b'.') {
         return read_part(class, part);
     }
-    if is_name(text) { Some(Mention::Named(text)) } else { None }
+    if is_name(text) {
+        Some(Mention::Named(text))
+    } else {
+        None
+    }
 }
 
 /// A part of a class: its dictionary or the array of its methods.

@@ -11,7 +11,11 @@ ghost use Rattle.cs_build.specs.Narrow.{texts};
 use std::alloc::{AllocError, Global};
 
 /// The parts of a text between separators.
-pub fn parts_of<'a>(alloc: Global, text: &'a [u8], separator: u8) -> Result<Vec<&'a [u8]>, AllocError>
+pub fn parts_of<'a>(
+    alloc: Global,
+    text: &'a [u8],
+    separator: u8,
+) -> Result<Vec<&'a [u8]>, AllocError>
     ensures { IfOk result (λ parts. texts parts.items ≡ slice_split (λ b. b == separator) text.now) }
 {
     text.split(|byte| *byte == separator).collect(alloc)

@@ -9,6 +9,6 @@ pub returns : goal.returns
 unfolding generated
 returns c =
     let arrays : c.loop-i.text.items ≡ flat_map array_line (range_with_len 1 (array_count c.args.k)) =
-        c.loop-i.invariant ∙ ap (λ n. flat_map array_line (range_with_len 1 n)) (omega (arith, c.loop-i.auto.i-end, c.loop-i-test.false)) in
+    c.loop-i.invariant ∙ ap (λ n. flat_map array_line (range_with_len 1 n)) (omega (arith, c.loop-i.auto.i-end, c.loop-i-test.false)) in
     joined-left c.loop-i.text.items (flat_map array_line (range_with_len 1 (array_count c.args.k))) down_text (run_text (depth_for c.args.k)) process_text
-        _ _ _ _ _ _ arrays c.as_bytes.ensures.value refl refl c.in_ok-append.ensures c.in_ok-write_run.ensures c.in_ok-append-2.ensures
+    _ _ _ _ _ _ arrays c.as_bytes.ensures.value refl refl c.in_ok-append.ensures c.in_ok-write_run.ensures c.in_ok-append-2.ensures
