@@ -1,9 +1,7 @@
 -- What the addresses in a file that was put together name.
-use Rattle.std.proofs.Common.{◌≡◌, ◌≢◌, ℕ, zero, suc, ◌+◌, ◌*◌, ◌<◌, ◌≤◌, ◌==◌, Bool, true, false, cond, List, [], ◌∷◌, ◌++◌, length, map, take, drop, Option, Some, None, refl, ap, ap₂, sym, ◌∙◌, arith, slice_get, option_map}
-use Rattle.std.proofs.lemmas.List.Folds.{find-append}
+use Rattle.std.proofs.Common.{◌≡◌, ◌≢◌, ℕ, zero, suc, ◌+◌, ◌*◌, ◌<◌, ◌≤◌, ◌==◌, Bool, true, false, List, [], ◌∷◌, length, take, Some, None, refl, ap, ap₂, ◌∙◌, arith, slice_get}
 use Rattle.std.proofs.lemmas.Bool.Decides.{nat_tests}
 use Rattle.std.specs.List.{find}
-use Rattle.std.specs.Option.{option_or}
 use Rattle.cs_model.specs.ImageFile.{FileObject}
 use Rattle.cs_model.specs.SavedFile.{SavedObject, saved_base, saved_size, saved_sizes, placed_at, placed_from, words_before}
 use Rattle.cs_model.proofs.SavedObjects.{sizes-cons}
