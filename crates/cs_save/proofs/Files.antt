@@ -75,7 +75,7 @@ births_same xs next =
 
 places_same : (xs : List Object) (table : FinMap nat_cmp ℕ) (roots : Roots) → FitsFile (file_of xs table roots) → header_words (file_of xs table roots) ≡ places_of (used xs) roots
 places_same xs table roots fits =
-    let long : 4 * length (saved_heap (file_of xs table roots)) ≡ 4 * (used xs + 22 + 16448) =
+    let long : 4 * length (saved_heap (file_of xs table roots)) ≡ 4 * (used xs + 16470) =
     omega (arith, heap_length (file_of xs table roots) fits, sizes_filed xs, pages_long table) in
     ap (λ (n : ℕ). n ∷ base ∷ file_word roots.special.0 ∷ roots.last_hash ∷ []) long
 

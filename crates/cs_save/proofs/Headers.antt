@@ -48,7 +48,7 @@ get_filed (suc r) (w ∷ words) (suc i) h =
     let same : ltb (suc i) (suc r) ≡ ltb i r = grind (arith, nat_tests) in
     get_filed r words i (omega (arith, h)) ∙ ap (λ (b : Bool). cond b (file_word (get_or words i 0)) (get_or words i 0)) (sym same)
 
-zeros : (n i : ℕ) → get_or (replicate n 0) i 0 ≡ 0
+zeros : (n i : ℕ) → get_or {A = ℕ} (replicate {A = ℕ} n 0) i 0 ≡ 0
 zeros zero i = refl
 zeros (suc n) zero = refl
 zeros (suc n) (suc i) = zeros n i

@@ -101,9 +101,10 @@ abbrev pub saved_heap_of : List Object → FinMap nat_cmp ℕ → List ℕ
 saved_heap_of objects table = saved_between objects 0 3 ++ ((saved_words free_lists ++ saved_root (used objects))
     ++ (saved_between objects 3 (length objects) ++ flat_map (saved_page table) (range_with_len 0 16)))
 
--- the header's words at places 8 to 23: how many bytes the heap has, its base, the special-object array and the last hash
+-- the header's words at places 8 to 23: how many bytes the heap has, in which the two hidden objects and the pages take 16,470
+-- words; its base, the special-object array and the last hash
 abbrev pub places_of : ℕ → Roots → List ℕ
-places_of used roots = 4 * (used + 22 + 16448) ∷ base ∷ file_word roots.special.0 ∷ roots.last_hash ∷ []
+places_of used roots = 4 * (used + 16470) ∷ base ∷ file_word roots.special.0 ∷ roots.last_hash ∷ []
 
 -- the births of the first objects
 abbrev pub saved_births : List Object → ℕ → List ℕ

@@ -29,7 +29,7 @@ use cs_heap::{BASE, Heap};
 use cs_shelf::{Failed, Shelf};
 
 /// The words that the two hidden objects behind true and the pages of the class table take.
-const TABLE_WORDS: u32 = 22 + 16_448;
+const TABLE_WORDS: u32 = 16_470;
 
 /// The words that the objects take.
 fn used(heap: &Heap) -> u32
@@ -84,6 +84,7 @@ fn put_places<S: Shelf>(used: u32, roots: &Roots, shelf: &mut S, piece: &mut Pie
 
 /// Writes the header.
 fn put_header<S: Shelf>(used: u32, roots: &Roots, shelf: &mut S, piece: &mut Piece) -> Result<(), Failed>
+    requires header { length roots.now.header ≡ 64 }
     requires used { used ≤ 67108864 }
     requires begun { IsSome (S.begun shelf.old) }
     ensures ok { OnOk result (WentOn
