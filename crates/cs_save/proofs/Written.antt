@@ -13,7 +13,7 @@ use Rattle.std.specs.List.{range_with_len}
 use Rattle.std.proofs.lemmas.Grind.{flat_map-append}
 use Rattle.std.proofs.lemmas.List.{append-nil, drop-drop, take-append-le, take_all, take_min}
 use Rattle.std.proofs.Math.Seq.{take-append-add}
-use Rattle.cs_shelf.specs.Outside.{AppendsPart, Rose, save_fault}
+use Rattle.cs_shelf.specs.Outside.{AppendsPart, Fault, Rose, save_fault}
 use Rattle.cs_heap.specs.Object.{Object, address_of, index_of, is_object, is_fixed, header_seen, next_of, object_at, used, size, slot_counts}
 use Rattle.cs_heap.proofs.Laws.{address_of-below, address_of-past, index_of-address, next_of-address, object_at-address}
 use Rattle.cs_word.specs.Header.{flag_bits, header_bits}
@@ -22,7 +22,7 @@ use Rattle.cs_word.specs.declared.header.Header.{Header}
 use Rattle.cs_save.specs.Filed.{filed, filed_bits_at}
 use Rattle.cs_model.specs.Words.{bytes_of_words}
 use Rattle.cs_model.proofs.SavedNumbers.{bytes_of_words-append}
-use Rattle.cs_save.specs.Writing.{Writing, WentOn, BrokeOff, OthersStay, WroteWords, BrokeWords, written}
+use Rattle.cs_save.specs.Writing.{Writing, WentOn, BrokeOff, OthersStay, WroteWords, BrokeWords, writing, written}
 use Rattle.cs_model.specs.SavedFile.{overflow_words, halves, saved_bits}
 
 behind : (t : Option (List ℕ)) (xs ys : List ℕ) → option_map (λ (before : List ℕ). before ++ ys) (option_map (λ (before : List ℕ). before ++ xs) t)
@@ -40,7 +40,7 @@ went_then a b c xs ys h k = record {
   taken = k.taken ∙ ap (option_map (λ (before : List ℕ). before ++ ys)) h.taken ∙ behind (written a) xs ys;
 }
 
-rose_later : (x y z : ℕ) → x ≤ y → Rose y z → Rose x z
+pub rose_later : (x y z : ℕ) → x ≤ y → Rose y z → Rose x z
 rose_later x y z h r = omega (arith, h, r)
 
 pub broke_then : (a b c : Writing) (xs ys : List ℕ) → WentOn a b xs → BrokeOff b c ys → BrokeOff a c (xs ++ ys)
@@ -386,3 +386,34 @@ none_taken t s bytes e = (0, e)
 
 pub all_taken : (t s : Option (List ℕ)) (bytes : List ℕ) → s ≡ option_map (λ (taken : List ℕ). bytes) t → (n : ℕ) × (s ≡ option_map (λ (taken : List ℕ). take n bytes) t)
 all_taken t s bytes e = (length bytes, e ∙ ap (λ (bs : List ℕ). option_map (λ (taken : List ℕ). bs) t) (sym (take_all (length bytes) bytes (omega arith))))
+
+-- ---- an empty piece
+
+pub went_empty : (b : Option (List ℕ)) (co : List ℕ → Option (List ℕ)) (k : Option ℕ) (f : ℕ) (l : Fault) (t : Option (List ℕ)) (p : List ℕ)
+    (b₁ : Option (List ℕ)) (co₁ : List ℕ → Option (List ℕ)) (k₁ : Option ℕ) (f₁ : ℕ) (l₁ : Fault) (t₁ : Option (List ℕ)) (p₁ : List ℕ) (bytes : List ℕ) → p ≡ [] → p₁ ≡ []
+    → WentOn (writing b co k f l t p) (writing b₁ co₁ k₁ f₁ l₁ t₁ p₁) bytes → WentOn (writing b co k f l t []) (writing b₁ co₁ k₁ f₁ l₁ t₁ []) bytes
+went_empty b co k f l t p b₁ co₁ k₁ f₁ l₁ t₁ p₁ bytes e g h =
+    let P : List ℕ → Type 0 = λ q. WentOn (writing b co k f l t q) (writing b₁ co₁ k₁ f₁ l₁ t₁ p₁) bytes in
+    let Q : List ℕ → Type 0 = λ q. WentOn (writing b co k f l t []) (writing b₁ co₁ k₁ f₁ l₁ t₁ q) bytes in
+    subst Q g (subst P e h)
+
+pub broke_empty : (b : Option (List ℕ)) (co : List ℕ → Option (List ℕ)) (k : Option ℕ) (f : ℕ) (l : Fault) (t : Option (List ℕ)) (p : List ℕ)
+    (b₁ : Option (List ℕ)) (co₁ : List ℕ → Option (List ℕ)) (k₁ : Option ℕ) (f₁ : ℕ) (l₁ : Fault) (t₁ : Option (List ℕ)) (p₁ : List ℕ) (bytes : List ℕ) → p ≡ []
+    → BrokeOff (writing b co k f l t p) (writing b₁ co₁ k₁ f₁ l₁ t₁ p₁) bytes → BrokeOff (writing b co k f l t []) (writing b₁ co₁ k₁ f₁ l₁ t₁ []) bytes
+broke_empty b co k f l t p b₁ co₁ k₁ f₁ l₁ t₁ p₁ bytes e h =
+    let P : List ℕ → Type 0 = λ q. BrokeOff (writing b co k f l t q) (writing b₁ co₁ k₁ f₁ l₁ t₁ p₁) bytes in
+    let s = subst P e h in
+    record { begun = s.begun; others = s.others; asked = s.asked; never_falls = s.never_falls; rose = s.rose; last = s.last; taken = s.taken }
+
+pub went_taken : (t : Option (List ℕ)) (a b : Writing) (bytes : List ℕ) → a.taken ≡ option_map (λ (taken : List ℕ). []) t → a.piece ≡ [] → WentOn a b bytes → b.piece ≡ []
+    → b.taken ≡ option_map (λ (taken : List ℕ). bytes) t
+went_taken t a b bytes e p h q = whole_taken t a b b bytes e p h (went_nowhere b) q
+
+-- ---- a begun name
+
+pub other_name : (x : Option (List ℕ)) (name other : List ℕ) → x ≡ Some name → other ≢ name → x ≢ Some other
+other_name x name other e differs same = differs (cc)
+
+pub known_name : (x : Option (List ℕ)) (name : List ℕ) (P : List ℕ → Type 0) → x ≡ Some name → IfSome x P → P name
+known_name None name P e h = absurd (cc)
+known_name (Some n) name P e h = let same : n ≡ name = cc in subst P same h

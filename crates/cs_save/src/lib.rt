@@ -156,3 +156,64 @@ fn put_all<S: Shelf>(heap: &Heap, classes: &Classes, roots: &Roots, shelf: &mut 
     Ok(())
 }
 
+/// Appends the whole file to the content that is begun.
+fn put_file<S: Shelf>(heap: &Heap, classes: &Classes, roots: &Roots, shelf: &mut S) -> Result<(), Failed>
+    requires three { 3 ≤ length heap.now.objects }
+    requires fits { FitsFile (file_of heap.now.objects classes.now roots.now) }
+    requires begun { IsSome (S.begun shelf.old) }
+    ensures ok { OnOk result (WentOn
+        (writing (S.begun shelf.old) (S.content shelf.old) (S.asked shelf.old) (S.fault_count shelf.old)
+            (S.last_fault shelf.old) (S.taken shelf.old) [])
+        (writing (S.begun shelf.new) (S.content shelf.new) (S.asked shelf.new) (S.fault_count shelf.new)
+            (S.last_fault shelf.new) (S.taken shelf.new) [])
+        (saved_of heap.now.objects classes.now roots.now)) }
+    ensures err { OnErr result (BrokeOff
+        (writing (S.begun shelf.old) (S.content shelf.old) (S.asked shelf.old) (S.fault_count shelf.old)
+            (S.last_fault shelf.old) (S.taken shelf.old) [])
+        (writing (S.begun shelf.new) (S.content shelf.new) (S.asked shelf.new) (S.fault_count shelf.new)
+            (S.last_fault shelf.new) (S.taken shelf.new) [])
+        (saved_of heap.now.objects classes.now roots.now)) }
+{
+    let mut piece = ArrayVec::new();
+    put_all(heap, classes, roots, shelf, &mut piece)?;
+    flush(shelf, &mut piece)?;
+    Ok(())
+}
+
+/// Saves an image under a name, in pieces of at most 4,096 bytes. It takes no memory.
+///
+/// `Failed` comes only where a call of the shelf failed. Then it isn't known that the name's content is whole, and the shelf has taken
+/// the first of the bytes.
+pub fn save<S: Shelf>(
+    heap: &Heap,
+    classes: &Classes,
+    roots: &Roots,
+    shelf: &mut S,
+    name: &str,
+) -> Result<(), Failed>
+    requires name { length name.now ≤ 4096 }
+    requires three { 3 ≤ length heap.now.objects }
+    requires fits { FitsFile (file_of heap.now.objects classes.now roots.now) }
+
+    // Where the shelf tells what it takes, the name holds these bytes.
+    ensures saved { OnOk result (S.content shelf.new name.now ≡ option_map
+        (λ (taken : List ℕ). saved_of heap.now.objects classes.now roots.now) (S.taken shelf.old)) }
+    ensures part { OnErr result ((n : ℕ) × (S.taken shelf.new ≡ option_map
+        (λ (taken : List ℕ). take n (saved_of heap.now.objects classes.now roots.now)) (S.taken shelf.old))) }
+
+    // No content is begun any more, and no other name changes what it holds.
+    ensures none_begun { S.begun shelf.new ≡ None }
+    ensures contents { (other : List ℕ) → other ≢ name.now → S.content shelf.new other ≡ S.content shelf.old other }
+    ensures asked_stays { S.asked shelf.new ≡ S.asked shelf.old }
+
+    // A failed call is the last fault, under that name.
+    ensures never_falls { S.fault_count shelf.old ≤ S.fault_count shelf.new }
+    ensures cause { OnErr result (Rose (S.fault_count shelf.old) (S.fault_count shelf.new)) }
+    ensures last { OnErr result (S.last_fault shelf.new ≡ save_fault name.now) }
+    ensures last_stays { OnOk result (S.last_fault shelf.new ≡ S.last_fault shelf.old) }
+{
+    shelf.start(name)?;
+    put_file(heap, classes, roots, shelf)?;
+    shelf.finish()?;
+    Ok(())
+}
