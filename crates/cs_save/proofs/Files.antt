@@ -1,10 +1,10 @@
 -- The parts of the file, one behind the other.
-use Rattle.std.proofs.Common.{◌≡◌, ℕ, zero, suc, ◌+◌, ◌-◌, ◌*◌, ◌/◌, ◌<◌, ◌≤◌, Bool, true, false, cond, leb, List, [], ◌∷◌, ◌++◌, length, map, take, drop, replicate, refl, ap, ap₂, sym, ◌∙◌, arith, max, append_assoc, length-drop, Some}
+use Rattle.std.proofs.Common.{◌≡◌, ℕ, ◌+◌, ◌-◌, ◌*◌, ◌/◌, Bool, true, false, cond, leb, List, [], ◌∷◌, ◌++◌, length, map, take, drop, replicate, refl, ap, ap₂, sym, ◌∙◌, arith, max, append_assoc, length-drop, Some}
 use Rattle.std.proofs.lemmas.List.{append-nil, length-map, take_all}
 use Rattle.std.proofs.lemmas.List.FromFn.{length-map-range_with_len}
 use Rattle.std.proofs.lemmas.List.Sums.{sum_by-cons}
 use Rattle.std.proofs.lemmas.Grind.{flat_map-append}
-use Rattle.std.specs.Prelude.{flat_map, sum_by}
+use Rattle.std.specs.Prelude.{flat_map}
 use Rattle.std.specs.List.{range_with_len, take-map, drop-map}
 use Rattle.std.specs.Ordering.{nat_cmp}
 use Rattle.std.specs.FinMap.{FinMap}
@@ -14,7 +14,7 @@ use Rattle.cs_model.specs.Words.{bytes_of_words}
 use Rattle.cs_model.specs.SavedFile.{SavedObject, SavedFile, FitsFile, saved_bytes, saved_heap, saved_words, saved_size, saved_sizes, all_saved, birth_words, header_words, halves, hidden_object, free_lists, table_root, table_page, page_address}
 use Rattle.cs_model.proofs.SavedObjects.{sizes-cons}
 use Rattle.cs_model.proofs.SavedFiles.{heap_length}
-use Rattle.cs_save.specs.Filed.{filed, file_of, file_word, filed_words, page_entries, page_at, places_of, saved_between, saved_births, saved_heap_of, saved_of, saved_page, saved_root}
+use Rattle.cs_save.specs.Filed.{filed, file_of, file_word, page_entries, page_at, places_of, saved_between, saved_births, saved_heap_of, saved_of, saved_page, saved_root}
 use Rattle.cs_save.proofs.Headers.{length-filed}
 
 flat_mapped : {X Y : Type 0} (g : Y → List ℕ) (f : X → Y) (xs : List X) → flat_map g (map f xs) ≡ flat_map (λ x. g (f x)) xs

@@ -1,5 +1,5 @@
 -- The header of an object in the file.
-use Rattle.std.proofs.Common.{◌≡◌, ℕ, ◌+◌, ◌*◌, ◌/◌, ◌%◌, ◌^◌, ◌==◌, Bool, true, false, cond, List, length, min, Option, Some, None, is_some, option_map, refl, ap, sym, ◌∙◌, arith, slice_get, option_and_then}
+use Rattle.std.proofs.Common.{◌≡◌, ℕ, ◌+◌, ◌*◌, ◌/◌, ◌%◌, ◌^◌, ◌==◌, Bool, true, false, cond, List, length, min, Option, Some, None, is_some, refl, ap, sym, ◌∙◌, arith, slice_get, option_and_then}
 use Rattle.std.proofs.Common.{zero, suc, ltb, ◌<◌, ◌≤◌, ◌-◌, ◌++◌, [], ◌∷◌, map, take, drop, replicate, get_or, ap₂, append_assoc, length-append, length-drop}
 use Rattle.std.proofs.lemmas.List.{append-nil, ext_get_or, get_or-append_right, get_or_append_left, length-map, length-take, length-replicate}
 use Rattle.std.proofs.lemmas.List.FromFn.{get_or-map-range_with_len, length-map-range_with_len}
@@ -8,7 +8,7 @@ use Rattle.std.specs.List.{range_with_len}
 use Rattle.std.specs.Option.{option_map_or}
 use Rattle.cs_heap.specs.Object.{format_of, slot_count_of}
 use Rattle.cs_heap.proofs.Laws.{index_of-below}
-use Rattle.cs_model.specs.SavedFile.{SavedObject, saved_bits, saved_words, overflow_words, halves, body_size, hidden_object, table_page, free_lists}
+use Rattle.cs_model.specs.SavedFile.{SavedObject, saved_bits, saved_words, overflow_words, halves, body_size, hidden_object, free_lists}
 use Rattle.cs_save.specs.Filed.{body_word, file_word, filed_words, referring, hidden_bits, page_entries, entry_word, saved_page, saved_at, saved_root, page_at, words_at}
 use Rattle.std.specs.Ordering.{nat_cmp}
 use Rattle.std.specs.FinMap.{FinMap}
@@ -26,8 +26,13 @@ plain class format hash slots n false e = omega (arith, e)
 
 -- with the fixed flag alone
 pub seen_bits : (r : Option Object) (n : ℕ) → is_some r ≡ true → n ≡ cond (option_map_or (λ x. flag_bits x.flags) r 0 % 2 == 1) 1 0
-    → header_bits (record { class = option_map_or (λ x. x.class) r 0; flags = record { 0 = n }; format = option_map_or (λ x. x.format) r 0;
-    hash = option_map_or (λ x. x.hash) r 0; slots = min 255 (option_map_or (λ x. length x.words) r 0) })
+    → header_bits (record {
+      class = option_map_or (λ x. x.class) r 0;
+      flags = record { 0 = n };
+      format = option_map_or (λ x. x.format) r 0;
+      hash = option_map_or (λ x. x.hash) r 0;
+      slots = min 255 (option_map_or (λ x. length x.words) r 0);
+    })
     ≡ option_map_or (λ x. x.class + 2 ^ 23 * cond (flag_bits x.flags % 2 == 1) 1 0 + 2 ^ 24 * x.format + 2 ^ 32 * x.hash + 2 ^ 56 * min 255 (length x.words)) r 0
 seen_bits None n h e = absurd (cc)
 seen_bits (Some x) n h e = plain x.class x.format x.hash (min 255 (length x.words)) n (flag_bits x.flags % 2 == 1) e

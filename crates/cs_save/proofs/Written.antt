@@ -1,29 +1,23 @@
 -- What was written in two parts.
 use Rattle.std.proofs.Common.{◌≡◌, ◌≢◌, ℕ, zero, suc, ◌+◌, ◌-◌, ◌*◌, ◌/◌, ◌%◌, ◌^◌, ◌<◌, ◌≤◌, List, [], ◌∷◌, ◌++◌, take, drop, length, map, slice_get, Option, Some, None, Result, Ok, Err, option_map, refl, ap, ap₂, sym, subst, ◌∙◌, arith, min, append_assoc}
-use Rattle.std.specs.Prelude.{flat_map, nat_le, IfSome, OnErr}
+use Rattle.std.specs.Prelude.{flat_map, IfSome, OnErr}
 use Rattle.std.specs.Int.{to_le_bytes}
-use Rattle.std.specs.Prelude.{sum_by}
-use Rattle.std.specs.Option.{option_map_or}
 use Rattle.std.proofs.lemmas.Nat.{and_mask}
 use Rattle.std.proofs.lemmas.List.Sums.{sum_by-cons}
 use Rattle.std.specs.Int.Bits.{bit_and}
-use Rattle.std.proofs.Common.{is_some, w32, cond, leb, Bool, true, false}
+use Rattle.std.proofs.Common.{is_some, w32, leb, Bool, true, false}
 use Rattle.std.proofs.lemmas.Bool.Decides.{nat_tests}
 use Rattle.std.specs.List.{range_with_len}
 use Rattle.std.proofs.lemmas.Grind.{flat_map-append}
 use Rattle.std.proofs.lemmas.List.{append-nil, drop-drop, take-append-le, take_all, take_min}
 use Rattle.std.proofs.Math.Seq.{take-append-add}
 use Rattle.cs_shelf.specs.Outside.{AppendsPart, Fault, Rose, save_fault}
-use Rattle.cs_heap.specs.Object.{Object, address_of, index_of, is_object, is_fixed, header_seen, next_of, object_at, used, size, slot_counts}
+use Rattle.cs_heap.specs.Object.{Object, address_of, is_object, next_of, object_at, used, size, slot_counts}
 use Rattle.cs_heap.proofs.Laws.{address_of-below, address_of-past, index_of-address, next_of-address, object_at-address}
-use Rattle.cs_word.specs.Header.{flag_bits, header_bits}
-use Rattle.cs_word.specs.declared.header.Flags.{Flags}
-use Rattle.cs_word.specs.declared.header.Header.{Header}
-use Rattle.cs_save.specs.Filed.{filed, filed_bits_at}
 use Rattle.cs_model.specs.Words.{bytes_of_words}
 use Rattle.cs_model.proofs.SavedNumbers.{bytes_of_words-append}
 use Rattle.cs_save.specs.Writing.{Writing, WentOn, BrokeOff, OthersStay, WroteWords, BrokeWords, writing, written}
-use Rattle.cs_model.specs.SavedFile.{overflow_words, halves, saved_bits}
+use Rattle.cs_model.specs.SavedFile.{overflow_words, halves}
 
 behind : (t : Option (List ℕ)) (xs ys : List ℕ) → option_map (λ (before : List ℕ). before ++ ys) (option_map (λ (before : List ℕ). before ++ xs) t)
     ≡ option_map (λ (before : List ℕ). before ++ (xs ++ ys)) t

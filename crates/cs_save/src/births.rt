@@ -11,20 +11,25 @@ use cs_heap::Heap;
 use cs_shelf::{Failed, Shelf};
 
 /// Writes the births of the first objects, of which there are so many.
-fn put_each_birth<S: Shelf>(heap: &Heap, count: u32, shelf: &mut S, piece: &mut Piece) -> Result<(), Failed>
+fn put_each_birth<S: Shelf>(
+    heap: &Heap,
+    count: u32,
+    shelf: &mut S,
+    piece: &mut Piece,
+) -> Result<(), Failed>
     requires count { count ≤ length heap.now.objects }
     requires begun { IsSome (S.begun shelf.old) }
     ensures ok { OnOk result (WroteWords
         (writing (S.begun shelf.old) (S.content shelf.old) (S.asked shelf.old) (S.fault_count shelf.old)
-            (S.last_fault shelf.old) (S.taken shelf.old) piece.old.items)
+        (S.last_fault shelf.old) (S.taken shelf.old) piece.old.items)
         (writing (S.begun shelf.new) (S.content shelf.new) (S.asked shelf.new) (S.fault_count shelf.new)
-            (S.last_fault shelf.new) (S.taken shelf.new) piece.new.items)
+        (S.last_fault shelf.new) (S.taken shelf.new) piece.new.items)
         (saved_births heap.now.objects count)) }
     ensures err { OnErr result (BrokeWords
         (writing (S.begun shelf.old) (S.content shelf.old) (S.asked shelf.old) (S.fault_count shelf.old)
-            (S.last_fault shelf.old) (S.taken shelf.old) piece.old.items)
+        (S.last_fault shelf.old) (S.taken shelf.old) piece.old.items)
         (writing (S.begun shelf.new) (S.content shelf.new) (S.asked shelf.new) (S.fault_count shelf.new)
-            (S.last_fault shelf.new) (S.taken shelf.new) piece.new.items)
+        (S.last_fault shelf.new) (S.taken shelf.new) piece.new.items)
         (saved_births heap.now.objects count)) }
 {
     let mut at = heap.first();
@@ -48,15 +53,15 @@ pub(crate) fn put_births<S: Shelf>(
     requires begun { IsSome (S.begun shelf.old) }
     ensures ok { OnOk result (WroteWords
         (writing (S.begun shelf.old) (S.content shelf.old) (S.asked shelf.old) (S.fault_count shelf.old)
-            (S.last_fault shelf.old) (S.taken shelf.old) piece.old.items)
+        (S.last_fault shelf.old) (S.taken shelf.old) piece.old.items)
         (writing (S.begun shelf.new) (S.content shelf.new) (S.asked shelf.new) (S.fault_count shelf.new)
-            (S.last_fault shelf.new) (S.taken shelf.new) piece.new.items)
+        (S.last_fault shelf.new) (S.taken shelf.new) piece.new.items)
         (halves next ++ (halves count ++ saved_births heap.now.objects count))) }
     ensures err { OnErr result (BrokeWords
         (writing (S.begun shelf.old) (S.content shelf.old) (S.asked shelf.old) (S.fault_count shelf.old)
-            (S.last_fault shelf.old) (S.taken shelf.old) piece.old.items)
+        (S.last_fault shelf.old) (S.taken shelf.old) piece.old.items)
         (writing (S.begun shelf.new) (S.content shelf.new) (S.asked shelf.new) (S.fault_count shelf.new)
-            (S.last_fault shelf.new) (S.taken shelf.new) piece.new.items)
+        (S.last_fault shelf.new) (S.taken shelf.new) piece.new.items)
         (halves next ++ (halves count ++ saved_births heap.now.objects count))) }
 {
     put_long(shelf, piece, next)?;

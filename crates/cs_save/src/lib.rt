@@ -40,19 +40,24 @@ fn used(heap: &Heap) -> u32
 }
 
 /// Writes two words.
-fn put_pair<S: Shelf>(shelf: &mut S, piece: &mut Piece, first: u32, second: u32) -> Result<(), Failed>
+fn put_pair<S: Shelf>(
+    shelf: &mut S,
+    piece: &mut Piece,
+    first: u32,
+    second: u32,
+) -> Result<(), Failed>
     requires begun { IsSome (S.begun shelf.old) }
     ensures ok { OnOk result (WroteWords
         (writing (S.begun shelf.old) (S.content shelf.old) (S.asked shelf.old) (S.fault_count shelf.old)
-            (S.last_fault shelf.old) (S.taken shelf.old) piece.old.items)
+        (S.last_fault shelf.old) (S.taken shelf.old) piece.old.items)
         (writing (S.begun shelf.new) (S.content shelf.new) (S.asked shelf.new) (S.fault_count shelf.new)
-            (S.last_fault shelf.new) (S.taken shelf.new) piece.new.items)
+        (S.last_fault shelf.new) (S.taken shelf.new) piece.new.items)
         (first ∷ second ∷ [])) }
     ensures err { OnErr result (BrokeWords
         (writing (S.begun shelf.old) (S.content shelf.old) (S.asked shelf.old) (S.fault_count shelf.old)
-            (S.last_fault shelf.old) (S.taken shelf.old) piece.old.items)
+        (S.last_fault shelf.old) (S.taken shelf.old) piece.old.items)
         (writing (S.begun shelf.new) (S.content shelf.new) (S.asked shelf.new) (S.fault_count shelf.new)
-            (S.last_fault shelf.new) (S.taken shelf.new) piece.new.items)
+        (S.last_fault shelf.new) (S.taken shelf.new) piece.new.items)
         (first ∷ second ∷ [])) }
 {
     put_word(shelf, piece, first)?;
@@ -61,20 +66,25 @@ fn put_pair<S: Shelf>(shelf: &mut S, piece: &mut Piece, first: u32, second: u32)
 }
 
 /// Writes the places 8 to 23 of the header.
-fn put_places<S: Shelf>(used: u32, roots: &Roots, shelf: &mut S, piece: &mut Piece) -> Result<(), Failed>
+fn put_places<S: Shelf>(
+    used: u32,
+    roots: &Roots,
+    shelf: &mut S,
+    piece: &mut Piece,
+) -> Result<(), Failed>
     requires used { used ≤ 67108864 }
     requires begun { IsSome (S.begun shelf.old) }
     ensures ok { OnOk result (WroteWords
         (writing (S.begun shelf.old) (S.content shelf.old) (S.asked shelf.old) (S.fault_count shelf.old)
-            (S.last_fault shelf.old) (S.taken shelf.old) piece.old.items)
+        (S.last_fault shelf.old) (S.taken shelf.old) piece.old.items)
         (writing (S.begun shelf.new) (S.content shelf.new) (S.asked shelf.new) (S.fault_count shelf.new)
-            (S.last_fault shelf.new) (S.taken shelf.new) piece.new.items)
+        (S.last_fault shelf.new) (S.taken shelf.new) piece.new.items)
         (places_of used roots.now)) }
     ensures err { OnErr result (BrokeWords
         (writing (S.begun shelf.old) (S.content shelf.old) (S.asked shelf.old) (S.fault_count shelf.old)
-            (S.last_fault shelf.old) (S.taken shelf.old) piece.old.items)
+        (S.last_fault shelf.old) (S.taken shelf.old) piece.old.items)
         (writing (S.begun shelf.new) (S.content shelf.new) (S.asked shelf.new) (S.fault_count shelf.new)
-            (S.last_fault shelf.new) (S.taken shelf.new) piece.new.items)
+        (S.last_fault shelf.new) (S.taken shelf.new) piece.new.items)
         (places_of used roots.now)) }
 {
     put_pair(shelf, piece, 4 * (used + TABLE_WORDS), BASE)?;
@@ -83,21 +93,26 @@ fn put_places<S: Shelf>(used: u32, roots: &Roots, shelf: &mut S, piece: &mut Pie
 }
 
 /// Writes the header.
-fn put_header<S: Shelf>(used: u32, roots: &Roots, shelf: &mut S, piece: &mut Piece) -> Result<(), Failed>
+fn put_header<S: Shelf>(
+    used: u32,
+    roots: &Roots,
+    shelf: &mut S,
+    piece: &mut Piece,
+) -> Result<(), Failed>
     requires header { length roots.now.header ≡ 64 }
     requires used { used ≤ 67108864 }
     requires begun { IsSome (S.begun shelf.old) }
     ensures ok { OnOk result (WentOn
         (writing (S.begun shelf.old) (S.content shelf.old) (S.asked shelf.old) (S.fault_count shelf.old)
-            (S.last_fault shelf.old) (S.taken shelf.old) piece.old.items)
+        (S.last_fault shelf.old) (S.taken shelf.old) piece.old.items)
         (writing (S.begun shelf.new) (S.content shelf.new) (S.asked shelf.new) (S.fault_count shelf.new)
-            (S.last_fault shelf.new) (S.taken shelf.new) piece.new.items)
+        (S.last_fault shelf.new) (S.taken shelf.new) piece.new.items)
         (take 8 roots.now.header ++ bytes_of_words (places_of used roots.now) ++ drop 24 roots.now.header)) }
     ensures err { OnErr result (BrokeOff
         (writing (S.begun shelf.old) (S.content shelf.old) (S.asked shelf.old) (S.fault_count shelf.old)
-            (S.last_fault shelf.old) (S.taken shelf.old) piece.old.items)
+        (S.last_fault shelf.old) (S.taken shelf.old) piece.old.items)
         (writing (S.begun shelf.new) (S.content shelf.new) (S.asked shelf.new) (S.fault_count shelf.new)
-            (S.last_fault shelf.new) (S.taken shelf.new) piece.new.items)
+        (S.last_fault shelf.new) (S.taken shelf.new) piece.new.items)
         (take 8 roots.now.header ++ bytes_of_words (places_of used roots.now) ++ drop 24 roots.now.header)) }
 {
     put_bytes(shelf, piece, &roots.header[..8])?;
@@ -107,21 +122,27 @@ fn put_header<S: Shelf>(used: u32, roots: &Roots, shelf: &mut S, piece: &mut Pie
 }
 
 /// Writes the heap, which has so many objects.
-fn put_heap<S: Shelf>(heap: &Heap, classes: &Classes, count: u32, shelf: &mut S, piece: &mut Piece) -> Result<(), Failed>
+fn put_heap<S: Shelf>(
+    heap: &Heap,
+    classes: &Classes,
+    count: u32,
+    shelf: &mut S,
+    piece: &mut Piece,
+) -> Result<(), Failed>
     requires three { 3 ≤ length heap.now.objects }
     requires count { count ≡ length heap.now.objects }
     requires begun { IsSome (S.begun shelf.old) }
     ensures ok { OnOk result (WroteWords
         (writing (S.begun shelf.old) (S.content shelf.old) (S.asked shelf.old) (S.fault_count shelf.old)
-            (S.last_fault shelf.old) (S.taken shelf.old) piece.old.items)
+        (S.last_fault shelf.old) (S.taken shelf.old) piece.old.items)
         (writing (S.begun shelf.new) (S.content shelf.new) (S.asked shelf.new) (S.fault_count shelf.new)
-            (S.last_fault shelf.new) (S.taken shelf.new) piece.new.items)
+        (S.last_fault shelf.new) (S.taken shelf.new) piece.new.items)
         (saved_heap_of heap.now.objects classes.now)) }
     ensures err { OnErr result (BrokeWords
         (writing (S.begun shelf.old) (S.content shelf.old) (S.asked shelf.old) (S.fault_count shelf.old)
-            (S.last_fault shelf.old) (S.taken shelf.old) piece.old.items)
+        (S.last_fault shelf.old) (S.taken shelf.old) piece.old.items)
         (writing (S.begun shelf.new) (S.content shelf.new) (S.asked shelf.new) (S.fault_count shelf.new)
-            (S.last_fault shelf.new) (S.taken shelf.new) piece.new.items)
+        (S.last_fault shelf.new) (S.taken shelf.new) piece.new.items)
         (saved_heap_of heap.now.objects classes.now)) }
 {
     let fourth = put_objects(heap, heap.first(), 0, 3, shelf, piece)?;
@@ -132,21 +153,27 @@ fn put_heap<S: Shelf>(heap: &Heap, classes: &Classes, count: u32, shelf: &mut S,
 }
 
 /// Writes the whole file.
-fn put_all<S: Shelf>(heap: &Heap, classes: &Classes, roots: &Roots, shelf: &mut S, piece: &mut Piece) -> Result<(), Failed>
+fn put_all<S: Shelf>(
+    heap: &Heap,
+    classes: &Classes,
+    roots: &Roots,
+    shelf: &mut S,
+    piece: &mut Piece,
+) -> Result<(), Failed>
     requires three { 3 ≤ length heap.now.objects }
     requires fits { FitsFile (file_of heap.now.objects classes.now roots.now) }
     requires begun { IsSome (S.begun shelf.old) }
     ensures ok { OnOk result (WentOn
         (writing (S.begun shelf.old) (S.content shelf.old) (S.asked shelf.old) (S.fault_count shelf.old)
-            (S.last_fault shelf.old) (S.taken shelf.old) piece.old.items)
+        (S.last_fault shelf.old) (S.taken shelf.old) piece.old.items)
         (writing (S.begun shelf.new) (S.content shelf.new) (S.asked shelf.new) (S.fault_count shelf.new)
-            (S.last_fault shelf.new) (S.taken shelf.new) piece.new.items)
+        (S.last_fault shelf.new) (S.taken shelf.new) piece.new.items)
         (saved_of heap.now.objects classes.now roots.now)) }
     ensures err { OnErr result (BrokeOff
         (writing (S.begun shelf.old) (S.content shelf.old) (S.asked shelf.old) (S.fault_count shelf.old)
-            (S.last_fault shelf.old) (S.taken shelf.old) piece.old.items)
+        (S.last_fault shelf.old) (S.taken shelf.old) piece.old.items)
         (writing (S.begun shelf.new) (S.content shelf.new) (S.asked shelf.new) (S.fault_count shelf.new)
-            (S.last_fault shelf.new) (S.taken shelf.new) piece.new.items)
+        (S.last_fault shelf.new) (S.taken shelf.new) piece.new.items)
         (saved_of heap.now.objects classes.now roots.now)) }
 {
     let count = object_count(heap);
@@ -157,21 +184,26 @@ fn put_all<S: Shelf>(heap: &Heap, classes: &Classes, roots: &Roots, shelf: &mut 
 }
 
 /// Appends the whole file to the content that is begun.
-fn put_file<S: Shelf>(heap: &Heap, classes: &Classes, roots: &Roots, shelf: &mut S) -> Result<(), Failed>
+fn put_file<S: Shelf>(
+    heap: &Heap,
+    classes: &Classes,
+    roots: &Roots,
+    shelf: &mut S,
+) -> Result<(), Failed>
     requires three { 3 ≤ length heap.now.objects }
     requires fits { FitsFile (file_of heap.now.objects classes.now roots.now) }
     requires begun { IsSome (S.begun shelf.old) }
     ensures ok { OnOk result (WentOn
         (writing (S.begun shelf.old) (S.content shelf.old) (S.asked shelf.old) (S.fault_count shelf.old)
-            (S.last_fault shelf.old) (S.taken shelf.old) [])
+        (S.last_fault shelf.old) (S.taken shelf.old) [])
         (writing (S.begun shelf.new) (S.content shelf.new) (S.asked shelf.new) (S.fault_count shelf.new)
-            (S.last_fault shelf.new) (S.taken shelf.new) [])
+        (S.last_fault shelf.new) (S.taken shelf.new) [])
         (saved_of heap.now.objects classes.now roots.now)) }
     ensures err { OnErr result (BrokeOff
         (writing (S.begun shelf.old) (S.content shelf.old) (S.asked shelf.old) (S.fault_count shelf.old)
-            (S.last_fault shelf.old) (S.taken shelf.old) [])
+        (S.last_fault shelf.old) (S.taken shelf.old) [])
         (writing (S.begun shelf.new) (S.content shelf.new) (S.asked shelf.new) (S.fault_count shelf.new)
-            (S.last_fault shelf.new) (S.taken shelf.new) [])
+        (S.last_fault shelf.new) (S.taken shelf.new) [])
         (saved_of heap.now.objects classes.now roots.now)) }
 {
     let mut piece = ArrayVec::new();

@@ -99,18 +99,18 @@ fn put_body<S: Shelf>(heap: &Heap, o: Oop, shelf: &mut S, piece: &mut Piece) -> 
     requires begun { IsSome (S.begun shelf.old) }
     ensures ok { OnOk result (WroteWords
         (writing (S.begun shelf.old) (S.content shelf.old) (S.asked shelf.old) (S.fault_count shelf.old)
-            (S.last_fault shelf.old) (S.taken shelf.old) piece.old.items)
+        (S.last_fault shelf.old) (S.taken shelf.old) piece.old.items)
         (writing (S.begun shelf.new) (S.content shelf.new) (S.asked shelf.new) (S.fault_count shelf.new)
-            (S.last_fault shelf.new) (S.taken shelf.new) piece.new.items)
+        (S.last_fault shelf.new) (S.taken shelf.new) piece.new.items)
         (map (body_word_of (format_of heap.now.objects o.0) (words_at heap.now.objects o.0))
-            (range_with_len 0 (body_size_of (slot_count_of heap.now.objects o.0))))) }
+        (range_with_len 0 (body_size_of (slot_count_of heap.now.objects o.0))))) }
     ensures err { OnErr result (BrokeWords
         (writing (S.begun shelf.old) (S.content shelf.old) (S.asked shelf.old) (S.fault_count shelf.old)
-            (S.last_fault shelf.old) (S.taken shelf.old) piece.old.items)
+        (S.last_fault shelf.old) (S.taken shelf.old) piece.old.items)
         (writing (S.begun shelf.new) (S.content shelf.new) (S.asked shelf.new) (S.fault_count shelf.new)
-            (S.last_fault shelf.new) (S.taken shelf.new) piece.new.items)
+        (S.last_fault shelf.new) (S.taken shelf.new) piece.new.items)
         (map (body_word_of (format_of heap.now.objects o.0) (words_at heap.now.objects o.0))
-            (range_with_len 0 (body_size_of (slot_count_of heap.now.objects o.0))))) }
+        (range_with_len 0 (body_size_of (slot_count_of heap.now.objects o.0))))) }
 {
     let referring = referring(heap, o);
     for i in 0..body_size(heap.slot_count(o)) {
@@ -125,15 +125,15 @@ fn put_overflow<S: Shelf>(shelf: &mut S, piece: &mut Piece, slots: u32) -> Resul
     requires begun { IsSome (S.begun shelf.old) }
     ensures ok { OnOk result (WroteWords
         (writing (S.begun shelf.old) (S.content shelf.old) (S.asked shelf.old) (S.fault_count shelf.old)
-            (S.last_fault shelf.old) (S.taken shelf.old) piece.old.items)
+        (S.last_fault shelf.old) (S.taken shelf.old) piece.old.items)
         (writing (S.begun shelf.new) (S.content shelf.new) (S.asked shelf.new) (S.fault_count shelf.new)
-            (S.last_fault shelf.new) (S.taken shelf.new) piece.new.items)
+        (S.last_fault shelf.new) (S.taken shelf.new) piece.new.items)
         (overflow_words slots)) }
     ensures err { OnErr result (BrokeWords
         (writing (S.begun shelf.old) (S.content shelf.old) (S.asked shelf.old) (S.fault_count shelf.old)
-            (S.last_fault shelf.old) (S.taken shelf.old) piece.old.items)
+        (S.last_fault shelf.old) (S.taken shelf.old) piece.old.items)
         (writing (S.begun shelf.new) (S.content shelf.new) (S.asked shelf.new) (S.fault_count shelf.new)
-            (S.last_fault shelf.new) (S.taken shelf.new) piece.new.items)
+        (S.last_fault shelf.new) (S.taken shelf.new) piece.new.items)
         (overflow_words slots)) }
 {
     if slots >= 255 {
@@ -153,15 +153,15 @@ pub(crate) fn put_head<S: Shelf>(
     requires begun { IsSome (S.begun shelf.old) }
     ensures ok { OnOk result (WroteWords
         (writing (S.begun shelf.old) (S.content shelf.old) (S.asked shelf.old) (S.fault_count shelf.old)
-            (S.last_fault shelf.old) (S.taken shelf.old) piece.old.items)
+        (S.last_fault shelf.old) (S.taken shelf.old) piece.old.items)
         (writing (S.begun shelf.new) (S.content shelf.new) (S.asked shelf.new) (S.fault_count shelf.new)
-            (S.last_fault shelf.new) (S.taken shelf.new) piece.new.items)
+        (S.last_fault shelf.new) (S.taken shelf.new) piece.new.items)
         (overflow_words slots ++ halves header)) }
     ensures err { OnErr result (BrokeWords
         (writing (S.begun shelf.old) (S.content shelf.old) (S.asked shelf.old) (S.fault_count shelf.old)
-            (S.last_fault shelf.old) (S.taken shelf.old) piece.old.items)
+        (S.last_fault shelf.old) (S.taken shelf.old) piece.old.items)
         (writing (S.begun shelf.new) (S.content shelf.new) (S.asked shelf.new) (S.fault_count shelf.new)
-            (S.last_fault shelf.new) (S.taken shelf.new) piece.new.items)
+        (S.last_fault shelf.new) (S.taken shelf.new) piece.new.items)
         (overflow_words slots ++ halves header)) }
 {
     put_overflow(shelf, piece, slots)?;
@@ -197,15 +197,15 @@ fn put_object<S: Shelf>(heap: &Heap, o: Oop, shelf: &mut S, piece: &mut Piece) -
     requires begun { IsSome (S.begun shelf.old) }
     ensures ok { OnOk result (WroteWords
         (writing (S.begun shelf.old) (S.content shelf.old) (S.asked shelf.old) (S.fault_count shelf.old)
-            (S.last_fault shelf.old) (S.taken shelf.old) piece.old.items)
+        (S.last_fault shelf.old) (S.taken shelf.old) piece.old.items)
         (writing (S.begun shelf.new) (S.content shelf.new) (S.asked shelf.new) (S.fault_count shelf.new)
-            (S.last_fault shelf.new) (S.taken shelf.new) piece.new.items)
+        (S.last_fault shelf.new) (S.taken shelf.new) piece.new.items)
         (saved_at heap.now.objects o.0)) }
     ensures err { OnErr result (BrokeWords
         (writing (S.begun shelf.old) (S.content shelf.old) (S.asked shelf.old) (S.fault_count shelf.old)
-            (S.last_fault shelf.old) (S.taken shelf.old) piece.old.items)
+        (S.last_fault shelf.old) (S.taken shelf.old) piece.old.items)
         (writing (S.begun shelf.new) (S.content shelf.new) (S.asked shelf.new) (S.fault_count shelf.new)
-            (S.last_fault shelf.new) (S.taken shelf.new) piece.new.items)
+        (S.last_fault shelf.new) (S.taken shelf.new) piece.new.items)
         (saved_at heap.now.objects o.0)) }
 {
     put_head(shelf, piece, heap.slot_count(o), header_bits(heap, o))?;
@@ -228,15 +228,15 @@ pub(crate) fn put_objects<S: Shelf>(
     requires begun { IsSome (S.begun shelf.old) }
     ensures ok { OnOk result (WroteWords
         (writing (S.begun shelf.old) (S.content shelf.old) (S.asked shelf.old) (S.fault_count shelf.old)
-            (S.last_fault shelf.old) (S.taken shelf.old) piece.old.items)
+        (S.last_fault shelf.old) (S.taken shelf.old) piece.old.items)
         (writing (S.begun shelf.new) (S.content shelf.new) (S.asked shelf.new) (S.fault_count shelf.new)
-            (S.last_fault shelf.new) (S.taken shelf.new) piece.new.items)
+        (S.last_fault shelf.new) (S.taken shelf.new) piece.new.items)
         (saved_between heap.now.objects from end)) }
     ensures err { OnErr result (BrokeWords
         (writing (S.begun shelf.old) (S.content shelf.old) (S.asked shelf.old) (S.fault_count shelf.old)
-            (S.last_fault shelf.old) (S.taken shelf.old) piece.old.items)
+        (S.last_fault shelf.old) (S.taken shelf.old) piece.old.items)
         (writing (S.begun shelf.new) (S.content shelf.new) (S.asked shelf.new) (S.fault_count shelf.new)
-            (S.last_fault shelf.new) (S.taken shelf.new) piece.new.items)
+        (S.last_fault shelf.new) (S.taken shelf.new) piece.new.items)
         (saved_between heap.now.objects from end)) }
     ensures next { IfOk result (λ next. option_map (λ o. o.0) next ≡ address_of heap.now.objects end) }
 {

@@ -16,15 +16,15 @@ pub(crate) fn flush<S: Shelf>(shelf: &mut S, piece: &mut Piece) -> Result<(), Fa
     requires begun { IsSome (S.begun shelf.old) }
     ensures ok { OnOk result (WentOn
         (writing (S.begun shelf.old) (S.content shelf.old) (S.asked shelf.old) (S.fault_count shelf.old)
-            (S.last_fault shelf.old) (S.taken shelf.old) piece.old.items)
+        (S.last_fault shelf.old) (S.taken shelf.old) piece.old.items)
         (writing (S.begun shelf.new) (S.content shelf.new) (S.asked shelf.new) (S.fault_count shelf.new)
-            (S.last_fault shelf.new) (S.taken shelf.new) piece.new.items)
+        (S.last_fault shelf.new) (S.taken shelf.new) piece.new.items)
         []) }
     ensures err { OnErr result (BrokeOff
         (writing (S.begun shelf.old) (S.content shelf.old) (S.asked shelf.old) (S.fault_count shelf.old)
-            (S.last_fault shelf.old) (S.taken shelf.old) piece.old.items)
+        (S.last_fault shelf.old) (S.taken shelf.old) piece.old.items)
         (writing (S.begun shelf.new) (S.content shelf.new) (S.asked shelf.new) (S.fault_count shelf.new)
-            (S.last_fault shelf.new) (S.taken shelf.new) piece.new.items)
+        (S.last_fault shelf.new) (S.taken shelf.new) piece.new.items)
         []) }
     ensures empty { OnOk result (piece.new.items ≡ []) }
 {
@@ -39,15 +39,15 @@ fn make_room<S: Shelf>(shelf: &mut S, piece: &mut Piece, count: usize) -> Result
     requires begun { IsSome (S.begun shelf.old) }
     ensures ok { OnOk result (WentOn
         (writing (S.begun shelf.old) (S.content shelf.old) (S.asked shelf.old) (S.fault_count shelf.old)
-            (S.last_fault shelf.old) (S.taken shelf.old) piece.old.items)
+        (S.last_fault shelf.old) (S.taken shelf.old) piece.old.items)
         (writing (S.begun shelf.new) (S.content shelf.new) (S.asked shelf.new) (S.fault_count shelf.new)
-            (S.last_fault shelf.new) (S.taken shelf.new) piece.new.items)
+        (S.last_fault shelf.new) (S.taken shelf.new) piece.new.items)
         []) }
     ensures err { OnErr result (BrokeOff
         (writing (S.begun shelf.old) (S.content shelf.old) (S.asked shelf.old) (S.fault_count shelf.old)
-            (S.last_fault shelf.old) (S.taken shelf.old) piece.old.items)
+        (S.last_fault shelf.old) (S.taken shelf.old) piece.old.items)
         (writing (S.begun shelf.new) (S.content shelf.new) (S.asked shelf.new) (S.fault_count shelf.new)
-            (S.last_fault shelf.new) (S.taken shelf.new) piece.new.items)
+        (S.last_fault shelf.new) (S.taken shelf.new) piece.new.items)
         []) }
     ensures room { OnOk result (array_vec_len piece.new + count ≤ 4096) }
 {
@@ -67,15 +67,15 @@ pub(crate) fn put_bytes<S: Shelf>(
     requires begun { IsSome (S.begun shelf.old) }
     ensures ok { OnOk result (WentOn
         (writing (S.begun shelf.old) (S.content shelf.old) (S.asked shelf.old) (S.fault_count shelf.old)
-            (S.last_fault shelf.old) (S.taken shelf.old) piece.old.items)
+        (S.last_fault shelf.old) (S.taken shelf.old) piece.old.items)
         (writing (S.begun shelf.new) (S.content shelf.new) (S.asked shelf.new) (S.fault_count shelf.new)
-            (S.last_fault shelf.new) (S.taken shelf.new) piece.new.items)
+        (S.last_fault shelf.new) (S.taken shelf.new) piece.new.items)
         bytes.now) }
     ensures err { OnErr result (BrokeOff
         (writing (S.begun shelf.old) (S.content shelf.old) (S.asked shelf.old) (S.fault_count shelf.old)
-            (S.last_fault shelf.old) (S.taken shelf.old) piece.old.items)
+        (S.last_fault shelf.old) (S.taken shelf.old) piece.old.items)
         (writing (S.begun shelf.new) (S.content shelf.new) (S.asked shelf.new) (S.fault_count shelf.new)
-            (S.last_fault shelf.new) (S.taken shelf.new) piece.new.items)
+        (S.last_fault shelf.new) (S.taken shelf.new) piece.new.items)
         bytes.now) }
 {
     make_room(shelf, piece, bytes.len())?;
@@ -90,15 +90,15 @@ pub(crate) fn put_word<S: Shelf>(shelf: &mut S, piece: &mut Piece, word: u32) ->
     requires begun { IsSome (S.begun shelf.old) }
     ensures ok { OnOk result (WroteWords
         (writing (S.begun shelf.old) (S.content shelf.old) (S.asked shelf.old) (S.fault_count shelf.old)
-            (S.last_fault shelf.old) (S.taken shelf.old) piece.old.items)
+        (S.last_fault shelf.old) (S.taken shelf.old) piece.old.items)
         (writing (S.begun shelf.new) (S.content shelf.new) (S.asked shelf.new) (S.fault_count shelf.new)
-            (S.last_fault shelf.new) (S.taken shelf.new) piece.new.items)
+        (S.last_fault shelf.new) (S.taken shelf.new) piece.new.items)
         (word ∷ [])) }
     ensures err { OnErr result (BrokeWords
         (writing (S.begun shelf.old) (S.content shelf.old) (S.asked shelf.old) (S.fault_count shelf.old)
-            (S.last_fault shelf.old) (S.taken shelf.old) piece.old.items)
+        (S.last_fault shelf.old) (S.taken shelf.old) piece.old.items)
         (writing (S.begun shelf.new) (S.content shelf.new) (S.asked shelf.new) (S.fault_count shelf.new)
-            (S.last_fault shelf.new) (S.taken shelf.new) piece.new.items)
+        (S.last_fault shelf.new) (S.taken shelf.new) piece.new.items)
         (word ∷ [])) }
 {
     put_bytes(shelf, piece, &word.to_le_bytes())?;
@@ -106,19 +106,23 @@ pub(crate) fn put_word<S: Shelf>(shelf: &mut S, piece: &mut Piece, word: u32) ->
 }
 
 /// Writes a number of 64 bits, its lower word first.
-pub(crate) fn put_long<S: Shelf>(shelf: &mut S, piece: &mut Piece, number: u64) -> Result<(), Failed>
+pub(crate) fn put_long<S: Shelf>(
+    shelf: &mut S,
+    piece: &mut Piece,
+    number: u64,
+) -> Result<(), Failed>
     requires begun { IsSome (S.begun shelf.old) }
     ensures ok { OnOk result (WroteWords
         (writing (S.begun shelf.old) (S.content shelf.old) (S.asked shelf.old) (S.fault_count shelf.old)
-            (S.last_fault shelf.old) (S.taken shelf.old) piece.old.items)
+        (S.last_fault shelf.old) (S.taken shelf.old) piece.old.items)
         (writing (S.begun shelf.new) (S.content shelf.new) (S.asked shelf.new) (S.fault_count shelf.new)
-            (S.last_fault shelf.new) (S.taken shelf.new) piece.new.items)
+        (S.last_fault shelf.new) (S.taken shelf.new) piece.new.items)
         (halves number)) }
     ensures err { OnErr result (BrokeWords
         (writing (S.begun shelf.old) (S.content shelf.old) (S.asked shelf.old) (S.fault_count shelf.old)
-            (S.last_fault shelf.old) (S.taken shelf.old) piece.old.items)
+        (S.last_fault shelf.old) (S.taken shelf.old) piece.old.items)
         (writing (S.begun shelf.new) (S.content shelf.new) (S.asked shelf.new) (S.fault_count shelf.new)
-            (S.last_fault shelf.new) (S.taken shelf.new) piece.new.items)
+        (S.last_fault shelf.new) (S.taken shelf.new) piece.new.items)
         (halves number)) }
 {
     put_word(shelf, piece, (number & 0xffff_ffff) as u32)?;

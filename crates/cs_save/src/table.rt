@@ -17,6 +17,7 @@ use cs_word::{Flags, Header};
 
 /// How many pages the class table has, and how many entries a page.
 const PAGES: u32 = 16;
+
 const PAGE_ENTRIES: u32 = 1024;
 
 /// The words of a page, its head included.
@@ -55,15 +56,15 @@ fn put_addresses<S: Shelf>(shelf: &mut S, piece: &mut Piece, used: u32) -> Resul
     requires begun { IsSome (S.begun shelf.old) }
     ensures ok { OnOk result (WroteWords
         (writing (S.begun shelf.old) (S.content shelf.old) (S.asked shelf.old) (S.fault_count shelf.old)
-            (S.last_fault shelf.old) (S.taken shelf.old) piece.old.items)
+        (S.last_fault shelf.old) (S.taken shelf.old) piece.old.items)
         (writing (S.begun shelf.new) (S.content shelf.new) (S.asked shelf.new) (S.fault_count shelf.new)
-            (S.last_fault shelf.new) (S.taken shelf.new) piece.new.items)
+        (S.last_fault shelf.new) (S.taken shelf.new) piece.new.items)
         (map (page_at used) (range_with_len 0 16))) }
     ensures err { OnErr result (BrokeWords
         (writing (S.begun shelf.old) (S.content shelf.old) (S.asked shelf.old) (S.fault_count shelf.old)
-            (S.last_fault shelf.old) (S.taken shelf.old) piece.old.items)
+        (S.last_fault shelf.old) (S.taken shelf.old) piece.old.items)
         (writing (S.begun shelf.new) (S.content shelf.new) (S.asked shelf.new) (S.fault_count shelf.new)
-            (S.last_fault shelf.new) (S.taken shelf.new) piece.new.items)
+        (S.last_fault shelf.new) (S.taken shelf.new) piece.new.items)
         (map (page_at used) (range_with_len 0 16))) }
 {
     for page in 0..PAGES {
@@ -78,15 +79,15 @@ fn put_root<S: Shelf>(shelf: &mut S, piece: &mut Piece, used: u32) -> Result<(),
     requires begun { IsSome (S.begun shelf.old) }
     ensures ok { OnOk result (WroteWords
         (writing (S.begun shelf.old) (S.content shelf.old) (S.asked shelf.old) (S.fault_count shelf.old)
-            (S.last_fault shelf.old) (S.taken shelf.old) piece.old.items)
+        (S.last_fault shelf.old) (S.taken shelf.old) piece.old.items)
         (writing (S.begun shelf.new) (S.content shelf.new) (S.asked shelf.new) (S.fault_count shelf.new)
-            (S.last_fault shelf.new) (S.taken shelf.new) piece.new.items)
+        (S.last_fault shelf.new) (S.taken shelf.new) piece.new.items)
         (saved_root used)) }
     ensures err { OnErr result (BrokeWords
         (writing (S.begun shelf.old) (S.content shelf.old) (S.asked shelf.old) (S.fault_count shelf.old)
-            (S.last_fault shelf.old) (S.taken shelf.old) piece.old.items)
+        (S.last_fault shelf.old) (S.taken shelf.old) piece.old.items)
         (writing (S.begun shelf.new) (S.content shelf.new) (S.asked shelf.new) (S.fault_count shelf.new)
-            (S.last_fault shelf.new) (S.taken shelf.new) piece.new.items)
+        (S.last_fault shelf.new) (S.taken shelf.new) piece.new.items)
         (saved_root used)) }
 {
     put_head(shelf, piece, PAGES, hidden_bits(2, PAGES))?;
@@ -99,15 +100,15 @@ fn put_free_lists<S: Shelf>(shelf: &mut S, piece: &mut Piece) -> Result<(), Fail
     requires begun { IsSome (S.begun shelf.old) }
     ensures ok { OnOk result (WroteWords
         (writing (S.begun shelf.old) (S.content shelf.old) (S.asked shelf.old) (S.fault_count shelf.old)
-            (S.last_fault shelf.old) (S.taken shelf.old) piece.old.items)
+        (S.last_fault shelf.old) (S.taken shelf.old) piece.old.items)
         (writing (S.begun shelf.new) (S.content shelf.new) (S.asked shelf.new) (S.fault_count shelf.new)
-            (S.last_fault shelf.new) (S.taken shelf.new) piece.new.items)
+        (S.last_fault shelf.new) (S.taken shelf.new) piece.new.items)
         (saved_words free_lists)) }
     ensures err { OnErr result (BrokeWords
         (writing (S.begun shelf.old) (S.content shelf.old) (S.asked shelf.old) (S.fault_count shelf.old)
-            (S.last_fault shelf.old) (S.taken shelf.old) piece.old.items)
+        (S.last_fault shelf.old) (S.taken shelf.old) piece.old.items)
         (writing (S.begun shelf.new) (S.content shelf.new) (S.asked shelf.new) (S.fault_count shelf.new)
-            (S.last_fault shelf.new) (S.taken shelf.new) piece.new.items)
+        (S.last_fault shelf.new) (S.taken shelf.new) piece.new.items)
         (saved_words free_lists)) }
 {
     put_head(shelf, piece, 2, hidden_bits(10, 2))?;
@@ -125,15 +126,15 @@ pub(crate) fn put_table_head<S: Shelf>(
     requires begun { IsSome (S.begun shelf.old) }
     ensures ok { OnOk result (WroteWords
         (writing (S.begun shelf.old) (S.content shelf.old) (S.asked shelf.old) (S.fault_count shelf.old)
-            (S.last_fault shelf.old) (S.taken shelf.old) piece.old.items)
+        (S.last_fault shelf.old) (S.taken shelf.old) piece.old.items)
         (writing (S.begun shelf.new) (S.content shelf.new) (S.asked shelf.new) (S.fault_count shelf.new)
-            (S.last_fault shelf.new) (S.taken shelf.new) piece.new.items)
+        (S.last_fault shelf.new) (S.taken shelf.new) piece.new.items)
         (saved_words free_lists ++ saved_root used)) }
     ensures err { OnErr result (BrokeWords
         (writing (S.begun shelf.old) (S.content shelf.old) (S.asked shelf.old) (S.fault_count shelf.old)
-            (S.last_fault shelf.old) (S.taken shelf.old) piece.old.items)
+        (S.last_fault shelf.old) (S.taken shelf.old) piece.old.items)
         (writing (S.begun shelf.new) (S.content shelf.new) (S.asked shelf.new) (S.fault_count shelf.new)
-            (S.last_fault shelf.new) (S.taken shelf.new) piece.new.items)
+        (S.last_fault shelf.new) (S.taken shelf.new) piece.new.items)
         (saved_words free_lists ++ saved_root used)) }
 {
     put_free_lists(shelf, piece)?;
@@ -164,15 +165,15 @@ fn put_entries<S: Shelf>(
     requires begun { IsSome (S.begun shelf.old) }
     ensures ok { OnOk result (WroteWords
         (writing (S.begun shelf.old) (S.content shelf.old) (S.asked shelf.old) (S.fault_count shelf.old)
-            (S.last_fault shelf.old) (S.taken shelf.old) piece.old.items)
+        (S.last_fault shelf.old) (S.taken shelf.old) piece.old.items)
         (writing (S.begun shelf.new) (S.content shelf.new) (S.asked shelf.new) (S.fault_count shelf.new)
-            (S.last_fault shelf.new) (S.taken shelf.new) piece.new.items)
+        (S.last_fault shelf.new) (S.taken shelf.new) piece.new.items)
         (page_entries classes.now page)) }
     ensures err { OnErr result (BrokeWords
         (writing (S.begun shelf.old) (S.content shelf.old) (S.asked shelf.old) (S.fault_count shelf.old)
-            (S.last_fault shelf.old) (S.taken shelf.old) piece.old.items)
+        (S.last_fault shelf.old) (S.taken shelf.old) piece.old.items)
         (writing (S.begun shelf.new) (S.content shelf.new) (S.asked shelf.new) (S.fault_count shelf.new)
-            (S.last_fault shelf.new) (S.taken shelf.new) piece.new.items)
+        (S.last_fault shelf.new) (S.taken shelf.new) piece.new.items)
         (page_entries classes.now page)) }
 {
     let first = PAGE_ENTRIES * page;
@@ -193,15 +194,15 @@ fn put_page<S: Shelf>(
     requires begun { IsSome (S.begun shelf.old) }
     ensures ok { OnOk result (WroteWords
         (writing (S.begun shelf.old) (S.content shelf.old) (S.asked shelf.old) (S.fault_count shelf.old)
-            (S.last_fault shelf.old) (S.taken shelf.old) piece.old.items)
+        (S.last_fault shelf.old) (S.taken shelf.old) piece.old.items)
         (writing (S.begun shelf.new) (S.content shelf.new) (S.asked shelf.new) (S.fault_count shelf.new)
-            (S.last_fault shelf.new) (S.taken shelf.new) piece.new.items)
+        (S.last_fault shelf.new) (S.taken shelf.new) piece.new.items)
         (saved_page classes.now page)) }
     ensures err { OnErr result (BrokeWords
         (writing (S.begun shelf.old) (S.content shelf.old) (S.asked shelf.old) (S.fault_count shelf.old)
-            (S.last_fault shelf.old) (S.taken shelf.old) piece.old.items)
+        (S.last_fault shelf.old) (S.taken shelf.old) piece.old.items)
         (writing (S.begun shelf.new) (S.content shelf.new) (S.asked shelf.new) (S.fault_count shelf.new)
-            (S.last_fault shelf.new) (S.taken shelf.new) piece.new.items)
+        (S.last_fault shelf.new) (S.taken shelf.new) piece.new.items)
         (saved_page classes.now page)) }
 {
     put_head(shelf, piece, PAGE_ENTRIES, hidden_bits(2, PAGE_ENTRIES))?;
@@ -218,15 +219,15 @@ pub(crate) fn put_pages<S: Shelf>(
     requires begun { IsSome (S.begun shelf.old) }
     ensures ok { OnOk result (WroteWords
         (writing (S.begun shelf.old) (S.content shelf.old) (S.asked shelf.old) (S.fault_count shelf.old)
-            (S.last_fault shelf.old) (S.taken shelf.old) piece.old.items)
+        (S.last_fault shelf.old) (S.taken shelf.old) piece.old.items)
         (writing (S.begun shelf.new) (S.content shelf.new) (S.asked shelf.new) (S.fault_count shelf.new)
-            (S.last_fault shelf.new) (S.taken shelf.new) piece.new.items)
+        (S.last_fault shelf.new) (S.taken shelf.new) piece.new.items)
         (flat_map (saved_page classes.now) (range_with_len 0 16))) }
     ensures err { OnErr result (BrokeWords
         (writing (S.begun shelf.old) (S.content shelf.old) (S.asked shelf.old) (S.fault_count shelf.old)
-            (S.last_fault shelf.old) (S.taken shelf.old) piece.old.items)
+        (S.last_fault shelf.old) (S.taken shelf.old) piece.old.items)
         (writing (S.begun shelf.new) (S.content shelf.new) (S.asked shelf.new) (S.fault_count shelf.new)
-            (S.last_fault shelf.new) (S.taken shelf.new) piece.new.items)
+        (S.last_fault shelf.new) (S.taken shelf.new) piece.new.items)
         (flat_map (saved_page classes.now) (range_with_len 0 16))) }
 {
     for page in 0..PAGES {

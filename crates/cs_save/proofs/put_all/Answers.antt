@@ -2,7 +2,7 @@ use Rattle.cs_model.specs.Words.{bytes_of_words}
 use Rattle.cs_model.specs.SavedFile.{halves}
 use Rattle.cs_save.specs.Filed.{places_of, saved_births, saved_heap_of}
 use Rattle.cs_save.proofs.Files.{saved_is}
-use Rattle.std.proofs.Common.{◌≡◌, ℕ, ◌+◌, ◌*◌, ◌-◌, ◌/◌, ◌^◌, ◌<◌, ◌≤◌, List, [], ◌∷◌, ◌++◌, length, map, take, drop, refl, ap, ap₂, sym, ◌∙◌, arith, append_assoc, length-drop}
+use Rattle.std.proofs.Common.{ℕ, ◌++◌, take, drop, ap₂, sym, ◌∙◌, append_assoc}
 use Rattle.cs_save.proofs.Written.{on_err, broke_same, broke_first, broke_then, went_same, went_then}
 use Rattle.cs_save.proofs.put_all.Goals as goal
 

@@ -1,6 +1,6 @@
 use Rattle.std.proofs.lemmas.List.{append-nil}
 use Rattle.cs_save.specs.Filed.{saved_of}
-use Rattle.std.proofs.Common.{◌≡◌, ◌≢◌, ℕ, ◌+◌, ◌*◌, ◌-◌, ◌/◌, ◌^◌, ◌<◌, ◌≤◌, List, [], ◌∷◌, ◌++◌, length, map, take, drop, Some, refl, ap, ap₂, sym, ◌∙◌, arith, append_assoc}
+use Rattle.std.proofs.Common.{[], ◌++◌}
 use Rattle.cs_save.proofs.Written.{on_err, broke_same, broke_then, broke_empty, went_same, went_then, went_empty}
 use Rattle.cs_save.proofs.put_file.Goals as goal
 

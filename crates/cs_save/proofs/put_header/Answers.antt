@@ -1,7 +1,7 @@
 use Rattle.std.proofs.lemmas.List.{take_all}
 use Rattle.cs_model.specs.Words.{bytes_of_words}
 use Rattle.cs_save.specs.Filed.{places_of}
-use Rattle.std.proofs.Common.{◌≡◌, ℕ, ◌+◌, ◌*◌, ◌-◌, ◌/◌, ◌^◌, ◌<◌, ◌≤◌, List, [], ◌∷◌, ◌++◌, length, map, take, drop, refl, ap, ap₂, sym, ◌∙◌, arith, append_assoc, length-drop}
+use Rattle.std.proofs.Common.{◌++◌, take, drop, sym, arith, append_assoc, length-drop}
 use Rattle.cs_save.proofs.Written.{on_err, broke_same, broke_first, broke_then, went_same, went_then}
 use Rattle.cs_save.proofs.put_header.Goals as goal
 

@@ -3,7 +3,7 @@ use Rattle.std.specs.List.{range_with_len}
 use Rattle.cs_heap.specs.Object.{used}
 use Rattle.cs_model.specs.SavedFile.{free_lists, saved_words}
 use Rattle.cs_save.specs.Filed.{saved_between, saved_root, saved_page}
-use Rattle.std.proofs.Common.{◌≡◌, ℕ, ◌+◌, ◌*◌, ◌-◌, ◌/◌, ◌^◌, ◌<◌, ◌≤◌, List, [], ◌∷◌, ◌++◌, length, map, take, drop, refl, ap, ap₂, sym, ◌∙◌, arith, append_assoc, length-drop}
+use Rattle.std.proofs.Common.{ℕ, ◌++◌, length, refl, ap₂, sym, ◌∙◌, append_assoc}
 use Rattle.cs_save.proofs.Written.{on_err, breaks_first, breaks_in, breaks_then, goes_then}
 use Rattle.cs_save.proofs.put_heap.Goals as goal
 

@@ -1,5 +1,5 @@
 use Rattle.cs_save.specs.Filed.{file_word}
-use Rattle.std.proofs.Common.{◌≡◌, ℕ, ◌+◌, ◌*◌, ◌-◌, ◌/◌, ◌^◌, ◌<◌, ◌≤◌, List, [], ◌∷◌, ◌++◌, length, map, take, drop, refl, ap, ap₂, sym, ◌∙◌, arith, append_assoc, length-drop}
+use Rattle.std.proofs.Common.{ℕ, ◌+◌, ◌*◌, [], ◌∷◌, refl, ap, sym}
 use Rattle.cs_save.proofs.Written.{on_err, breaks_first, breaks_then, goes_then}
 use Rattle.cs_save.proofs.put_places.Goals as goal
 

@@ -1,5 +1,5 @@
 use Rattle.cs_save.specs.Filed.{saved_of}
-use Rattle.std.proofs.Common.{◌≡◌, ◌≢◌, ℕ, ◌+◌, ◌*◌, ◌-◌, ◌/◌, ◌^◌, ◌<◌, ◌≤◌, List, [], ◌∷◌, ◌++◌, length, map, take, drop, Some, refl, ap, ap₂, sym, ◌∙◌, arith, append_assoc}
+use Rattle.std.proofs.Common.{refl, ◌∙◌, arith}
 use Rattle.cs_save.proofs.Written.{on_err, all_taken, known_name, none_taken, other_name, part_taken, rose_later, went_taken}
 use Rattle.cs_save.proofs.save.Goals as goal
 

@@ -1,6 +1,6 @@
 use Rattle.cs_model.specs.SavedFile.{halves}
 use Rattle.cs_save.specs.Filed.{saved_births}
-use Rattle.std.proofs.Common.{◌≡◌, ℕ, ◌+◌, ◌*◌, ◌-◌, ◌/◌, ◌^◌, ◌<◌, ◌≤◌, List, [], ◌∷◌, ◌++◌, length, map, take, drop, cond, Option, Some, None, option_map, refl, ap, ap₂, sym, subst, ◌∙◌, arith, rules, append_assoc}
+use Rattle.std.proofs.Common.{◌++◌, refl, sym, append_assoc}
 use Rattle.cs_save.proofs.Written.{on_err, breaks_first, breaks_in, breaks_then, goes_then}
 use Rattle.cs_save.proofs.births.put_births.Goals as goal
 

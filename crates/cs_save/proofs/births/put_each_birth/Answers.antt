@@ -1,7 +1,7 @@
 use Rattle.std.specs.Option.{option_map_or}
 use Rattle.cs_heap.specs.Object.{Object}
 use Rattle.cs_model.specs.SavedFile.{halves}
-use Rattle.std.proofs.Common.{◌≡◌, ℕ, ◌+◌, ◌*◌, ◌-◌, ◌/◌, ◌^◌, ◌<◌, ◌≤◌, List, [], ◌∷◌, ◌++◌, length, map, take, drop, cond, Option, Some, None, option_map, refl, ap, ap₂, sym, subst, ◌∙◌, arith, rules, append_assoc}
+use Rattle.std.proofs.Common.{◌+◌, Option, option_map, refl, ap, sym, ◌∙◌, arith}
 use Rattle.cs_save.proofs.Written.{on_err, at_number, none_at, objects_more, objects_broke, loop_begun}
 use Rattle.cs_save.proofs.births.put_each_birth.Goals as goal
 

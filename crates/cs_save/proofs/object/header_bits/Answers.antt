@@ -1,6 +1,5 @@
 use Rattle.cs_save.proofs.Headers.{header_filed, there}
-use Rattle.std.proofs.Common.{◌≡◌, ℕ, ◌+◌, ◌*◌, ◌-◌, ◌/◌, ◌^◌, ◌<◌, ◌≤◌, List, [], ◌∷◌, ◌++◌, length, map, take, drop, cond, Option, Some, None, option_map, refl, ap, ap₂, sym, subst, ◌∙◌, arith, rules, append_assoc}
-use Rattle.cs_save.proofs.Written.{on_err}
+use Rattle.std.proofs.Common.{cond, ap, ◌∙◌}
 use Rattle.cs_save.proofs.object.header_bits.Goals as goal
 
 pub returns : goal.returns

@@ -1,4 +1,4 @@
-use Rattle.std.proofs.Common.{◌≡◌, ℕ, ◌+◌, ◌*◌, ◌-◌, ◌/◌, ◌^◌, ◌<◌, ◌≤◌, List, [], ◌∷◌, ◌++◌, length, map, Option, Some, None, option_map, refl, ap, sym, subst, ◌∙◌, arith, rules}
+use Rattle.std.proofs.Common.{option_map, ap, sym, ◌∙◌, arith}
 use Rattle.cs_save.proofs.Written.{at_number, none_at, used_least}
 use Rattle.cs_save.proofs.object.object_count.Goals as goal
 

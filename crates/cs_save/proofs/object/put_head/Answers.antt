@@ -1,4 +1,4 @@
-use Rattle.std.proofs.Common.{◌≡◌, ℕ, ◌+◌, ◌*◌, ◌-◌, ◌^◌, ◌<◌, ◌≤◌, List, [], ◌∷◌, ◌++◌, length, map, refl, ap, sym, subst, ◌∙◌, arith, rules}
+use Rattle.std.proofs.Common.{refl}
 use Rattle.cs_save.proofs.Written.{on_err, breaks_first, breaks_then, goes_then}
 use Rattle.cs_save.proofs.object.put_head.Goals as goal
 

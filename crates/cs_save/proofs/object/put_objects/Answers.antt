@@ -4,7 +4,7 @@ use Rattle.cs_heap.specs.Object.{Object}
 use Rattle.cs_model.specs.Words.{bytes_of_words}
 use Rattle.cs_model.specs.SavedFile.{saved_words}
 use Rattle.cs_save.specs.Filed.{filed, saved_at}
-use Rattle.std.proofs.Common.{◌≡◌, ℕ, ◌+◌, ◌*◌, ◌-◌, ◌/◌, ◌^◌, ◌<◌, ◌≤◌, List, [], ◌∷◌, ◌++◌, length, map, take, drop, cond, Option, Some, None, option_map, refl, ap, ap₂, sym, subst, ◌∙◌, arith, rules, append_assoc}
+use Rattle.std.proofs.Common.{◌≡◌, ℕ, ◌+◌, ◌-◌, [], take, drop, Option, option_map, refl, ap, sym, ◌∙◌, arith}
 use Rattle.cs_save.proofs.Written.{on_err, at_number, none_at, objects_more, objects_broke, loop_begun, went_same}
 use Rattle.cs_save.proofs.object.put_objects.Goals as goal
 

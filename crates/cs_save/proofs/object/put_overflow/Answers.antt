@@ -1,5 +1,5 @@
 use Rattle.cs_model.specs.Words.{bytes_of_words}
-use Rattle.std.proofs.Common.{◌≡◌, ℕ, ◌+◌, ◌*◌, ◌-◌, ◌^◌, ◌<◌, ◌≤◌, List, [], ◌∷◌, ◌++◌, length, map, refl, ap, sym, subst, ◌∙◌, arith, rules}
+use Rattle.std.proofs.Common.{◌*◌, ◌^◌, [], ◌∷◌, ap, sym, ◌∙◌, arith}
 use Rattle.cs_save.proofs.Written.{on_err, breaks_first, breaks_then, goes_then, went_nowhere, went_same, overflow_long, overflow_short, no_bytes}
 use Rattle.cs_save.proofs.object.put_overflow.Goals as goal
 

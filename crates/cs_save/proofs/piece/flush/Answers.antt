@@ -1,4 +1,3 @@
-use Rattle.std.proofs.Common.{◌≡◌, ℕ, ◌+◌, ◌*◌, ◌-◌, ◌^◌, ◌<◌, ◌≤◌, List, [], ◌∷◌, ◌++◌, length, map, refl, ap, sym, subst, ◌∙◌, arith, rules}
 use Rattle.cs_save.proofs.Written.{on_err, flush_broke}
 use Rattle.cs_save.proofs.piece.flush.Goals as goal
 

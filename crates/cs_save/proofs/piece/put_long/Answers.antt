@@ -1,4 +1,4 @@
-use Rattle.std.proofs.Common.{◌≡◌, ℕ, ◌+◌, ◌*◌, ◌-◌, ◌/◌, ◌^◌, ◌<◌, ◌≤◌, List, [], ◌∷◌, ◌++◌, length, map, Option, Some, None, option_map, refl, ap, sym, subst, ◌∙◌, arith, rules}
+use Rattle.std.proofs.Common.{◌/◌, [], ◌∷◌}
 use Rattle.cs_save.proofs.Written.{on_err, breaks_first, breaks_then, goes_then, halves_are}
 use Rattle.cs_save.proofs.piece.put_long.Goals as goal
 

@@ -1,4 +1,4 @@
-use Rattle.std.proofs.Common.{◌≡◌, ℕ, ◌+◌, ◌*◌, ◌-◌, ◌^◌, ◌<◌, ◌≤◌, List, [], ◌∷◌, ◌++◌, length, map, refl, ap, sym, subst, ◌∙◌, arith, rules}
+use Rattle.std.proofs.Common.{◌∙◌}
 use Rattle.cs_save.proofs.Written.{on_err, broke_same, went_same, le_four}
 use Rattle.cs_save.proofs.piece.put_word.Goals as goal
 

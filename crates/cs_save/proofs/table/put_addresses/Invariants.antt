@@ -1,4 +1,4 @@
-use Rattle.std.proofs.Common.{◌≡◌, ℕ, ◌+◌, ◌*◌, ◌-◌, map, length, option_map}
+use Rattle.std.proofs.Common.{map}
 use Rattle.cs_save.specs.Writing.{WroteWords, writing}
 use Rattle.std.specs.List.{range_with_len}
 use Rattle.cs_save.specs.Filed.{page_at}

@@ -1,7 +1,7 @@
 use Rattle.std.specs.List.{range_with_len}
 use Rattle.cs_model.specs.Words.{bytes_of_words}
 use Rattle.cs_save.specs.Filed.{entry_word}
-use Rattle.std.proofs.Common.{◌≡◌, ℕ, ◌+◌, ◌*◌, ◌-◌, ◌/◌, ◌^◌, ◌<◌, ◌≤◌, List, [], ◌∷◌, ◌++◌, length, map, Option, Some, None, option_map, refl, ap, sym, subst, ◌∙◌, arith, rules}
+use Rattle.std.proofs.Common.{◌≡◌, ℕ, ◌*◌, ◌-◌, map, ap, arith}
 use Rattle.cs_save.proofs.Written.{on_err, went_same, loop_begun, loop_more, loop_broke}
 use Rattle.cs_save.proofs.table.put_entries.Goals as goal
 

@@ -1,5 +1,4 @@
 use Rattle.cs_save.proofs.Headers.{lists_are}
-use Rattle.std.proofs.Common.{◌≡◌, ℕ, ◌+◌, ◌*◌, ◌-◌, ◌/◌, ◌^◌, ◌<◌, ◌≤◌, List, [], ◌∷◌, ◌++◌, length, map, take, drop, cond, Option, Some, None, option_map, refl, ap, ap₂, sym, subst, ◌∙◌, arith, rules, append_assoc}
 use Rattle.cs_save.proofs.Written.{on_err, breaks_first, breaks_then, goes_then}
 use Rattle.cs_save.proofs.table.put_free_lists.Goals as goal
 

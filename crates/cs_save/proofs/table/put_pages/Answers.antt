@@ -1,4 +1,4 @@
-use Rattle.std.proofs.Common.{◌≡◌, ℕ, ◌+◌, ◌*◌, ◌-◌, ◌/◌, ◌^◌, ◌<◌, ◌≤◌, List, [], ◌∷◌, ◌++◌, length, map, Option, Some, None, option_map, refl, ap, sym, subst, ◌∙◌, arith, rules}
+use Rattle.std.proofs.Common.{arith}
 use Rattle.cs_save.proofs.Written.{on_err, loop_begun, pages_more, pages_broke}
 use Rattle.cs_save.proofs.table.put_pages.Goals as goal
 
