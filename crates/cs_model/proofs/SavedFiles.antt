@@ -70,16 +70,25 @@ unfolding saved_words
 object_fits o fits =
     let big = bits_fit o fits in
     all_append IsWordValue (overflow_words (length o.words)) (saved_bits o % 2 ^ 32 ∷ saved_bits o / 2 ^ 32 ∷ body_words o)
-    (overflow_fits (length o.words) fits.slots)
-    (omega arith, (omega (arith, big), all_append IsWordValue o.words (replicate (body_size (length o.words) - length o.words) 0)
-    fits.words (all_copies IsWordValue (body_size (length o.words) - length o.words) 0 (omega arith))))
+    (overflow_fits (length o.words) fits.slots) (
+      omega arith,
+      (
+        omega (arith, big),
+        all_append IsWordValue o.words (replicate (body_size (length o.words) - length o.words) 0)
+            fits.words (all_copies IsWordValue (body_size (length o.words) - length o.words) 0 (omega arith)),
+      ),
+    )
 
 -- ---- the objects of a file
 
 root_slots : (f : SavedFile) → length f.pages ≤ 16 → length (table_root f).words ≡ 16
-root_slots f h = omega (arith, h,
-    length-append (map (page_address f.objects) (range_with_len 0 (length f.pages))) (replicate (16 - length f.pages) saved_base),
-    length-map-range_with_len (page_address f.objects) 0 (length f.pages), length-replicate {A = ℕ} (16 - length f.pages) saved_base)
+root_slots f h = omega (
+  arith,
+  h,
+  length-append (map (page_address f.objects) (range_with_len 0 (length f.pages))) (replicate (16 - length f.pages) saved_base),
+  length-map-range_with_len (page_address f.objects) 0 (length f.pages),
+  length-replicate {A = ℕ} (16 - length f.pages) saved_base,
+)
 
 root_fits : (f : SavedFile) → FitsFile f → FitsObject (table_root f)
 root_fits f fits = record {
@@ -135,13 +144,23 @@ pub front_size : (f : SavedFile) → FitsFile f
 front_size f fits =
     let split = sym (sizes-append (take 3 f.objects) (drop 3 f.objects)) ∙ ap saved_sizes (take-append-drop 3 f.objects) in
     let root : saved_size (length (table_root f).words) ≡ 18 = ap saved_size (root_slots f fits.count) in
-    omega (arith, split, root, sizes-append (take 3 f.objects) (free_lists ∷ table_root f ∷ drop 3 f.objects),
-    sizes-cons free_lists (table_root f ∷ drop 3 f.objects), sizes-cons (table_root f) (drop 3 f.objects))
+    omega (
+      arith,
+      split,
+      root,
+      sizes-append (take 3 f.objects) (free_lists ∷ table_root f ∷ drop 3 f.objects),
+      sizes-cons free_lists (table_root f ∷ drop 3 f.objects),
+      sizes-cons (table_root f) (drop 3 f.objects),
+    )
 
 all_size : (f : SavedFile) → FitsFile f → saved_sizes (all_saved f) ≡ page_place f.objects (length f.pages)
 unfolding all_saved
-all_size f fits = omega (arith, front_size f fits, pages_size f.pages fits.pages,
-    sizes-append (take 3 f.objects ++ free_lists ∷ table_root f ∷ drop 3 f.objects) (map table_page f.pages))
+all_size f fits = omega (
+  arith,
+  front_size f fits,
+  pages_size f.pages fits.pages,
+  sizes-append (take 3 f.objects ++ free_lists ∷ table_root f ∷ drop 3 f.objects) (map table_page f.pages),
+)
 
 pub heap_length : (f : SavedFile) → FitsFile f → length (saved_heap f) ≡ page_place f.objects (length f.pages)
 unfolding saved_heap
@@ -187,8 +206,14 @@ head_long : (f : SavedFile) → FitsFile f → length (head_bytes f) ≡ 64
 head_long f fits = omega (arith, length-append (take 8 f.header ++ bytes_of_words (header_words f)) (drop 24 f.header), front_long f fits, forty_long f fits)
 
 pub bytes_long : (f : SavedFile) → FitsFile f → length (saved_bytes f) ≡ 64 + 4 * length (saved_heap f) + 4 * length (birth_words f.births)
-bytes_long f fits = ap length (bytes_are f) ∙ omega (arith, length-append (head_bytes f) (heap_bytes f ++ birth_bytes f),
-    length-append (heap_bytes f) (birth_bytes f), length-bytes_of_words (saved_heap f), length-bytes_of_words (birth_words f.births), head_long f fits)
+bytes_long f fits = ap length (bytes_are f) ∙ omega (
+  arith,
+  length-append (head_bytes f) (heap_bytes f ++ birth_bytes f),
+  length-append (heap_bytes f) (birth_bytes f),
+  length-bytes_of_words (saved_heap f),
+  length-bytes_of_words (birth_words f.births),
+  head_long f fits,
+)
 
 -- ---- the header
 
@@ -218,11 +243,11 @@ unfolding u32_at bytes_of_words
 four_words a b c d front rest e ha hb hc hd = (
   number_behind 4 front (four a ++ (four b ++ (four c ++ (four d ++ rest)))) 0 8 (omega (arith, e)) ∙ word_read a (four b ++ (four c ++ (four d ++ rest))) ha,
   number_behind 4 front (four a ++ (four b ++ (four c ++ (four d ++ rest)))) 4 12 (omega (arith, e))
-  ∙ number_behind 4 (four a) (four b ++ (four c ++ (four d ++ rest))) 0 4 refl ∙ word_read b (four c ++ (four d ++ rest)) hb,
+      ∙ number_behind 4 (four a) (four b ++ (four c ++ (four d ++ rest))) 0 4 refl ∙ word_read b (four c ++ (four d ++ rest)) hb,
   number_behind 4 front (four a ++ (four b ++ (four c ++ (four d ++ rest)))) 8 16 (omega (arith, e))
-  ∙ number_behind 4 (four a ++ four b) (four c ++ (four d ++ rest)) 0 8 refl ∙ word_read c (four d ++ rest) hc,
+      ∙ number_behind 4 (four a ++ four b) (four c ++ (four d ++ rest)) 0 8 refl ∙ word_read c (four d ++ rest) hc,
   number_behind 4 front (four a ++ (four b ++ (four c ++ (four d ++ rest)))) 12 20 (omega (arith, e))
-  ∙ number_behind 4 (four a ++ (four b ++ four c)) (four d ++ rest) 0 12 refl ∙ word_read d rest hd,
+      ∙ number_behind 4 (four a ++ (four b ++ four c)) (four d ++ rest) 0 12 refl ∙ word_read d rest hd,
 )
 
 abbrev pub HasHeader : SavedFile → List ℕ → Type 0
@@ -232,9 +257,12 @@ header_there : (f : SavedFile) → FitsFile f → HasHeader f (saved_bytes f)
 header_there f fits =
     let there = four_words (4 * length (saved_heap f)) saved_base f.special f.last_hash (take 8 f.header) (drop 24 f.header ++ (heap_bytes f ++ birth_bytes f))
     (eight_long f fits) (omega (arith, heap_length f fits, fits.size)) (omega arith) fits.special (omega (arith, fits.last_hash)) in
-    let same = from_words f in
-    (ap (λ (bs : List ℕ). u32_at bs 8) same ∙ there.0, ap (λ (bs : List ℕ). u32_at bs 12) same ∙ there.1,
-    ap (λ (bs : List ℕ). u32_at bs 16) same ∙ there.2, ap (λ (bs : List ℕ). u32_at bs 20) same ∙ there.3)
+    let same = from_words f in (
+      ap (λ (bs : List ℕ). u32_at bs 8) same ∙ there.0,
+      ap (λ (bs : List ℕ). u32_at bs 12) same ∙ there.1,
+      ap (λ (bs : List ℕ). u32_at bs 16) same ∙ there.2,
+      ap (λ (bs : List ℕ). u32_at bs 20) same ∙ there.3,
+    )
 
 take_seam : (n : ℕ) (xs ys : List ℕ) → length xs ≡ n → take n (xs ++ ys) ≡ xs
 take_seam n xs ys e = ap (λ k. take k (xs ++ ys)) (sym e) ∙ take-append_seam xs ys
@@ -435,8 +463,15 @@ three_size f fits = go f.objects fits.three fits.first
     go [] h k = absurd (omega (arith, h))
     go (a ∷ []) h k = absurd (omega (arith, h))
     go (a ∷ b ∷ []) h k = absurd (omega (arith, h))
-    go (a ∷ b ∷ c ∷ os) h k = omega (arith, sizes-cons a (b ∷ c ∷ []), sizes-cons b (c ∷ []), sizes-cons c [],
-        empty_size (length a.words) k.0, empty_size (length b.words) k.1.0, empty_size (length c.words) k.1.1.0)
+    go (a ∷ b ∷ c ∷ os) h k = omega (
+      arith,
+      sizes-cons a (b ∷ c ∷ []),
+      sizes-cons b (c ∷ []),
+      sizes-cons c [],
+      empty_size (length a.words) k.0,
+      empty_size (length b.words) k.1.0,
+      empty_size (length c.words) k.1.1.0,
+    )
 
 -- all objects as they are placed
 pub all_placed_are : (f : SavedFile) → FitsFile f → placed_from 0 (all_saved f)

@@ -42,8 +42,13 @@ pub length-saved_words : (o : SavedObject) → length (saved_words o) ≡ saved_
 length-saved_words o =
     let n = length o.words in
     ap length (saved_words_is o)
-    ∙ omega (arith, length-append (overflow_words n) (saved_bits o % 2 ^ 32 ∷ saved_bits o / 2 ^ 32 ∷ body_words o), length-overflow n,
-    length-append o.words (replicate (body_size n - n) 0), length-replicate {A = ℕ} (body_size n - n) 0)
+    ∙ omega (
+      arith,
+      length-append (overflow_words n) (saved_bits o % 2 ^ 32 ∷ saved_bits o / 2 ^ 32 ∷ body_words o),
+      length-overflow n,
+      length-append o.words (replicate (body_size n - n) 0),
+      length-replicate {A = ℕ} (body_size n - n) 0,
+    )
 
 pub sizes-cons : (o : SavedObject) (os : List SavedObject) → saved_sizes (o ∷ os) ≡ saved_size (length o.words) + saved_sizes os
 sizes-cons o os = sum_by-cons (λ (x : SavedObject). saved_size (length x.words)) o os
@@ -199,11 +204,11 @@ cut_there (suc most) heap front first [] fits is len h =
     rw ends refl
 cut_there (suc most) heap front first (o ∷ os) fits is len h =
     let more : leb (length heap) first ≡ false =
-        let e = ap length is ∙ length-append front (flat_map saved_words (o ∷ os)) in
-        let l = length-append (saved_words o) (flat_map saved_words os) in
-        let s = length-saved_words o in
-        let lies : first < length heap = omega (arith, e, l, s, len) in
-        grind (arith, nat_tests, lies) in
+    let e = ap length is ∙ length-append front (flat_map saved_words (o ∷ os)) in
+    let l = length-append (saved_words o) (flat_map saved_words os) in
+    let s = length-saved_words o in
+    let lies : first < length heap = omega (arith, e, l, s, len) in
+    grind (arith, nat_tests, lies) in
     let there = object_there heap front (flat_map saved_words os) first o fits.0 is len in
     let next : end_of (placed_at first o) ≡ first + saved_size (length o.words) = omega arith in
     rw (more, there) (ap (in_front (placed_at first o))
