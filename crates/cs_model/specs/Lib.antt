@@ -5,6 +5,7 @@ pub mod Keeps
 pub mod Read
 pub mod Words
 pub mod ImageFile
+pub mod SavedFile
 pub mod ImageFault
 pub mod Image
 pub mod End
