@@ -1,4 +1,7 @@
 pub mod Objects
+pub mod SavedNumbers
+pub mod SavedObjects
+pub mod SavedFiles
 pub mod Same
 pub mod Keeping
 pub mod Reading

@@ -1,6 +1,6 @@
 -- The bytes of the file that holds these objects, as savers and builders leave it: what `ImageFile` cuts, put together. All
 -- numbers are little-endian.
-use Rattle.std.specs.Prelude.{◌≡◌, ℕ, ◌+◌, ◌*◌, ◌-◌, ◌/◌, ◌%◌, ◌^◌, ◌<◌, ◌≤◌, ◌==◌, ◌&&◌, Bool, false, not, nat_le, max, min, if◌then◌else◌, List, [], ◌∷◌, ◌++◌, length, map, flat_map, sum_by, take, drop, replicate, Option, Some, None, is_some}
+use Rattle.std.specs.Prelude.{◌≡◌, ℕ, ◌+◌, ◌*◌, ◌-◌, ◌/◌, ◌%◌, ◌^◌, ◌<◌, ◌≤◌, ◌==◌, ◌&&◌, Bool, true, false, not, nat_le, max, min, if◌then◌else◌, List, [], ◌∷◌, ◌++◌, length, map, flat_map, sum_by, take, drop, replicate, Option, Some, None, is_some}
 use Rattle.std.specs.List.{AllByRecursion, range_with_len}
 use Rattle.cs_model.specs.Words.{bytes_of_words}
 use Rattle.cs_model.specs.ImageFile.{number_at, heap_size, old_base, special_address, last_hash_in, header_in, words_in, has_births, birth_count, births_in, next_birth_in, FileObject, cut_of, file_of, visible, stands, is_visible}
@@ -32,8 +32,7 @@ body_size slots = 2 * max 1 ((slots + 1) / 2)
 -- the words of an object: an overflow word, the header, the slots, and zeros that fill the body
 unfoldable pub saved_words : SavedObject → List ℕ
 saved_words o = overflow_words (length o.words)
-    ++ saved_bits o % 2 ^ 32 ∷ saved_bits o / 2 ^ 32 ∷ o.words
-    ++ replicate (body_size (length o.words) - length o.words) 0
+    ++ (saved_bits o % 2 ^ 32 ∷ saved_bits o / 2 ^ 32 ∷ o.words ++ replicate (body_size (length o.words) - length o.words) 0)
 
 -- how many words stand before the header, and how many there are in all
 abbrev pub words_before : ℕ → ℕ
@@ -189,9 +188,9 @@ pub record IsReadAgain (f : SavedFile) (bytes : List ℕ) : Type 0 where
   pub by_place : (n : ℕ) → f.births ≡ None → births_in bytes n ≡ range_with_len 0 n
   pub next_place : (n : ℕ) → f.births ≡ None → next_birth_in bytes n ≡ n
 
--- an object that is neither skipped nor hidden
-abbrev pub is_seen : SavedObject → Bool
-is_seen o = not (o.class == 0) && not (o.class == 16)
+-- an object is neither skipped nor hidden
+abbrev pub IsSeen : SavedObject → Type 0
+IsSeen o = (not (o.class == 0) && not (o.class == 16)) ≡ true
 
 -- Where each of the objects is to be seen, all objects stand in the file, and these are the visible ones: nil, false and true
 -- from the heap's first word on, and the others behind the root.

@@ -13,7 +13,7 @@
 //! is the law. A state is closed where it keeps itself, which is where all that it names is there.
 ghost use Rattle.std.specs.Prelude.{◌≡◌, ◌≢◌, ◌<◌, ◌≤◌, ◌+◌, ℕ, ℤ, Bool, true, false, nat_lt, if◌then◌else◌, Option};
 ghost use Rattle.std.specs.Prelude.{Some, None, List, [], ◌∷◌, length, slice_get, IsSome};
-ghost use Rattle.std.specs.List.{AllByRecursion, AllPass, Contains};
+ghost use Rattle.std.specs.List.{AllByRecursion, Contains};
 ghost use Rattle.cs_model.specs.declared.event.Event.{Event};
 ghost use Rattle.cs_model.specs.declared.instruction.Op.{Op};
 ghost use Rattle.cs_model.specs.Ref.{Ref};
@@ -57,7 +57,7 @@ ghost use Rattle.cs_model.specs.Demand.{before_bytecode, last_state, first_event
 ghost use Rattle.cs_model.specs.Shallow.{ended_between, is_answer, Trial, result_of, Sending, sending_from, sent_out};
 ghost use Rattle.cs_model.specs.Shallow.{trials, bytecode_state};
 ghost use Rattle.cs_model.specs.Report.{place_of, report_of};
-ghost use Rattle.cs_model.specs.SavedFile.{SavedFile, FitsFile, IsReadAgain, IsSeenAgain, is_seen, saved_bytes};
+ghost use Rattle.cs_model.specs.SavedFile.{SavedFile, FitsFile, IsReadAgain, IsSeen, IsSeenAgain, saved_bytes};
 ghost use Rattle.cs_model.specs.Built.{is_built_number, is_built_send, is_built_out, built_step, built_run};
 
 /// An object that is put at a birth is there, and nothing else changes.
@@ -459,5 +459,5 @@ pub fn what_is_built_is_what_a_send_finds()
 /// to be seen, the visible ones are those.
 pub fn a_saved_file_is_read_again()
     ensures read { (f : SavedFile) → FitsFile f → IsReadAgain f (saved_bytes f) }
-    ensures seen { (f : SavedFile) → FitsFile f → AllPass is_seen f.objects → IsSeenAgain f (saved_bytes f) }
+    ensures seen { (f : SavedFile) → FitsFile f → AllByRecursion IsSeen f.objects → IsSeenAgain f (saved_bytes f) }
 {}
