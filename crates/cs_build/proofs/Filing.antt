@@ -1,13 +1,12 @@
 -- The file that is put together of objects: its heap in parts, its root, and that its words fit.
-use Rattle.std.proofs.Common.{◌≡◌, ℕ, zero, suc, ◌+◌, ◌-◌, ◌*◌, ◌/◌, ◌%◌, ◌^◌, ◌<◌, ◌≤◌, Bool, true, false, cond, List, [], ◌∷◌, ◌++◌, length, map, take, drop, replicate, get_or, refl, ap, ap₂, sym, ◌∙◌, arith, max, min, append_assoc, append-nil, length-append, slice_index, length-take, length-drop}
+use Rattle.std.proofs.Common.{◌≡◌, ℕ, zero, suc, ◌+◌, ◌-◌, ◌*◌, ◌/◌, ◌<◌, ◌≤◌, true, false, List, [], ◌∷◌, ◌++◌, length, map, take, drop, replicate, refl, ap, ap₂, sym, ◌∙◌, arith, append_assoc, append-nil, length-append, slice_index, length-take, length-drop}
 use Rattle.std.proofs.lemmas.List.FromFn.{length-range_with_len}
-use Rattle.std.specs.Prelude.{flat_map, nat_lt, None}
+use Rattle.std.specs.Prelude.{flat_map, nat_lt}
 use Rattle.std.specs.List.{AllByRecursion, range_with_len}
 use Rattle.std.proofs.lemmas.Bool.Decides.{nat_tests}
 use Rattle.cs_model.specs.Words.{bytes_of_words}
-use Rattle.cs_model.specs.SavedFile.{SavedObject, SavedFile, saved_words, saved_size, saved_sizes, saved_base, saved_heap, saved_bytes, all_saved, free_lists, table_root, table_page, page_address, page_place, header_words, hidden_object}
+use Rattle.cs_model.specs.SavedFile.{SavedObject, SavedFile, saved_words, saved_size, saved_sizes, saved_base, saved_heap, saved_bytes, all_saved, free_lists, table_root, table_page, page_address, hidden_object}
 use Rattle.cs_model.specs.Builder.{header_bytes}
-use Rattle.cs_model.proofs.SavedNumbers.{bytes_of_words-append}
 use Rattle.cs_model.proofs.SavedObjects.{sizes-cons}
 use Rattle.cs_build.specs.Laid.{Laid, laid_slots, laid_size, saved_by, addresses_of, file_for, pages_of, root_word_of, root_words, all_header_words, put_words, page_of, addresses_from}
 use Rattle.cs_build.proofs.Putting.{flat_map_append, map_take, map_drop, slots_of_laid, size_cons, length-map}

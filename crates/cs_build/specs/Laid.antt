@@ -1,5 +1,5 @@
 -- Objects as they lie in a file: references that become words once the addresses are known, and bytes behind them.
-use Rattle.std.specs.Prelude.{◌≡◌, ℕ, ℤ, pos, ◌+◌, ◌-◌, ◌*◌, ◌/◌, ◌%◌, ◌^◌, ◌<◌, ◌≤◌, ◌≤ℤ◌, ◌<ℤ◌, List, [], ◌∷◌, ◌++◌, length, map, min, nat_lt, if◌then◌else◌, sum_by, take, drop, replicate, slice_index, false, None}
+use Rattle.std.specs.Prelude.{◌≡◌, ℕ, pos, ◌+◌, ◌-◌, ◌*◌, ◌/◌, ◌%◌, ◌^◌, ◌<◌, ◌≤◌, List, [], ◌∷◌, ◌++◌, length, map, min, nat_lt, if◌then◌else◌, sum_by, take, drop, replicate, slice_index, false, None}
 use Rattle.std.specs.Option.{option_map_or}
 use Rattle.std.specs.List.{AllByRecursion, range_with_len}
 use Rattle.cs_word.specs.Word.{IsSmall, small_word, character_word}

@@ -1,4 +1,4 @@
-use Rattle.std.proofs.Common.{◌≡◌, ◌+◌, ◌++◌, map, take, ℕ}
+use Rattle.std.proofs.Common.{◌≡◌, ◌+◌, ◌++◌, map, take}
 use Rattle.cs_build.specs.Laid.{laid_by, addresses_from, laid_size}
 use Rattle.cs_build.proofs.image.put_addresses.Given as goal
 

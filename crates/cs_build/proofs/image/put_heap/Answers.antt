@@ -1,11 +1,10 @@
-use Rattle.std.proofs.Common.{◌≡◌, ℕ, ◌+◌, ◌-◌, ◌*◌, ◌/◌, ◌%◌, ◌^◌, ◌<◌, ◌≤◌, List, [], ◌∷◌, ◌++◌, length, map, take, drop, get_or, refl, ap, sym, subst, ◌∙◌, arith, append_assoc, append-nil, slice_index, length-drop}
+use Rattle.std.proofs.Common.{◌≡◌, ℕ, ◌-◌, ◌/◌, ◌<◌, List, ◌++◌, length, map, take, drop, refl, ap, sym, subst, ◌∙◌, arith, length-drop}
 use Rattle.std.proofs.lemmas.List.{take_all}
 use Rattle.std.specs.Prelude.{flat_map}
 use Rattle.std.specs.List.{AllByRecursion}
 use Rattle.cs_model.specs.SavedFile.{saved_words, saved_heap, free_lists, hidden_object, table_page}
-use Rattle.cs_build.specs.declared.object.Object.{Object}
-use Rattle.cs_build.specs.Laid.{Laid, FitsLaid, laid_by, laid_size, saved_by, put_words, root_words, pages_of, file_for}
-use Rattle.cs_build.proofs.Putting.{map_take, map_drop, all_take, all_drop, put_next, on_ok, length-map}
+use Rattle.cs_build.specs.Laid.{Laid, FitsLaid, laid_by, saved_by, put_words, root_words, pages_of, file_for}
+use Rattle.cs_build.proofs.Putting.{map_take, map_drop, all_take, all_drop, put_next, on_ok}
 use Rattle.cs_build.proofs.Filing.{length-addresses, size_of_file, heap_for}
 use Rattle.cs_build.proofs.image.put_heap.Goals as goal
 

@@ -1,12 +1,10 @@
-use Rattle.std.proofs.Common.{◌≡◌, ℕ, ◌+◌, ◌-◌, ◌*◌, ◌/◌, ◌%◌, ◌^◌, ◌<◌, ◌≤◌, List, [], ◌∷◌, ◌++◌, length, map, take, drop, replicate, get_or, refl, ap, sym, ◌∙◌, arith, min, append_assoc, append-nil, slice_index, subst}
+use Rattle.std.proofs.Common.{◌≡◌, ◌+◌, List, [], ◌∷◌, ◌++◌, length, map, take, ap, sym, ◌∙◌, subst}
 use Rattle.std.proofs.lemmas.List.{map-append}
 use Rattle.cs_build.specs.declared.object.Object.{Object}
 use Rattle.std.specs.Prelude.{flat_map}
-use Rattle.std.specs.List.{AllByRecursion, range_with_len}
-use Rattle.cs_model.specs.ImageFile.{u32_at}
-use Rattle.cs_model.specs.SavedFile.{SavedObject, saved_words, saved_size, overflow_words, table_page, body_size, free_lists, hidden_object}
-use Rattle.cs_build.specs.Laid.{Laid, put_words, ref_by, ref_word, laid_by, saved_by, laid_slots, laid_size, addresses_from, page_of, root_word_of, root_words, head_words, head_bits_of, byte_words, all_header_words, pages_of, FitsRef, FitsLaid}
-use Rattle.cs_build.proofs.Putting.{put_nothing, put_next, on_ok, put_word_on, word_read, map_more, map_range_more, flat_map_last, replicate_more, all_mapped, all_at, short_overflow, long_overflow, bits_are, body_holds, saved_as, map_last, hidden_as, page_as, more_saved}
+use Rattle.cs_model.specs.SavedFile.{SavedObject, saved_words}
+use Rattle.cs_build.specs.Laid.{Laid, laid_by, saved_by, FitsLaid}
+use Rattle.cs_build.proofs.Putting.{put_nothing, put_next, flat_map_last, all_mapped, map_last}
 use Rattle.cs_build.proofs.image.put_objects.Goals as goal
 
 pub loop-object-init : goal.loop-object-init
