@@ -1,3 +1,4 @@
 pub mod Putting
 pub mod Filing
 pub mod Fitting
+pub mod Reading
