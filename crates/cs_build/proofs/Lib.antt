@@ -4,3 +4,4 @@ pub mod Fitting
 pub mod Reading
 pub mod Naming
 pub mod Storing
+pub mod Describing
