@@ -99,7 +99,7 @@ root_for ls table few =
 
 pub heap_for : (ls : List Laid) (table a : List ℕ) (words : ℕ) → a ≡ addresses_of ls → words ≡ laid_size ls → length table ≤ 16384
     → saved_heap (file_for ls table) ≡ (((flat_map saved_words (map (saved_by a) (take 3 ls)) ++ saved_words free_lists)
-        ++ saved_words (hidden_object 2 (root_words words (length table / 1024)))) ++ flat_map saved_words (map (saved_by a) (drop 3 ls))) ++ flat_map saved_words (map table_page (pages_of a table))
+    ++ saved_words (hidden_object 2 (root_words words (length table / 1024)))) ++ flat_map saved_words (map (saved_by a) (drop 3 ls))) ++ flat_map saved_words (map table_page (pages_of a table))
 heap_for ls table a words ea ew few =
     let os : List SavedObject = map (saved_by (addresses_of ls)) ls in
     heap_is (file_for ls table)
@@ -107,9 +107,9 @@ heap_for ls table a words ea ew few =
     ∙ ap (λ (ps : List (List ℕ)). (((flat_map saved_words (take 3 os) ++ saved_words free_lists) ++ saved_words (table_root (file_for ls table))) ++ flat_map saved_words (drop 3 os)) ++ flat_map saved_words (map table_page ps)) (pages_are ls table)
     ∙ ap (λ (r : SavedObject). (((flat_map saved_words (take 3 os) ++ saved_words free_lists) ++ saved_words r) ++ flat_map saved_words (drop 3 os)) ++ flat_map saved_words (map table_page (pages_of (addresses_of ls) table))) (root_for ls table few)
     ∙ ap₂ (λ (xs ys : List SavedObject). (((flat_map saved_words xs ++ saved_words free_lists) ++ saved_words (hidden_object 2 (root_words (laid_size ls) (length table / 1024)))) ++ flat_map saved_words ys) ++ flat_map saved_words (map table_page (pages_of (addresses_of ls) table)))
-        (sym (map_take (saved_by (addresses_of ls)) 3 ls)) (sym (map_drop (saved_by (addresses_of ls)) 3 ls))
+    (sym (map_take (saved_by (addresses_of ls)) 3 ls)) (sym (map_drop (saved_by (addresses_of ls)) 3 ls))
     ∙ ap₂ (λ (b : List ℕ) (w : ℕ). (((flat_map saved_words (map (saved_by b) (take 3 ls)) ++ saved_words free_lists)
-        ++ saved_words (hidden_object 2 (root_words w (length table / 1024)))) ++ flat_map saved_words (map (saved_by b) (drop 3 ls))) ++ flat_map saved_words (map table_page (pages_of b table))) (sym ea) (sym ew)
+    ++ saved_words (hidden_object 2 (root_words w (length table / 1024)))) ++ flat_map saved_words (map (saved_by b) (drop 3 ls))) ++ flat_map saved_words (map table_page (pages_of b table))) (sym ea) (sym ew)
 
 -- ---- addresses
 
@@ -124,5 +124,12 @@ pub first_size : (ls : List Laid) → 3 ≤ length ls → AllByRecursion (λ l. 
 first_size [] h all = absurd (omega (arith, h))
 first_size (a ∷ []) h all = absurd (omega (arith, h))
 first_size (a ∷ b ∷ []) h all = absurd (omega (arith, h))
-first_size (a ∷ b ∷ c ∷ ls) h all = omega (arith, size_cons a (b ∷ c ∷ ls), size_cons b (c ∷ ls), size_cons c ls,
-    ap saved_size all.0, ap saved_size all.1.0, ap saved_size all.1.1.0)
+first_size (a ∷ b ∷ c ∷ ls) h all = omega (
+  arith,
+  size_cons a (b ∷ c ∷ ls),
+  size_cons b (c ∷ ls),
+  size_cons c ls,
+  ap saved_size all.0,
+  ap saved_size all.1.0,
+  ap saved_size all.1.1.0,
+)

@@ -49,8 +49,15 @@ all_addresses ls three first h = all_append IsWordValue (addresses_from 0 (take 
     front [] h all = absurd (omega (arith, h))
     front (a ∷ []) h all = absurd (omega (arith, h))
     front (a ∷ b ∷ []) h all = absurd (omega (arith, h))
-    front (a ∷ b ∷ c ∷ ls) h all = omega (arith, size_cons a (b ∷ c ∷ []), size_cons b (c ∷ []), size_cons c [],
-        ap saved_size all.0, ap saved_size all.1.0, ap saved_size all.1.1.0)
+    front (a ∷ b ∷ c ∷ ls) h all = omega (
+      arith,
+      size_cons a (b ∷ c ∷ []),
+      size_cons b (c ∷ []),
+      size_cons c [],
+      ap saved_size all.0,
+      ap saved_size all.1.0,
+      ap saved_size all.1.1.0,
+    )
 
 -- ---- words
 
@@ -62,8 +69,13 @@ ref_fits a n (ref.Obj i) all h = below (2 ^ 32) a i (omega arith) all
 
 word_fits : (bytes : List ℕ) (at : ℕ) → AllByRecursion (λ (b : ℕ). b < 256) bytes → u32_at bytes at < 2 ^ 32
 unfolding u32_at
-word_fits bytes at all = omega (arith, below 256 bytes at (omega arith) all, below 256 bytes (at + 1) (omega arith) all,
-    below 256 bytes (at + 1 + 1) (omega arith) all, below 256 bytes (at + 1 + 1 + 1) (omega arith) all)
+word_fits bytes at all = omega (
+  arith,
+  below 256 bytes at (omega arith) all,
+  below 256 bytes (at + 1) (omega arith) all,
+  below 256 bytes (at + 1 + 1) (omega arith) all,
+  below 256 bytes (at + 1 + 1 + 1) (omega arith) all,
+)
 
 object_fits : (a : List ℕ) (n : ℕ) (l : Laid) → AllByRecursion IsWordValue a → FitsLaid n l → FitsObject (saved_by a l)
 object_fits a n l all fits = record {

@@ -1,5 +1,5 @@
 -- Each object of a file is found by its address, and no other one.
-use Rattle.std.proofs.Common.{◌≡◌, ℕ, zero, suc, ◌+◌, ◌-◌, ◌*◌, ◌/◌, ◌%◌, ◌^◌, ◌<◌, ◌≤◌, ◌==◌, Bool, true, false, cond, List, [], ◌∷◌, ◌++◌, length, map, take, drop, get_or, refl, ap, ap₂, sym, subst, ◌∙◌, arith, length-append, slice_index}
+use Rattle.std.proofs.Common.{◌≡◌, ℕ, zero, suc, ◌+◌, ◌*◌, ◌%◌, ◌<◌, ◌≤◌, ◌==◌, Bool, true, false, cond, List, [], ◌∷◌, ◌++◌, length, map, take, drop, refl, ap, ap₂, sym, subst, ◌∙◌, arith, slice_index}
 use Rattle.std.proofs.lemmas.List.{map-append}
 use Rattle.std.proofs.lemmas.Bool.Decides.{nat_tests}
 use Rattle.std.specs.Prelude.{zip, find, nat_le, ⊤}
@@ -9,7 +9,7 @@ use Rattle.cs_model.specs.Ref.{Ref}
 use Rattle.cs_model.specs.Ref as ref
 use Rattle.cs_model.specs.ImageFile.{FileObject, File, address_in, visible}
 use Rattle.cs_model.specs.Image.{birth_in}
-use Rattle.cs_model.specs.SavedFile.{SavedObject, placed_from, placed_at, saved_base, saved_size, words_before}
+use Rattle.cs_model.specs.SavedFile.{SavedObject, placed_from, saved_base, saved_size, words_before}
 use Rattle.cs_build.specs.Laid.{Laid, laid_slots, laid_size, saved_by, addresses_from, addresses_of}
 use Rattle.cs_build.proofs.Putting.{slots_of_laid, size_cons, map_take, map_drop, length-map}
 use Rattle.cs_build.proofs.Filing.{length-addresses}
@@ -51,8 +51,7 @@ found_from address (x ∷ xs) low at (suc i) rises h =
 all_rise : (at : ℕ) (ls : List Laid) → Rises (saved_base + 4 * at) (addresses_from at ls)
 all_rise at [] = tt
 all_rise at (l ∷ ls) =
-    let size : words_before (laid_slots l) + 4 ≤ saved_size (laid_slots l) = omega arith in
-    (
+    let size : words_before (laid_slots l) + 4 ≤ saved_size (laid_slots l) = omega arith in (
       omega arith,
       weaken (saved_base + 4 * (at + words_before (laid_slots l)) + 1) (saved_base + 4 * (at + saved_size (laid_slots l))) (addresses_from (at + saved_size (laid_slots l)) ls)
           (omega (arith, size)) (all_rise (at + saved_size (laid_slots l)) ls),
@@ -115,14 +114,14 @@ pub are_addresses : (f : File) (ls : List Laid) → f.base ≡ saved_base
 are_addresses f ls base seen room =
     let a : List ℕ = addresses_of ls in
     let addresses : map (address_in f) (visible f) ≡ addresses_of ls =
-        ap (map (address_in f)) seen
-        ∙ map-append (address_in f) (placed_from 0 (take 3 (map (saved_by a) ls))) (placed_from 34 (drop 3 (map (saved_by a) ls)))
-        ∙ ap₂ (λ (xs ys : List SavedObject). map (address_in f) (placed_from 0 xs) ++ map (address_in f) (placed_from 34 ys)) (sym (map_take (saved_by a) 3 ls)) (sym (map_drop (saved_by a) 3 ls))
-        ∙ ap₂ (λ (xs ys : List ℕ). xs ++ ys) (placed_addresses f a 0 (take 3 ls) base) (placed_addresses f a 34 (drop 3 ls) base) in
+    ap (map (address_in f)) seen
+    ∙ map-append (address_in f) (placed_from 0 (take 3 (map (saved_by a) ls))) (placed_from 34 (drop 3 (map (saved_by a) ls)))
+    ∙ ap₂ (λ (xs ys : List SavedObject). map (address_in f) (placed_from 0 xs) ++ map (address_in f) (placed_from 34 ys)) (sym (map_take (saved_by a) 3 ls)) (sym (map_drop (saved_by a) 3 ls))
+    ∙ ap₂ (λ (xs ys : List ℕ). xs ++ ys) (placed_addresses f a 0 (take 3 ls) base) (placed_addresses f a 34 (drop 3 ls) base) in
     let count : length (visible f) ≡ length ls = sym (length-map (address_in f) (visible f)) ∙ ap length addresses ∙ length-addresses ls in
     let rises : Rises saved_base (map (address_in f) (visible f)) = subst (Rises saved_base) (sym addresses) (addresses_rise ls room) in
     let units : AllByRecursion (λ (x : ℕ). x % 8 ≡ 0) (addresses_of ls) =
-        all_both (λ (x : ℕ). x % 8 ≡ 0) (addresses_from 0 (take 3 ls)) (addresses_from 34 (drop 3 ls)) (units_from 0 (take 3 ls) refl) (units_from 34 (drop 3 ls) refl) in
+    all_both (λ (x : ℕ). x % 8 ≡ 0) (addresses_from 0 (take 3 ls)) (addresses_from 34 (drop 3 ls)) (units_from 0 (take 3 ls) refl) (units_from 34 (drop 3 ls) refl) in
     record {
       units = λ i h. all_index (λ (x : ℕ). x % 8 ≡ 0) (addresses_of ls) i units (omega (arith, h, length-addresses ls));
       found = λ i h. ap ref.Obj

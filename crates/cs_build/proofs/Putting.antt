@@ -123,9 +123,13 @@ length-map f [] = refl
 length-map f (x ∷ xs) = ap suc (length-map f xs)
 
 pub slots_of_laid : (addresses : List ℕ) (l : Laid) → length (laid_words addresses l) ≡ laid_slots l
-slots_of_laid addresses l = omega (arith, length-append (map (ref_word addresses) l.refs) (byte_words l.bytes),
-    length-map (ref_word addresses) l.refs, length-map (λ i. u32_at l.bytes (4 * i)) (range_with_len 0 ((length l.bytes + 3) / 4)),
-    length-range_with_len 0 ((length l.bytes + 3) / 4))
+slots_of_laid addresses l = omega (
+  arith,
+  length-append (map (ref_word addresses) l.refs) (byte_words l.bytes),
+  length-map (ref_word addresses) l.refs,
+  length-map (λ i. u32_at l.bytes (4 * i)) (range_with_len 0 ((length l.bytes + 3) / 4)),
+  length-range_with_len 0 ((length l.bytes + 3) / 4),
+)
 
 pub joined : (a b xs ys zs : List ℕ) → a ++ (b ++ ((xs ++ ys) ++ zs)) ≡ (((a ++ b) ++ xs) ++ ys) ++ zs
 joined a b xs ys zs = sym (append_assoc a b ((xs ++ ys) ++ zs)) ∙ sym (append_assoc (a ++ b) (xs ++ ys) zs) ∙ ap (λ (ws : List ℕ). ws ++ zs) (sym (append_assoc (a ++ b) xs ys))
@@ -140,11 +144,11 @@ saved_as addresses l =
   where
     parts : (class format hash m n : ℕ) → m ≡ n → (xs ys : List ℕ)
         → overflow_words m ++ ((class + 2 ^ 23 * 0 + 2 ^ 24 * format + 2 ^ 32 * hash + 2 ^ 56 * min 255 m) % 2 ^ 32
-          ∷ (class + 2 ^ 23 * 0 + 2 ^ 24 * format + 2 ^ 32 * hash + 2 ^ 56 * min 255 m) / 2 ^ 32 ∷ ((xs ++ ys) ++ replicate (body_size m - m) 0))
+        ∷ (class + 2 ^ 23 * 0 + 2 ^ 24 * format + 2 ^ 32 * hash + 2 ^ 56 * min 255 m) / 2 ^ 32 ∷ ((xs ++ ys) ++ replicate (body_size m - m) 0))
         ≡ ((head_words class format hash n ++ xs) ++ ys) ++ replicate (body_size n - n) 0
     parts class format hash m n e xs ys =
         let bits : class + 2 ^ 23 * 0 + 2 ^ 24 * format + 2 ^ 32 * hash + 2 ^ 56 * min 255 m ≡ head_bits_of class format hash n =
-            omega (arith, ap (min 255) e) in
+        omega (arith, ap (min 255) e) in
         rw (bits, e) (joined (overflow_words n) (head_bits_of class format hash n % 2 ^ 32 ∷ head_bits_of class format hash n / 2 ^ 32 ∷ []) xs ys (replicate (body_size n - n) 0))
 
 -- a hidden object of these words

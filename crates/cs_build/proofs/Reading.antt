@@ -1,8 +1,8 @@
 -- What was written of references and bytes is read again.
-use Rattle.std.proofs.Common.{◌≡◌, ℕ, zero, suc, ◌+◌, ◌-◌, ◌*◌, ◌/◌, ◌%◌, ◌^◌, ◌<◌, ◌≤◌, ◌==◌, Bool, true, false, cond, List, [], ◌∷◌, ◌++◌, length, map, take, drop, replicate, get_or, refl, ap, ap₂, sym, ◌∙◌, arith, append-nil, length-append, slice_index}
+use Rattle.std.proofs.Common.{◌≡◌, ℕ, zero, suc, ◌+◌, ◌-◌, ◌*◌, ◌/◌, ◌%◌, ◌^◌, ◌<◌, ◌≤◌, ◌==◌, true, false, List, [], ◌∷◌, ◌++◌, length, map, take, drop, replicate, refl, ap, ap₂, sym, ◌∙◌, arith, append-nil, length-append, slice_index}
 use Rattle.std.proofs.lemmas.Int.{ints}
 use Rattle.std.proofs.lemmas.Bool.Decides.{nat_tests}
-use Rattle.std.specs.Prelude.{ℤ, pos, negsuc, ◌-ℤ◌, nat_lt, nat_le, Option, Some, unwrap_or}
+use Rattle.std.specs.Prelude.{ℤ, pos, negsuc, nat_lt, nat_le, Option, Some, unwrap_or}
 use Rattle.std.specs.List.{AllByRecursion, range_with_len}
 use Rattle.cs_word.specs.Word.{IsSmall, small_word}
 use Rattle.cs_model.specs.Ref.{Ref, natural_of}
@@ -101,8 +101,8 @@ bytes_back (a ∷ b ∷ c ∷ d ∷ bytes) all =
     let same : spare (length bytes) ≡ spare (suc (suc (suc (suc (length bytes))))) = omega arith in
     ap bytes_of_words (four_more a b c d bytes)
     ∙ digits_are (a + 256 * (b + 256 * (c + 256 * (d + 0)))) a b c d (bytes_of_words (byte_words bytes)) (bytes ++ replicate (spare (suc (suc (suc (suc (length bytes)))))) 0)
-        (omega arith) all.0 all.1.0 all.1.1.0 all.1.1.1.0
-        (bytes_back bytes all.1.1.1.1 ∙ ap (λ (k : ℕ). bytes ++ replicate k 0) same)
+    (omega arith) all.0 all.1.0 all.1.1.0 all.1.1.1.0
+    (bytes_back bytes all.1.1.1.1 ∙ ap (λ (k : ℕ). bytes ++ replicate k 0) same)
 
 length-byte_words : (bytes : List ℕ) → length (byte_words bytes) ≡ (length bytes + 3) / 4
 length-byte_words bytes = length-map (λ i. u32_at bytes (4 * i)) (range_with_len 0 ((length bytes + 3) / 4)) ∙ length-range_with_len 0 ((length bytes + 3) / 4)
@@ -160,25 +160,32 @@ method_back a named n header literals bytes are all fits count bytes_fit =
     let header_is : unwrap_or (natural_in_word (2 * header + 1)) 0 ≡ header = ap (λ (o : Option ℕ). unwrap_or o 0) (natural_back header fits) in
     let counted : literal_count (unwrap_or (natural_in_word (2 * header + 1)) 0) ≡ length (map (ref_word a) literals) = ap literal_count header_is ∙ count ∙ sym (length-map (ref_word a) literals) in
     let taken : take (literal_count (unwrap_or (natural_in_word (2 * header + 1)) 0)) (map (ref_word a) literals ++ byte_words bytes) ≡ map (ref_word a) literals =
-        take_front (map (ref_word a) literals) (byte_words bytes) (literal_count (unwrap_or (natural_in_word (2 * header + 1)) 0)) counted in
+    take_front (map (ref_word a) literals) (byte_words bytes) (literal_count (unwrap_or (natural_in_word (2 * header + 1)) 0)) counted in
     let behind : drop (1 + literal_count (unwrap_or (natural_in_word (2 * header + 1)) 0)) ((2 * header + 1) ∷ (map (ref_word a) literals ++ byte_words bytes)) ≡ byte_words bytes =
-        drop_front ((2 * header + 1) ∷ map (ref_word a) literals) (byte_words bytes) (1 + literal_count (unwrap_or (natural_in_word (2 * header + 1)) 0)) (omega (arith, counted)) in
+    drop_front ((2 * header + 1) ∷ map (ref_word a) literals) (byte_words bytes) (1 + literal_count (unwrap_or (natural_in_word (2 * header + 1)) 0)) (omega (arith, counted)) in
     let all_words : List ℕ = (2 * header + 1) ∷ (map (ref_word a) literals ++ byte_words bytes) in
     let count_is : bytecode_count (24 + spare (length bytes)) ((2 * header + 1) ∷ (map (ref_word a) literals ++ byte_words bytes)) ≡ length bytes =
-        omega (arith, unused, counted, length-append (map (ref_word a) literals) (byte_words bytes), length-byte_words bytes) in
+    omega (arith, unused, counted, length-append (map (ref_word a) literals) (byte_words bytes), length-byte_words bytes) in
     let codes : bytecodes_in_words (24 + spare (length bytes)) ((2 * header + 1) ∷ (map (ref_word a) literals ++ byte_words bytes)) ≡ bytes =
-        ap₂ (λ (k : ℕ) (xs : List ℕ). take k (bytes_of_words xs)) count_is behind ∙ ap (take (length bytes)) (bytes_back bytes bytes_fit)
-        ∙ take_front bytes (replicate (spare (length bytes)) 0) (length bytes) refl in
+    ap₂ (λ (k : ℕ) (xs : List ℕ). take k (bytes_of_words xs)) count_is behind ∙ ap (take (length bytes)) (bytes_back bytes bytes_fit)
+    ∙ take_front bytes (replicate (spare (length bytes)) 0) (length bytes) refl in
     let head : Head = new_head 43 (24 + spare (length bytes)) in
     rw (pointers, methods)
     (ap₂ (λ (h : ℕ) (ls : List Ref). obj.Method head h ls (bytecodes_in_words (24 + spare (length bytes)) all_words)) header_is
-        (ap (map (ref_by named)) taken ∙ refs_back a named n literals are all)
+    (ap (map (ref_by named)) taken ∙ refs_back a named n literals are all)
     ∙ ap (obj.Method head header literals) codes)
 
 -- a context with a pc
 abbrev pub context_by : (hash : ℕ) (sender : Ref) (pc : Option ℕ) (method closure receiver : Ref) (stack : List Ref) (size : ℕ) → Obj
 context_by hash sender pc method closure receiver stack size = Ctx (record {
-  hash = hash; sender = sender; pc = pc; method = method; closure = closure; receiver = receiver; stack = stack; size = size;
+  hash = hash;
+  sender = sender;
+  pc = pc;
+  method = method;
+  closure = closure;
+  receiver = receiver;
+  stack = stack;
+  size = size;
 })
 
 pub context_back : (a : List ℕ) (named : ℕ → Ref) (n hash pc size : ℕ) (sender method closure receiver : Ref) (stack : List Ref)
@@ -193,20 +200,26 @@ context_back a named n hash pc size sender method closure receiver stack are hs 
     let pc_is : natural_in_word (2 * pc + 1) ≡ Some pc = natural_back pc fits in
     let depth : unwrap_or (natural_in_word (2 * length stack + 1)) 0 ≡ length stack = ap (λ (o : Option ℕ). unwrap_or o 0) (natural_back (length stack) (omega (arith, small, big))) in
     let front : take (length stack) (map (ref_word a) (stack ++ replicate (size - length stack) nil_ref) ++ []) ≡ map (ref_word a) stack =
-        ap (take (length stack)) (append-nil (map (ref_word a) (stack ++ replicate (size - length stack) nil_ref)) ∙ map-append (ref_word a) stack (replicate (size - length stack) nil_ref))
-        ∙ take_front (map (ref_word a) stack) (map (ref_word a) (replicate (size - length stack) nil_ref)) (length stack) (sym (length-map (ref_word a) stack)) in
+    ap (take (length stack)) (append-nil (map (ref_word a) (stack ++ replicate (size - length stack) nil_ref)) ∙ map-append (ref_word a) stack (replicate (size - length stack) nil_ref))
+    ∙ take_front (map (ref_word a) stack) (map (ref_word a) (replicate (size - length stack) nil_ref)) (length stack) (sym (length-map (ref_word a) stack)) in
     let stack_is : map (ref_by named) (take (unwrap_or (natural_in_word (2 * length stack + 1)) 0) tail) ≡ stack =
-        ap (λ (k : ℕ). map (ref_by named) (take k tail)) depth ∙ ap (map (ref_by named)) front ∙ refs_back a named n stack are all in
+    ap (λ (k : ℕ). map (ref_by named) (take k tail)) depth ∙ ap (map (ref_by named)) front ∙ refs_back a named n stack are all in
     let size_is : suc (suc (suc (suc (suc (suc (length (map (ref_word a) (stack ++ replicate (size - length stack) nil_ref) ++ []))))))) - 6 ≡ size =
-        omega (arith, small, length-append (map (ref_word a) (stack ++ replicate (size - length stack) nil_ref)) [], length-map (ref_word a) (stack ++ replicate (size - length stack) nil_ref),
-        length-append stack (replicate (size - length stack) nil_ref), length-replicate {A = Ref} (size - length stack) nil_ref) in
+    omega (
+      arith,
+      small,
+      length-append (map (ref_word a) (stack ++ replicate (size - length stack) nil_ref)) [],
+      length-map (ref_word a) (stack ++ replicate (size - length stack) nil_ref),
+      length-append stack (replicate (size - length stack) nil_ref),
+      length-replicate {A = Ref} (size - length stack) nil_ref,
+    ) in
     let back : (r : Ref) → FitsRef n r → ref_by named (ref_word a r) ≡ r = λ r h. ref_back a named n r are h in
     ap (λ (x : Ref). context_by hash x (natural_in_word (2 * pc + 1)) (ref_by named (ref_word a method)) (ref_by named (ref_word a closure)) (ref_by named (ref_word a receiver))
-        (map (ref_by named) (take (unwrap_or (natural_in_word (2 * length stack + 1)) 0) tail)) (length words - 6)) (back sender hs)
+    (map (ref_by named) (take (unwrap_or (natural_in_word (2 * length stack + 1)) 0) tail)) (length words - 6)) (back sender hs)
     ∙ ap (λ (x : Option ℕ). context_by hash sender x (ref_by named (ref_word a method)) (ref_by named (ref_word a closure)) (ref_by named (ref_word a receiver))
-        (map (ref_by named) (take (unwrap_or (natural_in_word (2 * length stack + 1)) 0) tail)) (length words - 6)) pc_is
+    (map (ref_by named) (take (unwrap_or (natural_in_word (2 * length stack + 1)) 0) tail)) (length words - 6)) pc_is
     ∙ ap (λ (x : Ref). context_by hash sender (Some pc) x (ref_by named (ref_word a closure)) (ref_by named (ref_word a receiver))
-        (map (ref_by named) (take (unwrap_or (natural_in_word (2 * length stack + 1)) 0) tail)) (length words - 6)) (back method hm)
+    (map (ref_by named) (take (unwrap_or (natural_in_word (2 * length stack + 1)) 0) tail)) (length words - 6)) (back method hm)
     ∙ ap₂ (λ (x y : Ref). context_by hash sender (Some pc) method x y
-        (map (ref_by named) (take (unwrap_or (natural_in_word (2 * length stack + 1)) 0) tail)) (length words - 6)) (back closure hc) (back receiver hr)
+    (map (ref_by named) (take (unwrap_or (natural_in_word (2 * length stack + 1)) 0) tail)) (length words - 6)) (back closure hc) (back receiver hr)
     ∙ ap₂ (λ (xs : List Ref) (k : ℕ). context_by hash sender (Some pc) method closure receiver xs k) stack_is size_is

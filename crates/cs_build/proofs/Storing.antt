@@ -1,16 +1,15 @@
 -- The objects of a file are those of which it was made.
-use Rattle.std.proofs.Common.{◌≡◌, ℕ, zero, suc, ◌+◌, ◌^◌, ◌<◌, ◌≤◌, ◌==◌, false, true, List, [], ◌∷◌, ◌++◌, length, map, take, drop, refl, ap, ap₂, sym, subst, ◌∙◌, arith, slice_index}
+use Rattle.std.proofs.Common.{◌≡◌, ℕ, zero, suc, ◌+◌, ◌≤◌, false, List, [], ◌∷◌, ◌++◌, length, map, take, drop, refl, ap, ap₂, sym, subst, ◌∙◌}
 use Rattle.std.proofs.lemmas.List.{map-append}
-use Rattle.std.specs.Prelude.{Some, Option}
+use Rattle.std.specs.Prelude.{Option}
 use Rattle.std.specs.List.{AllByRecursion, range_with_len}
 use Rattle.cs_model.specs.Ref.{Ref}
 use Rattle.cs_model.specs.Ref as ref
-use Rattle.cs_model.specs.Obj.{Obj, Head, Context, Ptr, Raw, Method, Ctx, new_head}
+use Rattle.cs_model.specs.Obj.{Obj, Head, Ptr, Raw, Method, Ctx}
 use Rattle.cs_model.specs.Words.{obj_by}
-use Rattle.cs_model.specs.Builder.{spare, raw_object, method_by}
-use Rattle.cs_model.specs.ImageFile.{FileObject, File, visible}
-use Rattle.cs_model.specs.Image.{birth_in, head_in, object_in}
-use Rattle.cs_model.specs.SavedFile.{SavedObject, placed_from, placed_at, saved_size, saved_base}
+use Rattle.cs_model.specs.ImageFile.{File, visible}
+use Rattle.cs_model.specs.Image.{birth_in, object_in}
+use Rattle.cs_model.specs.SavedFile.{SavedObject, placed_from, saved_size, saved_base}
 use Rattle.cs_build.specs.Laid.{Laid, laid, laid_words, laid_size, saved_by, addresses_of}
 use Rattle.cs_build.specs.Stored.{IsStored}
 use Rattle.cs_build.proofs.Putting.{map_take, map_drop, all_take, all_drop, length-map}
@@ -57,15 +56,15 @@ objects_back f os base room all seen =
     let a : List ℕ = addresses_of (map laid os) in
     let count : length (map laid os) ≡ length os = length-map laid os in
     let are : AreAddresses a (λ word. ref.Obj (birth_in f (range_with_len 0 (length os)) word)) (length os) =
-        subst (λ (n : ℕ). AreAddresses (addresses_of (map laid os)) (λ word. ref.Obj (birth_in f (range_with_len 0 n) word)) n) count (are_addresses f ls base seen room) in
+    subst (λ (n : ℕ). AreAddresses (addresses_of (map laid os)) (λ word. ref.Obj (birth_in f (range_with_len 0 n) word)) n) count (are_addresses f ls base seen room) in
     let births : List ℕ = range_with_len 0 (length os) in
     let part : (k : ℕ) → take k (map (saved_by a) (map laid os)) ≡ map (saved_by a) (map laid (take k os)) = λ k.
-        sym (map_take (saved_by a) k ls) ∙ ap (map (saved_by a)) (sym (map_take laid k os)) in
+    sym (map_take (saved_by a) k ls) ∙ ap (map (saved_by a)) (sym (map_take laid k os)) in
     let rest : (k : ℕ) → drop k (map (saved_by a) (map laid os)) ≡ map (saved_by a) (map laid (drop k os)) = λ k.
-        sym (map_drop (saved_by a) k ls) ∙ ap (map (saved_by a)) (sym (map_drop laid k os)) in
+    sym (map_drop (saved_by a) k ls) ∙ ap (map (saved_by a)) (sym (map_drop laid k os)) in
     ap (map (object_in f births)) (seen ∙ ap₂ (λ (xs ys : List SavedObject). placed_from 0 xs ++ placed_from 34 ys) (part 3) (rest 3))
     ∙ map-append (object_in f births) (placed_from 0 (map (saved_by a) (map laid (take 3 os)))) (placed_from 34 (map (saved_by a) (map laid (drop 3 os))))
     ∙ ap₂ (λ (xs ys : List Obj). xs ++ ys)
-        (placed_back f births a (length os) 0 (take 3 os) are (all_take (IsStored (length os)) 3 os all))
-        (placed_back f births a (length os) 34 (drop 3 os) are (all_drop (IsStored (length os)) 3 os all))
+    (placed_back f births a (length os) 0 (take 3 os) are (all_take (IsStored (length os)) 3 os all))
+    (placed_back f births a (length os) 34 (drop 3 os) are (all_drop (IsStored (length os)) 3 os all))
     ∙ take_drop 3 os

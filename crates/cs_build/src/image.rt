@@ -113,7 +113,13 @@ fn head_bits(class: u32, format: u8, hash: u32, slots: usize) -> u64
 }
 
 /// Appends the words in front of an object's slots: from 255 slots on an overflow word, and the header.
-fn put_head(out: &mut Vec<u8>, class: u32, format: u8, hash: u32, slots: usize) -> Result<(), AllocError>
+fn put_head(
+    out: &mut Vec<u8>,
+    class: u32,
+    format: u8,
+    hash: u32,
+    slots: usize,
+) -> Result<(), AllocError>
     requires class { class < 2 ^ 22 }
     requires format { format < 2 ^ 5 }
     requires hash { hash < 2 ^ 22 }
@@ -276,7 +282,11 @@ fn put_header(out: &mut Vec<u8>, heap_bytes: u32, special: u32) -> Result<(), Al
 
 /// Appends the addresses of visible objects of which the first begins at a place, and answers the place behind them.
 /// Places count words.
-fn put_addresses(addresses: &mut Vec<u32>, place: u64, objects: &[Object]) -> Result<u64, AllocError>
+fn put_addresses(
+    addresses: &mut Vec<u32>,
+    place: u64,
+    objects: &[Object],
+) -> Result<u64, AllocError>
     requires { saved_base + 4 * (place + laid_size (map laid_by objects.now)) ≤ 2 ^ 32 }
     ensures addresses { OnOk result (addresses.new.items ≡ addresses.old.items ++ addresses_from place (map laid_by objects.now)) }
     ensures behind { IfOk result (λ behind. behind ≡ place + laid_size (map laid_by objects.now)) }
@@ -313,7 +323,11 @@ fn put_heap(
 /// The file of the objects, of which the first are nil, false, true and the array of special objects. The class table
 /// has whole pages of 1,024 entries, 16 pages at most: the numbers of the classes by their indices, and 0, the number
 /// of nil, where there is none. No birth section stands behind the heap.
-pub(crate) fn image_of(alloc: Global, objects: &[Object], table: &[u32]) -> Result<Vec<u8>, AllocError>
+pub(crate) fn image_of(
+    alloc: Global,
+    objects: &[Object],
+    table: &[u32],
+) -> Result<Vec<u8>, AllocError>
     requires { FitsLayout (map laid_by objects.now) table.now }
     ensures { IfOk result (λ out. out.items ≡ saved_bytes (file_for (map laid_by objects.now) table.now)) }
 {

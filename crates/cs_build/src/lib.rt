@@ -3,5 +3,9 @@
 
 mod error;
 mod form;
+mod image;
+mod making;
+mod method;
+mod object;
 
 pub use error::BuildError;

@@ -67,7 +67,12 @@ pub(crate) fn plain_format(format: u32) -> u8
 }
 
 /// An object of pointers.
-pub(crate) fn pointers(alloc: Global, class: u32, format: u8, slots: &[Reference]) -> Result<Object, AllocError>
+pub(crate) fn pointers(
+    alloc: Global,
+    class: u32,
+    format: u8,
+    slots: &[Reference],
+) -> Result<Object, AllocError>
     ensures { IfOk result (λ o. laid_by o ≡ laid (Ptr (new_head class format) (map ref_by slots.now))) }
 {
     Ok(Object {

@@ -7,12 +7,21 @@ use Rattle.cs_build.specs.declared.object.Object.{Object}
 use Rattle.cs_build.proofs.image.put_addresses.Goals as goal
 
 pub slot_count-slots-requires : goal.slot_count-slots-requires
-slot_count-slots-requires c = omega (arith, c.requires, slots_within (laid_slots (laid_by c.object-item.result)),
-    size_within laid_by c.args.objects.now c.loop-object.object-index c.object-item.result c.object-item.is c.loop-object-test.true)
+slot_count-slots-requires c = omega (
+  arith,
+  c.requires,
+  slots_within (laid_slots (laid_by c.object-item.result)),
+  size_within laid_by c.args.objects.now c.loop-object.object-index c.object-item.result c.object-item.is c.loop-object-test.true,
+)
 
 pub object_size-place-requires : goal.object_size-place-requires
-object_size-place-requires c = omega (arith, c.requires, c.slot_count-slots.ensures, slots_within (laid_slots (laid_by c.object-item.result)),
-    size_within laid_by c.args.objects.now c.loop-object.object-index c.object-item.result c.object-item.is c.loop-object-test.true)
+object_size-place-requires c = omega (
+  arith,
+  c.requires,
+  c.slot_count-slots.ensures,
+  slots_within (laid_slots (laid_by c.object-item.result)),
+  size_within laid_by c.args.objects.now c.loop-object.object-index c.object-item.result c.object-item.is c.loop-object-test.true,
+)
 
 pub overflow_add-place : goal.overflow_add-place
 overflow_add-place c = omega (arith, c.requires, c.loop-object.invariant.0, size_within laid_by c.args.objects.now c.loop-object.object-index c.object-item.result c.object-item.is c.loop-object-test.true, c.words_before.ensures ∙ ap words_before c.slot_count-slots.ensures)
@@ -33,18 +42,17 @@ pub loop-object-preserved : goal.loop-object-preserved
 loop-object-preserved c =
     let before : List Laid = map laid_by (take c.loop-object.object-index c.args.objects.now) in
     let more : map laid_by (take (c.loop-object.object-index + 1) c.args.objects.now) ≡ map laid_by (take c.loop-object.object-index c.args.objects.now) ++ laid_by c.object-item.result ∷ [] =
-        map_last laid_by c.args.objects.now c.loop-object.object-index c.object-item.result c.object-item.is c.loop-object-test.true in
+    map_last laid_by c.args.objects.now c.loop-object.object-index c.object-item.result c.object-item.is c.loop-object-test.true in
     let size : c.object_size-place.result ≡ saved_size (laid_slots (laid_by c.object-item.result)) = c.object_size-place.ensures ∙ ap saved_size c.slot_count-slots.ensures in
     let word : c.from.result + 4 * (c.loop-object.place + c.words_before.result) ≡ saved_base + 4 * (c.loop-object.place + words_before (laid_slots (laid_by c.object-item.result))) =
-        omega (arith, c.from.ensures, c.words_before.ensures ∙ ap words_before c.slot_count-slots.ensures) in
-    (
+    omega (arith, c.from.ensures, c.words_before.ensures ∙ ap words_before c.slot_count-slots.ensures) in (
       omega (arith, c.loop-object.invariant.0, ap laid_size more, size_last before (laid_by c.object-item.result), size),
       c.in_ok-push.ensures.items
-      ∙ ap (λ (xs : List ℕ). xs ++ (c.from.result + 4 * (c.loop-object.place + c.words_before.result)) ∷ []) c.loop-object.invariant.1
-      ∙ append_assoc c.args.addresses.now.items (addresses_from c.args.place before) ((c.from.result + 4 * (c.loop-object.place + c.words_before.result)) ∷ [])
-      ∙ ap (λ (w : ℕ). c.args.addresses.now.items ++ (addresses_from c.args.place before ++ w ∷ [])) word
-      ∙ ap (λ (xs : List ℕ). c.args.addresses.now.items ++ xs) (sym (addresses_last c.args.place before (laid_by c.object-item.result) c.loop-object.place c.loop-object.invariant.0))
-      ∙ ap (λ (ls : List Laid). c.args.addresses.now.items ++ addresses_from c.args.place ls) (sym more),
+          ∙ ap (λ (xs : List ℕ). xs ++ (c.from.result + 4 * (c.loop-object.place + c.words_before.result)) ∷ []) c.loop-object.invariant.1
+          ∙ append_assoc c.args.addresses.now.items (addresses_from c.args.place before) ((c.from.result + 4 * (c.loop-object.place + c.words_before.result)) ∷ [])
+          ∙ ap (λ (w : ℕ). c.args.addresses.now.items ++ (addresses_from c.args.place before ++ w ∷ [])) word
+          ∙ ap (λ (xs : List ℕ). c.args.addresses.now.items ++ xs) (sym (addresses_last c.args.place before (laid_by c.object-item.result) c.loop-object.place c.loop-object.invariant.0))
+          ∙ ap (λ (ls : List Laid). c.args.addresses.now.items ++ addresses_from c.args.place ls) (sym more),
     )
 
 pub returns-clause-behind : goal.returns-clause-behind

@@ -26,7 +26,7 @@ put_objects-requires-2 c =
     let ls : List Laid = map laid_by c.args.objects.now in
     let len : length c.args.addresses.now ≡ length ls = ap length c.requires.addresses ∙ length-addresses ls in
     let part : map laid_by (take (length c.args.objects.now - 3) (drop 3 c.args.objects.now)) ≡ drop 3 ls =
-        ap (map laid_by) (slice_to_end c.args.objects.now 3) ∙ map_drop laid_by 3 c.args.objects.now in
+    ap (map laid_by) (slice_to_end c.args.objects.now 3) ∙ map_drop laid_by 3 c.args.objects.now in
     subst (λ (n : ℕ). AllByRecursion (FitsLaid n) (map laid_by (take (length c.args.objects.now - 3) (drop 3 c.args.objects.now)))) (sym len)
     (subst (λ (xs : List Laid). AllByRecursion (FitsLaid (length ls)) xs) (sym part) (all_drop (FitsLaid (length ls)) 3 ls c.requires.fits.objects))
 
@@ -46,17 +46,17 @@ returns c =
     let rest : List ℕ = flat_map saved_words (map (saved_by a) (drop 3 ls)) in
     let pages : List ℕ = flat_map saved_words (map table_page (pages_of a c.args.table.now)) in
     let one : c.put_objects.new.out.items ≡ put_words c.args.out.now.items first =
-        c.in_ok-put_objects.ensures ∙ ap (λ (xs : List Laid). put_words c.args.out.now.items (flat_map saved_words (map (saved_by c.args.addresses.now) xs))) (map_take laid_by 3 c.args.objects.now) in
+    c.in_ok-put_objects.ensures ∙ ap (λ (xs : List Laid). put_words c.args.out.now.items (flat_map saved_words (map (saved_by c.args.addresses.now) xs))) (map_take laid_by 3 c.args.objects.now) in
     let two : c.put_free_lists.new.out.items ≡ put_words c.args.out.now.items (first ++ free) =
-        put_next c.args.out.now.items c.put_objects.new.out.items c.put_free_lists.new.out.items first free (first ++ free) one c.in_ok-put_free_lists.ensures refl in
+    put_next c.args.out.now.items c.put_objects.new.out.items c.put_free_lists.new.out.items first free (first ++ free) one c.in_ok-put_free_lists.ensures refl in
     let three : c.put_root.new.out.items ≡ put_words c.args.out.now.items ((first ++ free) ++ root) =
-        put_next c.args.out.now.items c.put_free_lists.new.out.items c.put_root.new.out.items (first ++ free) root ((first ++ free) ++ root) two c.in_ok-put_root.ensures refl in
+    put_next c.args.out.now.items c.put_free_lists.new.out.items c.put_root.new.out.items (first ++ free) root ((first ++ free) ++ root) two c.in_ok-put_root.ensures refl in
     let part : map laid_by (take (length c.args.objects.now - 3) (drop 3 c.args.objects.now)) ≡ drop 3 ls =
-        ap (map laid_by) (slice_to_end c.args.objects.now 3) ∙ map_drop laid_by 3 c.args.objects.now in
+    ap (map laid_by) (slice_to_end c.args.objects.now 3) ∙ map_drop laid_by 3 c.args.objects.now in
     let more : c.put_objects-2.new.out.items ≡ put_words c.put_root.new.out.items rest =
-        c.in_ok-put_objects-2.ensures ∙ ap (λ (xs : List Laid). put_words c.put_root.new.out.items (flat_map saved_words (map (saved_by c.args.addresses.now) xs))) part in
+    c.in_ok-put_objects-2.ensures ∙ ap (λ (xs : List Laid). put_words c.put_root.new.out.items (flat_map saved_words (map (saved_by c.args.addresses.now) xs))) part in
     let four : c.put_objects-2.new.out.items ≡ put_words c.args.out.now.items (((first ++ free) ++ root) ++ rest) =
-        put_next c.args.out.now.items c.put_root.new.out.items c.put_objects-2.new.out.items ((first ++ free) ++ root) rest (((first ++ free) ++ root) ++ rest) three more refl in
+    put_next c.args.out.now.items c.put_root.new.out.items c.put_objects-2.new.out.items ((first ++ free) ++ root) rest (((first ++ free) ++ root) ++ rest) three more refl in
     on_ok c.put_pages.result (c.put_pages.new.out.items ≡ put_words c.put_objects-2.new.out.items pages)
     (c.put_pages.new.out.items ≡ put_words c.args.out.now.items (saved_heap (file_for (map laid_by c.args.objects.now) c.args.table.now)))
     (λ h. put_next c.args.out.now.items c.put_objects-2.new.out.items c.put_pages.new.out.items (((first ++ free) ++ root) ++ rest) pages (saved_heap (file_for ls c.args.table.now)) four h

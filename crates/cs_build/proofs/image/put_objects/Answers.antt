@@ -19,7 +19,7 @@ loop-object-preserved c =
     let f : Laid → SavedObject = saved_by c.args.addresses.now in
     let before : List Laid = map laid_by (take c.loop-object.object-index c.args.objects.now) in
     let more : map laid_by (take (c.loop-object.object-index + 1) c.args.objects.now) ≡ map laid_by (take c.loop-object.object-index c.args.objects.now) ++ laid_by c.object-item.result ∷ [] =
-        map_last laid_by c.args.objects.now c.loop-object.object-index c.object-item.result c.object-item.is c.loop-object-test.true in
+    map_last laid_by c.args.objects.now c.loop-object.object-index c.object-item.result c.object-item.is c.loop-object-test.true in
     put_next c.args.out.now.items c.loop-object.out.items c.put_object.new.out.items (flat_map saved_words (map f before)) (saved_words (f (laid_by c.object-item.result)))
     (flat_map saved_words (map f (map laid_by (take (c.loop-object.object-index + 1) c.args.objects.now))))
     c.loop-object.invariant c.in_ok-put_object.ensures

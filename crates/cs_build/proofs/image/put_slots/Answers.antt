@@ -2,7 +2,6 @@ use Rattle.std.proofs.Common.{ℕ, ◌+◌, [], ◌∷◌, ◌++◌, length, map
 use Rattle.cs_build.specs.Laid.{ref_by, ref_word, FitsRef}
 use Rattle.cs_build.proofs.Putting.{put_nothing, put_next, two_more, all_mapped}
 use Rattle.cs_build.proofs.image.put_slots.Goals as goal
-
 use Rattle.cs_build.specs.declared.object.Reference.TheVariants.{Small}
 use Rattle.std.specs.Prelude.{pos}
 
