@@ -1,6 +1,7 @@
 //! The file of an image: a header of 64 bytes, and behind it the heap as 32-bit Spur lays it out.
 
-ghost use Rattle.std.specs.Prelude.{◌≡◌, ◌∷◌, ◌++◌, ◌+◌, ◌-◌, ◌*◌, ◌/◌, ◌%◌, ◌^◌, ◌<◌, ◌≤◌, [], length, map, take, drop};
+ghost use Rattle.std.specs.Prelude.{◌≡◌, ◌∷◌, ◌++◌, ◌+◌, ◌-◌, ◌*◌, ◌/◌, ◌%◌, ◌^◌, ◌<◌, ◌≤◌, [], length, map, take};
+ghost use Rattle.std.specs.Prelude.{drop};
 ghost use Rattle.std.specs.Prelude.{flat_map, min, replicate, slice_index, OnOk, IfOk};
 ghost use Rattle.std.specs.List.{AllByRecursion};
 ghost use Rattle.cs_model.specs.Words.{bytes_of_words};
@@ -8,8 +9,9 @@ ghost use Rattle.cs_model.specs.ImageFile.{u32_at};
 ghost use Rattle.cs_model.specs.SavedFile.{body_size as body_size_of, overflow_words, words_before as words_before_of};
 ghost use Rattle.cs_model.specs.SavedFile.{saved_size, saved_words, saved_bytes, saved_base, page_address, table_page};
 ghost use Rattle.cs_model.specs.SavedFile.{free_lists, table_root, page_place};
-ghost use Rattle.cs_build.specs.Laid.{laid_by, laid_slots, ref_by, ref_word, byte_words, laid_words, saved_by, addresses_from};
-ghost use Rattle.cs_build.specs.Laid.{addresses_of, page_of, pages_of, file_for, FitsRef, FitsLaid, FitsLayout, head_words, put_words};
+ghost use Rattle.cs_build.specs.Laid.{laid_by, laid_slots, ref_by, ref_word, byte_words, laid_words, saved_by};
+ghost use Rattle.cs_build.specs.Laid.{addresses_from, addresses_of, page_of, pages_of, file_for, FitsRef, FitsLaid};
+ghost use Rattle.cs_build.specs.Laid.{FitsLayout, head_words, put_words};
 ghost use Rattle.cs_build.specs.Laid.{root_words, root_word_of, all_header_words, laid_size, head_bits_of};
 ghost use Rattle.cs_model.specs.SavedFile.{hidden_object, saved_heap};
 
@@ -176,7 +178,8 @@ fn put_bytes(out: &mut Vec<u8>, bytes: &[u8]) -> Result<(), AllocError>
 /// Appends slots.
 fn put_slots(out: &mut Vec<u8>, addresses: &[u32], slots: &[Reference]) -> Result<(), AllocError>
     requires { AllByRecursion (FitsRef (length addresses.now)) (map ref_by slots.now) }
-    ensures { OnOk result (out.new.items ≡ put_words out.old.items (map (ref_word addresses.now) (map ref_by slots.now))) }
+    ensures { OnOk result (out.new.items ≡
+        put_words out.old.items (map (ref_word addresses.now) (map ref_by slots.now))) }
 {
     for slot in slots {
         put_word(out, word_of(addresses, *slot))?;
@@ -187,7 +190,8 @@ fn put_slots(out: &mut Vec<u8>, addresses: &[u32], slots: &[Reference]) -> Resul
 /// Appends a visible object.
 fn put_object(out: &mut Vec<u8>, addresses: &[u32], object: &Object) -> Result<(), AllocError>
     requires { FitsLaid (length addresses.now) (laid_by object.now) }
-    ensures { OnOk result (out.new.items ≡ put_words out.old.items (saved_words (saved_by addresses.now (laid_by object.now)))) }
+    ensures { OnOk result (out.new.items ≡
+        put_words out.old.items (saved_words (saved_by addresses.now (laid_by object.now)))) }
 {
     let slots = slot_count(object);
     put_head(out, object.class, object.format, object.hash, slots)?;
@@ -232,7 +236,8 @@ fn put_free_lists(out: &mut Vec<u8>) -> Result<(), AllocError>
 /// Appends the root of a class table of so many pages, behind visible objects of so many words.
 fn put_root(out: &mut Vec<u8>, words: u64, pages: usize) -> Result<(), AllocError>
     requires { saved_base + 4 * (words + 22 + 1028 * pages) ≤ 2 ^ 32 }
-    ensures { OnOk result (out.new.items ≡ put_words out.old.items (saved_words (hidden_object 2 (root_words words pages)))) }
+    ensures { OnOk result (out.new.items ≡
+        put_words out.old.items (saved_words (hidden_object 2 (root_words words pages)))) }
 {
     put_head(out, 16, 2, 0, 16)?;
     for page in 0..16 {
@@ -288,7 +293,8 @@ fn put_addresses(
     objects: &[Object],
 ) -> Result<u64, AllocError>
     requires { saved_base + 4 * (place + laid_size (map laid_by objects.now)) ≤ 2 ^ 32 }
-    ensures addresses { OnOk result (addresses.new.items ≡ addresses.old.items ++ addresses_from place (map laid_by objects.now)) }
+    ensures addresses { OnOk result (addresses.new.items ≡
+        addresses.old.items ++ addresses_from place (map laid_by objects.now)) }
     ensures behind { IfOk result (λ behind. behind ≡ place + laid_size (map laid_by objects.now)) }
 {
     let mut place = place;
@@ -311,7 +317,8 @@ fn put_heap(
     requires fits { FitsLayout (map laid_by objects.now) table.now }
     requires addresses { addresses.now ≡ addresses_of (map laid_by objects.now) }
     requires words { words ≡ laid_size (map laid_by objects.now) }
-    ensures { OnOk result (out.new.items ≡ put_words out.old.items (saved_heap (file_for (map laid_by objects.now) table.now))) }
+    ensures { OnOk result (out.new.items ≡
+        put_words out.old.items (saved_heap (file_for (map laid_by objects.now) table.now))) }
 {
     put_objects(out, addresses, &objects[..3])?;
     put_free_lists(out)?;

@@ -3,7 +3,8 @@
 ghost use Rattle.std.specs.Prelude.{◌≡◌, ◌<◌, ◌^◌, map, IfOk};
 ghost use Rattle.cs_model.specs.Words.{plain_format as plain_format_of};
 ghost use Rattle.cs_model.specs.Obj.{new_head, given_hash, Ptr};
-ghost use Rattle.cs_model.specs.Builder.{natural as natural_in, spare as spare_of, obj_or_nil, nil_ref, index_at as index_of};
+ghost use Rattle.cs_model.specs.Builder.{natural as natural_in, spare as spare_of, obj_or_nil};
+ghost use Rattle.cs_model.specs.Builder.{index_at as index_of};
 ghost use Rattle.cs_model.specs.Builder.{raw_object as raw_object_of};
 ghost use Rattle.cs_build.specs.Laid.{ref_by, laid_by, laid};
 
