@@ -1,3 +1,10 @@
 pub mod NumberLemmas
 pub mod LineLemmas
 pub mod RangeLemmas
+pub mod Putting
+pub mod Filing
+pub mod Fitting
+pub mod Reading
+pub mod Naming
+pub mod Storing
+pub mod Describing

@@ -1,3 +1,5 @@
 pub mod Meaning
 pub mod Narrow
 pub mod Faults
+pub mod Laid
+pub mod Stored

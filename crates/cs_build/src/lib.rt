@@ -4,8 +4,12 @@
 mod error;
 mod form;
 mod generate;
+mod image;
+mod making;
 mod mention;
+mod method;
 mod number;
+mod object;
 mod word;
 
 pub use error::BuildError;
