@@ -238,13 +238,19 @@ takes_snapshots line = is_run line.command && is_some line.options.snapshot
 abbrev pub is_simple_run : Options → Bool
 is_simple_run o = is_none o.events && is_none o.save && is_none o.snapshot && not o.stats && not (run_pages o == 0)
 
+-- the commands that the machine has: to run an image, and to print one
+abbrev pub can_do : Command → Options → Bool
+can_do Run o = is_simple_run o
+can_do Inspect o = true
+can_do command o = false
+
 abbrev pub is_possible : CommandLine → Bool
-is_possible line = not (is_run line.command) || is_simple_run line.options
+is_possible line = can_do line.command line.options
 
 abbrev pub possible : CommandLine → Option CommandLine
 possible line = if is_possible line then Some line else None
 
--- The line that the machine takes. A run or a generated image's run is refused besides where it asks for what can't be
--- done yet: events, snapshots, the line of counts, a machine without pages, or saving at its end.
+-- The line that the machine takes. What can't be done yet is refused besides: to build, to compare or to generate, and a
+-- run that asks for events, snapshots, the line of counts, a machine without pages, or saving at its end.
 unfoldable pub line_of : List (List ℕ) → Option CommandLine
 line_of words = option_and_then possible (command_line_of words)
