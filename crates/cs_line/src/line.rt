@@ -1,10 +1,12 @@
 //! The command line: a command, a file and options, read by `clap` as a simple command.
 
-ghost use Rattle.std.specs.Prelude.{◌≡◌, ◌≢◌, ◌∷◌, List, [], None, IfOk, true, map, option_and_then, option_map, string_bytes};
+ghost use Rattle.std.specs.Prelude.{◌≡◌, ◌≢◌, ◌∷◌, List, [], None, IfOk, true, map, option_and_then, option_map};
+ghost use Rattle.std.specs.Prelude.{string_bytes};
 ghost use Rattle.std.specs.Option.{option_map_or};
 ghost use Rattle.clap.specs.Words.{app_of, found_of, kind_of, with_rule};
 ghost use Rattle.cs_model.specs.CommandLine as model;
-ghost use Rattle.cs_model.specs.CommandLine.{Part, is_possible, is_short_name, line_in as line_in_parts, line_of, possible};
+ghost use Rattle.cs_model.specs.CommandLine.{Part, is_possible, is_short_name, line_in as line_in_parts, line_of};
+ghost use Rattle.cs_model.specs.CommandLine.{possible};
 ghost use Rattle.cs_model.specs.Text.{number_between};
 ghost use Rattle.cs_line.specs.LineApp.{flag_rule, line_app, option_rule, place_rule};
 ghost use Rattle.cs_line.specs.Meaning.{command_by, line_by, name_by, options_by};
@@ -126,7 +128,8 @@ fn with_option<'a>(
     id: &'a str,
     name: &'a str,
 ) -> Result<Clap<'a>, AllocError>
-    ensures { IfOk result (λ c. app_of c ≡ with_rule (app_of command.entry) (option_rule id.entry.now name.entry.now)) }
+    ensures { IfOk result (λ c. app_of c
+        ≡ with_rule (app_of command.entry) (option_rule id.entry.now name.entry.now)) }
 {
     command.arg(Arg::new(alloc, id).long(name))
 }
@@ -138,7 +141,8 @@ fn with_flag<'a>(
     id: &'a str,
     name: &'a str,
 ) -> Result<Clap<'a>, AllocError>
-    ensures { IfOk result (λ c. app_of c ≡ with_rule (app_of command.entry) (flag_rule id.entry.now name.entry.now)) }
+    ensures { IfOk result (λ c. app_of c
+        ≡ with_rule (app_of command.entry) (flag_rule id.entry.now name.entry.now)) }
 {
     let flag = Arg::new(alloc, id).long(name).action(ArgAction::SetTrue);
     command.arg(flag)
