@@ -1,5 +1,5 @@
 -- The bits of SmallIntegers: `&`, `|` and `^` give SmallIntegers.
-use Rattle.std.proofs.Common.{◌≡◌, ◌∙◌, ◌⊎◌, inl, inr, subst, sym, suc, ◌-◌, ℕ, ℤ, pos, negsuc, ◌/◌, ◌^◌, ◌<◌, ap₂, refl, Bool, true, false, Option, Some, None, option_map, arith, w32, bit_and, bit_or, bit_xor}
+use Rattle.std.proofs.Common.{◌≡◌, ◌∙◌, ◌⊎◌, inl, inr, subst, sym, suc, ◌-◌, ℕ, ℤ, pos, negsuc, ◌/◌, ◌^◌, ◌<◌, ap₂, refl, Bool, true, false, Some, None, option_map, arith, w32, bit_and, bit_or, bit_xor}
 use Rattle.std.specs.Int.{int_bit_and, int_bit_or, int_bit_xor, cast_signed, cast_unsigned}
 use Rattle.std.proofs.lemmas.Int.{ints, to_z_pos}
 use Rattle.std.proofs.Math.Facts.{to_z-neg}

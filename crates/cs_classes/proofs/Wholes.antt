@@ -16,7 +16,6 @@ use Rattle.std.proofs.lemmas.List.{length-append}
 use Rattle.cs_heap.specs.Object.{Object, at_index, birth_of, is_object, object_at, with_object}
 use Rattle.std.proofs.lemmas.List.Elements.{All-take}
 use Rattle.cs_heap.proofs.Laws.{field_of-old, is_object-old, is_object-with_object, length-with_object, object_at-old, object_at-with_object_other, object_at-with_object_same}
-use Rattle.cs_model.specs.Ref.{Ref}
 use Rattle.cs_model.specs.Ref as ref
 use Rattle.cs_model.specs.Obj.{Obj}
 use Rattle.cs_model.specs.Keeps.{Keeps}
@@ -241,7 +240,7 @@ whole-with_hash os table roots a x f edit hash w there new =
         slots = omega (arith, w.array.slots, slot_count_of-with_object os a roots.special.0 f edit);
       };
       last_hash = w.last_hash;
-  header = w.header;
+      header = w.header;
     }
   where
     before : (k j : ℕ) (y : Object) → slice_get (at_index k f os) j ≡ Some y → Before os j y

@@ -1,26 +1,31 @@
 -- What the stores and pushes of variables give, where the variable is there and where it isn't.
 use Rattle.std.proofs.Common.{◌≡◌, ◌∙◌, ℕ, pos, zero, suc, Bool, true, false, refl, sym, ap, ap₂, arith, inl, inr, Option, Some, None, is_some, option_and_then, List, [], ◌∷◌, length, nat_lt}
-use Rattle.std.specs.Prelude.{slice_get, unwrap_or, if◌then◌else◌, nat_le}
+use Rattle.std.specs.Prelude.{slice_get, unwrap_or, if◌then◌else◌}
 use Rattle.std.proofs.lemmas.Bool.Decides.{nat_tests}
 use Rattle.std.proofs.lemmas.Option.{slice_get_within}
+use Rattle.cs_model.specs.declared.stop.Stop.{Stop}
 use Rattle.cs_model.specs.declared.stop.Stop.TheVariants as why
 use Rattle.cs_model.specs.declared.instruction.Op.TheVariants as op
 use Rattle.std.proofs.lemmas.Bool.Decides.{eqb_tells}
 use Rattle.cs_model.specs.Ref.{Ref, Small, Char}
 use Rattle.cs_model.specs.Ref as ref
-use Rattle.cs_model.specs.Obj.{Obj, Context, Ptr, Raw, Method, Ctx, at_least, context_in, popped, slots_in}
-use Rattle.cs_model.specs.State.{Kept, object_at, object_of, put, slots_of}
+use Rattle.cs_model.specs.Obj.{Obj, Context, Ptr, Raw, Method, Ctx, context_in, popped, slots_in}
+use Rattle.cs_model.specs.State.{Kept, is_read_only, object_at, object_of, put, slots_of}
 use Rattle.cs_model.specs.Context.{is_context_ref}
 use Rattle.cs_model.specs.Read.{IsRunning, active_birth, active_context, receiver_of, stack_of}
-use Rattle.cs_model.specs.Operation.{drop_of, nil_of, pop_of}
-use Rattle.cs_model.specs.End.{given, stop}
-use Rattle.cs_model.specs.Exec.{exec, literal_at, pop_into, push_field, push_out, push_receiver_out, store_field, store_into, store_slot, store_receiver_out, store_variable_out, store_vector_out, variable_at, variable_value, vector_at, vector_slot}
+use Rattle.cs_model.specs.Operation.{drop_of, nil_of, pop_of, store_of}
+use Rattle.cs_model.specs.End.{done, given, stop}
+use Rattle.cs_model.specs.Exec.{exec, literal_at, pop_into, push_field, push_out, push_receiver_out, refuse_store, store_field, store_into, store_slot, store_receiver_out, store_variable_out, store_vector_out, variable_at, variable_value}
 use Rattle.cs_model.specs.Keeps.{Keeps}
 use Rattle.cs_model.proofs.Objects.{object_at-put_same, object_at-put_other}
 use Rattle.cs_model.proofs.Reading.{object_of_same, receiver_same}
 use Rattle.cs_model.proofs.Same.{Any, Same, of_option, same}
 use Rattle.cs_acts.proofs.Running.{active_context-put_active}
 use Rattle.cs_acts.specs.Ready.{is_storable}
+use Rattle.cs_acts.specs.Storing.{slot_at, target_of}
+use Rattle.cs_acts.specs.declared.store.StoreTarget.TheVariants.{Missing, ReadOnly, Writable}
+use Rattle.cs_acts.proofs.Storing.{slot_missing, slot_of_least, slot_read_only, slot_writable}
+use Rattle.cs_code.specs.Bare.{store_or_stop}
 use Rattle.cs_code.specs.Built.{built_exec}
 
 within : (slots : List Ref) (i : ℕ) (y : Ref) → Some y ≡ slice_get slots i → nat_lt i (length slots) ≡ true
@@ -32,41 +37,52 @@ beyond (x ∷ xs) zero h = absurd (cc)
 beyond (x ∷ xs) (suc i) h = let rest = beyond xs i h in grind (arith, nat_tests)
 
 -- a slot that is there can be stored into
-pub storable : (o : Option Obj) (i : ℕ) (y : Ref) → Some y ≡ option_and_then (λ slots. slice_get slots i) (slots_in o) → is_storable o i ≡ true
+storable : (o : Option Obj) (i : ℕ) (y : Ref) → Some y ≡ option_and_then (λ slots. slice_get slots i) (slots_in o) → is_storable o i ≡ true
 storable None i y h = absurd (cc)
 storable (Some (Ptr head slots)) i y h = within slots i y h
 storable (Some (Raw head bytes)) i y h = absurd (cc)
 storable (Some (Method head header literals bytecodes)) i y h = absurd (cc)
 storable (Some (Ctx c)) i y h = absurd (cc)
 
-pub storable_of : (k : Kept) (n i : ℕ) (x y : Ref) → Some y ≡ option_and_then (λ slots. slice_get slots i) (slots_of k n x) → is_storable (object_of k x) i ≡ true
-unfolding slots_of
-storable_of k n i x y h = storable (object_of k x) i y (go (slots_in (object_of k x)) h)
-  where
-    if_enough : (slots : List Ref) (b : Bool) → Some y ≡ option_and_then (λ (xs : List Ref). slice_get xs i) (if b then Some slots else None) → Some y ≡ slice_get slots i
-    if_enough slots true g = g
-    if_enough slots false g = absurd (cc)
+-- ---- what a store into a slot meets
 
-    go : (o : Option (List Ref)) → Some y ≡ option_and_then (λ (xs : List Ref). slice_get xs i) (at_least n o) → Some y ≡ option_and_then (λ (xs : List Ref). slice_get xs i) o
-    go None g = absurd (cc)
-    go (Some slots) g = if_enough slots (nat_le n (length slots)) g
+pub slot-missing : (k bare : Kept) (x v : Ref) (i : ℕ) (missing : Stop) → target_of k x i ≡ Missing → store_or_stop missing k bare x i v ≡ stop missing k
+slot-missing k bare x v i missing h = ap (λ o. given o (stop missing k) (λ (old : Ref). store_slot k bare x i v)) (slot_missing (slot_at k x i) (is_read_only k x) h)
+
+slot-met : (k bare : Kept) (x v y : Ref) (i : ℕ) (missing : Stop) (fixed : Bool) → slot_at k x i ≡ Some y → is_read_only k x ≡ fixed
+    → store_or_stop missing k bare x i v ≡ (if fixed then refuse_store bare x i v else done (store_of k x i v))
+unfolding store_slot
+slot-met k bare x v y i missing fixed there is =
+    ap (λ o. given o (stop missing k) (λ (old : Ref). store_slot k bare x i v)) there
+    ∙ ap (λ b. if b then refuse_store bare x i v else done (store_of k x i v)) is
+
+pub slot-refused : (k bare : Kept) (x v : Ref) (i : ℕ) (missing : Stop) → target_of k x i ≡ ReadOnly → store_or_stop missing k bare x i v ≡ refuse_store bare x i v
+slot-refused k bare x v i missing h =
+    let met = slot_read_only (slot_at k x i) (is_read_only k x) h in
+    slot-met k bare x v met.0 i missing true met.1.0 met.1.1
+
+pub slot-written : (k bare : Kept) (x v : Ref) (i : ℕ) (missing : Stop) → target_of k x i ≡ Writable → store_or_stop missing k bare x i v ≡ done (store_of k x i v)
+slot-written k bare x v i missing h =
+    let met = slot_writable (slot_at k x i) (is_read_only k x) h in
+    slot-met k bare x v met.0 i missing false met.1.0 met.1.1
+
+pub storable_target : (k : Kept) (x : Ref) (i : ℕ) → target_of k x i ≡ Writable → is_storable (object_of k x) i ≡ true
+storable_target k x i h =
+    let met = slot_writable (slot_at k x i) (is_read_only k x) h in
+    storable (object_of k x) i met.0 (sym met.1.0)
 
 -- ---- literal variables and vectors
 
-pub variable-stored : (k bare : Kept) (i : ℕ) (v x y : Ref) → Some x ≡ literal_at k i → Some y ≡ option_and_then (λ slots. slice_get slots 1) (slots_of k 2 x) → store_variable_out k bare i v ≡ store_slot k bare x 1 v
+pub variable-stored : (k bare : Kept) (i : ℕ) (v x : Ref) → Some x ≡ literal_at k i → store_variable_out k bare i v ≡ store_or_stop why.BadLiteral k bare x 1 v
 unfolding store_variable_out variable_at
-variable-stored k bare i v x y literal there =
-    let value : variable_value k i ≡ Some y = ap (λ o. option_and_then (λ (slots : List Ref). slice_get slots 1) (option_and_then (λ l. slots_of k 2 l) o)) (sym literal) ∙ sym there in
+variable-stored k bare i v x literal =
+    let value : variable_value k i ≡ slot_at k x 1 = ap (λ o. option_and_then (λ (slots : List Ref). slice_get slots 1) (option_and_then (λ l. slots_of k 2 l) o)) (sym literal) ∙ slot_of_least k x 2 1 refl in
     ap (λ o. given o (stop why.BadLiteral k) (λ (old : Ref). store_slot k bare (unwrap_or (literal_at k i) (nil_of k)) 1 v)) value
-    ∙ ap (λ o. store_slot k bare (unwrap_or o (nil_of k)) 1 v) (sym literal)
+    ∙ ap (λ o. given (slot_at k x 1) (stop why.BadLiteral k) (λ (old : Ref). store_slot k bare (unwrap_or o (nil_of k)) 1 v)) (sym literal)
 
-pub vector-stored : (k bare : Kept) (i j : ℕ) (v x y : Ref) → Some x ≡ slice_get (stack_of k) j → Some y ≡ option_and_then (λ slots. slice_get slots i) (slots_in (object_of k x)) → store_vector_out k bare i j v ≡ store_slot k bare x i v
+pub vector-stored : (k bare : Kept) (i j : ℕ) (v x : Ref) → Some x ≡ slice_get (stack_of k) j → store_vector_out k bare i j v ≡ store_or_stop why.BadField k bare x i v
 unfolding store_vector_out
-vector-stored k bare i j v x y vector there =
-    let is : vector_at k j ≡ x = ap (λ o. unwrap_or o (Small (pos 0))) (sym vector) in
-    let slot : vector_slot k i j ≡ Some y = ap (λ r. option_and_then (λ (slots : List Ref). slice_get slots i) (slots_in (object_of k r))) is ∙ sym there in
-    ap (λ o. given o (stop why.BadField k) (λ (old : Ref). store_slot k bare (vector_at k j) i v)) slot
-    ∙ ap (λ r. store_slot k bare r i v) is
+vector-stored k bare i j v x vector = ap (λ o. store_or_stop why.BadField k bare (unwrap_or o (Small (pos 0))) i v) (sym vector)
 
 -- ---- fields of a receiver that is no context
 
@@ -95,10 +111,11 @@ pub receiver-pushed : (k : Kept) (i : ℕ) → is_context_ref k (receiver_of k) 
 unfolding push_receiver_out
 receiver-pushed k i other = field-pushed k i (object_of k (receiver_of k)) other
 
-pub receiver-stored : (k bare : Kept) (i : ℕ) (v : Ref) → is_context_ref k (receiver_of k) ≡ false
-    → store_receiver_out k bare i v ≡ given (option_and_then (λ slots. slice_get slots i) (slots_in (object_of k (receiver_of k)))) (stop why.BadField k) (λ old. store_slot k bare (receiver_of k) i v)
+pub receiver-stored : (k bare : Kept) (i : ℕ) (v r : Ref) → is_context_ref k (receiver_of k) ≡ false → r ≡ receiver_of k → store_receiver_out k bare i v ≡ store_or_stop why.BadField k bare r i v
 unfolding store_receiver_out
-receiver-stored k bare i v other = field-stored k bare i v (object_of k (receiver_of k)) other
+receiver-stored k bare i v r other is =
+    field-stored k bare i v (object_of k (receiver_of k)) other
+    ∙ ap (λ (x : Ref). store_or_stop why.BadField k bare x i v) (sym is)
 
 pub receiver-kept : (k : Kept) (i : ℕ) → is_context_ref k (receiver_of k) ≡ false → built_exec (op.StoreRcvr i) k ≡ store_into k (λ t bare x. store_receiver_out t bare i x)
 unfolding built_exec exec
@@ -114,19 +131,6 @@ pub receiver-pushed-there : (k : Kept) (i j : ℕ) (r y : Ref) → is_context_re
 receiver-pushed-there k i j r y other is same_index there =
     receiver-pushed k i other
     ∙ ap (λ o. given o (stop why.BadField k) (λ x. push_out k x)) (sym (there ∙ ap₂ (λ (x : Ref) (n : ℕ). option_and_then (λ (slots : List Ref). slice_get slots n) (slots_in (object_of k x))) is same_index))
-
-pub receiver-stored-there : (k bare : Kept) (i j : ℕ) (v r y : Ref) → is_context_ref k (receiver_of k) ≡ false → r ≡ receiver_of k → j ≡ i → Some y ≡ option_and_then (λ slots. slice_get slots j) (slots_in (object_of k r))
-    → store_receiver_out k bare i v ≡ store_slot k bare r i v
-receiver-stored-there k bare i j v r y other is same_index there =
-    receiver-stored k bare i v other
-    ∙ ap (λ o. given o (stop why.BadField k) (λ (old : Ref). store_slot k bare (receiver_of k) i v)) (sym (there ∙ ap₂ (λ (x : Ref) (n : ℕ). option_and_then (λ (slots : List Ref). slice_get slots n) (slots_in (object_of k x))) is same_index))
-    ∙ ap (λ (x : Ref). store_slot k bare x i v) (sym is)
-
-pub receiver-stored-gone : (k bare : Kept) (i j : ℕ) (v r : Ref) → is_context_ref k (receiver_of k) ≡ false → r ≡ receiver_of k → j ≡ i → None ≡ option_and_then (λ slots. slice_get slots j) (slots_in (object_of k r))
-    → store_receiver_out k bare i v ≡ stop why.BadField k
-receiver-stored-gone k bare i j v r other is same_index gone =
-    receiver-stored k bare i v other
-    ∙ ap (λ o. given o (stop why.BadField k) (λ (old : Ref). store_slot k bare (receiver_of k) i v)) (sym (gone ∙ ap₂ (λ (x : Ref) (n : ℕ). option_and_then (λ (slots : List Ref). slice_get slots n) (slots_in (object_of k x))) is same_index))
 
 -- ---- a pop leaves contexts contexts, and the receiver as it is
 

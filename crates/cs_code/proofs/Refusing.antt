@@ -4,18 +4,18 @@ use Rattle.std.specs.Prelude.{if◌then◌else◌}
 use Rattle.std.specs.List.{AllByRecursion}
 use Rattle.cs_word.specs.declared.Oop.{Oop}
 use Rattle.cs_model.specs.Ref.{Ref}
-use Rattle.cs_model.specs.State.{Kept, IsHeld, is_read_only}
+use Rattle.cs_model.specs.State.{Kept, IsHeld}
 use Rattle.cs_model.specs.Keeps.{Keeps, SameKept}
 use Rattle.cs_model.specs.Alike.{Alike}
-use Rattle.cs_model.specs.Operation.{pop_of, store_of}
+use Rattle.cs_model.specs.Operation.{pop_of}
 use Rattle.cs_model.specs.End.{Count, End, Out, and_then, counting, done, is_done}
 use Rattle.cs_model.specs.End as ends
-use Rattle.cs_model.specs.Exec.{push_all, push_out, refuse_store, store_slot}
+use Rattle.cs_model.specs.Exec.{push_all, push_out, refuse_store}
 use Rattle.cs_model.proofs.Same.{same}
 use Rattle.cs_model.proofs.Reading.{listed}
 use Rattle.cs_model.proofs.Executing.{push_all_alike, refuse_store_alike}
 use Rattle.cs_acts.specs.Layout.{Layout}
-use Rattle.cs_acts.specs.Names.{Store, IsNamed, KeepsNames, Names, name_of}
+use Rattle.cs_acts.specs.Names.{Store, IsNamed, KeepsNames, name_of}
 use Rattle.cs_acts.specs.Ready.{IsReady}
 use Rattle.cs_acts.proofs.Held.{named_held}
 use Rattle.cs_code.specs.declared.end.CodeEnd.{CodeEnd}
@@ -95,8 +95,3 @@ refused-behind s0 s1 s2 l n k v1 v2 e o x i target value ready keeps exact laid 
     gives-along s0 s1 s2 l n v2 v1 e (refuse_store v1 (name_of s0 o) i (name_of s0 x)) (refuse_store (pop_of k) (name_of s0 o) i (name_of s0 x)) names
     (refuse_store_alike keeps (same (name_of s0 o) held_target) i (same (name_of s0 x) held_value)) laid
     (λ none. ap (λ (t : Kept). refuse_store t (name_of s0 o) i (name_of s0 x)) (equal_kept v1 (pop_of k) (exact none))) here
-
--- a store into a read-only object is refused, and one into any other is done
-pub slot-refused : (s0 s1 : Store) (l : Option Layout) (k bare v : Kept) (e : CodeEnd) (o x : Ref) (i : ℕ) → is_read_only k o ≡ true → Gives s0 s1 l v e (refuse_store bare o i x) → Gives s0 s1 l v e (store_slot k bare o i x)
-unfolding store_slot
-slot-refused s0 s1 l k bare v e o x i fixed g = subst (λ b. Gives s0 s1 l v e (if b then refuse_store bare o i x else done (store_of k o i x))) (sym fixed) g

@@ -1,12 +1,16 @@
 -- What a special selector does, by what its index names.
-use Rattle.std.proofs.Common.{◌≡◌, ◌∙◌, ℕ, ℤ, refl, sym, ap, Option, Some, None, option_and_then}
+use Rattle.std.proofs.Common.{◌≡◌, ◌∙◌, ◌+◌, ℕ, ℤ, false, refl, sym, ap, inl, inr, Option, Some, None, option_and_then}
+use Rattle.std.specs.Prelude.{◌==◌}
+use Rattle.std.proofs.lemmas.Bool.Decides.{eqb_tells}
 use Rattle.cs_model.specs.Ref.{Ref}
 use Rattle.cs_model.specs.State.{Kept}
 use Rattle.cs_model.specs.End.{done, given}
-use Rattle.cs_model.specs.Exec.{send_selector_out, small_operands, special_out}
+use Rattle.cs_model.specs.Exec.{common_out, send_selector_out, small_operands, special_out}
 use Rattle.cs_model.specs.Number.{number_result, selector_primitive}
 use Rattle.cs_model.specs.Operation.{drop_of, push_of}
+use Rattle.cs_acts.specs.Arithmetic.{number_of}
 use Rattle.cs_acts.specs.declared.arithmetic.Operation.{Operation}
+use Rattle.cs_acts.specs.declared.arithmetic.Operation.TheVariants as op
 use Rattle.cs_code.specs.Selectors.{HasIndex}
 use Rattle.cs_code.specs.declared.arithmetic.Selector.{Selector}
 use Rattle.cs_code.specs.declared.arithmetic.Selector.TheVariants.{Computes, Compares, TellsClass, IsSent}
@@ -30,3 +34,33 @@ sent_alone (Computes o) i h not = absurd (not o refl)
 sent_alone Compares i h not = ap selector_primitive h
 sent_alone TellsClass i h not = ap selector_primitive h
 sent_alone IsSent i h not = h.primitive
+
+-- every operation has a primitive, so that `==` and `class` are none
+has_primitive : (o : Operation) → 0 ≡ number_of o → ⊥
+has_primitive op.Add h = absurd (cc)
+has_primitive op.Subtract h = absurd (cc)
+has_primitive op.Less h = absurd (cc)
+has_primitive op.Greater h = absurd (cc)
+has_primitive op.AtMost h = absurd (cc)
+has_primitive op.AtLeast h = absurd (cc)
+has_primitive op.Equal h = absurd (cc)
+has_primitive op.NotEqual h = absurd (cc)
+has_primitive op.Multiply h = absurd (cc)
+has_primitive op.Divide h = absurd (cc)
+has_primitive op.Modulo h = absurd (cc)
+has_primitive op.DivideDown h = absurd (cc)
+has_primitive op.Quotient h = absurd (cc)
+has_primitive op.BitAnd h = absurd (cc)
+has_primitive op.BitOr h = absurd (cc)
+has_primitive op.BitXor h = absurd (cc)
+has_primitive op.BitShift h = absurd (cc)
+
+pub common-sent : (k : Kept) (i j : ℕ) (o : Operation) → j ≡ 16 + i → selector_primitive j ≡ number_of o → common_out k i ≡ send_selector_out k j
+unfolding common_out
+common-sent k i j o e h = rw (other 6 refl, other 7 refl) ap (send_selector_out k) (sym e)
+  where
+    other : (n : ℕ) → selector_primitive (16 + n) ≡ 0 → (i == n) ≡ false
+    other n none = elim (eqb_tells i n) [
+      | inl same ↦ absurd (has_primitive o (sym none ∙ ap (λ m. selector_primitive (16 + m)) (sym same.1) ∙ ap selector_primitive (sym e) ∙ h))
+      | inr not ↦ not.0
+    ]

@@ -21,23 +21,10 @@ use crate::jumps::pc_after;
 use crate::pushes::has_room;
 use cs_acts::arithmetic::small_word;
 use cs_acts::{Full, World};
+use cs_classes::slots::{ARGUMENT_COUNT, FIRST_COPIED, OUTER_CONTEXT, START_PC};
+use cs_classes::{CLOSURE_CLASS, FIELDS_AND_INDICES};
 use cs_model::Stop;
 use cs_word::Oop;
-
-/// The class index of closures.
-const CLOSURE_CLASS: u32 = 37;
-
-/// The format of closures: named and indexed fields.
-const FORMAT: u8 = 3;
-
-/// The slots of a closure: outerContext, startpc, numArgs, and then its copied values.
-const OUTER_CONTEXT: u32 = 0;
-
-const START_PC: u32 = 1;
-
-const ARGUMENT_COUNT: u32 = 2;
-
-const FIRST_COPIED: u32 = 3;
 
 /// Pushes a closure over the active context, with the topmost values as its copied ones, and jumps past its block.
 ///
@@ -116,7 +103,11 @@ fn begin<W: World>(w: &mut W, copied: u8, args: u8) -> Result<Oop, Full>
         Err(why) => return Err(why),
     };
     let pc = pc_word(w);
-    let closure = match w.allocate(CLOSURE_CLASS, FORMAT, FIRST_COPIED + u32::from(copied)) {
+    let closure = match w.allocate(
+        CLOSURE_CLASS,
+        FIELDS_AND_INDICES,
+        FIRST_COPIED + u32::from(copied),
+    ) {
         Ok(closure) => closure,
         Err(why) => return Err(why),
     };

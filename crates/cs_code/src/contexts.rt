@@ -2,12 +2,11 @@
 ghost use Rattle.std.specs.Prelude.{◌≡◌, true, false, IfSome, is_some, length};
 ghost use Rattle.cs_model.specs.Context.{is_context_ref};
 ghost use Rattle.cs_model.specs.Exec.{push_field, this_context_out};
-ghost use Rattle.cs_model.specs.Ref.{index_of};
 ghost use Rattle.cs_model.specs.Return.{context_at};
 ghost use Rattle.cs_model.specs.State.{object_of};
 ghost use Rattle.cs_acts.specs.declared.act.Full.{Full};
 ghost use Rattle.cs_acts.specs.Made.{MakesAtMost};
-ghost use Rattle.cs_acts.specs.Names.{IsNamed, KeepsNames, Store, name_of};
+ghost use Rattle.cs_acts.specs.Names.{IsNamed, KeepsNames, name_of};
 ghost use Rattle.cs_acts.specs.Ready.{IsReady};
 ghost use Rattle.cs_acts.specs.Targets.{field_of};
 ghost use Rattle.cs_code.specs.declared.end.CodeEnd.TheVariants as ends;
@@ -16,14 +15,9 @@ ghost use Rattle.cs_code.specs.Gives.{Gives, Refuses, is_refused};
 use crate::CodeEnd;
 use crate::pushes::has_room;
 use cs_acts::World;
+use cs_classes::slots::{FIRST_STACK, STACK_POINTER};
 use cs_model::Stop;
-use cs_word::{Kind, Oop};
-
-/// The fields of a context that come before its stack.
-const FIELDS: u32 = 6;
-
-/// The field that says how many values the stack holds.
-const STACKP: u32 = 2;
+use cs_word::Oop;
 
 /// Pushes the active context, where there is room.
 #[tactic(auto, unfolding(cs_model::specs::Exec::this_context_out))]
@@ -93,7 +87,7 @@ fn has_field<W: World>(w: &mut W, context: Oop, i: u32) -> bool
     ensures ready { IsReady (W.stored w.new) (W.view w.new) }
     ensures names { KeepsNames (W.stored w.old) (W.stored w.new) }
 {
-    i < FIELDS || i - FIELDS < stack_depth(w, context)
+    i < FIRST_STACK || i - FIRST_STACK < stack_depth(w, context)
 }
 
 /// How many values the stack of a context holds.
@@ -110,22 +104,11 @@ fn stack_depth<W: World>(w: &mut W, context: Oop) -> u32
     ensures ready { IsReady (W.stored w.new) (W.view w.new) }
     ensures names { KeepsNames (W.stored w.old) (W.stored w.new) }
 {
-    let Ok(stackp) = w.context_get(context, STACKP) else {
+    let Ok(stackp) = w.context_get(context, STACK_POINTER) else {
         unreachable!();
     };
-    let Some(depth) = natural_in(stackp) else {
+    let Some(depth) = stackp.natural() else {
         unreachable!();
     };
     depth
-}
-
-/// The number that a word is, if it is a SmallInteger that isn't negative.
-#[tactic(auto, unfolding(cs_classes::specs::Meaning::ref_of, cs_classes::specs::Sound::is_reference))]
-fn natural_in(word: Oop) -> Option<u32>
-    ensures { (s : Store) → IsNamed s word → result ≡ index_of (name_of s word) }
-{
-    match word.kind() {
-        Kind::Small(value) if value >= 0 => Some(value as u32),
-        _ => None,
-    }
 }

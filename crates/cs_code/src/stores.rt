@@ -6,23 +6,23 @@
 ghost use Rattle.std.specs.Prelude.{◌≡◌, ◌<◌, true, false, [], ◌∷◌};
 ghost use Rattle.cs_model.specs.declared.instruction.Op.{Op};
 ghost use Rattle.cs_model.specs.Context.{is_context_ref};
-ghost use Rattle.cs_model.specs.Exec.{push_all, refuse_store as refused_of, store_slot as slot_stored, store_temp_out};
+ghost use Rattle.cs_model.specs.Exec.{push_all, refuse_store as refused_of, store_temp_out};
 ghost use Rattle.cs_model.specs.Exec.{store_variable_out, store_vector_out, store_receiver_out, store_into, pop_into};
 ghost use Rattle.cs_model.specs.Read.{depth_of, receiver_of};
-ghost use Rattle.cs_model.specs.State.{object_of};
 ghost use Rattle.cs_acts.specs.Made.{MakesAtMost};
 ghost use Rattle.cs_acts.specs.Names.{IsNamed, name_of};
-ghost use Rattle.cs_acts.specs.Ready.{IsReady, is_storable};
-ghost use Rattle.cs_code.specs.Bare.{bare_of};
+ghost use Rattle.cs_acts.specs.Ready.{IsReady};
+ghost use Rattle.cs_code.specs.Bare.{bare_of, store_or_stop};
 ghost use Rattle.cs_code.specs.Built.{built_exec};
 ghost use Rattle.cs_code.specs.Gives.{Gives};
 
 use crate::CodeEnd;
 use crate::pushes::push;
 use crate::sends::send_special;
-use cs_acts::World;
 use cs_acts::arithmetic::small_word;
-use cs_acts::read::{from_top, is_context, is_read_only, literal, slot, slot_if_any, temporary};
+use cs_acts::read::{from_top, is_context, literal, temporary};
+use cs_acts::{StoreTarget, World, store_target};
+use cs_classes::slots::VALUE;
 use cs_model::Stop;
 use cs_word::Oop;
 
@@ -73,30 +73,55 @@ fn refuse_store<W: World>(w: &mut W, target: Oop, i: u8, x: Oop) -> CodeEnd
     }
 }
 
-/// Stores into slot `i` of a pointer object. A read-only one refuses: the value is popped then, where it is still on
-/// the stack, which `on_stack` says, and the object is told of it.
-#[tactic(auto, unfolding(cs_model::specs::Exec::store_slot))]
-fn store_slot<W: World>(w: &mut W, target: Oop, i: u8, x: Oop, on_stack: bool) -> CodeEnd
+/// Refuses a store into slot `i` of a read-only object, counted from 0: takes the value off the stack, where it is
+/// still there, which `on_stack` says, and tells the object.
+fn refuse_slot<W: World>(w: &mut W, target: Oop, i: u8, x: Oop, on_stack: bool) -> CodeEnd
     requires ready { IsReady (W.stored w.old) (W.view w.old) }
-    requires there { is_storable (object_of (W.view w.old) (name_of (W.stored w.old) target)) i ≡ true }
     requires object { IsNamed (W.stored w.old) target }
     requires named { IsNamed (W.stored w.old) x }
     requires on_top { on_stack ≡ true → 0 < depth_of (W.view w.old) }
     ensures gives { Gives (W.stored w.old) (W.stored w.new) (W.layout w.old) (W.view w.new) result
-        (slot_stored (W.view w.old) (bare_of on_stack (W.view w.old)) (name_of (W.stored w.old) target) i
+        (refused_of (bare_of on_stack (W.view w.old)) (name_of (W.stored w.old) target) i
         (name_of (W.stored w.old) x)) }
     ensures layout { W.layout w.new ≡ W.layout w.old }
     ensures limit { (W.stored w.new).memory.limit ≡ (W.stored w.old).memory.limit }
     ensures contexts { MakesAtMost 0 (W.layout w.old) (W.stored w.old) (W.stored w.new) }
 {
-    if is_read_only(w, target) {
-        if on_stack {
-            w.pop();
-        }
-        return refuse_store(w, target, i, x);
+    if on_stack {
+        w.pop();
     }
-    w.store(target, u32::from(i), x);
-    CodeEnd::Done
+    refuse_store(w, target, i, x)
+}
+
+/// Stores into slot `i` of a pointer object a value that may still be on the stack, and stops for `missing` where
+/// there is no such slot. A read-only object refuses.
+fn store_slot<W: World>(
+    w: &mut W,
+    target: Oop,
+    i: u8,
+    x: Oop,
+    on_stack: bool,
+    missing: Stop,
+) -> CodeEnd
+    requires ready { IsReady (W.stored w.old) (W.view w.old) }
+    requires object { IsNamed (W.stored w.old) target }
+    requires named { IsNamed (W.stored w.old) x }
+    requires on_top { on_stack ≡ true → 0 < depth_of (W.view w.old) }
+    ensures gives { Gives (W.stored w.old) (W.stored w.new) (W.layout w.old) (W.view w.new) result
+        (store_or_stop missing (W.view w.old) (bare_of on_stack (W.view w.old)) (name_of (W.stored w.old) target) i
+        (name_of (W.stored w.old) x)) }
+    ensures layout { W.layout w.new ≡ W.layout w.old }
+    ensures limit { (W.stored w.new).memory.limit ≡ (W.stored w.old).memory.limit }
+    ensures contexts { MakesAtMost 0 (W.layout w.old) (W.stored w.old) (W.stored w.new) }
+{
+    match store_target(w, target, u32::from(i)) {
+        StoreTarget::Missing => CodeEnd::Stop(missing),
+        StoreTarget::ReadOnly => refuse_slot(w, target, i, x, on_stack),
+        StoreTarget::Writable => {
+            w.store(target, u32::from(i), x);
+            CodeEnd::Done
+        }
+    }
 }
 
 /// Stores into argument or temporary `i`.
@@ -134,10 +159,7 @@ fn store_variable<W: World>(w: &mut W, i: u8, x: Oop, on_stack: bool) -> CodeEnd
     let Some(variable) = literal(w, u32::from(i)) else {
         return CodeEnd::Stop(Stop::BadLiteral);
     };
-    match slot(w, variable, 2, 1) {
-        Some(_) => store_slot(w, variable, 1, x, on_stack),
-        None => CodeEnd::Stop(Stop::BadLiteral),
-    }
+    store_slot(w, variable, VALUE as u8, x, on_stack, Stop::BadLiteral)
 }
 
 /// Stores into slot `k` of the vector that is stack value `j` a value that may still be on the stack.
@@ -155,10 +177,7 @@ fn store_vector<W: World>(w: &mut W, k: u8, j: u8, x: Oop, on_stack: bool) -> Co
     let Some(vector) = temporary(w, u32::from(j)) else {
         return CodeEnd::Stop(Stop::BadField);
     };
-    match slot_if_any(w, vector, u32::from(k)) {
-        Some(_) => store_slot(w, vector, k, x, on_stack),
-        None => CodeEnd::Stop(Stop::BadField),
-    }
+    store_slot(w, vector, k, x, on_stack, Stop::BadField)
 }
 
 /// Stores into field `i` of the receiver, which is no context, a value that may still be on the stack.
@@ -175,10 +194,7 @@ fn store_field<W: World>(w: &mut W, i: u8, x: Oop, on_stack: bool) -> CodeEnd
     ensures contexts { MakesAtMost 0 (W.layout w.old) (W.stored w.old) (W.stored w.new) }
 {
     let receiver = w.receiver();
-    match slot_if_any(w, receiver, u32::from(i)) {
-        Some(_) => store_slot(w, receiver, i, x, on_stack),
-        None => CodeEnd::Stop(Stop::BadField),
-    }
+    store_slot(w, receiver, i, x, on_stack, Stop::BadField)
 }
 
 /// Stores the topmost value into argument or temporary `i` and leaves it on the stack.

@@ -14,6 +14,7 @@ use crate::contexts::push_context_field;
 use crate::pushes::push;
 use cs_acts::World;
 use cs_acts::read::{from_top, is_context, literal, slot, slot_if_any, temporary};
+use cs_classes::slots::{ASSOCIATION_SLOTS, VALUE};
 use cs_model::Stop;
 use cs_word::Oop;
 
@@ -24,7 +25,7 @@ pub fn variable_value<W: World>(w: &W, i: u32) -> Option<Oop>
     ensures { NamesOption (W.stored w.now) result (variable_value (W.view w.now) i) }
 {
     match literal(w, i) {
-        Some(variable) => slot(w, variable, 2, 1),
+        Some(variable) => slot(w, variable, ASSOCIATION_SLOTS, VALUE),
         None => None,
     }
 }

@@ -7,7 +7,7 @@ use Rattle.std.specs.FinMap.{FinMap, get, get-insert, insert}
 use Rattle.std.proofs.lemmas.Bool.Decides.{nat_tests}
 use Rattle.std.proofs.lemmas.List.{length-map, length-take-le}
 use Rattle.std.proofs.lemmas.Option.{slice_get-get_or, slice_get-map}
-use Rattle.cs_model.specs.Ref.{Ref, birth_of, same_ref}
+use Rattle.cs_model.specs.Ref.{Ref, birth_of}
 use Rattle.cs_model.specs.Ref as ref
 use Rattle.cs_model.specs.Obj.{Obj, Head, Context, Ptr, Method, Ctx, context_class, literal_count, slots_in, context_in, lies_in, lies_between, first_pc, at_least}
 use Rattle.cs_model.specs.State.{Kept, put, object_at, object_of, slots_of, special_at, scheduler_of, active_process, is_nil}
@@ -16,7 +16,7 @@ use Rattle.cs_model.specs.Operation.{activate, edit_found, nil_of, resume_of, st
 use Rattle.cs_model.specs.Settle.{context_kept, open_at, open_if, open_kept}
 use Rattle.cs_model.specs.Due.{is_idle, is_idle_at}
 use Rattle.cs_model.specs.Words.{obj_by, context_by, ref_by, natural_in_word, is_pointer_format, is_method_format, plain, header_in_words, literals_in_words, bytecode_count, bytecodes_in_words, bytes_of_words}
-use Rattle.cs_model.specs.ImageFile.{FileObject, File, file_of, old_base, special_address, is_visible, is_hidden, visible, nil_in, named, names, address_in}
+use Rattle.cs_model.specs.ImageFile.{FileObject, File, file_of, old_base, special_address, is_visible, visible, nil_in, named, names, address_in}
 use Rattle.cs_model.specs.ImageFile as file
 use Rattle.cs_model.specs.ImageFault.{is_lost, is_process, is_live_context, is_pc_of, is_bad_roots, active_process_in, special_in, fields_of, fields_in}
 use Rattle.cs_model.specs.ImageFault as fault

@@ -15,14 +15,12 @@ ghost use Rattle.cs_classes.specs.Sound.{IsSound, is_method_address, is_referenc
 ghost use Rattle.cs_lookup.specs.Found.{FindsMethod, HasObjects, has_slots as has_slots_at, refs_option};
 ghost use Rattle.cs_lookup.specs.Found.{sought_of};
 
+use cs_classes::CONTEXT_CLASS;
 use cs_heap::Heap;
 use cs_word::Oop;
 
 /// How many classes one lookup searches at most, the first included. This bound is this machine's own.
 pub const CLASS_LIMIT: u32 = 65_536;
-
-/// The class index of contexts.
-const CONTEXT_CLASS: u32 = 36;
 
 /// What a lookup finds.
 #[derive(Clone, Copy, PartialEq, Eq, Debug)]

@@ -30,7 +30,7 @@ use Rattle.cs_model.specs.Obj.{Context, Ctx, Method, Obj, Ptr, Raw, context_size
 use Rattle.cs_model.specs.State as state
 use Rattle.cs_model.specs.State.{Kept, PcLies, is_nil, object_of, put, with_rest}
 use Rattle.cs_model.specs.Read.{IsRunning, active_birth, active_context, depth_of, stack_of}
-use Rattle.cs_model.specs.Operation.{activate, add_of, drop_of, enter_of, enter_with, entry_pc, last_values, method_context, receiver_below}
+use Rattle.cs_model.specs.Operation.{activate, add_of, drop_of, enter_with, last_values}
 use Rattle.cs_model.specs.Operation as operation
 use Rattle.cs_model.proofs.Objects.{object_at-put_same}
 use Rattle.cs_acts.specs.Names.{KeepsNames, name_of}

@@ -1,7 +1,6 @@
 -- The words of a state are the words of the heap in which all of it stands.
-use Rattle.std.proofs.Common.{◌≡◌, ℕ, ◌-◌, ◌∙◌, Option, List, []}
+use Rattle.std.proofs.Common.{◌≡◌, ℕ, ◌-◌, ◌∙◌, Option, List}
 use Rattle.cs_heap.specs.Object.{Object, used}
-use Rattle.cs_model.specs.Obj.{words_of}
 use Rattle.cs_classes.specs.declared.Roots.{Roots}
 use Rattle.cs_classes.specs.Meaning.{kept_of}
 use Rattle.cs_classes.specs.Sound.{IsWhole}

@@ -2,30 +2,16 @@
 use Rattle.std.proofs.Common.{◌≡◌, ℕ, pos, zero, suc, ◌-◌, ◌<◌, ◌≤◌, true, false, refl, sym, ap, ◌∙◌, Option, Some, None, IsSome, is_some, unwrap_or, option_map, option_and_then, List, [], ◌∷◌, length, nat_lt, arith}
 use Rattle.std.specs.Prelude.{◌==◌, slice_get}
 use Rattle.std.proofs.lemmas.Bool.Decides.{nat_tests}
-use Rattle.cs_word.specs.declared.Kind.{Kind}
-use Rattle.cs_word.specs.declared.Kind.TheVariants as kind
 use Rattle.cs_word.specs.declared.Oop.{Oop}
-use Rattle.cs_word.specs.Word.{kind_of, natural_by_kind, natural_of_word}
-use Rattle.cs_classes.specs.Meaning.{count_of, count_of_kind}
-use Rattle.cs_classes.proofs.Refs.{index_of-ref_of}
+use Rattle.cs_word.specs.Word.{natural_of_word}
 use Rattle.cs_model.specs.Ref.{Ref, Small, index_of}
 use Rattle.cs_model.specs.Obj.{Context}
 use Rattle.cs_model.specs.State.{Kept}
 use Rattle.cs_model.specs.Context.{context_get, is_context_ref}
 use Rattle.cs_model.specs.Return.{context_at}
-use Rattle.cs_acts.specs.Names.{IsNamed, NamesOption, Store, name_of}
+use Rattle.cs_acts.specs.Names.{NamesOption, Store, name_of}
 use Rattle.cs_acts.specs.Targets.{field_of}
-
--- the number that a word is, as a reference and as a word
-pub natural_name : (s : Store) (o : Oop) → IsNamed s o → index_of (name_of s o) ≡ natural_of_word o.0
-unfolding natural_of_word count_of
-natural_name s o named = index_of-ref_of s.memory.objects o.0 named ∙ alike (kind_of o.0)
-  where
-    alike : (k : Kind) → count_of_kind k ≡ natural_by_kind k
-    alike (kind.Small z) = refl
-    alike (kind.Character c) = refl
-    alike (kind.Object a) = refl
-    alike (kind.Link w) = refl
+use Rattle.cs_acts.proofs.Naturals.{natural_name}
 
 -- the field of a context that may be absent
 abbrev pub field_in : Kept → Option Context → ℕ → Option Ref

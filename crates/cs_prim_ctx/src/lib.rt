@@ -28,17 +28,13 @@ ghost use Rattle.cs_prim_ctx.specs.Numbers.{reads_context};
 use cs_acts::answer::{answer, argument, receiver};
 use cs_acts::read::is_context;
 use cs_acts::{Full, PrimEnd, World};
+use cs_classes::slots::{FIRST_STACK, STACK_POINTER};
 use cs_word::Oop;
 
 /// The numbers of two of the primitives; the third one is 212.
 const SLOT_AT: u32 = 73;
 
 const STACK_AT: u32 = 210;
-
-/// The fields of a context that come before its stack, and the one of them that says how many values the stack holds.
-const FIELDS: u32 = 6;
-
-const STACKP: u32 = 2;
 
 /// Does primitive `number` with `args` arguments.
 ///
@@ -101,7 +97,7 @@ fn stack_at<W: World>(w: &mut W, args: u32) -> PrimEnd
         return PrimEnd::Fail;
     }
     match slot_index(argument(w)) {
-        Some(i) => answer_field(w, 1, ctx, FIELDS + i),
+        Some(i) => answer_field(w, 1, ctx, FIRST_STACK + i),
         None => PrimEnd::Fail,
     }
 }
@@ -118,14 +114,14 @@ fn stack_pointer<W: World>(w: &mut W, args: u32) -> PrimEnd
     }
     let ctx = receiver(w, 0);
     if is_context(w, ctx) {
-        answer_field(w, 0, ctx, STACKP)
+        answer_field(w, 0, ctx, STACK_POINTER)
     } else {
         PrimEnd::Fail
     }
 }
 
 /// The index, counted from 0, that a word says by counting from 1; None exactly where it is no SmallInteger above 0.
-#[tactic(auto, using(crate::proofs::Fields::natural_name))]
+#[tactic(auto, using(cs_acts::proofs::Naturals::natural_name))]
 fn slot_index(word: Oop) -> Option<u32>
     ensures value { (s : Store) → IsNamed s word → result ≡ slot_index (name_of s word) }
     ensures small { (i : ℕ) → result ≡ Some i → i < 2 ^ 30 }
@@ -190,10 +186,10 @@ fn has_field<W: World>(w: &mut W, ctx: Oop, i: u32) -> bool
     ensures leads { Leads (W.stored w.old) (W.stored w.new) (W.layout w.old) (W.layout w.new) (W.view w.new)
         (W.view w.old) 0 }
 {
-    if i < FIELDS {
+    if i < FIRST_STACK {
         true
     } else {
-        i - FIELDS < stack_depth(w, ctx)
+        i - FIRST_STACK < stack_depth(w, ctx)
     }
 }
 
@@ -208,7 +204,7 @@ fn stack_depth<W: World>(w: &mut W, ctx: Oop) -> u32
     ensures leads { Leads (W.stored w.old) (W.stored w.new) (W.layout w.old) (W.layout w.new) (W.view w.new)
         (W.view w.old) 0 }
 {
-    let Ok(stackp) = w.context_get(ctx, STACKP) else {
+    let Ok(stackp) = w.context_get(ctx, STACK_POINTER) else {
         unreachable!();
     };
     stackp.natural().unwrap_or(0)

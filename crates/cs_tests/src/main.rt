@@ -19,6 +19,8 @@ mod marriage;
 mod pages;
 mod row;
 #[cfg(test)]
+mod script;
+#[cfg(test)]
 mod sends;
 #[cfg(test)]
 mod shelf;

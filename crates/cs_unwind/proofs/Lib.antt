@@ -8,7 +8,6 @@ mod BlockRows
 mod Closures
 mod MarkRows
 mod NumberRows
-mod Naturals
 mod Performing
 mod Pointers
 mod Searches

@@ -20,25 +20,13 @@ use cs_acts::answer::{argument, receiver};
 use cs_acts::method::{context_size, lies};
 use cs_acts::read::{has_slots, is_context, is_method, slot, slot_if_any};
 use cs_acts::{PrimEnd, World};
+use cs_classes::slots::{ARGUMENT_COUNT, FIRST_COPIED, OUTER_CONTEXT, START_PC};
+use cs_classes::{CLOSURE_CLASS, FIELDS_AND_INDICES};
 use cs_model::Stop;
 use cs_word::Oop;
 
-/// The class index of closures, and their format: pointer slots behind fixed ones.
-const CLOSURE_CLASS: u32 = 37;
-
-const CLOSURE_FORMAT: u8 = 3;
-
 /// The format of an Array.
 const ARRAY_FORMAT: u8 = 2;
-
-/// The slots of a closure: outerContext, startpc, numArgs, and then its copied values.
-const OUTER_CONTEXT: u32 = 0;
-
-const START_PC: u32 = 1;
-
-const ARGUMENT_COUNT: u32 = 2;
-
-const FIRST_COPIED: u32 = 3;
 
 /// Primitives 201 to 205, 221 and 222: the receiver is evaluated with `wanted` arguments. They fail where `args` is
 /// another number.
@@ -143,7 +131,7 @@ fn outer_method<W: World>(w: &W, closure: Oop) -> Option<Oop>
 }
 
 /// Whether a word is a pc that lies in a method.
-#[tactic(auto, using(crate::proofs::Naturals::natural_name))]
+#[tactic(auto, using(cs_acts::proofs::Naturals::natural_name))]
 fn lies_at<W: World>(w: &W, method: Oop, pc: Oop) -> bool
     requires sound { IsSound (W.stored w.now) (W.view w.now) }
     requires method { IsMethodNamed (W.stored w.now) (W.view w.now) method }
@@ -158,7 +146,7 @@ fn lies_at<W: World>(w: &W, method: Oop, pc: Oop) -> bool
 }
 
 /// Whether a word is the number `count`.
-#[tactic(auto, using(crate::proofs::Naturals::natural_name))]
+#[tactic(auto, using(cs_acts::proofs::Naturals::natural_name))]
 fn is_count(word: Oop, count: u32) -> bool
     ensures { (s : Store) → IsNamed s word → result ≡ is_count count (index_of (name_of s word)) }
 {
@@ -178,7 +166,7 @@ fn is_closure<W: World>(w: &W, o: Oop) -> bool
         return false;
     }
     let heap = w.heap();
-    heap.class_index(o) == CLOSURE_CLASS && heap.format(o) == CLOSURE_FORMAT
+    heap.class_index(o) == CLOSURE_CLASS && heap.format(o) == FIELDS_AND_INDICES
 }
 
 /// One of a closure's slots before its copied values.

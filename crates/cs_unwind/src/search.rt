@@ -11,6 +11,7 @@ ghost use Rattle.cs_unwind.specs.Walked.{FindsHome, FindsWay, Sees, Stands};
 use crate::marks::{UNWIND_MARK, is_marked};
 use cs_acts::read::{is_context, nil, same, slot_if_any};
 use cs_acts::{Act, World};
+use cs_classes::slots::OUTER_CONTEXT;
 use cs_word::Oop;
 
 /// How many links a search follows: of homes, of senders and of marks.
@@ -80,13 +81,13 @@ pub(crate) fn is<W: World>(w: &W, a: Option<Act>, b: Act) -> bool
     }
 }
 
-/// The outer context of a closure, which is its slot 0, where that is a context.
+/// The outer context of a closure, where that is a context.
 fn outer<W: World>(w: &W, closure: Oop) -> Option<Act>
     requires sound { IsSound (W.stored w.now) (W.view w.now) }
     requires named { IsNamed (W.stored w.now) closure }
     ensures { Stands (W.act w.now) result (outer_birth (W.view w.now) (name_of (W.stored w.now) closure)) }
 {
-    let context = slot_if_any(w, closure, 0)?;
+    let context = slot_if_any(w, closure, OUTER_CONTEXT)?;
     if is_context(w, context) {
         Some(w.act_of(context))
     } else {

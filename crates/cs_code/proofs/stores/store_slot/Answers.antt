@@ -1,30 +1,26 @@
-use Rattle.std.proofs.Common.{◌≡◌, Bool, sym, subst, ◌∙◌}
-use Rattle.cs_model.specs.Exec.{refuse_store}
-use Rattle.cs_model.specs.Operation.{pop_of}
+use Rattle.std.proofs.Common.{◌≡◌, sym, subst}
 use Rattle.cs_acts.specs.Names.{name_of}
+use Rattle.cs_acts.specs.Storing.{target_of}
+use Rattle.cs_acts.specs.declared.store.StoreTarget.TheVariants.{Missing, ReadOnly}
 use Rattle.cs_code.specs.Bare.{bare_of}
 use Rattle.cs_code.specs.Gives.{Gives}
-use Rattle.cs_code.proofs.Refusing.{refused-behind, slot-refused}
+use Rattle.cs_code.proofs.Fields.{slot-missing, slot-refused}
+use Rattle.cs_code.proofs.Through.{gives_stop}
 use Rattle.cs_code.proofs.stores.store_slot.Goals as goal
-use Rattle.cs_code.proofs.stores.store_slot.Goals.{then-on_stack, else-on_stack}
 
-pub returns-then-is_read_only-clause-gives : goal.returns-then-is_read_only-clause-gives
-returns-then-is_read_only-clause-gives g c =
+pub returns-in-Missing-clause-gives : goal.returns-in-Missing-clause-gives
+returns-in-Missing-clause-gives g c =
     let k = g.W.World.view c.args.w.now in
-    let s0 = g.W.World.stored c.args.w.now in
-    let s2 = g.W.World.stored c.refuse_store.new.w in
-    let l = g.W.World.layout c.args.w.now in
-    let v2 = g.W.World.view c.refuse_store.new.w in
-    let e = c.refuse_store.result in
-    let given = c.refuse_store.ensures.gives in
-    slot-refused s0 s2 l k (bare_of c.args.on_stack k) v2 e (name_of s0 c.args.target) (name_of s0 c.args.x) c.args.i (sym c.is_read_only.ensures ∙ c.if-is_read_only.true)
-    (elim c.if-on_stack.branch [
-      | then-on_stack w ↦
-          subst (λ (b : Bool). Gives s0 s2 l v2 e (refuse_store (bare_of b k) (name_of s0 c.args.target) c.args.i (name_of s0 c.args.x))) (sym w.if-on_stack.true)
-          (refused-behind s0 (g.W.World.stored w.pop.new.self) s2 l (g.W.World.layout w.pop.new.self) k (g.W.World.view w.pop.new.self) v2 e c.args.target c.args.x c.args.i c.requires.object c.requires.named
-          w.pop.ensures.ready (w.pop.ensures.state k c.requires.ready.sound.closed) w.pop.ensures.exact w.pop.ensures.layout w.pop.ensures.names
-          (subst (λ u. Gives (g.W.World.stored u) s2 (g.W.World.layout u) v2 e (refuse_store (g.W.World.view u) (name_of (g.W.World.stored u) c.args.target) c.args.i (name_of (g.W.World.stored u) c.args.x))) w.w-is given))
-      | else-on_stack w ↦
-          subst (λ (b : Bool). Gives s0 s2 l v2 e (refuse_store (bare_of b k) (name_of s0 c.args.target) c.args.i (name_of s0 c.args.x))) (sym w.if-on_stack.false)
-          (subst (λ u. Gives (g.W.World.stored u) s2 (g.W.World.layout u) v2 e (refuse_store (g.W.World.view u) (name_of (g.W.World.stored u) c.args.target) c.args.i (name_of (g.W.World.stored u) c.args.x))) w.w-is given)
-    ])
+    let s = g.W.World.stored c.args.w.now in
+    let r = name_of s c.args.target in
+    let met : target_of k r c.args.i ≡ Missing = cc in
+    gives_stop s (g.W.World.layout c.args.w.now) k c.args.missing _ (slot-missing k (bare_of c.args.on_stack k) r (name_of s c.args.x) c.args.i c.args.missing met) c.requires.ready
+
+pub returns-in-ReadOnly-clause-gives : goal.returns-in-ReadOnly-clause-gives
+returns-in-ReadOnly-clause-gives g c =
+    let k = g.W.World.view c.args.w.now in
+    let s = g.W.World.stored c.args.w.now in
+    let r = name_of s c.args.target in
+    let met : target_of k r c.args.i ≡ ReadOnly = cc in
+    subst (λ o. Gives s (g.W.World.stored c.refuse_slot.new.w) (g.W.World.layout c.args.w.now) (g.W.World.view c.refuse_slot.new.w) c.refuse_slot.result o)
+    (sym (slot-refused k (bare_of c.args.on_stack k) r (name_of s c.args.x) c.args.i c.args.missing met)) c.refuse_slot.ensures.gives

@@ -3,16 +3,13 @@ use Rattle.cs_model.specs.Exec.{literal_at}
 use Rattle.cs_acts.specs.Names.{name_of}
 use Rattle.cs_code.specs.Bare.{bare_of}
 use Rattle.cs_code.specs.Gives.{Gives}
-use Rattle.cs_code.proofs.Fields.{storable_of, variable-stored}
+use Rattle.cs_code.proofs.Fields.{variable-stored}
 use Rattle.cs_code.proofs.stores.store_variable.Goals as goal
 
-pub store_slot-requires-clause-there : goal.store_slot-requires-clause-there
-store_slot-requires-clause-there g c = storable_of (g.W.World.view c.args.w.now) 2 1 (name_of (g.W.World.stored c.args.w.now) c.in-Some.variable) (name_of (g.W.World.stored c.args.w.now) c.in-Some-slot.field-0) c.in-Some-slot.ensures.is
-
-pub returns-in-Some-slot-clause-gives : goal.returns-in-Some-slot-clause-gives
-returns-in-Some-slot-clause-gives g c =
+pub returns-in-Some-clause-gives : goal.returns-in-Some-clause-gives
+returns-in-Some-clause-gives g c =
     let k = g.W.World.view c.args.w.now in
     let s = g.W.World.stored c.args.w.now in
     subst (λ o. Gives s (g.W.World.stored c.store_slot.new.w) (g.W.World.layout c.args.w.now) (g.W.World.view c.store_slot.new.w) c.store_slot.result o)
-    (sym (variable-stored k (bare_of c.args.on_stack k) c.args.i (name_of s c.args.x) (name_of s c.in-Some.variable) (name_of s c.in-Some-slot.field-0) (c.in-Some.ensures.is ∙ ap (literal_at k) c.from.ensures) c.in-Some-slot.ensures.is))
+    (sym (variable-stored k (bare_of c.args.on_stack k) c.args.i (name_of s c.args.x) (name_of s c.in-Some.variable) (c.in-Some.ensures.is ∙ ap (literal_at k) c.from.ensures)))
     c.store_slot.ensures.gives

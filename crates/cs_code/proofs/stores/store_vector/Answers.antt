@@ -1,8 +1,5 @@
-use Rattle.std.proofs.Common.{sym, subst, ap, ◌∙◌, option_and_then, List}
+use Rattle.std.proofs.Common.{sym, subst, ap, ◌∙◌}
 use Rattle.std.specs.Prelude.{slice_get}
-use Rattle.cs_model.specs.Ref.{Ref}
-use Rattle.cs_model.specs.Obj.{slots_in}
-use Rattle.cs_model.specs.State.{object_of}
 use Rattle.cs_model.specs.Read.{stack_of}
 use Rattle.cs_acts.specs.Names.{name_of}
 use Rattle.cs_code.specs.Bare.{bare_of}
@@ -10,12 +7,11 @@ use Rattle.cs_code.specs.Gives.{Gives}
 use Rattle.cs_code.proofs.Fields.{vector-stored}
 use Rattle.cs_code.proofs.stores.store_vector.Goals as goal
 
-pub returns-in-Some-slot_if_any-clause-gives : goal.returns-in-Some-slot_if_any-clause-gives
-returns-in-Some-slot_if_any-clause-gives g c =
+pub returns-in-Some-clause-gives : goal.returns-in-Some-clause-gives
+returns-in-Some-clause-gives g c =
     let k = g.W.World.view c.args.w.now in
     let s = g.W.World.stored c.args.w.now in
     subst (λ o. Gives s (g.W.World.stored c.store_slot.new.w) (g.W.World.layout c.args.w.now) (g.W.World.view c.store_slot.new.w) c.store_slot.result o)
-    (sym (vector-stored k (bare_of c.args.on_stack k) c.args.k c.args.j (name_of s c.args.x) (name_of s c.in-Some.vector) (name_of s c.in-Some-slot_if_any.field-0)
-    (c.in-Some.ensures.value.is ∙ ap (slice_get (stack_of k)) c.from.ensures)
-    (c.in-Some-slot_if_any.ensures.is ∙ ap (λ i. option_and_then (λ (slots : List Ref). slice_get slots i) (slots_in (object_of k (name_of s c.in-Some.vector)))) c.from-2.ensures)))
+    (sym (vector-stored k (bare_of c.args.on_stack k) c.args.k c.args.j (name_of s c.args.x) (name_of s c.in-Some.vector)
+    (c.in-Some.ensures.value.is ∙ ap (slice_get (stack_of k)) c.from.ensures)))
     c.store_slot.ensures.gives

@@ -1,0 +1,109 @@
+//! What an image holds, as text.
+#![tactic(auto)]
+
+mod line;
+mod order;
+mod text;
+
+ghost use Rattle.std.specs.Prelude.{◌≡◌, ◌++◌, [], IfOk, IfSome, None, OnOk, true};
+ghost use Rattle.std.specs.Option.{option_map_or};
+ghost use Rattle.cs_model.specs.Print.{head_line, print_of, ref_text};
+ghost use Rattle.cs_model.specs.State.{active_process as active_process_of};
+ghost use Rattle.cs_classes.specs.Meaning.{kept_of};
+ghost use Rattle.cs_classes.specs.Sound.{IsSound, IsWhole, is_reference};
+ghost use Rattle.cs_inspect.specs.Reading.{field_at, has_field_at, ref_option};
+
+use cs_heap::Heap;
+use cs_image::Loaded;
+use cs_word::Oop;
+use line::{CONTEXT_CLASS, POINTERS_END, push_line};
+use order::in_order;
+use std::alloc::{AllocError, Global};
+use text::{push_field, push_reference, push_text};
+
+/// Whether a word is the address of a pointer object, which no context is, that has slot `i`.
+fn has_field(heap: &Heap, word: Oop, i: u32) -> bool
+    ensures { result ≡ has_field_at heap.now.objects word.0 i }
+{
+    heap.is_object(word)
+        && heap.class_index(word) != CONTEXT_CLASS
+        && heap.format(word) < POINTERS_END
+        && i < heap.slot_count(word)
+}
+
+/// That slot; None where there is none.
+fn field(heap: &Heap, word: Oop, i: u32) -> Option<Oop>
+    requires { IsSound heap.now.objects }
+    ensures value { ref_option heap.now.objects result ≡ field_at heap.now.objects word.0 i }
+    ensures reference { IfSome result (λ o. is_reference heap.now.objects o.0 ≡ true) }
+{
+    if has_field(heap, word, i) {
+        Some(heap.slot(word, i))
+    } else {
+        None
+    }
+}
+
+/// The active process: slot 1 of the scheduler, which is slot 1 of special 3. None where one of these is no pointer
+/// object with that slot.
+fn active_process(l: &Loaded) -> Option<Oop>
+    requires { IsWhole l.now.heap.objects l.now.classes l.now.roots }
+    ensures value { ref_option l.now.heap.objects result
+        ≡ active_process_of (kept_of l.now.heap.objects l.now.classes l.now.roots None) }
+    ensures reference { IfSome result (λ o. is_reference l.now.heap.objects o.0 ≡ true) }
+{
+    let Some(link) = field(&l.heap, l.roots.special, 3) else {
+        return None;
+    };
+    let Some(scheduler) = field(&l.heap, link, 1) else {
+        return None;
+    };
+    field(&l.heap, scheduler, 1)
+}
+
+/// Appends the first line: the next birth, the last hash that was given, and the active process.
+fn push_head_line(text: &mut Vec<u8>, l: &Loaded) -> Result<(), AllocError>
+    requires { IsWhole l.now.heap.objects l.now.classes l.now.roots }
+    ensures { OnOk result (text.new.items ≡ text.old.items
+        ++ head_line (kept_of l.now.heap.objects l.now.classes l.now.roots None)) }
+{
+    push_field(text, "image next=", l.roots.next_birth)?;
+    push_field(text, " last=", l.roots.last_hash)?;
+    push_text(text, " active=")?;
+    push_process(text, l)?;
+    push_text(text, "\n")
+}
+
+/// Appends a reference to the active process, if there is one.
+fn push_process(text: &mut Vec<u8>, l: &Loaded) -> Result<(), AllocError>
+    requires { IsWhole l.now.heap.objects l.now.classes l.now.roots }
+    ensures { OnOk result (text.new.items ≡ text.old.items
+        ++ option_map_or ref_text
+        (active_process_of (kept_of l.now.heap.objects l.now.classes l.now.roots None)) []) }
+{
+    match active_process(l) {
+        Some(process) => push_reference(text, &l.heap, process),
+        None => Ok(()),
+    }
+}
+
+/// The text of an image: a line that begins `image`, and one for each object in the order of births.
+///
+/// The first line has the next birth, the last hash that was given, and the active process, if there is one. A
+/// reference is a SmallInteger in decimal, `$` and the code of a Character, or `@` and the birth of an object. The line
+/// of an object begins with its birth and the word `ptr`, `raw`, `method` or `context`, and goes on with class index,
+/// format and hash as far as the word doesn't tell them. Behind a colon follow its slots, its bytes in hex digits, its
+/// literals and its bytecodes, or its stack, of which nothing is beyond the top. The text is this machine's own.
+pub fn print(alloc: Global, l: &Loaded) -> Result<Vec<u8>, AllocError>
+    requires { IsWhole l.now.heap.objects l.now.classes l.now.roots }
+    ensures { IfOk result (λ text. text.items
+        ≡ print_of (kept_of l.now.heap.objects l.now.classes l.now.roots None)) }
+{
+    let order = in_order(alloc, &l.heap)?;
+    let mut text = Vec::new(alloc);
+    push_head_line(&mut text, l)?;
+    for o in &order {
+        push_line(&mut text, &l.heap, *o)?;
+    }
+    Ok(text)
+}
