@@ -1,0 +1,3 @@
+pub mod LineApp
+pub mod Told
+pub mod Meaning
