@@ -1,7 +1,8 @@
 //! Images are saved.
 //!
-//! The file has the objects in their order, at the distances that they have in memory. Behind true stand two hidden objects, of
-//! which one is the root of the class table, so that all others lie 88 bytes further on, and the table's 16 pages come last.
+//! The file has the objects in their order, at the distances that they have in memory. Behind true stand two hidden
+//! objects, of which one is the root of the class table, so that all others lie 88 bytes further on, and the table's 16
+//! pages come last.
 //! Behind them stands the birth section.
 #![tactic(auto)]
 
@@ -10,7 +11,8 @@ mod object;
 mod piece;
 mod table;
 
-ghost use Rattle.std.specs.Prelude.{◌≡◌, ◌≢◌, ℕ, ◌≤◌, ◌∷◌, ◌++◌, List, [], Some, None, IsSome, OnErr, OnOk, drop, length};
+ghost use Rattle.std.specs.Prelude.{◌≡◌, ◌≢◌, ℕ, ◌≤◌, ◌∷◌, ◌++◌, List, [], Some, None, IsSome, OnErr, OnOk, drop};
+ghost use Rattle.std.specs.Prelude.{length};
 ghost use Rattle.std.specs.Prelude.{option_map, take};
 ghost use Rattle.cs_heap.specs.Object.{used as used_of};
 ghost use Rattle.cs_model.specs.SavedFile.{FitsFile};
@@ -214,8 +216,8 @@ fn put_file<S: Shelf>(
 
 /// Saves an image under a name, in pieces of at most 4,096 bytes. It takes no memory.
 ///
-/// `Failed` comes only where a call of the shelf failed. Then it isn't known that the name's content is whole, and the shelf has taken
-/// the first of the bytes.
+/// `Failed` comes only where a call of the shelf failed. Then it isn't known that the name's content is whole, and the
+/// shelf has taken the first of the bytes.
 pub fn save<S: Shelf>(
     heap: &Heap,
     classes: &Classes,

@@ -213,7 +213,8 @@ fn put_object<S: Shelf>(heap: &Heap, o: Oop, shelf: &mut S, piece: &mut Piece) -
     Ok(())
 }
 
-/// Writes the objects from one number up to another, counted from 0, of which `at` is the first one. Gives the one behind them.
+/// Writes the objects from one number up to another, counted from 0, of which `at` is the first one. Gives the one
+/// behind them.
 pub(crate) fn put_objects<S: Shelf>(
     heap: &Heap,
     at: Option<Oop>,

@@ -2,7 +2,8 @@
 
 ghost use Rattle.std.specs.Prelude.{◌≡◌, ◌++◌, ◌^◌, ◌<◌, ◌≤◌, IsSome, OnErr, OnOk, flat_map, map};
 ghost use Rattle.std.specs.List.{range_with_len};
-ghost use Rattle.cs_save.specs.Filed.{entry_word as entry_word_of, hidden_bits as hidden_bits_of, page_at, page_entries};
+ghost use Rattle.cs_save.specs.Filed.{entry_word as entry_word_of, hidden_bits as hidden_bits_of, page_at};
+ghost use Rattle.cs_save.specs.Filed.{page_entries};
 ghost use Rattle.cs_model.specs.SavedFile.{free_lists, saved_words};
 ghost use Rattle.cs_save.specs.Filed.{saved_page, saved_root};
 ghost use Rattle.cs_save.specs.Writing.{BrokeWords, WroteWords, writing};
