@@ -12,7 +12,7 @@ use Rattle.cs_model.specs.SavedFile.{SavedObject, saved_bits, saved_words, overf
 use Rattle.cs_save.specs.Filed.{body_word, file_word, filed_words, referring, hidden_bits, page_entries, entry_word, saved_page, saved_at, saved_root, page_at, words_at}
 use Rattle.std.specs.Ordering.{nat_cmp}
 use Rattle.std.specs.FinMap.{FinMap}
-use Rattle.cs_heap.specs.Object.{Object, index_of, is_object, is_fixed, header_seen, object_at}
+use Rattle.cs_heap.specs.Object.{Object, index_of, is_object, is_immutable_at, header_seen, object_at}
 use Rattle.cs_word.specs.Header.{flag_bits, header_bits}
 use Rattle.cs_word.specs.declared.header.Flags.{Flags}
 use Rattle.cs_word.specs.declared.header.Header.{Header}
@@ -105,7 +105,7 @@ filed_bits : (x : Object) → saved_bits (filed x) ≡ x.class + 2 ^ 23 * cond (
 unfolding filed
 filed_bits x = ap (λ (n : ℕ). x.class + 2 ^ 23 * cond (flag_bits x.flags % 2 == 1) 1 0 + 2 ^ 24 * x.format + 2 ^ 32 * x.hash + 2 ^ 56 * min 255 n) (length-filed x.format x.words)
 
-pub header_filed : (xs : List Object) (a : ℕ) (h : Header) (flags : Flags) → is_some (object_at xs a) ≡ true → h ≡ header_seen xs a → flag_bits flags ≡ cond (is_fixed xs a) 1 0
+pub header_filed : (xs : List Object) (a : ℕ) (h : Header) (flags : Flags) → is_some (object_at xs a) ≡ true → h ≡ header_seen xs a → flag_bits flags ≡ cond (is_immutable_at xs a) 1 0
     → header_bits (record { class = h.class; flags = flags; format = h.format; hash = h.hash; slots = h.slots }) ≡ filed_bits_at xs a
 header_filed xs a h flags there e f =
     ap (λ (g : Header). header_bits (record { class = g.class; flags = flags; format = g.format; hash = g.hash; slots = g.slots })) e
