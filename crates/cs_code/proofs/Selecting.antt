@@ -1,7 +1,7 @@
 -- What a special selector does, by what its index names.
-use Rattle.std.proofs.Common.{◌≡◌, ◌∙◌, ◌+◌, ℕ, ℤ, false, refl, sym, ap, inl, inr, Option, Some, None, option_and_then}
+use Rattle.std.proofs.Common.{◌≡◌, ◌∙◌, ◌+◌, ℕ, ℤ, false, refl, sym, ap, arith, inl, inr, Option, Some, None, option_and_then}
 use Rattle.std.specs.Prelude.{◌==◌}
-use Rattle.std.proofs.lemmas.Bool.Decides.{eqb_tells}
+use Rattle.std.proofs.lemmas.Bool.Decides.{eqb_tells, nat_tests}
 use Rattle.cs_model.specs.Ref.{Ref}
 use Rattle.cs_model.specs.State.{Kept}
 use Rattle.cs_model.specs.End.{done, given}
@@ -55,12 +55,22 @@ has_primitive op.BitOr h = absurd (cc)
 has_primitive op.BitXor h = absurd (cc)
 has_primitive op.BitShift h = absurd (cc)
 
-pub common-sent : (k : Kept) (i j : ℕ) (o : Operation) → j ≡ 16 + i → selector_primitive j ≡ number_of o → common_out k i ≡ send_selector_out k j
+not_there : (i n : ℕ) (o : Operation) → selector_primitive (16 + n) ≡ 0 → selector_primitive (16 + i) ≡ number_of o → (i == n) ≡ false
+not_there i n o none h = elim (eqb_tells i n) [
+  | inl same ↦ absurd (has_primitive o (sym none ∙ ap (λ m. selector_primitive (16 + m)) (sym same.1) ∙ h))
+  | inr other ↦ other.0
+]
+
+not_named : (i n : ℕ) → (16 + i ≡ 16 + n → ⊥) → (i == n) ≡ false
+not_named i n other = grind (arith, nat_tests, other)
+
+common-else : (k : Kept) (i : ℕ) → (i == 6) ≡ false → (i == 7) ≡ false → common_out k i ≡ send_selector_out k (16 + i)
 unfolding common_out
-common-sent k i j o e h = rw (other 6 refl, other 7 refl) ap (send_selector_out k) (sym e)
-  where
-    other : (n : ℕ) → selector_primitive (16 + n) ≡ 0 → (i == n) ≡ false
-    other n none = elim (eqb_tells i n) [
-      | inl same ↦ absurd (has_primitive o (sym none ∙ ap (λ m. selector_primitive (16 + m)) (sym same.1) ∙ ap selector_primitive (sym e) ∙ h))
-      | inr not ↦ not.0
-    ]
+common-else k i same class = rw (same, class) refl
+
+-- what is neither `==` nor `class` is sent
+pub common-sent : (k : Kept) (i : ℕ) (q : Selector) → HasIndex q (16 + i) → (q ≡ Compares → ⊥) → (q ≡ TellsClass → ⊥) → common_out k i ≡ send_selector_out k (16 + i)
+common-sent k i (Computes o) h same class = common-else k i (not_there i 6 o refl h) (not_there i 7 o refl h)
+common-sent k i Compares h same class = absurd (same refl)
+common-sent k i TellsClass h same class = absurd (class refl)
+common-sent k i IsSent h same class = common-else k i (not_named i 6 h.same) (not_named i 7 h.class)

@@ -56,7 +56,7 @@ pub fn common<W: World>(w: &mut W, i: u8) -> CodeEnd
     match Selector::from_index(i) {
         Selector::Compares => compare(w),
         Selector::TellsClass => push_class(w),
-        Selector::Computes(_) | Selector::IsSent => send_selector(w, i),
+        _ => send_selector(w, i),
     }
 }
 

@@ -7,8 +7,8 @@ use Rattle.cs_code.specs.Gives.{Gives}
 use Rattle.cs_code.proofs.Fields.{vector-stored}
 use Rattle.cs_code.proofs.stores.store_vector.Goals as goal
 
-pub returns-in-Some-clause-gives : goal.returns-in-Some-clause-gives
-returns-in-Some-clause-gives g c =
+pub returns-clause-gives : goal.returns-clause-gives
+returns-clause-gives g c =
     let k = g.W.World.view c.args.w.now in
     let s = g.W.World.stored c.args.w.now in
     subst (λ o. Gives s (g.W.World.stored c.store_slot.new.w) (g.W.World.layout c.args.w.now) (g.W.World.view c.store_slot.new.w) c.store_slot.result o)

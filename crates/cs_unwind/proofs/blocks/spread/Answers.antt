@@ -7,7 +7,7 @@ use Rattle.cs_acts.specs.Led.{Leads}
 use Rattle.cs_acts.specs.Names.{NamesOption, name_of}
 use Rattle.cs_acts.proofs.Leading.{then}
 use Rattle.cs_unwind.proofs.BlockRows.{elements_of}
-use Rattle.cs_unwind.proofs.Spreading.{array_kept, element_is, element_is_there, elements, popped_first, room_left, so_many, spread_more}
+use Rattle.cs_unwind.proofs.Spreading.{all_spread, array_kept, element_is, element_is_there, elements, popped_first, room_left, so_many, spread_more}
 use Rattle.cs_unwind.proofs.blocks.spread.Goals as goal
 
 pub loop-i-init : goal.loop-i-init
@@ -57,3 +57,12 @@ loop-i-preserved g c =
     subst (λ u. Leads s (g.W.World.stored c.push.new.self) (g.W.World.layout c.args.w.now) (g.W.World.layout c.push.new.self) (g.W.World.view c.push.new.self) u 0)
     (spread_more k (elements k x) c.loop-i.i (name_of t c.in-Some.value) value)
     (then s t _ _ _ _ _ _ _ 0 0 (λ u. push_of u (name_of t c.in-Some.value)) c.loop-i.invariant e.state e.exact e.layout e.limit e.contexts e.ready e.names)
+
+pub returns-clause-spreads : goal.returns-clause-spreads
+returns-clause-spreads g c =
+    let s = g.W.World.stored c.args.w.now in
+    let k = g.W.World.view c.args.w.now in
+    let x = name_of s c.args.array in
+    let all : c.loop-i.i ≡ c.args.count = omega (arith, c.loop-i-test.false, c.loop-i.auto.i-end) in
+    all_spread s (g.W.World.stored c.loop-i.w) (g.W.World.layout c.args.w.now) (g.W.World.layout c.loop-i.w) k (g.W.World.view c.loop-i.w) x c.args.count c.loop-i.i
+    (elements_of k x c.args.count c.requires.fits) all c.loop-i.invariant
