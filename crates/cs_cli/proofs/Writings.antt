@@ -35,10 +35,10 @@ printed_behind a b c i j k xs ys answer status h le (inr (e, rose, part)) = inr 
 
 -- the answer of a run by its ending, its steps and its place
 pub run_answer-by : (m : Ran) (e : Ending) (steps : ℕ) (p : Place) → m.ending ≡ e → m.state.run.steps ≡ steps → place_of m.state.kept ≡ p
-    → answering (run_status e) (m.state.run.output ++ codes "\n" ++ report_line e steps p) ≡ run_answer m
+    → answering (run_status e) (m.state.run.output ++ (codes "\n" ++ report_line e steps p)) ≡ run_answer m
 unfolding report_of
 run_answer-by m e steps p he hs hp =
-    let f : Ending → ℕ → Place → Answer = λ e s q. answering (run_status e) (m.state.run.output ++ codes "\n" ++ report_line e s q) in
+    let f : Ending → ℕ → Place → Answer = λ e s q. answering (run_status e) (m.state.run.output ++ (codes "\n" ++ report_line e s q)) in
     sym (ap (λ x. f x m.state.run.steps (place_of m.state.kept)) he ∙ ap (λ s. f e s (place_of m.state.kept)) hs ∙ ap (λ q. f e steps q) hp)
 
 -- a run whose report is printed behind what it wrote

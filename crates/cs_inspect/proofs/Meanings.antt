@@ -1,5 +1,5 @@
 -- What an object is and what may be asked of it, by its kind.
-use Rattle.std.proofs.Common.{◌≡◌, ℕ, ◌+◌, ◌-◌, ◌*◌, ◌<◌, ◌≤◌, Bool, true, false, refl, sym, ap, ap₂, subst, ◌∙◌, arith, Option, Some, None, List, [], ◌++◌, length, map, take, drop, get_or, option_map}
+use Rattle.std.proofs.Common.{◌≡◌, ◌%◌, ℕ, ◌+◌, ◌-◌, ◌*◌, ◌<◌, ◌≤◌, Bool, true, false, refl, sym, ap, ap₂, subst, ◌∙◌, arith, Option, Some, None, List, [], ◌++◌, length, map, take, drop, get_or, option_map}
 use Rattle.std.specs.Prelude.{codes, decimal, nat_lt, slice_index, unwrap_or, ◌==◌, ◌&&◌, ◌||◌, if◌then◌else◌}
 use Rattle.std.specs.List.{AllPass}
 use Rattle.std.specs.Option.{option_map_or}
@@ -64,7 +64,7 @@ pub means_pointers : (os : List Object) (a : ℕ) → is_object os a ≡ true �
 means_pointers os a h c p = let t = object_there os a h in go (object_at os a) t.0 t.1 c p
   where
     go : (o : Option Object) (x : Object) → o ≡ Some x → (option_map_or (λ (y : Object). y.class) o 0 == 36) ≡ false → is_pointers (option_map_or (λ (y : Object). y.format) o 0) ≡ true
-        → option_map (obj_of (ref_of os)) o ≡ Some (Ptr (record { class = option_map_or (λ (y : Object). y.class) o 0; format = option_map_or (λ (y : Object). y.format) o 0; hash = option_map_or (λ (y : Object). y.hash) o 0; fixed = bit (option_map_or (λ (y : Object). flag_bits y.flags) o 0) 0 == 1 }) (map (ref_of os) (option_map_or (λ (y : Object). y.words) o [])))
+        → option_map (obj_of (ref_of os)) o ≡ Some (Ptr (record { class = option_map_or (λ (y : Object). y.class) o 0; format = option_map_or (λ (y : Object). y.format) o 0; hash = option_map_or (λ (y : Object). y.hash) o 0; fixed = option_map_or (λ (y : Object). flag_bits y.flags) o 0 % 2 == 1 }) (map (ref_of os) (option_map_or (λ (y : Object). y.words) o [])))
     go None x e c p = absurd (cc)
     go (Some y) x e c p = ap Some (obj_of-pointers (ref_of os) y c p)
 
@@ -72,7 +72,7 @@ pub means_raw : (os : List Object) (a : ℕ) → is_object os a ≡ true → (cl
 means_raw os a h c p m = let t = object_there os a h in go (object_at os a) t.0 t.1 c p m
   where
     go : (o : Option Object) (x : Object) → o ≡ Some x → (option_map_or (λ (y : Object). y.class) o 0 == 36) ≡ false → is_pointers (option_map_or (λ (y : Object). y.format) o 0) ≡ false → is_method (option_map_or (λ (y : Object). y.format) o 0) ≡ false
-        → option_map (obj_of (ref_of os)) o ≡ Some (Raw (record { class = option_map_or (λ (y : Object). y.class) o 0; format = option_map_or (λ (y : Object). y.format) o 0; hash = option_map_or (λ (y : Object). y.hash) o 0; fixed = bit (option_map_or (λ (y : Object). flag_bits y.flags) o 0) 0 == 1 }) (used_bytes (option_map_or (λ (y : Object). y.format) o 0) (option_map_or (λ (y : Object). y.words) o [])))
+        → option_map (obj_of (ref_of os)) o ≡ Some (Raw (record { class = option_map_or (λ (y : Object). y.class) o 0; format = option_map_or (λ (y : Object). y.format) o 0; hash = option_map_or (λ (y : Object). y.hash) o 0; fixed = option_map_or (λ (y : Object). flag_bits y.flags) o 0 % 2 == 1 }) (used_bytes (option_map_or (λ (y : Object). y.format) o 0) (option_map_or (λ (y : Object). y.words) o [])))
     go None x e c p m = absurd (cc)
     go (Some y) x e c p m = ap Some (obj_of-bytes (ref_of os) y c p m)
 
@@ -80,7 +80,7 @@ pub means_method : (os : List Object) (a : ℕ) → is_object os a ≡ true → 
 means_method os a h c p m = let t = object_there os a h in go (object_at os a) t.0 t.1 c p m
   where
     go : (o : Option Object) (x : Object) → o ≡ Some x → (option_map_or (λ (y : Object). y.class) o 0 == 36) ≡ false → is_pointers (option_map_or (λ (y : Object). y.format) o 0) ≡ false → is_method (option_map_or (λ (y : Object). y.format) o 0) ≡ true
-        → option_map (obj_of (ref_of os)) o ≡ Some (Method (record { class = option_map_or (λ (y : Object). y.class) o 0; format = option_map_or (λ (y : Object). y.format) o 0; hash = option_map_or (λ (y : Object). y.hash) o 0; fixed = bit (option_map_or (λ (y : Object). flag_bits y.flags) o 0) 0 == 1 }) (header_in (option_map_or (λ (y : Object). y.words) o [])) (map (ref_of os) (literals_in (option_map_or (λ (y : Object). y.words) o []))) (used_bytes (option_map_or (λ (y : Object). y.format) o 0) (code_in (option_map_or (λ (y : Object). y.words) o []))))
+        → option_map (obj_of (ref_of os)) o ≡ Some (Method (record { class = option_map_or (λ (y : Object). y.class) o 0; format = option_map_or (λ (y : Object). y.format) o 0; hash = option_map_or (λ (y : Object). y.hash) o 0; fixed = option_map_or (λ (y : Object). flag_bits y.flags) o 0 % 2 == 1 }) (header_in (option_map_or (λ (y : Object). y.words) o [])) (map (ref_of os) (literals_in (option_map_or (λ (y : Object). y.words) o []))) (used_bytes (option_map_or (λ (y : Object). y.format) o 0) (code_in (option_map_or (λ (y : Object). y.words) o []))))
     go None x e c p m = absurd (cc)
     go (Some y) x e c p m = ap Some (obj_of-method (ref_of os) y c p m)
 

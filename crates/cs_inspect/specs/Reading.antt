@@ -3,9 +3,8 @@ use Rattle.std.specs.Prelude.{◌≡◌, ℕ, ◌||◌, ◌&&◌, ◌==◌, not,
 use Rattle.std.specs.Option.{option_map_or}
 use Rattle.std.specs.FinMap.{entries}
 use Rattle.cs_word.specs.declared.Oop.{Oop}
-use Rattle.cs_word.specs.Header.{bit}
 use Rattle.cs_heap.specs.Format.{is_pointers}
-use Rattle.cs_heap.specs.Object.{Object, birth_of, class_of, flags_of, format_of, hash_of, is_object, object_at, slot_count_of}
+use Rattle.cs_heap.specs.Object.{Object, birth_of, class_of, format_of, hash_of, is_immutable_at, is_object, object_at, slot_count_of}
 use Rattle.cs_model.specs.Obj.{Context, Head, context_class, Obj, Ptr, Raw, Method, slots_in}
 use Rattle.cs_model.specs.Ref.{Ref}
 use Rattle.cs_classes.specs.Meaning.{code_in, context_of, header_in, literals_in, meaning_at, objects_of, ref_of, used_bytes}
@@ -45,7 +44,7 @@ head_at objects a = record {
   class = class_of objects a;
   format = format_of objects a;
   hash = hash_of objects a;
-  fixed = bit (flags_of objects a) 0 == 1;
+  fixed = is_immutable_at objects a;
 }
 
 -- what it is, by its kind
