@@ -1,0 +1,12 @@
+//! The builder of images: from a text in lines to the bytes of an image, and the generator of large texts.
+#![tactic(auto)]
+
+mod error;
+mod form;
+mod generate;
+mod mention;
+mod number;
+mod word;
+
+pub use error::BuildError;
+pub use generate::{NoMemory, gen_text};
