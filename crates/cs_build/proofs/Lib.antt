@@ -8,3 +8,6 @@ pub mod Reading
 pub mod Naming
 pub mod Storing
 pub mod Describing
+pub mod OpLemmas
+pub mod OuterLemmas
+pub mod HexLemmas

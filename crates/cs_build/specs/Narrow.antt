@@ -1,6 +1,6 @@
 -- What the code keeps of the numbers of a line: a number beyond 32 bits becomes the nearest of 32 bits, and an instruction
 -- that comes in no form becomes none. No line with such a number is without fault.
-use Rattle.std.specs.Prelude.{ℕ, ℤ, List, [], ◌∷◌, Option, None, Some, codes, map, option_map, is_some, if◌then◌else◌}
+use Rattle.std.specs.Prelude.{ℕ, ℤ, Bool, false, List, [], ◌∷◌, Option, None, Some, codes, map, option_map, option_and_then, is_some, nat_lt, if◌then◌else◌}
 use Rattle.std.specs.Int.{saturate_signed, w32}
 use Rattle.std.specs.Prelude.{◌≡◌}
 use Rattle.std.specs.Borrow.{Bor}
@@ -8,9 +8,10 @@ use Rattle.cs_build.specs.declared.form.Form as code
 use Rattle.cs_build.specs.declared.form.Mention as code_mention
 use Rattle.cs_build.specs.Meaning.{form_by, mention_by}
 use Rattle.cs_model.specs.declared.instruction.Op.{Op}
+use Rattle.cs_model.specs.Ref.{natural_of}
 use Rattle.cs_model.specs.BuilderFault.{plain_bytes}
-use Rattle.cs_model.specs.BuilderText.{Mention, Number, Code, ClassLine, MethodLine, ProcessLine, Form, Class, Object, Method, Process, Special, Active, Ready, Literal, Byte, Plain, ClosureTo, class_form, method_form, process_form, special_form, name_form}
-use Rattle.cs_model.specs.Text.{is_name}
+use Rattle.cs_model.specs.BuilderText.{Mention, Number, Code, ClassLine, MethodLine, ProcessLine, Form, Class, Object, Method, Process, Special, Active, Ready, Literal, Byte, Plain, ClosureTo, method_form, process_form, special_form, name_form, one_form}
+use Rattle.cs_model.specs.Text.{is_empty, is_name}
 use Rattle.std.specs.Str.{bytes_eq}
 
 abbrev pub narrow : ℤ → ℤ
@@ -49,6 +50,15 @@ narrow_form (Plain o) = Plain (narrow_op o)
 narrow_form (ClosureTo copied args label) = ClosureTo (narrow copied) (narrow args) label
 narrow_form form = form
 
+-- a number that fits a byte
+abbrev pub byte_in : ℤ → Option ℕ
+byte_in z = option_and_then (λ n. if nat_lt n 256 then Some n else None) (natural_of z)
+
+-- a byte of code or an instruction with one number, where the number may be none
+abbrev pub numbered : List ℕ → Option ℤ → Option Form
+numbered word number =
+    if bytes_eq word (codes "byte") then option_map (λ n. Byte n) number else option_and_then (one_form word) number
+
 -- the words of a line without where they lie
 abbrev pub texts : List (Bor (List ℕ)) → List (List ℕ)
 texts words = map (λ word. word.now) words
@@ -65,13 +75,18 @@ abbrev pub lone_name : List (List ℕ) → Option (List ℕ)
 lone_name (name ∷ []) = if is_name name then Some name else None
 lone_name words = None
 
--- the forms of lines outside of methods that hold no list
+-- the forms of lines outside of methods behind those of classes and objects
 abbrev pub plain_outer : List ℕ → List (List ℕ) → Option Form
 plain_outer word words =
-    if bytes_eq word (codes "class") then class_form words else
     if bytes_eq word (codes "method") then method_form words else
     if bytes_eq word (codes "process") then process_form words else
     if bytes_eq word (codes "special") then special_form words else
     if bytes_eq word (codes "active") then name_form (λ name. Active name) words else
     if bytes_eq word (codes "ready") then name_form (λ name. Ready name) words else
     None
+
+-- whether the last of some parts is empty
+abbrev pub ends_empty : List (List ℕ) → Bool
+ends_empty [] = false
+ends_empty (part ∷ []) = is_empty part
+ends_empty (part ∷ next ∷ parts) = ends_empty (next ∷ parts)

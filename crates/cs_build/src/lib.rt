@@ -1,6 +1,7 @@
 //! The builder of images: from a text in lines to the bytes of an image, and the generator of large texts.
 #![tactic(auto)]
 
+mod code;
 mod error;
 mod form;
 mod generate;
@@ -10,6 +11,7 @@ mod mention;
 mod method;
 mod number;
 mod object;
+mod outer;
 mod word;
 
 pub use error::BuildError;

@@ -1,6 +1,6 @@
 //! The lines of a text and the words of a line.
 
-ghost use Rattle.std.specs.Prelude.{◌≡◌, ◌==◌, ◌<◌, ◌≤◌, false, length, IfOk, IfSome, IfNone, IsTrue};
+ghost use Rattle.std.specs.Prelude.{◌≡◌, ◌==◌, ◌&&◌, ◌<◌, ◌≤◌, false, length, IfOk, IfSome, IfNone, IsTrue};
 ghost use Rattle.std.specs.Char.{is_ascii_alphanumeric};
 ghost use Rattle.std.specs.Str.{bytes_eq};
 ghost use Rattle.std.specs.List.{before_first, after_first, list_all, position_or_len, slice_split};
@@ -53,6 +53,13 @@ pub fn is_name(word: &[u8]) -> bool
         return false;
     };
     first.is_ascii_alphabetic() && are_alphanumeric(rest)
+}
+
+/// Whether two words are names.
+pub fn are_names(first: &[u8], second: &[u8]) -> bool
+    ensures { result ≡ (is_name first.now && is_name second.now) }
+{
+    is_name(first) && is_name(second)
 }
 
 /// Whether all bytes are letters and digits.

@@ -1,0 +1,121 @@
+//! The instructions of a method's lines.
+
+ghost use Rattle.std.specs.Prelude.{◌≡◌, ◌∷◌, [], find, option_map, Some, None, IfSome, if◌then◌else◌};
+ghost use Rattle.cs_model.specs.Assemble.{IsInstr, has_form};
+ghost use Rattle.cs_model.specs.BuilderText.{op_named, plain_ops, ops_of_one, ops_of_two};
+ghost use Rattle.cs_build.specs.Narrow.{narrow_op};
+
+use cs_decode::{Instr, is_instr};
+use cs_model::Op;
+
+/// The first form of an instruction that its numbers fit, the shortest one.
+pub fn first_form(op: Op) -> Option<Instr>
+    ensures length { option_map (λ i. i.len) result ≡ find (λ len. has_form len op) (1 ∷ 2 ∷ 3 ∷ 4 ∷ []) }
+    ensures op { IfSome result (λ i. i.op ≡ op) }
+    ensures form { IfSome result IsInstr }
+{
+    if let Some(form) = of_length(op, 1) {
+        return Some(form);
+    }
+    if let Some(form) = of_length(op, 2) {
+        return Some(form);
+    }
+    if let Some(form) = of_length(op, 3) {
+        return Some(form);
+    }
+    of_length(op, 4)
+}
+
+/// The form of so many bytes, if the instruction comes in it.
+fn of_length(op: Op, len: u8) -> Option<Instr>
+    ensures length { option_map (λ i. i.len) result ≡ (if has_form len op then Some len else None) }
+    ensures op { IfSome result (λ i. i.op ≡ op) }
+    ensures form { IfSome result IsInstr }
+{
+    let instruction = Instr { op, len };
+    if is_instr(&instruction) {
+        Some(instruction)
+    } else {
+        None
+    }
+}
+
+/// An instruction if it comes in a form.
+pub fn if_formed(op: Op) -> Option<Op>
+    ensures { result ≡ narrow_op (Some op) }
+{
+    let _form = first_form(op)?;
+    Some(op)
+}
+
+/// The instruction without numbers that a word names.
+pub fn plain_op(word: &[u8]) -> Option<Op>
+    ensures { result ≡ op_named word.now plain_ops }
+{
+    let ops = [
+        Op::PushSelf,
+        Op::PushTrue,
+        Op::PushFalse,
+        Op::PushNil,
+        Op::ReturnSelf,
+        Op::ReturnTrue,
+        Op::ReturnFalse,
+        Op::ReturnNil,
+        Op::ReturnTop,
+        Op::BlockReturn,
+        Op::Pop,
+        Op::Dup,
+        Op::ThisContext,
+    ];
+    op_named(word, &ops)
+}
+
+/// The instruction that a word names, with one number that isn't negative.
+pub fn op_of_one(word: &[u8], n: u8) -> Option<Op>
+    ensures { result ≡ op_named word.now (ops_of_one n) }
+{
+    let ops = [
+        Op::PushRcvr(n),
+        Op::PushTemp(n),
+        Op::PushLit(n),
+        Op::PushLitVar(n),
+        Op::PopRcvr(n),
+        Op::PopTemp(n),
+        Op::PopLitVar(n),
+        Op::StoreRcvr(n),
+        Op::StoreTemp(n),
+        Op::StoreLitVar(n),
+        Op::NewArray(n),
+        Op::PopArray(n),
+        Op::Special(n),
+        Op::Common(n),
+    ];
+    op_named(word, &ops)
+}
+
+/// The instruction that a word names, with two numbers that aren't negative.
+pub fn op_of_two(word: &[u8], a: u8, b: u8) -> Option<Op>
+    ensures { result ≡ op_named word.now (ops_of_two a b) }
+{
+    let ops = [
+        Op::Send { lit: a, args: b },
+        Op::SendSuper { lit: a, args: b },
+        Op::PushVec { k: a, j: b },
+        Op::StoreVec { k: a, j: b },
+        Op::PopVec { k: a, j: b },
+    ];
+    op_named(word, &ops)
+}
+
+/// The one of that word.
+#[tactic(auto, using(crate::proofs::OpLemmas::finding))]
+fn op_named(word: &[u8], ops: &[Op]) -> Option<Op>
+    ensures { result ≡ op_named word.now ops.now }
+{
+    for op in ops {
+        if op.name().as_bytes() == word {
+            return Some(*op);
+        }
+    }
+    None
+}
