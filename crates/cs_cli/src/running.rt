@@ -1,6 +1,6 @@
 //! The command that runs an image.
 
-ghost use Rattle.std.specs.Prelude.{◌≡◌, List, ℕ, Some, false};
+ghost use Rattle.std.specs.Prelude.{◌≡◌, ◌≤◌, List, ℕ, Some, false};
 ghost use Rattle.cs_classes.specs.Meaning.{loaded_kept};
 ghost use Rattle.cs_model.specs.CommandLine.{run_pages};
 ghost use Rattle.cs_model.specs.Due.{is_idle};
