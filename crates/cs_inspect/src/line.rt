@@ -149,7 +149,8 @@ fn push_method_head(
     requires { is_object heap.now.objects o.0 ≡ true }
     ensures { OnOk result (text.new.items ≡ text.old.items
         ++ (codes " method class=" ++ decimal (class_at heap.now.objects o.0)
-        ++ codes " hash=" ++ decimal (hash_at heap.now.objects o.0) ++ codes " header=" ++ decimal header.0 ++ codes ":")) }
+        ++ codes " hash=" ++ decimal (hash_at heap.now.objects o.0)
+        ++ codes " header=" ++ decimal header.0 ++ codes ":")) }
 {
     push_field(text, " method class=", heap.class_index(o))?;
     push_field(text, " hash=", heap.hash(o))?;
