@@ -9,4 +9,4 @@ pub mod Reading
 pub mod Writings
 pub mod Images
 pub mod Breaking
-pub mod Refusing
+pub mod Answering
