@@ -1,5 +1,5 @@
 -- What a command answers: a file that gives no image is told, and what is done with an image follows.
-use Rattle.std.proofs.Common.{◌⊎◌, inl, inr, ℕ, List, Option, None, Some, IfSome, Err}
+use Rattle.std.proofs.Common.{inl, inr, ℕ, List, Option, None, Some, IfSome, Err}
 use Rattle.std.specs.Option.{option_map_or}
 use Rattle.cs_model.specs.CommandLine.{Options, run_pages}
 use Rattle.cs_model.specs.ImageFault.{ImageFault}

@@ -1,5 +1,5 @@
 -- Texts that are written one behind another, and the answer of a run.
-use Rattle.std.proofs.Common.{◌≡◌, inl, inr, ℕ, ◌+◌, ◌≤◌, List, ◌++◌, take, length, length-append, Option, Some, None, Result, Ok, Err, OnOk, OnErr, sym, ap, ◌∙◌, subst, arith, codes}
+use Rattle.std.proofs.Common.{◌≡◌, inl, inr, ℕ, ◌+◌, ◌≤◌, List, ◌++◌, take, length, length-append, Option, Result, Ok, Err, OnOk, OnErr, sym, ap, ◌∙◌, subst, arith, codes}
 use Rattle.std.proofs.Math.Seq.{take-append-add}
 use Rattle.std.proofs.lemmas.List.{take-append-le}
 use Rattle.cs_shelf.specs.Outside.{Appends, AppendsPart, Rose}

@@ -67,19 +67,19 @@ pub(crate) fn run_file<S: Shelf, K: Sink>(
     ensures contents { (name : List ℕ) → S.content shelf.new name ≡ S.content shelf.old name }
 {
     match load_file(alloc, shelf, line.file, line.options.heap) {
-        Ok(loaded) => open_and_run(alloc, loaded, line.options.page_count(), line.options.steps, out),
+        Ok(loaded) => open_and_run(
+            alloc,
+            loaded,
+            line.options.page_count(),
+            line.options.steps,
+            out,
+        ),
         Err(why) => refuse(out, line.file, why),
     }
 }
 
 /// Opens an image on so many stack pages, 2 to 64, and runs it.
-fn open_and_run<K: Sink>(
-    alloc: Global,
-    loaded: Loaded,
-    pages: u32,
-    steps: u64,
-    out: &mut K,
-) -> u8
+fn open_and_run<K: Sink>(alloc: Global, loaded: Loaded, pages: u32, steps: u64, out: &mut K) -> u8
     requires openable { IsOpenable loaded }
     requires few { 2 ≤ pages }
     requires many { pages ≤ 64 }

@@ -1,6 +1,6 @@
 use Rattle.std.proofs.Common.{ℕ, Option, Some, subst}
 use Rattle.cs_model.specs.State.{Kept}
-use Rattle.cs_stack.specs.View.{layout_of, stored_of, view_of}
+use Rattle.cs_stack.specs.View.{layout_of, view_of}
 use Rattle.cs_core.specs.Deep.{most_of}
 use Rattle.cs_cli.specs.Answer.{OrMemory, Reported, Writing}
 use Rattle.cs_cli.proofs.Writings.{writing}
