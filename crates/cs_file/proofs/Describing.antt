@@ -1,0 +1,143 @@
+-- The state that a sound file describes.
+use Rattle.std.proofs.Common.{◌≡◌, ◌≢◌, ℕ, zero, suc, ◌+◌, ◌-◌, ◌*◌, ◌/◌, ◌%◌, ◌^◌, ◌<◌, ◌≤◌, ◌==◌, ◌&&◌, ◌||◌, Bool, true, false, cond, not, nat_lt, List, [], ◌∷◌, ◌++◌, length, map, take, drop, replicate, Option, Some, None, refl, ap, ap₂, sym, ◌∙◌, arith, slice_get, slice_index, subst, option_map}
+use Rattle.std.specs.Option.{option_map_or}
+use Rattle.std.specs.List.{find, zip}
+use Rattle.std.specs.Prelude.{Result, Ok}
+use Rattle.std.specs.Ordering.{nat_cmp}
+use Rattle.std.specs.FinMap.{FinMap, empty, insert, from_entries}
+use Rattle.std.proofs.lemmas.List.{map-append, take-append-drop}
+use Rattle.std.proofs.lemmas.Bool.Decides.{nat_tests}
+use Rattle.cs_model.specs.Ref as ref
+use Rattle.cs_model.specs.Obj.{Obj}
+use Rattle.cs_model.specs.State.{Kept, Rest}
+use Rattle.cs_model.specs.Words.{obj_by}
+use Rattle.cs_model.specs.Image.{birth_in, head_in, object_in, classes_in, described, rest_in, fault_of, first_of, image_of, state_unless, when, at_word}
+use Rattle.cs_model.specs.ImageFile.{FileObject, File, special_address, last_hash_in, header_in, cut_of, words_in, births_in, next_birth_in, file_of, visible}
+use Rattle.cs_model.specs.ImageFault.{ImageFault, table_size, bad_object, is_over, is_bad_table, bad_ref, bad_class, bad_context, is_bad_roots, is_bad_births, has_entry, entry_in}
+use Rattle.cs_model.specs.SavedFile.{SavedObject, SavedBirths, SavedFile, FitsFile, IsReadAgain, saved_base, saved_size, placed_at, placed_from, saved_bytes}
+use Rattle.cs_model.proofs.SavedFiles.{read_again}
+use Rattle.cs_file.specs.SoundFile.{IsSoundFile, births_by, next_by, saved_births, visible_saved, saved_birth, saved_head, saved_obj, saved_classes, saved_entry, saved_rest, state_of_file}
+use Rattle.cs_file.proofs.Placing.{placed_file}
+use Rattle.cs_file.proofs.Entries.{entry_there, has_entry_there}
+use Rattle.cs_file.proofs.Seen.{file_there, visible_there}
+use Rattle.cs_file.proofs.Whole.{not_too_long, not_short, format_right, header_size_right, profile_right, lengths_right, objects_whole, not_over, births_right, length-visible}
+use Rattle.cs_file.proofs.Tables.{table_right, references_right, kinds_right}
+use Rattle.cs_file.proofs.Contexts.{contexts_right, roots_right}
+
+-- ---- births
+
+births_there : (f : SavedFile) → FitsFile f → births_in (saved_bytes f) (length f.objects) ≡ saved_births f
+births_there f fits = go f.births refl
+  where
+    go : (b : Option SavedBirths) → f.births ≡ b → births_in (saved_bytes f) (length f.objects) ≡ births_by b (length f.objects)
+    go None e = (read_again f fits).by_place (length f.objects) e
+    go (Some b) e = (read_again f fits).births b (length f.objects) e
+
+next_there : (f : SavedFile) → FitsFile f → next_birth_in (saved_bytes f) (length f.objects) ≡ next_by f.births (length f.objects)
+next_there f fits = go f.births refl
+  where
+    go : (b : Option SavedBirths) → f.births ≡ b → next_birth_in (saved_bytes f) (length f.objects) ≡ next_by b (length f.objects)
+    go None e = (read_again f fits).next_place (length f.objects) e
+    go (Some b) e = (read_again f fits).next b (length f.objects) e
+
+birth_there : (f : SavedFile) (limit : ℕ) → IsSoundFile f limit → (word : ℕ) → birth_in (placed_file f) (saved_births f) word ≡ saved_birth f word
+unfolding saved_birth
+birth_there f limit s word =
+    ap (λ (os : List FileObject). option_map_or (λ (e : ℕ × FileObject). e.0) (find (λ e. saved_base + 4 * e.1.place == word) (zip (saved_births f) os)) 0) (visible_there f limit s)
+
+-- ---- classes
+
+classes_there : (f : SavedFile) (limit : ℕ) → IsSoundFile f limit → (n : ℕ) → classes_in (placed_file f) (saved_births f) n ≡ saved_classes f n
+classes_there f limit s zero = refl
+classes_there f limit s (suc n) = go (saved_entry f n == saved_base) (classes_there f limit s n) (has_entry_there f s.fits n)
+    (ap (birth_in (placed_file f) (saved_births f)) (entry_there f s.fits n) ∙ birth_there f limit s (saved_entry f n))
+  where
+    go : (b : Bool) → classes_in (placed_file f) (saved_births f) n ≡ saved_classes f n → has_entry (placed_file f) n ≡ not b
+        → birth_in (placed_file f) (saved_births f) (entry_in (placed_file f) n) ≡ saved_birth f (saved_entry f n)
+        → cond (has_entry (placed_file f) n) (insert (classes_in (placed_file f) (saved_births f) n) n (birth_in (placed_file f) (saved_births f) (entry_in (placed_file f) n)))
+        (classes_in (placed_file f) (saved_births f) n)
+        ≡ cond b (saved_classes f n) (insert (saved_classes f n) n (saved_birth f (saved_entry f n)))
+    go true before entry birth = rw entry before
+    go false before entry birth = rw entry (ap₂ (λ (m : FinMap nat_cmp ℕ) b. insert m n b) before birth)
+
+-- ---- objects
+
+map_placed : {Y : Type 0} (g : FileObject → Y) (h : SavedObject → Y) → ((first : ℕ) (o : SavedObject) → g (placed_at first o) ≡ h o)
+    → (first : ℕ) (os : List SavedObject) → map g (placed_from first os) ≡ map h os
+unfolding placed_from
+map_placed g h same first [] = refl
+map_placed g h same first (o ∷ os) = ap₂ (λ y ys. y ∷ ys) (same first o) (map_placed g h same (first + saved_size (length o.words)) os)
+
+map_visible : {Y : Type 0} (g : FileObject → Y) (h : SavedObject → Y) → ((first : ℕ) (o : SavedObject) → g (placed_at first o) ≡ h o)
+    → (f : SavedFile) → map g (visible_saved f) ≡ map h f.objects
+map_visible g h same f =
+    map-append g (placed_from 0 (take 3 f.objects)) (placed_from 34 (drop 3 f.objects))
+    ∙ ap₂ (λ xs ys. xs ++ ys) (map_placed g h same 0 (take 3 f.objects)) (map_placed g h same 34 (drop 3 f.objects))
+    ∙ sym (map-append h (take 3 f.objects) (drop 3 f.objects)) ∙ ap (map h) (take-append-drop 3 f.objects)
+
+-- ---- the whole
+
+-- the state that is described where this is the file and these are the births
+abbrev described_by : List ℕ → File → List ℕ → Kept
+described_by bytes g births = record {
+  objects = from_entries (zip births (map (object_in g births) (visible g)));
+  rest = rest_in bytes g births;
+}
+
+births_seen : (f : SavedFile) (limit : ℕ) → IsSoundFile f limit → births_in (saved_bytes f) (length (visible (placed_file f))) ≡ saved_births f
+births_seen f limit s =
+    ap (births_in (saved_bytes f)) (ap length (visible_there f limit s) ∙ length-visible f) ∙ births_there f s.fits
+
+objects_there : (f : SavedFile) (limit : ℕ) → IsSoundFile f limit
+    → map (object_in (placed_file f) (saved_births f)) (visible (placed_file f)) ≡ map (saved_obj f) f.objects
+objects_there f limit s =
+    ap (map (object_in (placed_file f) (saved_births f))) (visible_there f limit s)
+    ∙ map_visible (object_in (placed_file f) (saved_births f)) (saved_obj f) (λ first o. same (birth_there f limit s) o) f
+  where
+    same : ((word : ℕ) → birth_in (placed_file f) (saved_births f) word ≡ saved_birth f word) → (o : SavedObject)
+        → obj_by (λ word. ref.Obj (birth_in (placed_file f) (saved_births f) word)) (saved_head o) o.words ≡ saved_obj f o
+    same h o = λ i. obj_by (λ word. ref.Obj (h word i)) (saved_head o) o.words
+
+rest_there : (f : SavedFile) (limit : ℕ) → IsSoundFile f limit → rest_in (saved_bytes f) (placed_file f) (saved_births f) ≡ saved_rest f
+rest_there f limit s = λ i. record {
+  nil = slice_index (saved_births f) 0;
+  false_ = slice_index (saved_births f) 1;
+  true_ = slice_index (saved_births f) 2;
+  special = special i;
+  header = r.header i;
+  classes = classes_there f limit s table_size i;
+  last_hash = r.last_hash i;
+  next = next i;
+  active = None;
+}
+  where
+    r : IsReadAgain f (saved_bytes f)
+    r = read_again f s.fits
+
+    special : birth_in (placed_file f) (saved_births f) (special_address (saved_bytes f)) ≡ saved_birth f f.special
+    special = ap (birth_in (placed_file f) (saved_births f)) r.special ∙ birth_there f limit s f.special
+
+    next : next_birth_in (saved_bytes f) (length (visible (placed_file f))) ≡ next_by f.births (length f.objects)
+    next = ap (next_birth_in (saved_bytes f)) (ap length (visible_there f limit s) ∙ length-visible f) ∙ next_there f s.fits
+
+pub state_there : (f : SavedFile) (limit : ℕ) → IsSoundFile f limit → described (saved_bytes f) ≡ state_of_file f
+unfolding described state_of_file
+state_there f limit s =
+    ap (λ (g : File). described_by (saved_bytes f) g (births_in (saved_bytes f) (length (visible g)))) (file_there f limit s)
+    ∙ ap (described_by (saved_bytes f) (placed_file f)) (births_seen f limit s)
+    ∙ ap₂ (λ (os : List Obj) (r : Rest). let k : Kept = record { objects = from_entries (zip (saved_births f) os); rest = r } in k)
+    (objects_there f limit s) (rest_there f limit s)
+
+pub no_fault : (f : SavedFile) (limit : ℕ) → IsSoundFile f limit → fault_of (saved_bytes f) limit ≡ None
+unfolding fault_of
+no_fault f limit s =
+    let count : length (visible (placed_file f)) ≡ length f.objects = ap length (visible_there f limit s) ∙ length-visible f in
+    rw (file_there f limit s, (read_again f s.fits).special, count,
+    not_too_long f limit s, not_short f limit s, format_right f limit s, header_size_right f limit s, profile_right f limit s,
+    lengths_right f limit s, objects_whole f limit s, not_over f limit s, table_right f limit s, references_right f limit s,
+    kinds_right f limit s, contexts_right f limit s, roots_right f limit s, births_right f limit s) refl
+
+pub image_there : (f : SavedFile) (limit : ℕ) → IsSoundFile f limit → image_of (saved_bytes f) limit ≡ Ok (state_of_file f)
+unfolding image_of
+image_there f limit s =
+    ap (λ (fault : Option ImageFault). state_unless fault (described (saved_bytes f))) (no_fault f limit s) ∙ ap Ok (state_there f limit s)
