@@ -1,15 +1,14 @@
 -- The contexts and the roots of a sound file have no fault.
-use Rattle.std.proofs.Common.{◌≡◌, ◌≢◌, ℕ, zero, suc, ◌+◌, ◌-◌, ◌*◌, ◌/◌, ◌%◌, ◌^◌, ◌<◌, ◌≤◌, ◌==◌, ◌&&◌, ◌||◌, Bool, true, false, cond, not, nat_lt, eqb, leb, List, [], ◌∷◌, ◌++◌, length, map, take, drop, replicate, Option, Some, None, refl, ap, ap₂, sym, ◌∙◌, arith, slice_get, slice_index, subst, option_map, is_some}
+use Rattle.std.proofs.Common.{◌≡◌, ◌≢◌, ℕ, ◌-◌, ◌==◌, ◌&&◌, ◌||◌, Bool, true, false, cond, not, List, length, Option, Some, None, refl, ap, ◌∙◌, arith, slice_index, option_map}
 use Rattle.std.specs.Option.{option_map_or, option_and_then}
-use Rattle.std.specs.List.{find, AllByRecursion}
+use Rattle.std.specs.List.{find}
 use Rattle.std.proofs.lemmas.Bool.Decides.{nat_tests}
 use Rattle.cs_model.specs.Obj.{context_class, context_fields}
-use Rattle.cs_model.specs.ImageFile.{FileObject, File, is_nil, named, names, visible}
-use Rattle.cs_model.specs.ImageFault.{is_context, is_sound_context, is_pc_of, is_stackp, is_method, bad_context, fields_of, fields_in, special_in, active_process_in, is_live_context, is_process, is_bad_roots}
+use Rattle.cs_model.specs.ImageFile.{FileObject, is_nil, named, names}
+use Rattle.cs_model.specs.ImageFault.{is_context, is_sound_context, is_pc_of, is_stackp, is_method, bad_context, fields_of, fields_in, special_in, is_live_context, is_process, is_bad_roots}
 use Rattle.cs_model.specs.SavedFile.{SavedObject, SavedFile, FitsFile, saved_base, placed_at}
-use Rattle.cs_file.specs.SoundFile.{IsSoundFile, IsSoundContext, IsActive, IsRooted, IsFound, IsNamed, IsNilOr, visible_saved}
+use Rattle.cs_file.specs.SoundFile.{IsSoundFile, IsSoundContext, IsActive, IsFound, visible_saved}
 use Rattle.cs_file.proofs.Placing.{placed_file, lies, is_named, nil_base}
-use Rattle.cs_file.proofs.Entries.{nil_nil}
 use Rattle.cs_file.proofs.Seen.{all_each, find_none, Anywhere, all_visible, visible_there}
 use Rattle.cs_file.proofs.Tables.{nil_or}
 
@@ -88,7 +87,9 @@ unfolding is_bad_roots
 roots_right f limit s =
     let r = s.roots in
     let F = placed_file f in
-    rw (special_there f s.fits f.special r.special r.array,
-    fields_there f s.fits 2 (slice_index r.special 3) r.link r.linked,
-    fields_there f s.fits 2 (slice_index r.link 1) r.scheduler r.scheduled)
+    rw (
+      special_there f s.fits f.special r.special r.array,
+      fields_there f s.fits 2 (slice_index r.special 3) r.link r.linked,
+      fields_there f s.fits 2 (slice_index r.link 1) r.scheduler r.scheduled,
+    )
     (ap not (active_right f s.fits (slice_index r.scheduler 1) r.active))

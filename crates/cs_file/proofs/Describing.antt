@@ -1,19 +1,18 @@
 -- The state that a sound file describes.
-use Rattle.std.proofs.Common.{◌≡◌, ◌≢◌, ℕ, zero, suc, ◌+◌, ◌-◌, ◌*◌, ◌/◌, ◌%◌, ◌^◌, ◌<◌, ◌≤◌, ◌==◌, ◌&&◌, ◌||◌, Bool, true, false, cond, not, nat_lt, List, [], ◌∷◌, ◌++◌, length, map, take, drop, replicate, Option, Some, None, refl, ap, ap₂, sym, ◌∙◌, arith, slice_get, slice_index, subst, option_map}
+use Rattle.std.proofs.Common.{◌≡◌, ℕ, zero, suc, ◌+◌, ◌*◌, ◌==◌, Bool, true, false, cond, not, List, [], ◌∷◌, ◌++◌, length, map, take, drop, Option, Some, None, refl, ap, ap₂, sym, ◌∙◌, slice_index}
 use Rattle.std.specs.Option.{option_map_or}
 use Rattle.std.specs.List.{find, zip}
-use Rattle.std.specs.Prelude.{Result, Ok}
+use Rattle.std.specs.Prelude.{Ok}
 use Rattle.std.specs.Ordering.{nat_cmp}
-use Rattle.std.specs.FinMap.{FinMap, empty, insert, from_entries}
+use Rattle.std.specs.FinMap.{FinMap, insert, from_entries}
 use Rattle.std.proofs.lemmas.List.{map-append, take-append-drop}
-use Rattle.std.proofs.lemmas.Bool.Decides.{nat_tests}
 use Rattle.cs_model.specs.Ref as ref
 use Rattle.cs_model.specs.Obj.{Obj}
 use Rattle.cs_model.specs.State.{Kept, Rest}
 use Rattle.cs_model.specs.Words.{obj_by}
-use Rattle.cs_model.specs.Image.{birth_in, head_in, object_in, classes_in, described, rest_in, fault_of, first_of, image_of, state_unless, when, at_word}
-use Rattle.cs_model.specs.ImageFile.{FileObject, File, special_address, last_hash_in, header_in, cut_of, words_in, births_in, next_birth_in, file_of, visible}
-use Rattle.cs_model.specs.ImageFault.{ImageFault, table_size, bad_object, is_over, is_bad_table, bad_ref, bad_class, bad_context, is_bad_roots, is_bad_births, has_entry, entry_in}
+use Rattle.cs_model.specs.Image.{birth_in, object_in, classes_in, described, rest_in, fault_of, image_of, state_unless}
+use Rattle.cs_model.specs.ImageFile.{FileObject, File, special_address, births_in, next_birth_in, visible}
+use Rattle.cs_model.specs.ImageFault.{ImageFault, table_size, has_entry, entry_in}
 use Rattle.cs_model.specs.SavedFile.{SavedObject, SavedBirths, SavedFile, FitsFile, IsReadAgain, saved_base, saved_size, placed_at, placed_from, saved_bytes}
 use Rattle.cs_model.proofs.SavedFiles.{read_again}
 use Rattle.cs_file.specs.SoundFile.{IsSoundFile, births_by, next_by, saved_births, visible_saved, saved_birth, saved_head, saved_obj, saved_classes, saved_entry, saved_rest, state_of_file}
@@ -132,10 +131,25 @@ pub no_fault : (f : SavedFile) (limit : ℕ) → IsSoundFile f limit → fault_o
 unfolding fault_of
 no_fault f limit s =
     let count : length (visible (placed_file f)) ≡ length f.objects = ap length (visible_there f limit s) ∙ length-visible f in
-    rw (file_there f limit s, (read_again f s.fits).special, count,
-    not_too_long f limit s, not_short f limit s, format_right f limit s, header_size_right f limit s, profile_right f limit s,
-    lengths_right f limit s, objects_whole f limit s, not_over f limit s, table_right f limit s, references_right f limit s,
-    kinds_right f limit s, contexts_right f limit s, roots_right f limit s, births_right f limit s) refl
+    rw (
+      file_there f limit s,
+      (read_again f s.fits).special,
+      count,
+      not_too_long f limit s,
+      not_short f limit s,
+      format_right f limit s,
+      header_size_right f limit s,
+      profile_right f limit s,
+      lengths_right f limit s,
+      objects_whole f limit s,
+      not_over f limit s,
+      table_right f limit s,
+      references_right f limit s,
+      kinds_right f limit s,
+      contexts_right f limit s,
+      roots_right f limit s,
+      births_right f limit s,
+    ) refl
 
 pub image_there : (f : SavedFile) (limit : ℕ) → IsSoundFile f limit → image_of (saved_bytes f) limit ≡ Ok (state_of_file f)
 unfolding image_of

@@ -1,19 +1,16 @@
 -- The class table of a file that was put together.
-use Rattle.std.proofs.Common.{◌≡◌, ◌≢◌, ℕ, zero, suc, ◌+◌, ◌-◌, ◌*◌, ◌/◌, ◌%◌, ◌^◌, ◌<◌, ◌≤◌, ◌==◌, ◌&&◌, Bool, true, false, cond, not, nat_lt, eqb, leb, List, [], ◌∷◌, ◌++◌, length, map, take, drop, replicate, Option, Some, None, refl, ap, ap₂, sym, ◌∙◌, arith, slice_get, slice_index, option_map, is_some, length-append}
+use Rattle.std.proofs.Common.{◌≡◌, ℕ, zero, suc, ◌+◌, ◌-◌, ◌*◌, ◌/◌, ◌%◌, ◌<◌, ◌≤◌, ◌==◌, true, false, not, List, [], ◌∷◌, ◌++◌, length, map, take, replicate, Option, Some, None, refl, ap, ap₂, sym, ◌∙◌, arith, slice_get, slice_index, option_map}
 use Rattle.std.specs.Option.{option_map_or, option_and_then}
-use Rattle.std.specs.List.{find, list_all, AllByRecursion, range_with_len}
-use Rattle.std.proofs.lemmas.List.{length-map, take-append-drop}
-use Rattle.std.proofs.lemmas.List.Folds.{list_all-append}
+use Rattle.std.specs.List.{AllByRecursion, range_with_len}
 use Rattle.std.proofs.lemmas.List.FromFn.{length-map-range_with_len}
-use Rattle.std.proofs.lemmas.Option.{slice_get-map, slice_get_past}
+use Rattle.std.proofs.lemmas.Option.{slice_get-map}
 use Rattle.std.proofs.lemmas.Bool.Decides.{nat_tests}
-use Rattle.cs_model.specs.ImageFile.{FileObject, File, is_hidden, is_nil, named, names, nil_in}
-use Rattle.cs_model.specs.ImageFault.{is_page, page_words, unless_nil, entry_in, has_entry}
+use Rattle.cs_model.specs.ImageFile.{FileObject, File, is_nil, named, nil_in}
+use Rattle.cs_model.specs.ImageFault.{page_words, unless_nil, entry_in, has_entry}
 use Rattle.cs_model.specs.SavedFile.{SavedObject, SavedFile, FitsFile, IsWordValue, saved_base, saved_size, saved_sizes, placed_at, placed_from, words_before, free_lists, table_root, table_page, page_place, page_address, all_saved}
 use Rattle.cs_model.proofs.SavedObjects.{sizes-cons}
-use Rattle.cs_model.proofs.SavedFiles.{heap_length}
 use Rattle.cs_file.specs.SoundFile.{saved_entry}
-use Rattle.cs_file.proofs.Placing.{placed_file, split, get_behind, take_behind, named_at, nil_base, root_slots, root_long, sizes_split}
+use Rattle.cs_file.proofs.Placing.{placed_file, split, get_behind, take_behind, named_at, nil_base, root_slots, sizes_split}
 
 -- ---- the root
 

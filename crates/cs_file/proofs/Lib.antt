@@ -5,3 +5,4 @@ pub mod Whole
 pub mod Tables
 pub mod Contexts
 pub mod Describing
+pub mod Births

@@ -1,16 +1,16 @@
 -- Where the objects of a file that was put together lie, and what words name them.
-use Rattle.std.proofs.Common.{◌≡◌, ◌≢◌, ℕ, zero, suc, ◌+◌, ◌-◌, ◌*◌, ◌/◌, ◌%◌, ◌^◌, ◌<◌, ◌≤◌, ◌==◌, Bool, true, false, cond, nat_lt, List, [], ◌∷◌, ◌++◌, length, map, take, drop, replicate, Option, Some, None, refl, ap, ap₂, sym, ◌∙◌, arith, slice_get, slice_index, option_map, length-append, subst}
+use Rattle.std.proofs.Common.{◌≡◌, ℕ, zero, suc, ◌+◌, ◌-◌, ◌*◌, ◌<◌, ◌≤◌, Bool, true, false, cond, nat_lt, List, [], ◌∷◌, ◌++◌, length, map, take, drop, replicate, Option, Some, refl, ap, sym, ◌∙◌, arith, slice_get, length-append, subst}
 use Rattle.std.specs.Option.{option_map_or}
-use Rattle.std.specs.List.{find, AllByRecursion, range_with_len}
+use Rattle.std.specs.List.{AllByRecursion, range_with_len}
 use Rattle.std.proofs.lemmas.List.{length-replicate}
 use Rattle.std.proofs.lemmas.List.FromFn.{length-map-range_with_len}
 use Rattle.std.proofs.lemmas.List.Sums.{sum_by-append}
 use Rattle.std.proofs.lemmas.Bool.Decides.{nat_tests}
 use Rattle.cs_model.specs.ImageFile.{FileObject, File, named, names, nil_in}
-use Rattle.cs_model.specs.SavedFile.{SavedObject, SavedFile, FitsFile, saved_base, saved_size, saved_sizes, placed_at, placed_from, words_before, free_lists, table_root, table_page, page_place, page_address, all_saved}
+use Rattle.cs_model.specs.SavedFile.{SavedObject, SavedFile, FitsFile, saved_base, saved_size, saved_sizes, placed_at, placed_from, words_before, free_lists, table_root, table_page, page_address, all_saved}
 use Rattle.cs_model.proofs.SavedObjects.{sizes-cons}
 use Rattle.cs_model.proofs.SavedNames.{one_lies}
-use Rattle.cs_file.specs.SoundFile.{saved_address, IsFound, IsNamed, IsNilOr}
+use Rattle.cs_file.specs.SoundFile.{saved_address, IsNamed}
 
 -- the file as it is read again
 abbrev pub placed_file : SavedFile → File

@@ -1,17 +1,16 @@
 -- What holds of each visible object of a file that was put together.
-use Rattle.std.proofs.Common.{◌≡◌, ◌≢◌, ℕ, zero, suc, ◌+◌, ◌-◌, ◌*◌, ◌/◌, ◌%◌, ◌^◌, ◌<◌, ◌≤◌, ◌==◌, ◌&&◌, Bool, true, false, cond, not, nat_lt, eqb, leb, List, [], ◌∷◌, ◌++◌, length, map, take, drop, replicate, Option, Some, None, refl, ap, ap₂, sym, ◌∙◌, arith, slice_get, slice_index, subst, option_map, is_some, length-append}
+use Rattle.std.proofs.Common.{◌≡◌, ◌≢◌, ℕ, zero, suc, ◌+◌, ◌≤◌, ◌==◌, ◌&&◌, Bool, true, false, not, List, [], ◌∷◌, length, take, drop, Option, Some, None, refl, ap, ap₂, sym, ◌∙◌, arith, slice_get, subst}
 use Rattle.std.specs.Prelude.{flat_map}
-use Rattle.std.specs.Option.{option_map_or, option_and_then, option_or}
+use Rattle.std.specs.Option.{option_map_or, option_or}
 use Rattle.std.specs.List.{find, AllByRecursion, enumerate_from}
 use Rattle.std.proofs.lemmas.List.Folds.{find-append}
 use Rattle.std.proofs.lemmas.Bool.Decides.{nat_tests}
-use Rattle.cs_model.specs.ImageFile.{FileObject, File, file_of, is_visible, stands, visible, names, named}
-use Rattle.cs_model.specs.ImageFault.{references}
-use Rattle.cs_model.specs.SavedFile.{SavedObject, SavedFile, FitsFile, IsSeen, saved_base, saved_size, placed_at, placed_from, saved_bytes}
+use Rattle.cs_model.specs.ImageFile.{FileObject, file_of, is_visible, visible, names, named}
+use Rattle.cs_model.specs.SavedFile.{SavedObject, SavedFile, IsSeen, saved_base, saved_size, placed_at, placed_from, saved_bytes}
 use Rattle.cs_model.proofs.Same.{all-append}
 use Rattle.cs_model.proofs.SavedFiles.{seen_again}
-use Rattle.cs_file.specs.SoundFile.{IsSoundFile, IsSoundTable, IsFound, IsNamed, IsReference, saved_entry, visible_saved}
-use Rattle.cs_file.proofs.Placing.{placed_file, Lies, lies}
+use Rattle.cs_file.specs.SoundFile.{IsSoundFile, IsNamed, saved_entry, visible_saved}
+use Rattle.cs_file.proofs.Placing.{placed_file, lies}
 
 -- ---- all elements
 

@@ -1,19 +1,19 @@
 -- The class table, references and class indices of a sound file have no fault.
-use Rattle.std.proofs.Common.{◌≡◌, ◌≢◌, ℕ, zero, suc, ◌+◌, ◌-◌, ◌*◌, ◌/◌, ◌%◌, ◌^◌, ◌<◌, ◌≤◌, ◌==◌, ◌&&◌, ◌||◌, Bool, true, false, cond, not, nat_lt, eqb, leb, List, [], ◌∷◌, ◌++◌, length, map, take, drop, replicate, Option, Some, None, refl, ap, ap₂, sym, ◌∙◌, arith, slice_get, slice_index, subst, option_map, is_some, length-append, min, max}
+use Rattle.std.proofs.Common.{◌≡◌, ◌≢◌, ℕ, zero, suc, ◌+◌, ◌-◌, ◌%◌, ◌<◌, ◌≤◌, ◌==◌, ◌&&◌, ◌||◌, Bool, true, false, cond, not, nat_lt, leb, List, [], ◌∷◌, length, map, take, replicate, Option, Some, None, refl, ap, ap₂, sym, ◌∙◌, arith, slice_get, subst, option_map}
 use Rattle.std.specs.Prelude.{flat_map}
-use Rattle.std.specs.Option.{option_map_or, option_and_then, option_or}
-use Rattle.std.specs.List.{find, AllByRecursion, list_all, list_any, range_with_len, enumerate_from}
+use Rattle.std.specs.Option.{option_map_or}
+use Rattle.std.specs.List.{find, AllByRecursion, list_all, range_with_len, enumerate_from}
 use Rattle.std.proofs.lemmas.Bool.Decides.{nat_tests}
 use Rattle.std.proofs.lemmas.List.Folds.{list_all-append}
 use Rattle.cs_model.specs.Obj.{context_class}
 use Rattle.cs_model.specs.Words.{is_pointer_format, is_method_format, literals_in_words}
-use Rattle.cs_model.specs.ImageFile.{FileObject, File, is_hidden, is_nil, is_visible, named, names, nil_in, visible}
+use Rattle.cs_model.specs.ImageFile.{FileObject, is_hidden, is_nil, is_visible, names}
 use Rattle.cs_model.specs.ImageFault.{is_oddball, has_object, begins_well, is_page, page_words, entry_in, has_entry, is_class, is_sound_entry, all_below, table_size, has_known_classes, is_bad_table, references, is_lost, bad_ref, bad_class}
-use Rattle.cs_model.specs.SavedFile.{SavedObject, SavedFile, FitsFile, IsSeen, saved_base, saved_sizes, placed_at, placed_from, page_address, free_lists, table_root, table_page, all_saved}
-use Rattle.cs_file.specs.SoundFile.{IsSoundFile, IsSoundTable, IsFound, IsNamed, IsNilOr, IsReference, saved_references, saved_entry, visible_saved}
+use Rattle.cs_model.specs.SavedFile.{SavedObject, SavedFile, FitsFile, IsSeen, saved_base, saved_sizes, placed_at, page_address, free_lists, table_root, all_saved}
+use Rattle.cs_file.specs.SoundFile.{IsSoundFile, IsSoundTable, IsNamed, IsNilOr, IsReference, saved_references, saved_entry, visible_saved}
 use Rattle.cs_file.proofs.Placing.{placed_file, split, is_named, nil_base}
-use Rattle.cs_file.proofs.Entries.{placed_get, root_get, root_words, has_page, not_nil, nil_nil, entry_there, has_entry_there}
-use Rattle.cs_file.proofs.Seen.{all_get, all_each, all_both, find_none, find_numbered, find_flat, Anywhere, all_visible, all_seen, visible_there, names_visible}
+use Rattle.cs_file.proofs.Entries.{placed_get, root_words, has_page, nil_nil, entry_there, has_entry_there}
+use Rattle.cs_file.proofs.Seen.{all_each, find_none, find_numbered, find_flat, Anywhere, all_visible, all_seen, visible_there, names_visible}
 
 -- ---- the first objects
 
@@ -151,8 +151,12 @@ known f fits t =
 pub table_right : (f : SavedFile) (limit : ℕ) → IsSoundFile f limit → is_bad_table (placed_file f) ≡ false
 unfolding is_bad_table
 table_right f limit s =
-    rw (begins f limit s, pages_right f s.fits, known f s.fits s.table,
-    all_pass (is_sound_entry (placed_file f)) table_size (λ k h. sound_entry f s.fits s.table k (omega (arith, h, size_is)))) refl
+    rw (
+      begins f limit s,
+      pages_right f s.fits,
+      known f s.fits s.table,
+      all_pass (is_sound_entry (placed_file f)) table_size (λ k h. sound_entry f s.fits s.table k (omega (arith, h, size_is))),
+    ) refl
 
 -- ---- references
 

@@ -1,22 +1,22 @@
 -- The file as a whole and its header have no fault.
-use Rattle.std.proofs.Common.{◌≡◌, ◌≢◌, ℕ, zero, suc, ◌+◌, ◌-◌, ◌*◌, ◌/◌, ◌%◌, ◌^◌, ◌<◌, ◌≤◌, ◌==◌, ◌&&◌, ◌||◌, Bool, true, false, cond, not, nat_lt, eqb, leb, List, [], ◌∷◌, ◌++◌, length, map, take, drop, replicate, Option, Some, None, refl, ap, ap₂, sym, ◌∙◌, arith, slice_get, slice_index, subst, option_map, is_some, length-append, min, max}
-use Rattle.std.specs.Prelude.{flat_map, sum_by}
-use Rattle.std.specs.Option.{option_map_or, option_and_then, option_or}
-use Rattle.std.specs.List.{find, AllByRecursion, list_any, range_with_len}
+use Rattle.std.proofs.Common.{◌≡◌, ℕ, suc, ◌+◌, ◌*◌, ◌/◌, ◌%◌, ◌^◌, ◌<◌, ◌≤◌, ◌==◌, ◌&&◌, Bool, true, false, cond, not, nat_lt, leb, List, [], ◌∷◌, ◌++◌, length, map, take, drop, Option, Some, None, refl, ap, ap₂, sym, ◌∙◌, arith, option_map, is_some, length-append, max}
+use Rattle.std.specs.Prelude.{sum_by}
+use Rattle.std.specs.Option.{option_or}
+use Rattle.std.specs.List.{AllByRecursion, list_any}
 use Rattle.std.proofs.lemmas.Bool.Decides.{nat_tests}
 use Rattle.std.proofs.lemmas.List.Sums.{sum_by-append, sum_by-cons}
 use Rattle.std.proofs.lemmas.List.{take-append-drop}
 use Rattle.cs_model.specs.Obj.{words_of_slots}
-use Rattle.cs_model.specs.Profile.{is_second_profile, pages_in, is_page_count}
-use Rattle.cs_model.specs.ImageFile.{FileObject, File, Cut, number_at, u32_at, heap_size, old_base, has_births, birth_count, births_in, next_birth_in, cut_of, words_in, file_of, is_visible, stands, visible}
-use Rattle.cs_model.specs.ImageFault.{is_too_long, is_short, is_bad_format, is_bad_header_size, is_bad_profile, is_bad_length, bad_object, is_well_formed, is_body, is_over, is_bad_births, has_repeats}
-use Rattle.cs_model.specs.SavedFile.{SavedObject, SavedBirths, SavedFile, FitsFile, IsReadAgain, IsWordValue, saved_base, saved_size, saved_sizes, placed_at, placed_from, page_place, birth_words, halves, free_lists, table_root, table_page, all_saved, saved_heap, saved_bytes}
+use Rattle.cs_model.specs.Profile.{is_page_count}
+use Rattle.cs_model.specs.ImageFile.{FileObject, u32_at, heap_size, old_base, has_births, birth_count, cut_of, words_in, stands, visible}
+use Rattle.cs_model.specs.ImageFault.{is_too_long, is_short, is_bad_format, is_bad_header_size, is_bad_profile, is_bad_length, bad_object, is_well_formed, is_body, is_over, is_bad_births}
+use Rattle.cs_model.specs.SavedFile.{SavedObject, SavedBirths, SavedFile, IsReadAgain, saved_size, saved_sizes, placed_at, placed_from, page_place, birth_words, free_lists, table_root, table_page, all_saved, saved_bytes}
 use Rattle.cs_model.proofs.SavedFiles.{read_again}
 use Rattle.cs_model.proofs.SavedNumbers.{length-halves}
 use Rattle.cs_model.proofs.SavedObjects.{sizes-cons}
 use Rattle.cs_model.proofs.Same.{all-append}
-use Rattle.cs_file.specs.SoundFile.{IsSoundFile, IsSoundSection, visible_saved}
-use Rattle.cs_file.proofs.Placing.{placed_file, root_slots}
+use Rattle.cs_file.specs.SoundFile.{IsSoundFile, visible_saved}
+use Rattle.cs_file.proofs.Placing.{placed_file}
 use Rattle.cs_file.proofs.Seen.{all_take, all_drop, all_each, find_none, Anywhere, all_placed, visible_there}
 
 read : (f : SavedFile) (limit : ℕ) → IsSoundFile f limit → IsReadAgain f (saved_bytes f)

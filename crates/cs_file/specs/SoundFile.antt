@@ -1,5 +1,5 @@
 -- Files without faults, by the objects from which they are put together, and the state that such a file describes.
-use Rattle.std.specs.Prelude.{◌≡◌, ◌≢◌, ℕ, zero, suc, ◌+◌, ◌-◌, ◌*◌, ◌/◌, ◌%◌, ◌^◌, ◌<◌, ◌≤◌, ◌==◌, ◌&&◌, ◌||◌, Bool, true, false, nat_le, nat_lt, if◌then◌else◌, List, [], ◌++◌, length, map, take, drop, replicate, slice_index, slice_get, zip, find, Option, Some, None}
+use Rattle.std.specs.Prelude.{◌≡◌, ◌≢◌, ℕ, zero, suc, ◌+◌, ◌-◌, ◌*◌, ◌/◌, ◌%◌, ◌^◌, ◌<◌, ◌≤◌, ◌==◌, ◌||◌, Bool, true, false, nat_lt, if◌then◌else◌, List, [], ◌++◌, length, map, take, drop, replicate, slice_index, slice_get, zip, find, Option, Some, None}
 use Rattle.std.specs.Option.{option_map_or}
 use Rattle.std.specs.List.{AllByRecursion, range_with_len}
 use Rattle.std.specs.Ordering.{nat_cmp}
@@ -8,10 +8,9 @@ use Rattle.cs_model.specs.Ref as ref
 use Rattle.cs_model.specs.Obj.{Obj, Head, context_class, context_fields}
 use Rattle.cs_model.specs.State.{Kept, Rest}
 use Rattle.cs_model.specs.Words.{obj_by, is_pointer_format, is_method_format, literals_in_words}
-use Rattle.cs_model.specs.Image.{object_in, birth_in}
-use Rattle.cs_model.specs.ImageFile.{FileObject, File}
+use Rattle.cs_model.specs.ImageFile.{FileObject}
 use Rattle.cs_model.specs.ImageFault.{is_bad_format, is_bad_header_size, is_bad_profile, is_body, is_class, is_context, is_pc_of, is_stackp, is_method, fields_of, is_live_context, has_repeats, table_size}
-use Rattle.cs_model.specs.SavedFile.{SavedObject, SavedBirths, SavedFile, FitsFile, saved_base, saved_sizes, placed_at, placed_from, words_before, page_place, birth_words, all_saved}
+use Rattle.cs_model.specs.SavedFile.{SavedObject, SavedBirths, SavedFile, FitsFile, saved_base, saved_sizes, placed_at, placed_from, words_before, page_place, birth_words}
 
 -- ---- what words name
 

@@ -4,12 +4,18 @@
 //! state it then describes. Each law is a function with an empty body: what it ensures is the law.
 #![tactic(auto)]
 
-ghost use Rattle.std.specs.Prelude.{◌≡◌, ℕ, Ok};
+ghost use Rattle.std.specs.Prelude.{◌≡◌, ℕ, List, Ok, Some, length, slice_get, slice_index};
 ghost use Rattle.cs_model.specs.Image.{image_of};
-ghost use Rattle.cs_model.specs.SavedFile.{SavedFile, saved_bytes};
-ghost use Rattle.cs_file.specs.SoundFile.{IsSoundFile, state_of_file};
+ghost use Rattle.cs_model.specs.SavedFile.{FitsFile, SavedFile, SavedObject, saved_bytes};
+ghost use Rattle.cs_file.specs.SoundFile.{IsSoundFile, saved_address, saved_birth, saved_births, state_of_file};
 
 /// A file without faults describes the state of its objects.
 pub fn a_sound_file_describes_its_objects()
     ensures { (f : SavedFile) (limit : ℕ) → IsSoundFile f limit → image_of (saved_bytes f) limit ≡ Ok (state_of_file f) }
+{}
+
+/// Where each visible object has a birth, the address of one names the birth of its number.
+pub fn an_address_names_the_birth_of_its_object()
+    ensures { (f : SavedFile) → FitsFile f → length (saved_births f) ≡ length f.objects → (k : ℕ) (o : SavedObject)
+        → slice_get f.objects k ≡ Some o → saved_birth f (saved_address f.objects k) ≡ slice_index (saved_births f) k }
 {}
