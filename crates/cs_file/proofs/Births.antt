@@ -6,7 +6,7 @@ use Rattle.std.proofs.lemmas.Bool.Decides.{nat_tests}
 use Rattle.cs_model.specs.ImageFile.{FileObject}
 use Rattle.cs_model.specs.SavedFile.{SavedObject, SavedFile, FitsFile, saved_base, saved_size, saved_sizes, placed_at, placed_from, words_before}
 use Rattle.cs_model.proofs.SavedObjects.{sizes-cons}
-use Rattle.cs_file.specs.SoundFile.{saved_address, saved_births, saved_birth, visible_saved}
+use Rattle.cs_file.specs.SoundFile.{saved_address, births_saved, saved_birth, visible_saved}
 use Rattle.cs_file.proofs.Placing.{IsSplit, split, get_below}
 use Rattle.cs_file.proofs.Entries.{placed_get}
 
@@ -108,12 +108,12 @@ some_get (x ∷ os) (suc j) h = some_get os j (omega (arith, h))
 before_size : (n : ℕ) → words_before n < saved_size n
 before_size n = omega arith
 
-pub birth_by_number : (f : SavedFile) → FitsFile f → length (saved_births f) ≡ length f.objects → (k : ℕ) (o : SavedObject)
-    → slice_get f.objects k ≡ Some o → saved_birth f (saved_address f.objects k) ≡ slice_index (saved_births f) k
+pub birth_by_number : (f : SavedFile) → FitsFile f → length (births_saved f) ≡ length f.objects → (k : ℕ) (o : SavedObject)
+    → slice_get f.objects k ≡ Some o → saved_birth f (saved_address f.objects k) ≡ slice_index (births_saved f) k
 unfolding saved_birth
 birth_by_number f fits long k o e =
     let below = get_below f.objects k o e in
-    found_birth p (saved_births f) (visible_saved f) k (placed_at (saved_sizes (take k f.objects) + gap k) o)
+    found_birth p (births_saved f) (visible_saved f) k (placed_at (saved_sizes (take k f.objects) + gap k) o)
     (visible_get f fits k o e) here other (omega (arith, long, below))
   where
     address : ℕ

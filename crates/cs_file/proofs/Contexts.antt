@@ -7,7 +7,7 @@ use Rattle.cs_model.specs.Obj.{context_class, context_fields}
 use Rattle.cs_model.specs.ImageFile.{FileObject, is_nil, named, names}
 use Rattle.cs_model.specs.ImageFault.{is_context, is_sound_context, is_pc_of, is_stackp, is_method, bad_context, fields_of, fields_in, special_in, is_live_context, is_process, is_bad_roots}
 use Rattle.cs_model.specs.SavedFile.{SavedObject, SavedFile, FitsFile, saved_base, placed_at}
-use Rattle.cs_file.specs.SoundFile.{IsSoundFile, IsSoundContext, IsActive, IsFound, visible_saved}
+use Rattle.cs_file.specs.SoundFile.{IsSoundFile, IsSavedContext, IsActive, IsFound, visible_saved}
 use Rattle.cs_file.proofs.Placing.{placed_file, lies, is_named, nil_base}
 use Rattle.cs_file.proofs.Seen.{all_each, find_none, Anywhere, all_visible, visible_there}
 use Rattle.cs_file.proofs.Tables.{nil_or}
@@ -24,7 +24,7 @@ unless_nil f fits word b h = ap (λ n. (word == n) || b) (nil_base f fits) ∙ g
 seven : (a b c d e g h : Bool) → a ≡ true → b ≡ true → c ≡ true → d ≡ true → e ≡ true → g ≡ true → h ≡ true → (a && b && c && d && e && g && h) ≡ true
 seven a b c d e g h ha hb hc hd he hg hh = rw (ha, hb, hc, hd, he, hg, hh) refl
 
-context_right : (f : SavedFile) → FitsFile f → (o : SavedObject) → IsSoundContext f o → (first : ℕ) → is_sound_context (placed_file f) (placed_at first o) ≡ true
+context_right : (f : SavedFile) → FitsFile f → (o : SavedObject) → IsSavedContext f o → (first : ℕ) → is_sound_context (placed_file f) (placed_at first o) ≡ true
 context_right f fits o c first =
     seven _ _ _ _ _ _ _
     (ap (λ n. n == 3) c.format)
@@ -36,7 +36,7 @@ context_right f fits o c first =
     (nil_or f fits is_method (slice_index o.words 3) c.method)
     (nil_or f fits (λ x. x.class == 37) (slice_index o.words 4) c.closure)
 
-sound_or_other : (f : SavedFile) → FitsFile f → (o : SavedObject) → (o.class ≡ context_class → IsSoundContext f o) → (first : ℕ)
+sound_or_other : (f : SavedFile) → FitsFile f → (o : SavedObject) → (o.class ≡ context_class → IsSavedContext f o) → (first : ℕ)
     → (is_context (placed_at first o) && not (is_sound_context (placed_file f) (placed_at first o))) ≡ false
 sound_or_other f fits o h first = go (o.class == context_class) refl
   where
@@ -52,7 +52,7 @@ contexts_right f limit s =
     ap (option_map (λ (o : FileObject). o.place))
     (ap (find p) (visible_there f limit s)
     ∙ find_none p (visible_saved f) (all_visible P f
-    (all_each (λ (o : SavedObject). o.class ≡ context_class → IsSoundContext f o) (Anywhere P) (sound_or_other f s.fits) f.objects s.contexts)))
+    (all_each (λ (o : SavedObject). o.class ≡ context_class → IsSavedContext f o) (Anywhere P) (sound_or_other f s.fits) f.objects s.contexts)))
 
 -- ---- roots
 

@@ -15,7 +15,7 @@ use Rattle.cs_model.specs.ImageFile.{FileObject, File, special_address, births_i
 use Rattle.cs_model.specs.ImageFault.{ImageFault, table_size, has_entry, entry_in}
 use Rattle.cs_model.specs.SavedFile.{SavedObject, SavedBirths, SavedFile, FitsFile, IsReadAgain, saved_base, saved_size, placed_at, placed_from, saved_bytes}
 use Rattle.cs_model.proofs.SavedFiles.{read_again}
-use Rattle.cs_file.specs.SoundFile.{IsSoundFile, births_by, next_by, saved_births, visible_saved, saved_birth, saved_head, saved_obj, saved_classes, saved_entry, saved_rest, state_of_file}
+use Rattle.cs_file.specs.SoundFile.{IsSoundFile, births_by, next_by, births_saved, visible_saved, saved_birth, saved_head, saved_obj, saved_classes, saved_entry, saved_rest, state_of_file}
 use Rattle.cs_file.proofs.Placing.{placed_file}
 use Rattle.cs_file.proofs.Entries.{entry_there, has_entry_there}
 use Rattle.cs_file.proofs.Seen.{file_there, visible_there}
@@ -25,7 +25,7 @@ use Rattle.cs_file.proofs.Contexts.{contexts_right, roots_right}
 
 -- ---- births
 
-births_there : (f : SavedFile) → FitsFile f → births_in (saved_bytes f) (length f.objects) ≡ saved_births f
+births_there : (f : SavedFile) → FitsFile f → births_in (saved_bytes f) (length f.objects) ≡ births_saved f
 births_there f fits = go f.births refl
   where
     go : (b : Option SavedBirths) → f.births ≡ b → births_in (saved_bytes f) (length f.objects) ≡ births_by b (length f.objects)
@@ -39,22 +39,22 @@ next_there f fits = go f.births refl
     go None e = (read_again f fits).next_place (length f.objects) e
     go (Some b) e = (read_again f fits).next b (length f.objects) e
 
-birth_there : (f : SavedFile) (limit : ℕ) → IsSoundFile f limit → (word : ℕ) → birth_in (placed_file f) (saved_births f) word ≡ saved_birth f word
+birth_there : (f : SavedFile) (limit : ℕ) → IsSoundFile f limit → (word : ℕ) → birth_in (placed_file f) (births_saved f) word ≡ saved_birth f word
 unfolding saved_birth
 birth_there f limit s word =
-    ap (λ (os : List FileObject). option_map_or (λ (e : ℕ × FileObject). e.0) (find (λ e. saved_base + 4 * e.1.place == word) (zip (saved_births f) os)) 0) (visible_there f limit s)
+    ap (λ (os : List FileObject). option_map_or (λ (e : ℕ × FileObject). e.0) (find (λ e. saved_base + 4 * e.1.place == word) (zip (births_saved f) os)) 0) (visible_there f limit s)
 
 -- ---- classes
 
-classes_there : (f : SavedFile) (limit : ℕ) → IsSoundFile f limit → (n : ℕ) → classes_in (placed_file f) (saved_births f) n ≡ saved_classes f n
+classes_there : (f : SavedFile) (limit : ℕ) → IsSoundFile f limit → (n : ℕ) → classes_in (placed_file f) (births_saved f) n ≡ saved_classes f n
 classes_there f limit s zero = refl
 classes_there f limit s (suc n) = go (saved_entry f n == saved_base) (classes_there f limit s n) (has_entry_there f s.fits n)
-    (ap (birth_in (placed_file f) (saved_births f)) (entry_there f s.fits n) ∙ birth_there f limit s (saved_entry f n))
+    (ap (birth_in (placed_file f) (births_saved f)) (entry_there f s.fits n) ∙ birth_there f limit s (saved_entry f n))
   where
-    go : (b : Bool) → classes_in (placed_file f) (saved_births f) n ≡ saved_classes f n → has_entry (placed_file f) n ≡ not b
-        → birth_in (placed_file f) (saved_births f) (entry_in (placed_file f) n) ≡ saved_birth f (saved_entry f n)
-        → cond (has_entry (placed_file f) n) (insert (classes_in (placed_file f) (saved_births f) n) n (birth_in (placed_file f) (saved_births f) (entry_in (placed_file f) n)))
-        (classes_in (placed_file f) (saved_births f) n)
+    go : (b : Bool) → classes_in (placed_file f) (births_saved f) n ≡ saved_classes f n → has_entry (placed_file f) n ≡ not b
+        → birth_in (placed_file f) (births_saved f) (entry_in (placed_file f) n) ≡ saved_birth f (saved_entry f n)
+        → cond (has_entry (placed_file f) n) (insert (classes_in (placed_file f) (births_saved f) n) n (birth_in (placed_file f) (births_saved f) (entry_in (placed_file f) n)))
+        (classes_in (placed_file f) (births_saved f) n)
         ≡ cond b (saved_classes f n) (insert (saved_classes f n) n (saved_birth f (saved_entry f n)))
     go true before entry birth = rw entry before
     go false before entry birth = rw entry (ap₂ (λ (m : FinMap nat_cmp ℕ) b. insert m n b) before birth)
@@ -83,25 +83,25 @@ described_by bytes g births = record {
   rest = rest_in bytes g births;
 }
 
-births_seen : (f : SavedFile) (limit : ℕ) → IsSoundFile f limit → births_in (saved_bytes f) (length (visible (placed_file f))) ≡ saved_births f
+births_seen : (f : SavedFile) (limit : ℕ) → IsSoundFile f limit → births_in (saved_bytes f) (length (visible (placed_file f))) ≡ births_saved f
 births_seen f limit s =
     ap (births_in (saved_bytes f)) (ap length (visible_there f limit s) ∙ length-visible f) ∙ births_there f s.fits
 
 objects_there : (f : SavedFile) (limit : ℕ) → IsSoundFile f limit
-    → map (object_in (placed_file f) (saved_births f)) (visible (placed_file f)) ≡ map (saved_obj f) f.objects
+    → map (object_in (placed_file f) (births_saved f)) (visible (placed_file f)) ≡ map (saved_obj f) f.objects
 objects_there f limit s =
-    ap (map (object_in (placed_file f) (saved_births f))) (visible_there f limit s)
-    ∙ map_visible (object_in (placed_file f) (saved_births f)) (saved_obj f) (λ first o. same (birth_there f limit s) o) f
+    ap (map (object_in (placed_file f) (births_saved f))) (visible_there f limit s)
+    ∙ map_visible (object_in (placed_file f) (births_saved f)) (saved_obj f) (λ first o. same (birth_there f limit s) o) f
   where
-    same : ((word : ℕ) → birth_in (placed_file f) (saved_births f) word ≡ saved_birth f word) → (o : SavedObject)
-        → obj_by (λ word. ref.Obj (birth_in (placed_file f) (saved_births f) word)) (saved_head o) o.words ≡ saved_obj f o
+    same : ((word : ℕ) → birth_in (placed_file f) (births_saved f) word ≡ saved_birth f word) → (o : SavedObject)
+        → obj_by (λ word. ref.Obj (birth_in (placed_file f) (births_saved f) word)) (saved_head o) o.words ≡ saved_obj f o
     same h o = λ i. obj_by (λ word. ref.Obj (h word i)) (saved_head o) o.words
 
-rest_there : (f : SavedFile) (limit : ℕ) → IsSoundFile f limit → rest_in (saved_bytes f) (placed_file f) (saved_births f) ≡ saved_rest f
+rest_there : (f : SavedFile) (limit : ℕ) → IsSoundFile f limit → rest_in (saved_bytes f) (placed_file f) (births_saved f) ≡ saved_rest f
 rest_there f limit s = λ i. record {
-  nil = slice_index (saved_births f) 0;
-  false_ = slice_index (saved_births f) 1;
-  true_ = slice_index (saved_births f) 2;
+  nil = slice_index (births_saved f) 0;
+  false_ = slice_index (births_saved f) 1;
+  true_ = slice_index (births_saved f) 2;
   special = special i;
   header = r.header i;
   classes = classes_there f limit s table_size i;
@@ -113,8 +113,8 @@ rest_there f limit s = λ i. record {
     r : IsReadAgain f (saved_bytes f)
     r = read_again f s.fits
 
-    special : birth_in (placed_file f) (saved_births f) (special_address (saved_bytes f)) ≡ saved_birth f f.special
-    special = ap (birth_in (placed_file f) (saved_births f)) r.special ∙ birth_there f limit s f.special
+    special : birth_in (placed_file f) (births_saved f) (special_address (saved_bytes f)) ≡ saved_birth f f.special
+    special = ap (birth_in (placed_file f) (births_saved f)) r.special ∙ birth_there f limit s f.special
 
     next : next_birth_in (saved_bytes f) (length (visible (placed_file f))) ≡ next_by f.births (length f.objects)
     next = ap (next_birth_in (saved_bytes f)) (ap length (visible_there f limit s) ∙ length-visible f) ∙ next_there f s.fits
@@ -124,7 +124,7 @@ unfolding described state_of_file
 state_there f limit s =
     ap (λ (g : File). described_by (saved_bytes f) g (births_in (saved_bytes f) (length (visible g)))) (file_there f limit s)
     ∙ ap (described_by (saved_bytes f) (placed_file f)) (births_seen f limit s)
-    ∙ ap₂ (λ (os : List Obj) (r : Rest). let k : Kept = record { objects = from_entries (zip (saved_births f) os); rest = r } in k)
+    ∙ ap₂ (λ (os : List Obj) (r : Rest). let k : Kept = record { objects = from_entries (zip (births_saved f) os); rest = r } in k)
     (objects_there f limit s) (rest_there f limit s)
 
 pub no_fault : (f : SavedFile) (limit : ℕ) → IsSoundFile f limit → fault_of (saved_bytes f) limit ≡ None

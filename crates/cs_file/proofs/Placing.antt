@@ -10,7 +10,7 @@ use Rattle.cs_model.specs.ImageFile.{FileObject, File, named, names, nil_in}
 use Rattle.cs_model.specs.SavedFile.{SavedObject, SavedFile, FitsFile, saved_base, saved_size, saved_sizes, placed_at, placed_from, words_before, free_lists, table_root, table_page, page_address, all_saved}
 use Rattle.cs_model.proofs.SavedObjects.{sizes-cons}
 use Rattle.cs_model.proofs.SavedNames.{one_lies}
-use Rattle.cs_file.specs.SoundFile.{saved_address, IsNamed}
+use Rattle.cs_file.specs.SoundFile.{saved_address, NamesSaved}
 
 -- the file as it is read again
 abbrev pub placed_file : SavedFile → File
@@ -169,7 +169,7 @@ lies f fits k o e =
       named = named_at f s.index o (saved_address f.objects k) s.get (omega (arith, s.size, before));
     }
 
-pub is_named : (f : SavedFile) → FitsFile f → (passes : FileObject → Bool) (word : ℕ) → IsNamed f passes word → names (placed_file f) passes word ≡ true
+pub is_named : (f : SavedFile) → FitsFile f → (passes : FileObject → Bool) (word : ℕ) → NamesSaved f passes word → names (placed_file f) passes word ≡ true
 is_named f fits passes word n =
     let l = lies f fits n.number n.object n.there in
     ap (λ w. option_map_or passes (named (placed_file f) w) false) n.address

@@ -9,7 +9,7 @@ use Rattle.cs_model.specs.ImageFile.{FileObject, file_of, is_visible, visible, n
 use Rattle.cs_model.specs.SavedFile.{SavedObject, SavedFile, IsSeen, saved_base, saved_size, placed_at, placed_from, saved_bytes}
 use Rattle.cs_model.proofs.Same.{all-append}
 use Rattle.cs_model.proofs.SavedFiles.{seen_again}
-use Rattle.cs_file.specs.SoundFile.{IsSoundFile, IsNamed, saved_entry, visible_saved}
+use Rattle.cs_file.specs.SoundFile.{IsSoundFile, NamesSaved, saved_entry, visible_saved}
 use Rattle.cs_file.proofs.Placing.{placed_file, lies}
 
 -- ---- all elements
@@ -91,7 +91,7 @@ second_of true b h = h
 second_of false true h = refl
 second_of false false h = h
 
-pub names_visible : (f : SavedFile) (limit : ℕ) → IsSoundFile f limit → (word : ℕ) → IsNamed f (λ o. true) word → names (placed_file f) is_visible word ≡ true
+pub names_visible : (f : SavedFile) (limit : ℕ) → IsSoundFile f limit → (word : ℕ) → NamesSaved f (λ o. true) word → names (placed_file f) is_visible word ≡ true
 names_visible f limit s word n =
     let l = lies f s.fits n.number n.object n.there in
     let seen = all_get IsSeen f.objects n.number n.object (all_seen f limit s) n.there in

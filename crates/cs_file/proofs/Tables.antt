@@ -10,7 +10,7 @@ use Rattle.cs_model.specs.Words.{is_pointer_format, is_method_format, literals_i
 use Rattle.cs_model.specs.ImageFile.{FileObject, is_hidden, is_nil, is_visible, names}
 use Rattle.cs_model.specs.ImageFault.{is_oddball, has_object, begins_well, is_page, page_words, entry_in, has_entry, is_class, is_sound_entry, all_below, table_size, has_known_classes, is_bad_table, references, is_lost, bad_ref, bad_class}
 use Rattle.cs_model.specs.SavedFile.{SavedObject, SavedFile, FitsFile, IsSeen, saved_base, saved_sizes, placed_at, page_address, free_lists, table_root, all_saved}
-use Rattle.cs_file.specs.SoundFile.{IsSoundFile, IsSoundTable, IsNamed, IsNilOr, IsReference, saved_references, saved_entry, visible_saved}
+use Rattle.cs_file.specs.SoundFile.{IsSoundFile, IsSavedTable, NamesSaved, IsNilOr, IsReference, saved_references, saved_entry, visible_saved}
 use Rattle.cs_file.proofs.Placing.{placed_file, split, is_named, nil_base}
 use Rattle.cs_file.proofs.Entries.{placed_get, root_words, has_page, nil_nil, entry_there, has_entry_there}
 use Rattle.cs_file.proofs.Seen.{all_each, find_none, find_numbered, find_flat, Anywhere, all_visible, all_seen, visible_there, names_visible}
@@ -94,7 +94,7 @@ nil_or f fits passes word h = ap (λ n. (word == n) || names (placed_file f) pas
     go true e = refl
     go false e = is_named f fits passes word (h (grind (arith, nat_tests, e)))
 
-sound_entry : (f : SavedFile) → FitsFile f → IsSoundTable f → (index : ℕ) → index < 16384 → is_sound_entry (placed_file f) index ≡ true
+sound_entry : (f : SavedFile) → FitsFile f → IsSavedTable f → (index : ℕ) → index < 16384 → is_sound_entry (placed_file f) index ≡ true
 sound_entry f fits t index below =
     ap (λ w. index == 3 || is_nil (placed_file f) w || names (placed_file f) (is_class index) w) (entry_there f fits index)
     ∙ go (index == 3) refl
@@ -126,7 +126,7 @@ is_class_hash index o h = last (is_visible o) (leb 1 o.format) (leb o.format 5) 
     last true true true false e g h = absurd (cc)
     last true true true true false g h = absurd (cc)
 
-known : (f : SavedFile) → FitsFile f → IsSoundTable f → has_known_classes (placed_file f) ≡ true
+known : (f : SavedFile) → FitsFile f → IsSavedTable f → has_known_classes (placed_file f) ≡ true
 known f fits t =
     known_eight _ _ _ _ _ _ _ _
     (ap not (absent 0 t.zero)) (ap not (absent 16 t.hidden)) (present 1 t.integers) (present 2 t.characters) (present 36 t.contexts) (present 37 t.closures)
@@ -143,7 +143,7 @@ known f fits t =
         let other : (saved_entry f index == saved_base) ≡ false = grind (arith, nat_tests, e) in
         has_entry_there f fits index ∙ ap not other
 
-    first : IsNamed f (λ o. o.hash == 1) (saved_entry f 1)
+    first : NamesSaved f (λ o. o.hash == 1) (saved_entry f 1)
     first =
         let n = t.class 1 (omega arith) (omega arith) t.integers in
         record { number = n.number; object = n.object; there = n.there; address = n.address; is = λ k. is_class_hash 1 (placed_at k n.object) (n.is k) }

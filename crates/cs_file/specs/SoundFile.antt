@@ -29,16 +29,16 @@ pub record IsFound (f : SavedFile) (P : FileObject → Type 0) (word : ℕ) : Ty
   pub is : (first : ℕ) → P (placed_at first object)
 
 -- the word is the address of a visible object that passes
-abbrev pub IsNamed : SavedFile → (FileObject → Bool) → ℕ → Type 0
-IsNamed f passes word = IsFound f (λ o. passes o ≡ true) word
+abbrev pub NamesSaved : SavedFile → (FileObject → Bool) → ℕ → Type 0
+NamesSaved f passes word = IsFound f (λ o. passes o ≡ true) word
 
 -- the same, unless the word is nil, whose address is the base
 abbrev pub IsNilOr : SavedFile → (FileObject → Bool) → ℕ → Type 0
-IsNilOr f passes word = word ≢ saved_base → IsNamed f passes word
+IsNilOr f passes word = word ≢ saved_base → NamesSaved f passes word
 
 -- a word whose low bits say that it is an address is that of a visible object
 abbrev pub IsReference : SavedFile → ℕ → Type 0
-IsReference f word = word % 4 ≡ 0 → IsNamed f (λ o. true) word
+IsReference f word = word % 4 ≡ 0 → NamesSaved f (λ o. true) word
 
 -- ---- objects
 
@@ -49,11 +49,11 @@ saved_references o = if is_pointer_format o.format then o.words
 
 -- A context has 22 or 62 slots. Its sender is nil or a context; its pc nil, or one of its method; its stackp nil, or at most its
 -- size; its method nil or a method; and its closure nil or a closure.
-pub record IsSoundContext (f : SavedFile) (o : SavedObject) : Type 0 where
+pub record IsSavedContext (f : SavedFile) (o : SavedObject) : Type 0 where
   pub format : o.format ≡ 3
   pub slots : (length o.words == 22 || length o.words == 62) ≡ true
   pub sender : IsNilOr f is_context (slice_index o.words 0)
-  pub pc : slice_index o.words 1 ≢ saved_base → IsNamed f (is_pc_of (slice_index o.words 1)) (slice_index o.words 3)
+  pub pc : slice_index o.words 1 ≢ saved_base → NamesSaved f (is_pc_of (slice_index o.words 1)) (slice_index o.words 3)
   pub stackp : slice_index o.words 2 ≢ saved_base → is_stackp (length o.words - context_fields) (slice_index o.words 2) ≡ true
   pub method : IsNilOr f is_method (slice_index o.words 3)
   pub closure : IsNilOr f (λ c. c.class == 37) (slice_index o.words 4)
@@ -65,7 +65,7 @@ abbrev pub saved_entry : SavedFile → ℕ → ℕ
 saved_entry f index = option_map_or (λ page. slice_index page (index % 1024)) (slice_get f.pages (index / 1024)) saved_base
 
 -- The indices 0 and 16 have no class; 1, 2, 36 and 37 have one, and 3 has that of 1. Any class of another index has it as its hash.
-pub record IsSoundTable (f : SavedFile) : Type 0 where
+pub record IsSavedTable (f : SavedFile) : Type 0 where
   pub zero : saved_entry f 0 ≡ saved_base
   pub hidden : saved_entry f 16 ≡ saved_base
   pub integers : saved_entry f 1 ≢ saved_base
@@ -81,7 +81,7 @@ pub record IsSoundTable (f : SavedFile) : Type 0 where
 pub record IsActive (f : SavedFile) (word : ℕ) : Type 0 where
   pub fields : List ℕ
   pub process : IsFound f (λ o. fields_of 4 o ≡ Some fields) word
-  pub context : IsNamed f is_live_context (slice_index fields 1)
+  pub context : NamesSaved f is_live_context (slice_index fields 1)
 
 -- The special-object array has format 2 and 51 slots or more. Its slot 3 names what has the scheduler in its slot 1, and that has in
 -- its slot 1 nil or the active process.
@@ -117,8 +117,8 @@ pub record IsSoundFile (f : SavedFile) (limit : ℕ) : Type 0 where
   pub bodies : AllByRecursion (λ o. is_body o.format o.words ≡ true) f.objects
   pub kinds : AllByRecursion (λ o. (4 ≤ o.class) × (saved_entry f o.class ≢ saved_base)) f.objects
   pub references : AllByRecursion (λ o. AllByRecursion (IsReference f) (saved_references o)) f.objects
-  pub contexts : AllByRecursion (λ o. o.class ≡ context_class → IsSoundContext f o) f.objects
-  pub table : IsSoundTable f
+  pub contexts : AllByRecursion (λ o. o.class ≡ context_class → IsSavedContext f o) f.objects
+  pub table : IsSavedTable f
   pub roots : IsRooted f
   pub births : (b : SavedBirths) → f.births ≡ Some b → IsSoundSection (length f.objects) b
 
@@ -133,8 +133,8 @@ abbrev pub next_by : Option SavedBirths → ℕ → ℕ
 next_by None count = count
 next_by (Some b) count = b.next
 
-abbrev pub saved_births : SavedFile → List ℕ
-saved_births f = births_by f.births (length f.objects)
+abbrev pub births_saved : SavedFile → List ℕ
+births_saved f = births_by f.births (length f.objects)
 
 -- the visible objects where they lie
 abbrev pub visible_saved : SavedFile → List FileObject
@@ -142,7 +142,7 @@ visible_saved f = placed_from 0 (take 3 f.objects) ++ placed_from 34 (drop 3 f.o
 
 -- the birth of the object that a word names
 unfoldable pub saved_birth : SavedFile → ℕ → ℕ
-saved_birth f word = option_map_or (λ e. e.0) (find (λ e. saved_base + 4 * e.1.place == word) (zip (saved_births f) (visible_saved f))) 0
+saved_birth f word = option_map_or (λ e. e.0) (find (λ e. saved_base + 4 * e.1.place == word) (zip (births_saved f) (visible_saved f))) 0
 
 abbrev pub saved_head : SavedObject → Head
 saved_head o = record { class = o.class; format = o.format; hash = o.hash; fixed = o.fixed }
@@ -158,9 +158,9 @@ saved_classes f (suc n) = if saved_entry f n == saved_base then saved_classes f 
 
 abbrev pub saved_rest : SavedFile → Rest
 saved_rest f = record {
-  nil = slice_index (saved_births f) 0;
-  false_ = slice_index (saved_births f) 1;
-  true_ = slice_index (saved_births f) 2;
+  nil = slice_index (births_saved f) 0;
+  false_ = slice_index (births_saved f) 1;
+  true_ = slice_index (births_saved f) 2;
   special = saved_birth f f.special;
   header = take 8 f.header ++ replicate 16 0 ++ drop 24 f.header;
   classes = saved_classes f table_size;
@@ -172,6 +172,6 @@ saved_rest f = record {
 -- the visible objects by their births, and the rest; no context is active
 unfoldable pub state_of_file : SavedFile → Kept
 state_of_file f = record {
-  objects = from_entries (zip (saved_births f) (map (saved_obj f) f.objects));
+  objects = from_entries (zip (births_saved f) (map (saved_obj f) f.objects));
   rest = saved_rest f;
 }

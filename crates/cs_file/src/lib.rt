@@ -7,7 +7,7 @@
 ghost use Rattle.std.specs.Prelude.{◌≡◌, ℕ, List, Ok, Some, length, slice_get, slice_index};
 ghost use Rattle.cs_model.specs.Image.{image_of};
 ghost use Rattle.cs_model.specs.SavedFile.{FitsFile, SavedFile, SavedObject, saved_bytes};
-ghost use Rattle.cs_file.specs.SoundFile.{IsSoundFile, saved_address, saved_birth, saved_births, state_of_file};
+ghost use Rattle.cs_file.specs.SoundFile.{IsSoundFile, saved_address, saved_birth, births_saved, state_of_file};
 
 /// A file without faults describes the state of its objects.
 pub fn a_sound_file_describes_its_objects()
@@ -16,6 +16,6 @@ pub fn a_sound_file_describes_its_objects()
 
 /// Where each visible object has a birth, the address of one names the birth of its number.
 pub fn an_address_names_the_birth_of_its_object()
-    ensures { (f : SavedFile) → FitsFile f → length (saved_births f) ≡ length f.objects → (k : ℕ) (o : SavedObject)
-        → slice_get f.objects k ≡ Some o → saved_birth f (saved_address f.objects k) ≡ slice_index (saved_births f) k }
+    ensures { (f : SavedFile) → FitsFile f → length (births_saved f) ≡ length f.objects → (k : ℕ) (o : SavedObject)
+        → slice_get f.objects k ≡ Some o → saved_birth f (saved_address f.objects k) ≡ slice_index (births_saved f) k }
 {}
