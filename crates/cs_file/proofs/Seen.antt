@@ -6,7 +6,7 @@ use Rattle.std.specs.List.{find, AllByRecursion, enumerate_from}
 use Rattle.std.proofs.lemmas.List.Folds.{find-append}
 use Rattle.std.proofs.lemmas.Bool.Decides.{nat_tests}
 use Rattle.cs_model.specs.ImageFile.{FileObject, file_of, is_visible, visible, names, named}
-use Rattle.cs_model.specs.SavedFile.{SavedObject, SavedFile, IsSeen, saved_base, saved_size, placed_at, placed_from, saved_bytes}
+use Rattle.cs_model.specs.SavedFile.{SavedObject, SavedFile, FitsFile, IsSeen, saved_base, saved_size, placed_at, placed_from, saved_bytes}
 use Rattle.cs_model.proofs.Same.{all-append}
 use Rattle.cs_model.proofs.SavedFiles.{seen_again}
 use Rattle.cs_file.specs.SoundFile.{IsSoundFile, NamesSaved, saved_entry, visible_saved}
@@ -80,11 +80,17 @@ pub all_seen : (f : SavedFile) (limit : ℕ) → IsSoundFile f limit → AllByRe
 all_seen f limit s = all_each (λ (o : SavedObject). (4 ≤ o.class) × (saved_entry f o.class ≢ saved_base)) IsSeen
     (λ o h. kind_seen f s.table.hidden o.class h.0 h.1) f.objects s.kinds
 
+pub file_by : (f : SavedFile) → FitsFile f → AllByRecursion IsSeen f.objects → file_of (saved_bytes f) ≡ placed_file f
+file_by f fits seen = (seen_again f fits seen).file
+
+pub visible_by : (f : SavedFile) → FitsFile f → AllByRecursion IsSeen f.objects → visible (placed_file f) ≡ visible_saved f
+visible_by f fits seen = ap visible (sym (file_by f fits seen)) ∙ (seen_again f fits seen).visible
+
 pub file_there : (f : SavedFile) (limit : ℕ) → IsSoundFile f limit → file_of (saved_bytes f) ≡ placed_file f
-file_there f limit s = (seen_again f s.fits (all_seen f limit s)).file
+file_there f limit s = file_by f s.fits (all_seen f limit s)
 
 pub visible_there : (f : SavedFile) (limit : ℕ) → IsSoundFile f limit → visible (placed_file f) ≡ visible_saved f
-visible_there f limit s = ap visible (sym (file_there f limit s)) ∙ (seen_again f s.fits (all_seen f limit s)).visible
+visible_there f limit s = visible_by f s.fits (all_seen f limit s)
 
 second_of : (a b : Bool) → (a && b) ≡ true → b ≡ true
 second_of true b h = h

@@ -1,3 +1,4 @@
 pub mod Written
 pub mod Headers
 pub mod Files
+pub mod Addresses
