@@ -2,3 +2,6 @@ pub mod Written
 pub mod Headers
 pub mod Files
 pub mod Addresses
+pub mod Meanings
+pub mod Elements
+pub mod Classes
