@@ -3,9 +3,9 @@ use Rattle.std.proofs.Common.{◌≡◌, ℕ, Bool, true, false, refl, sym, ap, 
 use Rattle.std.proofs.lemmas.Bool.{false≢true}
 use Rattle.std.proofs.lemmas.Bool.Decides.{eqb_tells}
 use Rattle.std.specs.Prelude.{◌&&◌}
+use Rattle.cs_word.specs.Word.{natural_of_word}
 use Rattle.cs_word.specs.declared.Oop.{Oop}
 use Rattle.cs_heap.specs.Object.{is_object}
-use Rattle.cs_classes.specs.Meaning.{count_of}
 use Rattle.cs_classes.proofs.Refs.{index_of-ref_of, ref_of-object}
 use Rattle.cs_model.specs.Ref.{Ref}
 use Rattle.cs_model.specs.Ref as ref
@@ -39,7 +39,7 @@ bytes-put k c (ref.Obj j) r = elim (eqb_tells j (active_birth k)) [
 pub write_behind : (k : Kept) (x y : Ref) → IsRunning k → bytes_to_write (push_of (drop_of k 2) x) y ≡ bytes_to_write k y
 unfolding push_of drop_of bytes_to_write
 write_behind k x y r =
-    ap (λ m. bytes_to_write m y) (edit_twice k (popped 2) (pushed x)) ∙ ap (λ bytes. or_bytes bytes (small_byte (ref.index_of y))) (bytes-put k _ y r)
+    ap (λ m. bytes_to_write m y) (edit_twice k (popped 2) (pushed x)) ∙ ap (λ bytes. or_bytes bytes (small_byte (ref.small_index y))) (bytes-put k _ y r)
 
 -- a state that keeps another one has its byte objects
 bytes_kept : (v m : Kept) (y : Ref) (bytes : List ℕ) → Keeps v m → bytes_to_write m y ≡ Some bytes → bytes_to_write v y ≡ Some bytes
@@ -75,8 +75,8 @@ bytes_last s t k v x o ready sound named names keeps is = go (is_bytes_at t.memo
     first true b h = refl
     first false b h = absurd (false≢true h)
 
-    no_number : count_of o.0 ≡ None
-    no_number = sym (index_of-ref_of s.memory.objects o.0 named) ∙ ap ref.index_of (ref_of-object s.memory.objects o.0 (first (is_object s.memory.objects o.0) _ is))
+    no_number : natural_of_word o.0 ≡ None
+    no_number = sym (index_of-ref_of s.memory.objects o.0 named) ∙ ap ref.small_index (ref_of-object s.memory.objects o.0 (first (is_object s.memory.objects o.0) _ is))
 
     go : (b : Bool) → is_bytes_at t.memory.objects o.0 ≡ b → Lasts s t (Bytes o)
     go true e =

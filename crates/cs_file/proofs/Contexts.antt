@@ -4,8 +4,8 @@ use Rattle.std.specs.Option.{option_map_or, option_and_then}
 use Rattle.std.specs.List.{find}
 use Rattle.std.proofs.lemmas.Bool.Decides.{nat_tests}
 use Rattle.cs_model.specs.Obj.{context_class, context_fields}
-use Rattle.cs_model.specs.ImageFile.{FileObject, is_nil, named, names}
-use Rattle.cs_model.specs.ImageFault.{is_context, is_sound_context, is_pc_of, is_stackp, is_method, bad_context, fields_of, fields_in, special_in, is_live_context, is_process, is_bad_roots}
+use Rattle.cs_model.specs.ImageFile.{FileObject, is_nil_word, named, names}
+use Rattle.cs_model.specs.ImageFault.{is_file_context, is_sound_context, is_pc_of, is_stackp, is_file_method, bad_context, fields_of, fields_in, special_in, is_live_context, is_process_word, is_bad_roots}
 use Rattle.cs_model.specs.SavedFile.{SavedObject, SavedFile, FitsFile, saved_base, placed_at}
 use Rattle.cs_file.specs.SoundFile.{IsSoundFile, IsSavedContext, IsActive, IsFound, visible_saved}
 use Rattle.cs_file.proofs.Placing.{placed_file, lies, is_named, nil_base}
@@ -14,7 +14,7 @@ use Rattle.cs_file.proofs.Tables.{nil_or}
 
 -- ---- contexts
 
-unless_nil : (f : SavedFile) → FitsFile f → (word : ℕ) (b : Bool) → (word ≢ saved_base → b ≡ true) → (is_nil (placed_file f) word || b) ≡ true
+unless_nil : (f : SavedFile) → FitsFile f → (word : ℕ) (b : Bool) → (word ≢ saved_base → b ≡ true) → (is_nil_word (placed_file f) word || b) ≡ true
 unless_nil f fits word b h = ap (λ n. (word == n) || b) (nil_base f fits) ∙ go (word == saved_base) refl
   where
     go : (c : Bool) → (word == saved_base) ≡ c → (c || b) ≡ true
@@ -29,15 +29,15 @@ context_right f fits o c first =
     seven _ _ _ _ _ _ _
     (ap (λ n. n == 3) c.format)
     c.slots
-    (nil_or f fits is_context (slice_index o.words 0) c.sender)
+    (nil_or f fits is_file_context (slice_index o.words 0) c.sender)
     (unless_nil f fits (slice_index o.words 1) (names (placed_file f) (is_pc_of (slice_index o.words 1)) (slice_index o.words 3))
     (λ h. is_named f fits (is_pc_of (slice_index o.words 1)) (slice_index o.words 3) (c.pc h)))
     (unless_nil f fits (slice_index o.words 2) (is_stackp (length o.words - context_fields) (slice_index o.words 2)) c.stackp)
-    (nil_or f fits is_method (slice_index o.words 3) c.method)
+    (nil_or f fits is_file_method (slice_index o.words 3) c.method)
     (nil_or f fits (λ x. x.class == 37) (slice_index o.words 4) c.closure)
 
 sound_or_other : (f : SavedFile) → FitsFile f → (o : SavedObject) → (o.class ≡ context_class → IsSavedContext f o) → (first : ℕ)
-    → (is_context (placed_at first o) && not (is_sound_context (placed_file f) (placed_at first o))) ≡ false
+    → (is_file_context (placed_at first o) && not (is_sound_context (placed_file f) (placed_at first o))) ≡ false
 sound_or_other f fits o h first = go (o.class == context_class) refl
   where
     go : (b : Bool) → (o.class == context_class) ≡ b → (b && not (is_sound_context (placed_file f) (placed_at first o))) ≡ false
@@ -47,7 +47,7 @@ sound_or_other f fits o h first = go (o.class == context_class) refl
 pub contexts_right : (f : SavedFile) (limit : ℕ) → IsSoundFile f limit → bad_context (placed_file f) ≡ None
 unfolding bad_context
 contexts_right f limit s =
-    let p = λ (o : FileObject). is_context o && not (is_sound_context (placed_file f) o) in
+    let p = λ (o : FileObject). is_file_context o && not (is_sound_context (placed_file f) o) in
     let P : FileObject → Type 0 = λ o. p o ≡ false in
     ap (option_map (λ (o : FileObject). o.place))
     (ap (find p) (visible_there f limit s)
@@ -75,7 +75,7 @@ special_there f fits word words h =
     ap (option_and_then (λ (o : FileObject). cond (o.format == 2) (fields_of 51 o) None)) g.2
     ∙ ap (λ n. cond (n == 2) (fields_of 51 (placed_at g.0 g.1)) None) g.3.0 ∙ g.3.1
 
-active_right : (f : SavedFile) → FitsFile f → (word : ℕ) → (word ≢ saved_base → IsActive f word) → is_process (placed_file f) word ≡ true
+active_right : (f : SavedFile) → FitsFile f → (word : ℕ) → (word ≢ saved_base → IsActive f word) → is_process_word (placed_file f) word ≡ true
 active_right f fits word h =
     unless_nil f fits word (option_map_or (λ process. names (placed_file f) is_live_context (slice_index process 1)) (fields_in (placed_file f) 4 word) false)
     (λ other. let a = h other in

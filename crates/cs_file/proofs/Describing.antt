@@ -10,7 +10,7 @@ use Rattle.cs_model.specs.Ref as ref
 use Rattle.cs_model.specs.Obj.{Obj}
 use Rattle.cs_model.specs.State.{Kept, Rest}
 use Rattle.cs_model.specs.Words.{obj_by}
-use Rattle.cs_model.specs.Image.{birth_in, object_in, classes_in, described, rest_in, fault_of, image_of, state_unless}
+use Rattle.cs_model.specs.Image.{birth_in, object_in, classes_in, described, rest_in, image_fault, image_of, state_unless}
 use Rattle.cs_model.specs.ImageFile.{FileObject, File, special_address, births_in, next_birth_in, visible}
 use Rattle.cs_model.specs.ImageFault.{ImageFault, table_size, has_entry, entry_in}
 use Rattle.cs_model.specs.SavedFile.{SavedObject, SavedBirths, SavedFile, FitsFile, IsReadAgain, IsSeen, saved_base, saved_size, placed_at, placed_from, saved_bytes}
@@ -127,8 +127,8 @@ state_there f fits seen =
     ∙ ap₂ (λ (os : List Obj) (r : Rest). let k : Kept = record { objects = from_entries (zip (births_saved f) os); rest = r } in k)
     (objects_there f fits seen) (rest_there f fits seen)
 
-pub no_fault : (f : SavedFile) (limit : ℕ) → IsSoundFile f limit → fault_of (saved_bytes f) limit ≡ None
-unfolding fault_of
+pub no_fault : (f : SavedFile) (limit : ℕ) → IsSoundFile f limit → image_fault (saved_bytes f) limit ≡ None
+unfolding image_fault
 no_fault f limit s =
     let count : length (visible (placed_file f)) ≡ length f.objects = ap length (visible_there f limit s) ∙ length-visible f in
     rw (

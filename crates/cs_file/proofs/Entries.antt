@@ -5,8 +5,8 @@ use Rattle.std.specs.List.{AllByRecursion, range_with_len}
 use Rattle.std.proofs.lemmas.List.FromFn.{length-map-range_with_len}
 use Rattle.std.proofs.lemmas.Option.{slice_get-map}
 use Rattle.std.proofs.lemmas.Bool.Decides.{nat_tests}
-use Rattle.cs_model.specs.ImageFile.{FileObject, File, is_nil, named, nil_in}
-use Rattle.cs_model.specs.ImageFault.{page_words, unless_nil, entry_in, has_entry}
+use Rattle.cs_model.specs.ImageFile.{FileObject, File, is_nil_word, named, nil_in}
+use Rattle.cs_model.specs.ImageFault.{page_addresses, unless_nil, entry_in, has_entry}
 use Rattle.cs_model.specs.SavedFile.{SavedObject, SavedFile, FitsFile, IsWordValue, saved_base, saved_size, saved_sizes, placed_at, placed_from, words_before, free_lists, table_root, table_page, page_place, page_address, all_saved}
 use Rattle.cs_model.proofs.SavedObjects.{sizes-cons}
 use Rattle.cs_file.specs.SoundFile.{saved_entry}
@@ -32,7 +32,7 @@ take_all (x ∷ xs) (suc n) e = ap (λ zs. x ∷ zs) (take_all xs n (omega (arit
 pub root_get : (f : SavedFile) → FitsFile f → slice_get (all_saved f) 4 ≡ Some (table_root f)
 root_get f fits = ap (λ (xs : List SavedObject). slice_get xs 4) (split f fits).all
 
-pub root_words : (f : SavedFile) → FitsFile f → page_words (placed_file f) ≡ (table_root f).words
+pub root_words : (f : SavedFile) → FitsFile f → page_addresses (placed_file f) ≡ (table_root f).words
 root_words f fits =
     ap (λ (r : Option FileObject). option_map_or (λ root. take 16 root.words) r []) (placed_get 0 (all_saved f) 4 (table_root f) (root_get f fits))
     ∙ take_all (table_root f).words 16 (root_slots f fits)
@@ -64,7 +64,7 @@ past [] p e = omega arith
 past (y ∷ xs) zero e = absurd (cc)
 past (y ∷ xs) (suc p) e = let h = past xs p e in omega (arith, h)
 
-pub page_word : (f : SavedFile) → FitsFile f → (p : ℕ) → p < length f.pages → slice_get (page_words (placed_file f)) p ≡ Some (page_address f.objects p)
+pub page_word : (f : SavedFile) → FitsFile f → (p : ℕ) → p < length f.pages → slice_get (page_addresses (placed_file f)) p ≡ Some (page_address f.objects p)
 page_word f fits p h =
     ap (λ (ws : List ℕ). slice_get ws p) (root_words f fits)
     ∙ get_front (map (page_address f.objects) (range_with_len 0 (length f.pages))) (replicate (16 - length f.pages) saved_base) p (page_address f.objects p)
@@ -112,13 +112,13 @@ has_page f fits p entries e =
       named = named_at f (length others + p) (table_page entries) (page_address f.objects p) get (omega (arith, size, before));
     }
 
-pub not_nil : (f : SavedFile) → FitsFile f → (p : ℕ) → is_nil (placed_file f) (page_address f.objects p) ≡ false
+pub not_nil : (f : SavedFile) → FitsFile f → (p : ℕ) → is_nil_word (placed_file f) (page_address f.objects p) ≡ false
 not_nil f fits p =
     let n = nil_base f fits in
     let other : saved_base < page_address f.objects p = omega arith in
     ap (λ k. page_address f.objects p == k) n ∙ (grind (arith, nat_tests, other))
 
-pub nil_nil : (f : SavedFile) → FitsFile f → is_nil (placed_file f) saved_base ≡ true
+pub nil_nil : (f : SavedFile) → FitsFile f → is_nil_word (placed_file f) saved_base ≡ true
 nil_nil f fits = ap (λ k. saved_base == k) (nil_base f fits)
 
 -- ---- entries
@@ -139,11 +139,11 @@ entry_there f fits index = go (slice_get f.pages (index / 1024)) refl
     none : (w : Option ℕ) → ((y : ℕ) → w ≡ Some y → y ≡ saved_base) → found (option_and_then (unless_nil F) w) ≡ saved_base
     none None each = nil_base f fits
     none (Some y) each =
-        let n : is_nil F y ≡ true = ap (is_nil F) (each y refl) ∙ nil_nil f fits in
+        let n : is_nil_word F y ≡ true = ap (is_nil_word F) (each y refl) ∙ nil_nil f fits in
         rw n (nil_base f fits)
 
     go : (r : Option (List ℕ)) → slice_get f.pages p ≡ r
-        → found (option_and_then (unless_nil F) (slice_get (page_words F) p)) ≡ option_map_or (λ page. slice_index page (index % 1024)) r saved_base
+        → found (option_and_then (unless_nil F) (slice_get (page_addresses F) p)) ≡ option_map_or (λ page. slice_index page (index % 1024)) r saved_base
     go (Some entries) e =
         let h = has_page f fits p entries e in
         rw (page_word f fits p (within f.pages p entries e), not_nil f fits p, h.named) refl
@@ -151,11 +151,11 @@ entry_there f fits index = go (slice_get f.pages (index / 1024)) refl
         let far = past f.pages p e in
         let front = map (page_address f.objects) (range_with_len 0 (length f.pages)) in
         let long = length-map-range_with_len (page_address f.objects) 0 (length f.pages) in
-        let at : slice_get (page_words F) p ≡ slice_get (replicate (16 - length f.pages) saved_base) (p - length f.pages)
+        let at : slice_get (page_addresses F) p ≡ slice_get (replicate (16 - length f.pages) saved_base) (p - length f.pages)
         = ap (λ (ws : List ℕ). slice_get ws p) (root_words f fits)
         ∙ ap (slice_get (front ++ replicate (16 - length f.pages) saved_base)) (omega (arith, far, long))
         ∙ get_behind front (replicate (16 - length f.pages) saved_base) (p - length f.pages) in
-        none (slice_get (page_words F) p) (λ y h. get_copies (16 - length f.pages) saved_base (p - length f.pages) y (sym at ∙ h))
+        none (slice_get (page_addresses F) p) (λ y h. get_copies (16 - length f.pages) saved_base (p - length f.pages) y (sym at ∙ h))
 
 pub has_entry_there : (f : SavedFile) → FitsFile f → (index : ℕ) → has_entry (placed_file f) index ≡ not (saved_entry f index == saved_base)
 has_entry_there f fits index = ap₂ (λ a b. not (a == b)) (entry_there f fits index) (nil_base f fits)

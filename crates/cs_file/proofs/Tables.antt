@@ -7,8 +7,8 @@ use Rattle.std.proofs.lemmas.Bool.Decides.{nat_tests}
 use Rattle.std.proofs.lemmas.List.Folds.{list_all-append}
 use Rattle.cs_model.specs.Obj.{context_class}
 use Rattle.cs_model.specs.Words.{is_pointer_format, is_method_format, literals_in_words}
-use Rattle.cs_model.specs.ImageFile.{FileObject, is_hidden, is_nil, is_visible, names}
-use Rattle.cs_model.specs.ImageFault.{is_oddball, has_object, begins_well, is_page, page_words, entry_in, has_entry, is_class, is_sound_entry, all_below, table_size, has_known_classes, is_bad_table, references, is_lost, bad_ref, bad_class}
+use Rattle.cs_model.specs.ImageFile.{FileObject, is_hidden, is_nil_word, is_visible, names}
+use Rattle.cs_model.specs.ImageFault.{is_oddball, has_object, begins_well, is_page, page_addresses, entry_in, has_entry, is_class, is_sound_entry, all_below, table_size, has_known_classes, is_bad_table, references, is_lost, bad_ref, bad_class}
 use Rattle.cs_model.specs.SavedFile.{SavedObject, SavedFile, FitsFile, IsSeen, saved_base, saved_sizes, placed_at, page_address, free_lists, table_root, all_saved}
 use Rattle.cs_file.specs.SoundFile.{IsSoundFile, IsSavedTable, NamesSaved, IsNilOr, IsReference, saved_references, saved_entry, visible_saved}
 use Rattle.cs_file.proofs.Placing.{placed_file, split, is_named, nil_base}
@@ -71,10 +71,10 @@ page_right f fits p h =
     let e = some_page f.pages p h in
     let g = has_page f fits p e.0 e.1 in
     let long : leb 1024 (length e.0) ≡ true = let l = g.long in grind (arith, nat_tests, l) in
-    or_true (is_nil (placed_file f) (page_address f.objects p)) (names (placed_file f) (λ o. is_hidden o && o.format == 2 && leb 1024 (length o.words)) (page_address f.objects p))
+    or_true (is_nil_word (placed_file f) (page_address f.objects p)) (names (placed_file f) (λ o. is_hidden o && o.format == 2 && leb 1024 (length o.words)) (page_address f.objects p))
     (ap (λ (r : Option FileObject). option_map_or (λ o. is_hidden o && o.format == 2 && leb 1024 (length o.words)) r false) g.named ∙ long)
 
-pages_right : (f : SavedFile) → FitsFile f → list_all (is_page (placed_file f)) (page_words (placed_file f)) ≡ true
+pages_right : (f : SavedFile) → FitsFile f → list_all (is_page (placed_file f)) (page_addresses (placed_file f)) ≡ true
 pages_right f fits =
     let q = is_page (placed_file f) in
     let front = map (page_address f.objects) (range_with_len 0 (length f.pages)) in
@@ -87,7 +87,7 @@ pages_right f fits =
 -- ---- entries
 
 pub nil_or : (f : SavedFile) → FitsFile f → (passes : FileObject → Bool) (word : ℕ) → IsNilOr f passes word
-    → (is_nil (placed_file f) word || names (placed_file f) passes word) ≡ true
+    → (is_nil_word (placed_file f) word || names (placed_file f) passes word) ≡ true
 nil_or f fits passes word h = ap (λ n. (word == n) || names (placed_file f) passes word) (nil_base f fits) ∙ go (word == saved_base) refl
   where
     go : (b : Bool) → (word == saved_base) ≡ b → (b || names (placed_file f) passes word) ≡ true
@@ -96,10 +96,10 @@ nil_or f fits passes word h = ap (λ n. (word == n) || names (placed_file f) pas
 
 sound_entry : (f : SavedFile) → FitsFile f → IsSavedTable f → (index : ℕ) → index < 16384 → is_sound_entry (placed_file f) index ≡ true
 sound_entry f fits t index below =
-    ap (λ w. index == 3 || is_nil (placed_file f) w || names (placed_file f) (is_class index) w) (entry_there f fits index)
+    ap (λ w. index == 3 || is_nil_word (placed_file f) w || names (placed_file f) (is_class index) w) (entry_there f fits index)
     ∙ go (index == 3) refl
   where
-    go : (b : Bool) → (index == 3) ≡ b → (b || is_nil (placed_file f) (saved_entry f index) || names (placed_file f) (is_class index) (saved_entry f index)) ≡ true
+    go : (b : Bool) → (index == 3) ≡ b → (b || is_nil_word (placed_file f) (saved_entry f index) || names (placed_file f) (is_class index) (saved_entry f index)) ≡ true
     go true e = refl
     go false e = nil_or f fits (is_class index) (saved_entry f index) (t.class index below (grind (arith, nat_tests, e)))
 

@@ -9,7 +9,7 @@ use Rattle.std.proofs.lemmas.List.{take-append-drop}
 use Rattle.cs_model.specs.Obj.{words_of_slots}
 use Rattle.cs_model.specs.Profile.{is_page_count}
 use Rattle.cs_model.specs.ImageFile.{FileObject, u32_at, heap_size, old_base, has_births, birth_count, cut_of, words_in, stands, visible}
-use Rattle.cs_model.specs.ImageFault.{is_too_long, is_short, is_bad_format, is_bad_header_size, is_bad_profile, is_bad_length, bad_object, is_well_formed, is_body, is_over, is_bad_births}
+use Rattle.cs_model.specs.ImageFault.{is_long_file, is_short, is_bad_format, is_bad_header_size, is_bad_profile, is_bad_length, bad_object, is_well_formed, is_body, is_over, is_bad_births}
 use Rattle.cs_model.specs.SavedFile.{SavedObject, SavedBirths, SavedFile, IsReadAgain, saved_size, saved_sizes, placed_at, placed_from, page_place, birth_words, free_lists, table_root, table_page, all_saved, saved_bytes}
 use Rattle.cs_model.proofs.SavedFiles.{read_again}
 use Rattle.cs_model.proofs.SavedNumbers.{length-halves}
@@ -24,7 +24,7 @@ read f limit s = read_again f s.fits
 
 -- ---- the header
 
-pub not_too_long : (f : SavedFile) (limit : ℕ) → IsSoundFile f limit → is_too_long (saved_bytes f) ≡ false
+pub not_too_long : (f : SavedFile) (limit : ℕ) → IsSoundFile f limit → is_long_file (saved_bytes f) ≡ false
 not_too_long f limit s =
     let r = read f limit s in
     let size = s.size in

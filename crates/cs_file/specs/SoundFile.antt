@@ -9,7 +9,7 @@ use Rattle.cs_model.specs.Obj.{Obj, Head, context_class, context_fields}
 use Rattle.cs_model.specs.State.{Kept, Rest}
 use Rattle.cs_model.specs.Words.{obj_by, is_pointer_format, is_method_format, literals_in_words}
 use Rattle.cs_model.specs.ImageFile.{FileObject}
-use Rattle.cs_model.specs.ImageFault.{is_bad_format, is_bad_header_size, is_bad_profile, is_body, is_class, is_context, is_pc_of, is_stackp, is_method, fields_of, is_live_context, has_repeats, table_size}
+use Rattle.cs_model.specs.ImageFault.{is_bad_format, is_bad_header_size, is_bad_profile, is_body, is_class, is_file_context, is_pc_of, is_stackp, is_file_method, fields_of, is_live_context, has_repeats, table_size}
 use Rattle.cs_model.specs.SavedFile.{SavedObject, SavedBirths, SavedFile, FitsFile, saved_base, saved_sizes, placed_at, placed_from, words_before, page_place, birth_words}
 
 -- ---- what words name
@@ -52,10 +52,10 @@ saved_references o = if is_pointer_format o.format then o.words
 pub record IsSavedContext (f : SavedFile) (o : SavedObject) : Type 0 where
   pub format : o.format ≡ 3
   pub slots : (length o.words == 22 || length o.words == 62) ≡ true
-  pub sender : IsNilOr f is_context (slice_index o.words 0)
+  pub sender : IsNilOr f is_file_context (slice_index o.words 0)
   pub pc : slice_index o.words 1 ≢ saved_base → NamesSaved f (is_pc_of (slice_index o.words 1)) (slice_index o.words 3)
   pub stackp : slice_index o.words 2 ≢ saved_base → is_stackp (length o.words - context_fields) (slice_index o.words 2) ≡ true
-  pub method : IsNilOr f is_method (slice_index o.words 3)
+  pub method : IsNilOr f is_file_method (slice_index o.words 3)
   pub closure : IsNilOr f (λ c. c.class == 37) (slice_index o.words 4)
 
 -- ---- the class table

@@ -6,7 +6,7 @@ use Rattle.std.proofs.lemmas.List.{length-map}
 use Rattle.std.proofs.lemmas.List.Sums.{sum_by-cons}
 use Rattle.std.proofs.lemmas.Option.{slice_get-map}
 use Rattle.std.proofs.lemmas.Bool.Decides.{nat_tests}
-use Rattle.cs_heap.specs.Object.{Object, address_among, address_of, base, header_address, index_of, is_object, object_at, size, slot_counts, units, units_before, used}
+use Rattle.cs_heap.specs.Object.{Object, address_among, address_of, base, header_address, object_place, is_object, heap_object, size, slot_counts, units, units_before, used}
 use Rattle.cs_heap.proofs.Laws.{IsPlaced, address_of-index, index_of-below, object_at-address, object_placed}
 use Rattle.cs_model.specs.SavedFile.{SavedObject, saved_base, saved_sizes, words_before}
 use Rattle.cs_file.specs.SoundFile.{saved_address}
@@ -95,7 +95,7 @@ pub record Object_at (xs : List Object) (a : ℕ) : Type 0 where
   pub number : ℕ
   pub object : Object
   pub there : slice_get xs number ≡ Some object
-  pub found : object_at xs a ≡ Some object
+  pub found : heap_object xs a ≡ Some object
   pub filed_there : slice_get (map filed xs) number ≡ Some (filed object)
   pub place : file_word a ≡ saved_address (map filed xs) number
 
@@ -111,7 +111,7 @@ index_there (Some k) h = (k, refl)
 pub object_there : (xs : List Object) (a : ℕ) → StartsBare xs → used xs ≤ 67108864 → is_object xs a ≡ true → Object_at xs a
 unfolding filed
 object_there xs a s few h =
-    let i = index_there (index_of xs a) h in
+    let i = index_there (object_place xs a) h in
     let at = address_of-index xs a i.0 i.1 in
     let x = some_get xs i.0 (index_of-below xs a i.0 i.1) in
     let p = object_placed xs a h in

@@ -7,7 +7,7 @@ use Rattle.std.specs.Cmp.{nat_cmp_total}
 use Rattle.std.proofs.lemmas.Option.{slice_get-map, slice_get_past}
 use Rattle.std.proofs.lemmas.List.FromFn.{get_or-map-range_with_len, length-map-range_with_len}
 use Rattle.std.proofs.lemmas.Bool.Decides.{nat_tests, eqb_tells}
-use Rattle.cs_heap.specs.Object.{Object, base, birth_of, is_object, object_at}
+use Rattle.cs_heap.specs.Object.{Object, base, birth_at, is_object, heap_object}
 use Rattle.cs_heap.proofs.Laws.{object_placed}
 use Rattle.cs_model.specs.SavedFile.{SavedFile, saved_base}
 use Rattle.cs_classes.specs.declared.Roots.{Roots}
@@ -15,7 +15,7 @@ use Rattle.cs_classes.specs.Meaning.{classes_of}
 use Rattle.cs_classes.specs.Sound.{IsSoundClass, IsSoundTable}
 use Rattle.cs_classes.proofs.Wholes.{get-classes_of}
 use Rattle.cs_file.specs.SoundFile.{saved_birth, saved_classes, saved_entry}
-use Rattle.cs_save.specs.Filed.{entry_word, file_address, file_of, file_word, page_entries}
+use Rattle.cs_save.specs.Filed.{entry_word, file_address, saved_file, file_word, page_entries}
 use Rattle.cs_save.proofs.Addresses.{Object_at, StartsBare, object_there}
 use Rattle.cs_save.proofs.Meanings.{IsFiled, birth_same}
 
@@ -40,12 +40,12 @@ get_pages table a zero p h = absurd (omega (arith, h))
 get_pages table a (suc n) zero h = ap (λ k. Some (page_entries table k)) (omega arith)
 get_pages table a (suc n) (suc p) h = get_pages table (a + 1) n p (omega (arith, h)) ∙ ap (λ k. Some (page_entries table k)) (omega arith)
 
-pub entry_is : (xs : List Object) (table : FinMap nat_cmp ℕ) (roots : Roots) (q : ℕ) → q < 16384 → saved_entry (file_of xs table roots) q ≡ entry_word table q
+pub entry_is : (xs : List Object) (table : FinMap nat_cmp ℕ) (roots : Roots) (q : ℕ) → q < 16384 → saved_entry (saved_file xs table roots) q ≡ entry_word table q
 entry_is xs table roots q h =
     ap (λ (r : Option (List ℕ)). option_map_or (λ page. slice_index page (q % 1024)) r saved_base) (get_pages table 0 16 (q / 1024) (omega (arith, h)))
     ∙ get_or-map-range_with_len (entry_word table) (1024 * (0 + q / 1024)) 1024 (q % 1024) q 0 (omega arith) (omega arith)
 
-pub entry_past : (xs : List Object) (table : FinMap nat_cmp ℕ) (roots : Roots) (q : ℕ) → 16384 ≤ q → saved_entry (file_of xs table roots) q ≡ saved_base
+pub entry_past : (xs : List Object) (table : FinMap nat_cmp ℕ) (roots : Roots) (q : ℕ) → 16384 ≤ q → saved_entry (saved_file xs table roots) q ≡ saved_base
 entry_past xs table roots q h =
     ap (λ (r : Option (List ℕ)). option_map_or (λ page. slice_index page (q % 1024)) r saved_base)
     (slice_get_past (map (page_entries table) (range_with_len 0 16)) (q / 1024) (omega (arith, h, length-map-range_with_len (page_entries table) 0 16)))
@@ -120,7 +120,7 @@ abbrev pub AreClasses : List Object → FinMap nat_cmp ℕ → Type 0
 AreClasses xs table = (q a : ℕ) → get table q ≡ Some a → HasClass xs table q a
 
 pub class_named : (xs : List Object) (table : FinMap nat_cmp ℕ) (roots : Roots) → IsFiled xs table roots → (q a : ℕ) → get table q ≡ Some a → HasClass xs table q a
-    → (saved_entry (file_of xs table roots) q ≡ file_word a) × (saved_entry (file_of xs table roots) q ≢ saved_base)
+    → (saved_entry (saved_file xs table roots) q ≡ file_word a) × (saved_entry (saved_file xs table roots) q ≢ saved_base)
 class_named xs table roots f q a e c =
     let is = entry_is xs table roots q c.within ∙ entry_some table q a e in
     let p = object_placed xs a c.object in
@@ -128,31 +128,31 @@ class_named xs table roots f q a e c =
 
 class_same : (xs : List Object) (table : FinMap nat_cmp ℕ) (roots : Roots) → IsFiled xs table roots → (q : ℕ) → q < 16384
     → (r : Option ℕ) → get table q ≡ r → ((a : ℕ) → r ≡ Some a → HasClass xs table q a)
-    → class_by (file_of xs table roots) q ≡ option_map (birth_of xs) r
+    → class_by (saved_file xs table roots) q ≡ option_map (birth_at xs) r
 class_same xs table roots f q h None e c =
-    let is : saved_entry (file_of xs table roots) q ≡ saved_base = entry_is xs table roots q h ∙ entry_none table q e in
-    let same : (saved_entry (file_of xs table roots) q == saved_base) ≡ true = yes_test _ _ is in
-    ap (λ (b : Bool). cond b None (Some (saved_birth (file_of xs table roots) (saved_entry (file_of xs table roots) q)))) same
+    let is : saved_entry (saved_file xs table roots) q ≡ saved_base = entry_is xs table roots q h ∙ entry_none table q e in
+    let same : (saved_entry (saved_file xs table roots) q == saved_base) ≡ true = yes_test _ _ is in
+    ap (λ (b : Bool). cond b None (Some (saved_birth (saved_file xs table roots) (saved_entry (saved_file xs table roots) q)))) same
 class_same xs table roots f q h (Some a) e c =
     let n = class_named xs table roots f q a e (c a refl) in
-    let other : (saved_entry (file_of xs table roots) q == saved_base) ≡ false = no_test _ _ n.1 in
-    ap (λ (b : Bool). cond b None (Some (saved_birth (file_of xs table roots) (saved_entry (file_of xs table roots) q)))) other
-    ∙ ap (λ w. Some (saved_birth (file_of xs table roots) w)) n.0
+    let other : (saved_entry (saved_file xs table roots) q == saved_base) ≡ false = no_test _ _ n.1 in
+    ap (λ (b : Bool). cond b None (Some (saved_birth (saved_file xs table roots) (saved_entry (saved_file xs table roots) q)))) other
+    ∙ ap (λ w. Some (saved_birth (saved_file xs table roots) w)) n.0
     ∙ ap Some (birth_same xs table roots f a (c a refl).object)
 
 pub classes_same : (xs : List Object) (table : FinMap nat_cmp ℕ) (roots : Roots) → IsFiled xs table roots → AreClasses xs table
-    → (n : ℕ) → n ≡ 16384 → saved_classes (file_of xs table roots) n ≡ classes_of xs table
+    → (n : ℕ) → n ≡ 16384 → saved_classes (saved_file xs table roots) n ≡ classes_of xs table
 classes_same xs table roots f c n e = same_map nat_cmp_total nat_cmp-IsAntisymmetric _ _ (λ q. go q (leb n q) refl ∙ sym (get-classes_of xs table q))
   where
     none_past : (q : ℕ) (r : Option ℕ) → get table q ≡ r → n ≤ q → r ≡ None
     none_past q None h l = refl
     none_past q (Some a) h l = let w = (c q a h).within in absurd (omega (arith, w, l, e))
 
-    go : (q : ℕ) (b : Bool) → leb n q ≡ b → get (saved_classes (file_of xs table roots) n) q ≡ option_map (birth_of xs) (get table q)
+    go : (q : ℕ) (b : Bool) → leb n q ≡ b → get (saved_classes (saved_file xs table roots) n) q ≡ option_map (birth_at xs) (get table q)
     go q true h =
         let past = at_most n q h in
-        get_above (file_of xs table roots) n q past ∙ sym (ap (option_map (birth_of xs)) (none_past q (get table q) refl past))
+        get_above (saved_file xs table roots) n q past ∙ sym (ap (option_map (birth_at xs)) (none_past q (get table q) refl past))
     go q false h =
         let below = more_than n q h in
-        get_below (file_of xs table roots) n q below
+        get_below (saved_file xs table roots) n q below
         ∙ class_same xs table roots f q (omega (arith, below, e)) (get table q) refl (λ a k. c q a k)

@@ -3,13 +3,14 @@ use Rattle.std.proofs.Common.{◌≡◌, ◌≢◌, ℕ, zero, suc, ◌+◌, ◌
 use Rattle.std.specs.List.{AllPass, take-map, drop-map}
 use Rattle.std.proofs.lemmas.List.{append-nil, length-map, length-take, take_all, get_or-map, get_or-drop}
 use Rattle.std.proofs.lemmas.Bool.Decides.{nat_tests}
+use Rattle.cs_word.specs.Word.{natural_of_word}
 use Rattle.cs_heap.specs.Object.{Object}
-use Rattle.cs_heap.specs.Format.{is_method, is_pointers}
+use Rattle.cs_heap.specs.Format.{is_code, is_pointers}
 use Rattle.cs_model.specs.Ref.{Ref}
 use Rattle.cs_model.specs.Obj.{Obj, Head, Context, Ptr, Raw, Method, Ctx, context_class, context_fields, literal_count}
 use Rattle.cs_model.specs.Words.{obj_by, plain, plain_format, context_by, ref_by, natural_in_word, is_pointer_format, is_method_format, header_in_words, literals_in_words, bytecodes_in_words, bytes_in_words, stackp_in_words, unused_bytes, bytes_of_words}
 use Rattle.cs_model.specs.SavedFile.{SavedObject}
-use Rattle.cs_classes.specs.Meaning.{head_of, ref_of, count_of, bytes_of, obj_of, context_of, method_of, used_bytes, depth_in, code_in, literals_in, header_in, is_context}
+use Rattle.cs_classes.specs.Meaning.{head_of, ref_of, obj_of, context_of, method_meaning, used_bytes, depth_in, code_in, literal_words, method_header, is_heap_context}
 use Rattle.cs_classes.specs.Sound.{IsSoundObject, is_reference, is_weak, references_in}
 use Rattle.cs_classes.proofs.Refs.{is_reference-object}
 use Rattle.cs_classes.proofs.Sorts.{obj_of-context, obj_of-bytes, obj_of-method, obj_of-pointers, references-context, references-method, references-pointers}
@@ -35,7 +36,7 @@ words_pointers format ws p =
     (ap (λ k. take k ws) n ∙ take_all (length ws) ws (omega arith)) (ap (λ k. drop k ws) n ∙ all_dropped (length ws) ws (omega arith))
     ∙ append-nil (map file_word ws)
 
-pub words_raw : (format : ℕ) (ws : List ℕ) → is_pointers format ≡ false → is_method format ≡ false → filed_words format ws ≡ ws
+pub words_raw : (format : ℕ) (ws : List ℕ) → is_pointers format ≡ false → is_code format ≡ false → filed_words format ws ≡ ws
 unfolding referring
 words_raw format ws p m =
     let n : referring format ws ≡ 0 = rw (p, m) refl in
@@ -43,10 +44,10 @@ words_raw format ws p m =
 
 -- a method's header, its literals and its bytecodes
 pub record FiledMethod (fw ws : List ℕ) : Type 0 where
-  pub header : header_in_words fw ≡ header_in ws
-  pub literals : literals_in_words fw ≡ map file_word (literals_in ws)
+  pub header : header_in_words fw ≡ method_header ws
+  pub literals : literals_in_words fw ≡ map file_word (literal_words ws)
   pub code : drop (1 + literal_count (header_in_words fw)) fw ≡ code_in ws
-  pub count : 1 + literal_count (header_in ws) ≤ length ws
+  pub count : 1 + literal_count (method_header ws) ≤ length ws
 
 take_front : (xs ys : List ℕ) (m : ℕ) → length xs ≡ m → take m (xs ++ ys) ≡ xs
 take_front [] ys zero h = refl
@@ -60,10 +61,10 @@ drop_front [] ys (suc m) h = absurd (omega (arith, h))
 drop_front (x ∷ xs) ys zero h = absurd (omega (arith, h))
 drop_front (x ∷ xs) ys (suc m) h = drop_front xs ys m (omega (arith, h))
 
-parts : (h : ℕ) (ws : List ℕ) (m : ℕ) → m ≡ literal_count (header_in (h ∷ ws)) → m ≤ length ws
+parts : (h : ℕ) (ws : List ℕ) (m : ℕ) → m ≡ literal_count (method_header (h ∷ ws)) → m ≤ length ws
     → FiledMethod (file_word h ∷ (map file_word (take m ws) ++ drop m ws)) (h ∷ ws)
 parts h ws m e long =
-    let header : header_in_words (file_word h ∷ (map file_word (take m ws) ++ drop m ws)) ≡ header_in (h ∷ ws) = ap (λ (n : Option ℕ). unwrap_or n 0) (count_same h) in
+    let header : header_in_words (file_word h ∷ (map file_word (take m ws) ++ drop m ws)) ≡ method_header (h ∷ ws) = ap (λ (n : Option ℕ). unwrap_or n 0) (count_same h) in
     let count : literal_count (header_in_words (file_word h ∷ (map file_word (take m ws) ++ drop m ws))) ≡ m = ap literal_count header ∙ sym e in
     let front : length (map file_word (take m ws)) ≡ m = omega (arith, length-map (take m ws) file_word, length-take m ws, long) in
     let next : (k : ℕ) → 1 + k ≡ suc k = λ k. omega arith in
@@ -78,12 +79,12 @@ parts h ws m e long =
       count = omega (arith, e, long);
     }
 
-pub words_method : (format : ℕ) (ws : List ℕ) → is_pointers format ≡ false → is_method format ≡ true → literal_count (header_in ws) < length ws
+pub words_method : (format : ℕ) (ws : List ℕ) → is_pointers format ≡ false → is_code format ≡ true → literal_count (method_header ws) < length ws
     → FiledMethod (filed_words format ws) ws
 unfolding referring
 words_method format [] p m long = absurd (omega (arith, long))
 words_method format (h ∷ ws) p m long =
-    let k : ℕ = literal_count (header_in (h ∷ ws)) in
+    let k : ℕ = literal_count (method_header (h ∷ ws)) in
     let some : nat_lt 0 (length (h ∷ ws)) ≡ true = let l : 0 < length (h ∷ ws) = omega arith in grind (arith, nat_tests, l) in
     let n : referring format (h ∷ ws) ≡ suc k = let at : referring format (h ∷ ws) ≡ 1 + k = rw (p, m, some) refl in at ∙ omega arith in
     let is : filed_words format (h ∷ ws) ≡ file_word h ∷ (map file_word (take k ws) ++ drop k ws) = ap (λ i. map file_word (take i (h ∷ ws)) ++ drop i (h ∷ ws)) n in
@@ -91,8 +92,8 @@ words_method format (h ∷ ws) p m long =
 
 -- ---- what words mean
 
-bytes_same : (ws : List ℕ) → bytes_of_words ws ≡ bytes_of ws
-unfolding bytes_of bytes_of_words
+bytes_same : (ws : List ℕ) → bytes_of_words ws ≡ bytes_of_words ws
+unfolding bytes_of_words bytes_of_words
 bytes_same [] = refl
 bytes_same (w ∷ ws) = ap (λ (bs : List ℕ). w / 256 ^ 0 % 256 ∷ w / 256 ^ 1 % 256 ∷ w / 256 ^ 2 % 256 ∷ w / 256 ^ 3 % 256 ∷ bs) (bytes_same ws)
 
@@ -116,10 +117,10 @@ refs_again xs named again (w ∷ ws) h = ap₂ (λ (r : Ref) (rs : List Ref). r 
 
 -- what is asked of an object's words
 pub record IsFine (xs : List Object) (x : Object) : Type 0 where
-  pub context : is_context x ≡ true → (x.format ≡ 3) × (6 ≤ length x.words)
+  pub context : is_heap_context x ≡ true → (x.format ≡ 3) × (6 ≤ length x.words)
   pub pointers : is_pointers x.format ≡ true → AreReferences xs x.words
-  pub method : is_method x.format ≡ true → literal_count (header_in x.words) < length x.words
-  pub literals : is_method x.format ≡ true → AreReferences xs (literals_in x.words)
+  pub method : is_code x.format ≡ true → literal_count (method_header x.words) < length x.words
+  pub literals : is_code x.format ≡ true → AreReferences xs (literal_words x.words)
   pub plain : plain_format x.format ≡ x.format
 
 take_references : (xs : List Object) (n : ℕ) (ws : List ℕ) → AreReferences xs ws → AreReferences xs (take n ws)
@@ -153,7 +154,7 @@ context_same xs named again hash ws long fine = λ i. record {
     at : (k : ℕ) → k < length ws → ref_by named (get_or (map file_word ws) k 0) ≡ ref_of xs (get_or ws k 0)
     at k h = ap (ref_by named) (read k h) ∙ again (get_or ws k 0) (fine k h)
 
-    count : (k : ℕ) → k < length ws → natural_in_word (get_or (map file_word ws) k 0) ≡ count_of (get_or ws k 0)
+    count : (k : ℕ) → k < length ws → natural_in_word (get_or (map file_word ws) k 0) ≡ natural_of_word (get_or ws k 0)
     count k h = ap natural_in_word (read k h) ∙ count_same (get_or ws k 0)
 
     depth : stackp_in_words (map file_word ws) ≡ depth_in ws
@@ -183,9 +184,9 @@ raw_same format ws = ap (take (4 * length ws - unused_bytes format)) (bytes_same
 code_same : (format : ℕ) (fw ws : List ℕ) → length fw ≡ length ws → FiledMethod fw ws → bytecodes_in_words format fw ≡ used_bytes format (code_in ws)
 code_same format fw ws long m =
     ap (λ (n : ℕ). take (4 * (length fw - (1 + literal_count n)) - unused_bytes format) (bytes_of_words (drop (1 + literal_count (header_in_words fw)) fw))) m.header
-    ∙ ap (λ (vs : List ℕ). take (4 * (length fw - (1 + literal_count (header_in ws))) - unused_bytes format) (bytes_of_words vs)) m.code
+    ∙ ap (λ (vs : List ℕ). take (4 * (length fw - (1 + literal_count (method_header ws))) - unused_bytes format) (bytes_of_words vs)) m.code
     ∙ ap (λ (n : ℕ). take (4 * n - unused_bytes format) (bytes_of_words (code_in ws)))
-    (ap (λ n. n - (1 + literal_count (header_in ws))) long ∙ sym (length-drop (1 + literal_count (header_in ws)) ws))
+    (ap (λ n. n - (1 + literal_count (method_header ws))) long ∙ sym (length-drop (1 + literal_count (method_header ws)) ws))
     ∙ raw_same format (code_in ws)
 
 as_context : (named : ℕ → Ref) (head : Head) (ws : List ℕ) → (head.class == context_class) ≡ true → obj_by named head ws ≡ Ctx (context_by named head.hash ws)
@@ -211,9 +212,9 @@ pub element_same : (xs : List Object) (named : ℕ → Ref) → ReadsAgain xs na
     → obj_by named (saved_head (filed x)) (filed_words x.format x.words) ≡ obj_of (ref_of xs) x
 element_same xs named again x fine =
     ap (λ (h : Head). obj_by named h (filed_words x.format x.words)) (head_plain x)
-    ∙ go (is_context x) (is_pointers x.format) (is_method x.format) refl refl refl
+    ∙ go (is_heap_context x) (is_pointers x.format) (is_code x.format) refl refl refl
   where
-    go : (b c d : Bool) → is_context x ≡ b → is_pointers x.format ≡ c → is_method x.format ≡ d
+    go : (b c d : Bool) → is_heap_context x ≡ b → is_pointers x.format ≡ c → is_code x.format ≡ d
         → obj_by named (head_of x) (filed_words x.format x.words) ≡ obj_of (ref_of xs) x
     go true c d eb ec ed =
         let pointers : is_pointers x.format ≡ true = ap is_pointers (fine.context eb).0 in
@@ -230,7 +231,7 @@ element_same xs named again x fine =
         let m = words_method x.format x.words ec ed (fine.method ed) in
         as_method named (head_of x) (filed_words x.format x.words) eb ec ed
         ∙ (λ i. Method (head_of x) (m.header i)
-        ((ap (map (ref_by named)) m.literals ∙ refs_again xs named again (literals_in x.words) (fine.literals ed)) i)
+        ((ap (map (ref_by named)) m.literals ∙ refs_again xs named again (literal_words x.words) (fine.literals ed)) i)
         (code_same x.format (filed_words x.format x.words) x.words (length-filed x.format x.words) m i))
         ∙ sym (obj_of-method (ref_of xs) x eb ec ed)
     go false false false eb ec ed =

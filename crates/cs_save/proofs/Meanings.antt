@@ -6,29 +6,29 @@ use Rattle.std.specs.Ordering.{nat_cmp}
 use Rattle.std.specs.FinMap.{FinMap}
 use Rattle.std.proofs.lemmas.List.{append-nil, length-map, length-take, take_all, get_or-map}
 use Rattle.std.proofs.lemmas.Bool.Decides.{nat_tests, eqb_tells}
+use Rattle.cs_word.specs.Word.{natural_by_kind, natural_of_word}
 use Rattle.cs_word.specs.declared.Kind.TheVariants as kind
-use Rattle.cs_word.specs.Word.{small_value}
-use Rattle.cs_heap.specs.Object.{Object, birth_of, is_object, object_at, used}
-use Rattle.cs_heap.specs.Format.{is_method, is_pointers}
+use Rattle.cs_heap.specs.Object.{Object, birth_at, is_object, heap_object, used}
+use Rattle.cs_heap.specs.Format.{is_code, is_pointers}
 use Rattle.cs_model.specs.Ref.{Ref}
 use Rattle.cs_model.specs.Ref as ref
 use Rattle.cs_model.specs.Obj.{literal_count}
-use Rattle.cs_model.specs.Words.{ref_by, natural_in_word, header_in_words, literals_in_words}
+use Rattle.cs_model.specs.Words.{ref_by, natural_in_word, header_in_words, literals_in_words, small_value}
 use Rattle.cs_model.specs.SavedFile.{SavedFile, FitsFile}
 use Rattle.cs_classes.specs.declared.Roots.{Roots}
-use Rattle.cs_classes.specs.Meaning.{ref_of, count_of, count_of_kind, header_in, literals_in}
+use Rattle.cs_classes.specs.Meaning.{ref_of, method_header, literal_words}
 use Rattle.cs_classes.specs.Sound.{is_reference, is_reference_kind}
 use Rattle.cs_classes.proofs.Refs.{ref_of-object}
 use Rattle.cs_file.specs.SoundFile.{saved_birth, births_saved}
 use Rattle.cs_file.proofs.Births.{birth_by_number}
-use Rattle.cs_save.specs.Filed.{filed, filed_words, file_address, file_of, file_word, referring}
+use Rattle.cs_save.specs.Filed.{filed, filed_words, file_address, saved_file, file_word, referring}
 use Rattle.cs_save.proofs.Addresses.{Object_at, StartsBare, object_there}
 
 -- a memory whose file can be written
 pub record IsFiled (xs : List Object) (table : FinMap nat_cmp ℕ) (roots : Roots) : Type 0 where
   pub bare : StartsBare xs
   pub few : used xs ≤ 67108864
-  pub fits : FitsFile (file_of xs table roots)
+  pub fits : FitsFile (saved_file xs table roots)
 
 -- ---- births
 
@@ -38,12 +38,12 @@ birth_get (y ∷ xs) zero x e = let same : y ≡ x = cc in ap (λ (z : Object). 
 birth_get (y ∷ xs) (suc k) x e = birth_get xs k x e
 
 pub birth_same : (xs : List Object) (table : FinMap nat_cmp ℕ) (roots : Roots) → IsFiled xs table roots → (a : ℕ) → is_object xs a ≡ true
-    → saved_birth (file_of xs table roots) (file_word a) ≡ birth_of xs a
+    → saved_birth (saved_file xs table roots) (file_word a) ≡ birth_at xs a
 birth_same xs table roots f a h =
     let o = object_there xs a f.bare f.few h in
     let long : length (map (λ (x : Object). x.birth) xs) ≡ length (map filed xs) = length-map xs (λ (x : Object). x.birth) ∙ sym (length-map xs filed) in
-    ap (saved_birth (file_of xs table roots)) o.place
-    ∙ birth_by_number (file_of xs table roots) f.fits long o.number (filed o.object) o.filed_there
+    ap (saved_birth (saved_file xs table roots)) o.place
+    ∙ birth_by_number (saved_file xs table roots) f.fits long o.number (filed o.object) o.filed_there
     ∙ birth_get xs o.number o.object o.there
     ∙ sym (ap (λ (r : Option Object). option_map_or (λ x. x.birth) r 0) o.found)
 
@@ -100,7 +100,7 @@ reference_object xs w h z = go (w % 8 == 0) (ap (is_reference_kind xs) (sym odd)
     go false e = absurd (cc)
 
 -- where an object's new address has its birth, a word means the same
-ref_named : (xs : List Object) (named : ℕ → Ref) (w : ℕ) → is_reference xs w ≡ true → (is_object xs w ≡ true → named (file_word w) ≡ ref.Obj (birth_of xs w))
+ref_named : (xs : List Object) (named : ℕ → Ref) (w : ℕ) → is_reference xs w ≡ true → (is_object xs w ≡ true → named (file_word w) ≡ ref.Obj (birth_at xs w))
     → ref_by named (file_word w) ≡ ref_of xs w
 unfolding ref_of
 ref_named xs named w h same = go (low w)
@@ -128,19 +128,19 @@ ref_named xs named w h same = go (low w)
         zero_bits (file_word w) (aligned w e) ∙ same there ∙ sym (ref_of-object xs w there)
 
 pub ref_same : (xs : List Object) (table : FinMap nat_cmp ℕ) (roots : Roots) → IsFiled xs table roots → (w : ℕ) → is_reference xs w ≡ true
-    → ref_by (λ word. ref.Obj (saved_birth (file_of xs table roots) word)) (file_word w) ≡ ref_of xs w
+    → ref_by (λ word. ref.Obj (saved_birth (saved_file xs table roots) word)) (file_word w) ≡ ref_of xs w
 ref_same xs table roots f w h =
-    ref_named xs (λ word. ref.Obj (saved_birth (file_of xs table roots) word)) w h (λ there. ap ref.Obj (birth_same xs table roots f w there))
+    ref_named xs (λ word. ref.Obj (saved_birth (saved_file xs table roots) word)) w h (λ there. ap ref.Obj (birth_same xs table roots f w there))
 
 -- ---- numbers
 
-count_even : (w : ℕ) → w % 2 ≡ 0 → count_of w ≡ None
-unfolding count_of
+count_even : (w : ℕ) → w % 2 ≡ 0 → natural_of_word w ≡ None
+unfolding natural_of_word
 count_even w e =
     let b : (w % 2 == 1) ≡ false = no_test _ _ (λ z. absurd (omega (arith, e, z))) in
     rw b (go (w % 4 == 2) (w % 8 == 0))
   where
-    go : (c d : Bool) → count_of_kind (cond c (kind.Character (w / 4)) (cond d (kind.Object w) (kind.Link w))) ≡ None
+    go : (c d : Bool) → natural_by_kind (cond c (kind.Character (w / 4)) (cond d (kind.Object w) (kind.Link w))) ≡ None
     go true d = refl
     go false true = refl
     go false false = refl
@@ -149,19 +149,19 @@ natural_even : (w : ℕ) → w % 2 ≡ 0 → natural_in_word w ≡ None
 natural_even w e = let b : (w % 2 == 1) ≡ false = no_test _ _ (λ z. absurd (omega (arith, e, z))) in rw b refl
 
 -- a word that isn't changed
-pub natural_same : (w : ℕ) → natural_in_word w ≡ count_of w
-unfolding count_of
+pub natural_same : (w : ℕ) → natural_in_word w ≡ natural_of_word w
+unfolding natural_of_word
 natural_same w = go (low w)
   where
-    go : Low w → natural_in_word w ≡ count_of w
+    go : Low w → natural_in_word w ≡ natural_of_word w
     go (Odd e) = let b : (w % 2 == 1) ≡ true = yes_test _ _ e in rw b refl
     go (Two e) = natural_even w (omega (arith, e)) ∙ sym (count_even w (omega (arith, e)))
     go (Zero e) = natural_even w (omega (arith, e)) ∙ sym (count_even w (omega (arith, e)))
 
-pub count_same : (w : ℕ) → natural_in_word (file_word w) ≡ count_of w
+pub count_same : (w : ℕ) → natural_in_word (file_word w) ≡ natural_of_word w
 count_same w = go (low w)
   where
-    go : Low w → natural_in_word (file_word w) ≡ count_of w
+    go : Low w → natural_in_word (file_word w) ≡ natural_of_word w
     go (Odd e) = ap natural_in_word (word_stays w (λ z. absurd (omega (arith, e, z)))) ∙ natural_same w
     go (Two e) = ap natural_in_word (word_stays w (λ z. absurd (omega (arith, e, z)))) ∙ natural_same w
     go (Zero e) = let still = aligned w e in natural_even (file_word w) (omega (arith, still)) ∙ sym (count_even w (omega (arith, e)))

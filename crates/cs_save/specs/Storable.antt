@@ -5,9 +5,9 @@ use Rattle.std.specs.FinMap.{FinMap}
 use Rattle.std.specs.List.{AllByRecursion}
 use Rattle.cs_heap.specs.Object.{Object, is_object, used}
 use Rattle.cs_classes.specs.declared.Roots.{Roots}
-use Rattle.cs_classes.specs.Meaning.{is_context}
+use Rattle.cs_classes.specs.Meaning.{is_heap_context}
 use Rattle.cs_classes.specs.Sound.{IsWhole}
-use Rattle.cs_model.specs.Image.{fault_of}
+use Rattle.cs_model.specs.Image.{image_fault}
 use Rattle.cs_model.specs.SavedFile.{IsWordValue}
 use Rattle.cs_save.specs.Filed.{saved_of}
 
@@ -20,6 +20,6 @@ pub record FitsWords (x : Object) : Type 0 where
 -- file that is saved of it has no fault for a heap of this limit.
 pub record IsStorable (objects : List Object) (table : FinMap nat_cmp ℕ) (roots : Roots) (limit : ℕ) : Type 0 where
   pub whole : IsWhole objects table roots
-  pub single : (k : ℕ) (x : Object) → slice_get objects k ≡ Some x → is_context x ≡ true → is_object objects (slice_index x.words 0) ≡ true
+  pub single : (k : ℕ) (x : Object) → slice_get objects k ≡ Some x → is_heap_context x ≡ true → is_object objects (slice_index x.words 0) ≡ true
   pub next : roots.next_birth ≤ 2 ^ 62
-  pub fault : fault_of (saved_of objects table roots) limit ≡ None
+  pub fault : image_fault (saved_of objects table roots) limit ≡ None

@@ -3,14 +3,14 @@
 ghost use Rattle.std.specs.Prelude.{◌≡◌, ◌*◌, ◌^◌, ◌<◌, ◌≤◌, ◌++◌, [], ◌∷◌, IfOk, IsSome, IsTrue, OnErr, OnOk, length};
 ghost use Rattle.std.specs.Prelude.{map, option_map, unwrap_or};
 ghost use Rattle.std.specs.List.{range_with_len};
-ghost use Rattle.cs_heap.specs.Object.{address_of, format_of, is_object, slot_count_of};
+ghost use Rattle.cs_heap.specs.Object.{address_of, format_at, is_object, slot_count_of, words_at};
 ghost use Rattle.cs_model.specs.SavedFile.{body_size as body_size_of, halves, overflow_words};
 ghost use Rattle.cs_save.specs.Filed.{body_word as body_word_of, file_word as file_word_of, filed_bits_at};
 ghost use Rattle.std.specs.Prelude.{if◌then◌else◌};
-ghost use Rattle.cs_classes.specs.Meaning.{count_of};
+ghost use Rattle.cs_word.specs.Word.{natural_of_word};
 ghost use Rattle.cs_word.specs.Header.{flag_bits};
 ghost use Rattle.cs_model.specs.Obj.{literal_count as literal_count_of};
-ghost use Rattle.cs_save.specs.Filed.{referring as referring_of, saved_at, saved_between, words_at};
+ghost use Rattle.cs_save.specs.Filed.{referring as referring_of, saved_at, saved_between};
 ghost use Rattle.cs_save.specs.Writing.{BrokeWords, WroteWords, writing};
 
 use crate::piece::{Piece, put_long, put_word};
@@ -38,9 +38,9 @@ pub(crate) fn file_word(word: u32) -> u32
 }
 
 /// The number that a word is, and 0 where it is no SmallInteger or negative.
-#[tactic(auto, unfolding(cs_classes::specs::Meaning::count_of))]
+#[tactic(auto, unfolding(cs_word::specs::Word::natural_of_word))]
 fn count(word: Oop) -> u32
-    ensures { result ≡ unwrap_or (count_of word.0) 0 }
+    ensures { result ≡ unwrap_or (natural_of_word word.0) 0 }
 {
     match word.kind() {
         Kind::Small(value) if value >= 0 => value as u32,
@@ -50,7 +50,7 @@ fn count(word: Oop) -> u32
 
 /// How many literals the method with this header has.
 fn literal_count(header: Oop) -> u32
-    ensures value { result ≡ literal_count_of (unwrap_or (count_of header.0) 0) }
+    ensures value { result ≡ literal_count_of (unwrap_or (natural_of_word header.0) 0) }
     ensures most { result < 2 ^ 15 }
 {
     count(header) % (1 << 15)
@@ -60,7 +60,7 @@ fn literal_count(header: Oop) -> u32
 #[tactic(auto, unfolding(crate::specs::Filed::referring))]
 fn referring(heap: &Heap, o: Oop) -> u32
     requires { IsTrue (is_object heap.now.objects o.0) }
-    ensures { result ≡ referring_of (format_of heap.now.objects o.0) (words_at heap.now.objects o.0) }
+    ensures { result ≡ referring_of (format_at heap.now.objects o.0) (words_at heap.now.objects o.0) }
 {
     match heap.format(o) {
         0..=5 => heap.slot_count(o),
@@ -73,8 +73,8 @@ fn referring(heap: &Heap, o: Oop) -> u32
 #[tactic(auto, unfolding(crate::specs::Filed::body_word))]
 fn body_word(heap: &Heap, o: Oop, referring: u32, i: u32) -> u32
     requires object { IsTrue (is_object heap.now.objects o.0) }
-    requires referring { referring ≡ referring_of (format_of heap.now.objects o.0) (words_at heap.now.objects o.0) }
-    ensures { result ≡ body_word_of (format_of heap.now.objects o.0) (words_at heap.now.objects o.0) i }
+    requires referring { referring ≡ referring_of (format_at heap.now.objects o.0) (words_at heap.now.objects o.0) }
+    ensures { result ≡ body_word_of (format_at heap.now.objects o.0) (words_at heap.now.objects o.0) i }
 {
     if i >= heap.slot_count(o) {
         0
@@ -102,14 +102,14 @@ fn put_body<S: Shelf>(heap: &Heap, o: Oop, shelf: &mut S, piece: &mut Piece) -> 
         (S.last_fault shelf.old) (S.taken shelf.old) piece.old.items)
         (writing (S.begun shelf.new) (S.content shelf.new) (S.asked shelf.new) (S.fault_count shelf.new)
         (S.last_fault shelf.new) (S.taken shelf.new) piece.new.items)
-        (map (body_word_of (format_of heap.now.objects o.0) (words_at heap.now.objects o.0))
+        (map (body_word_of (format_at heap.now.objects o.0) (words_at heap.now.objects o.0))
         (range_with_len 0 (body_size_of (slot_count_of heap.now.objects o.0))))) }
     ensures err { OnErr result (BrokeWords
         (writing (S.begun shelf.old) (S.content shelf.old) (S.asked shelf.old) (S.fault_count shelf.old)
         (S.last_fault shelf.old) (S.taken shelf.old) piece.old.items)
         (writing (S.begun shelf.new) (S.content shelf.new) (S.asked shelf.new) (S.fault_count shelf.new)
         (S.last_fault shelf.new) (S.taken shelf.new) piece.new.items)
-        (map (body_word_of (format_of heap.now.objects o.0) (words_at heap.now.objects o.0))
+        (map (body_word_of (format_at heap.now.objects o.0) (words_at heap.now.objects o.0))
         (range_with_len 0 (body_size_of (slot_count_of heap.now.objects o.0))))) }
 {
     let referring = referring(heap, o);

@@ -4,9 +4,10 @@ use Rattle.std.specs.Prelude.{Contains, IsSomeAnd, nat_lt, not, ◌||◌, if◌t
 use Rattle.std.specs.List.{AllByRecursion, filter, list_any}
 use Rattle.std.specs.FinMap.{get}
 use Rattle.std.proofs.lemmas.Bool.{eqb-false}
+use Rattle.cs_word.specs.Word.{natural_of_word}
 use Rattle.cs_word.specs.declared.Oop.{Oop}
-use Rattle.cs_heap.specs.Object.{birth_of}
-use Rattle.cs_classes.specs.Meaning.{context_of, count_of, objects_of, ref_of}
+use Rattle.cs_heap.specs.Object.{birth_at}
+use Rattle.cs_classes.specs.Meaning.{context_of, objects_of, ref_of}
 use Rattle.cs_classes.specs.Sound.{is_reference}
 use Rattle.cs_frame.specs.Frame.{Frame, nil}
 use Rattle.cs_frame.specs.Page.{frames_of}
@@ -17,7 +18,7 @@ use Rattle.cs_model.specs.Ref.{Ref}
 use Rattle.cs_model.specs.Obj.{Context, Ctx, context_in, dead}
 use Rattle.cs_model.specs.Keeps.{Keeps}
 use Rattle.cs_model.specs.State.{IsHeld, Kept, Rest, object_at}
-use Rattle.cs_model.specs.Read.{active_birth, active_context, blank, depth_of, size_of}
+use Rattle.cs_model.specs.Read.{active_birth, active_context, blank_context, depth_of, size_of}
 use Rattle.cs_model.specs.Operation.{activate, cut_to_of, push_of}
 use Rattle.cs_model.specs.Return.{context_birth, has_room, is_among, is_live, sender_birth}
 use Rattle.cs_acts.specs.declared.act.Act.{Act}
@@ -30,7 +31,7 @@ use Rattle.cs_acts.specs.Targets.{CanCut, dying_in, dying_to}
 use Rattle.cs_acts.proofs.Firsts.{nil_names}
 use Rattle.cs_acts.proofs.Held.{named_held}
 use Rattle.cs_stack.specs.declared.parts.Parts.{Parts}
-use Rattle.cs_stack.specs.Cuts.{Arrives, CutPast, Dies, IsFirst, IsWay, Leads, ahead, spared}
+use Rattle.cs_stack.specs.Cuts.{Arrives, CutPast, Dies, IsFirst, IsWay, LeadsDownTo, ahead, spared}
 use Rattle.cs_stack.specs.Good.{AreApart, IsGood}
 use Rattle.cs_stack.specs.Moved.{Takes, based_parts}
 use Rattle.cs_stack.specs.View.{act_of, bare, births_of, frame_context, laid_pages, stored_of, unframed, view_of}
@@ -92,7 +93,7 @@ module _ {w : Parts} {home : Act} (ready : IsReady (stored_of w) (view_of w)) (g
   pub same_target : (b : ℕ) (a : Act) → IfSome (act_of w home) (λ birth. act_of w a ≡ sender_birth (view_of w) birth) → act_of w a ≡ Some b → g.t ≡ b
   same_target b a told is = some_same _ _ (sym g.target_is ∙ sym (subst (λ o. IfSome o (λ birth. act_of w a ≡ sender_birth (view_of w) birth)) g.home_is told) ∙ is)
 
-  abbrev pub leads : (b : ℕ) → g.t ≡ b → Leads w b
+  abbrev pub leads : (b : ℕ) → g.t ≡ b → LeadsDownTo w b
   leads b same = record {
     dying = dying_to (view_of w) g.h;
     way = subst (λ n. IsWay (view_of w) n (dying_to (view_of w) g.h)) same past.way;
@@ -160,7 +161,7 @@ module _ {w v : Parts} {dying : List ℕ} {t : ℕ} {a : Act} (ended : Arrives w
                 let same : Some (Ctx (frame_context v.heap.objects f gs)) ≡ Some (Ctx (dead (view_of w).rest.nil d.0)) = sym found ∙ is in
                 let contexts : frame_context v.heap.objects f gs ≡ dead (view_of w).rest.nil d.0 = cc in
                 let fits = fits_on v.heap.objects v.roots.next_birth on (ended.good.frames q) in
-                let live = lives v.heap.objects f.method (count_of f.saved_pc) fits.lies in
+                let live = lives v.heap.objects f.method (natural_of_word f.saved_pc) fits.lies in
                 none_some live.pc (sym (ap (λ (c : Context). c.pc) contexts) ∙ live.at_is)
           ])
 
@@ -229,7 +230,7 @@ module _ {w v : Parts} {dying : List ℕ} {t : ℕ} {a : Act} (ended : Arrives w
       pub to_context : CutPast w (based_parts page s v) dying t
       to_context =
           let view = based_view ended.good none s target_live page unused nil_named in
-          let at_birth : birth_of v.heap.objects s ≡ t = birth_is c ∙ birth in
+          let at_birth : birth_at v.heap.objects s ≡ t = birth_is c ∙ birth in
           let based = based_names ended.good none s target_live page unused nil_named in
           record {
             good = based_good ended.good none s target_live page unused nil_named;
@@ -304,7 +305,7 @@ module _ {w v : Parts} {home : Act} (ready : IsReady (stored_of w) (view_of w)) 
 
   context_is : active_context (view_of v) ≡ target_is.0
   unfolding active_context
-  context_is = ap (λ o. unwrap_or (context_in (object_at (view_of v) (unwrap_or o (view_of v).rest.nil))) blank) active_is ∙ ap (λ o. unwrap_or (context_in o) blank) there_now
+  context_is = ap (λ o. unwrap_or (context_in (object_at (view_of v) (unwrap_or o (view_of v).rest.nil))) blank_context) active_is ∙ ap (λ o. unwrap_or (context_in o) blank_context) there_now
 
   pub cut_fits : depth_of (view_of v) < size_of (view_of v)
   cut_fits =

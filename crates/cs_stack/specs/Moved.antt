@@ -1,14 +1,14 @@
 -- What entering and leaving make of the parts.
 use Rattle.std.specs.Prelude.{◌≡◌, ◌≢◌, ◌⊎◌, ℕ, ◌+◌, ◌-◌, ◌*◌, ◌<◌, ◌≤◌, ◌||◌, Bool, true, if◌then◌else◌, List, [], ◌∷◌, ◌++◌, length, take, drop, replicate, slice_index, Option, Some, None, option_and_then}
 use Rattle.std.specs.Option.{option_map_or}
+use Rattle.cs_word.specs.Word.{natural_of_word}
 use Rattle.cs_word.specs.declared.Oop.{Oop}
-use Rattle.cs_heap.specs.Object.{Object, object_at, with_object}
+use Rattle.cs_heap.specs.Object.{Object, heap_object, with_object, words_at}
 use Rattle.cs_heap.specs.Writes.{slots_stored}
-use Rattle.cs_classes.specs.Meaning.{count_of}
 use Rattle.cs_frame.specs.declared.FrameRef.{FrameRef}
 use Rattle.cs_frame.specs.declared.NewFrame.{NewFrame}
-use Rattle.cs_frame.specs.Frame.{Frame, cut, nil}
-use Rattle.cs_frame.specs.Page.{frame, frames_of, on_page, on_top, top, used}
+use Rattle.cs_frame.specs.Frame.{Frame, call_cut, nil}
+use Rattle.cs_frame.specs.Page.{frame, frames_of, on_page, on_top, top, frames_used}
 use Rattle.cs_marriage.specs.Marriage.{base_frame, linked}
 use Rattle.cs_model.specs.Ref.{Ref}
 use Rattle.cs_model.specs.Ref as ref
@@ -42,10 +42,6 @@ pub record Takes (o : Order) (v : Parts) (make : ℕ → Parts) : Type 0 where
 abbrev pub entry_of : ℕ → Bool → ℕ
 entry_of header skip = 4 * (literal_count header + 1) + 1 + (if skip then 3 else 0)
 
--- the words of the object at an address
-abbrev pub words_at : List Object → ℕ → List ℕ
-words_at os a = option_map_or (λ (x : Object). x.words) (object_at os a) []
-
 -- the first values that the closure at an address has copied, so many
 abbrev pub copied_at : List Object → ℕ → ℕ → List ℕ
 copied_at os closure copies = take copies (drop 3 (words_at os closure))
@@ -72,7 +68,7 @@ callee os new pc copies at caller f = record {
 -- on the page of its caller
 abbrev pub called_page : List Object → NewFrame → ℕ → ℕ → List Frame → List Frame
 called_page os new pc copies [] = []
-called_page os new pc copies (f ∷ fs) = callee os new pc copies (used (cut new.args f ∷ fs)) nil f ∷ cut new.args f ∷ fs
+called_page os new pc copies (f ∷ fs) = callee os new pc copies (frames_used (call_cut new.args f ∷ fs)) nil f ∷ call_cut new.args f ∷ fs
 
 abbrev pub given_birth : Parts → Parts
 given_birth w = record w { roots = record w.roots { next_birth = w.roots.next_birth + 1 } }
@@ -84,7 +80,7 @@ called_parts new pc copies w = record (given_birth w) { frames = on_page w.frame
 abbrev pub begun_parts : ℕ → ℕ → NewFrame → ℕ → ℕ → Parts → Parts
 begun_parts page sender new pc copies w = record (given_birth w) {
   pages = record w.pages { recent = page ∷ w.pages.recent };
-  frames = on_page (on_page w.frames (active_number w) (on_top (cut new.args))) page
+  frames = on_page (on_page w.frames (active_number w) (on_top (call_cut new.args))) page
       (λ _. callee w.heap.objects new pc copies 0 sender (top (frames_of w.frames (active_number w))) ∷ []);
 }
 
@@ -100,7 +96,7 @@ pub record CanBegin (s : Store) (k : Kept) (new : NewFrame) (pc : Oop) (copies :
   pub kind : (is_nil k (name_of s new.closure) || has_class_index closure_class (object_of k (name_of s new.closure))) ≡ true
   pub receiver : IsNamed s new.receiver
   pub code : is_method (object_of k (name_of s new.method)) ≡ true
-  pub lies : lies_if_index (object_of k (name_of s new.method)) (count_of pc.0) ≡ true
+  pub lies : lies_if_index (object_of k (name_of s new.method)) (natural_of_word pc.0) ≡ true
   pub copied : copies ≤ length (copied_values k (name_of s new.closure))
   pub there : new.args < depth_of k
   pub fits : new.args + (new.fill + copies) ≤ context_size (header_in (object_of k (name_of s new.method)))
@@ -112,7 +108,7 @@ abbrev pub begun_context : Store → Kept → NewFrame → Oop → ℕ → Conte
 begun_context s k new pc copies = record {
   hash = 0;
   sender = ref.Obj (active_birth k);
-  pc = count_of pc.0;
+  pc = natural_of_word pc.0;
   method = name_of s new.method;
   closure = name_of s new.closure;
   receiver = name_of s new.receiver;
