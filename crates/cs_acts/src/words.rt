@@ -1,8 +1,8 @@
 //! What is read of the heap by its words alone.
 ghost use Rattle.std.specs.Prelude.{◌≡◌, ◌<◌, ◌≤◌, ◌+◌, ◌*◌, ◌-◌, ◌&&◌, IsSome, IsTrue, Some, nat_le, is_some, true};
 ghost use Rattle.std.specs.Prelude.{unwrap_or};
-ghost use Rattle.cs_model.specs.Words.{unused_bytes};
 ghost use Rattle.cs_word.specs.Word.{natural_of_word};
+ghost use Rattle.cs_model.specs.Words.{unused_bytes};
 ghost use Rattle.cs_heap.specs.Format.{is_code};
 ghost use Rattle.cs_heap.specs.Object.{format_at, is_object, next_of, slot_count_of, slot_of};
 ghost use Rattle.cs_classes.specs.Sound.{is_method_address, is_reference, has_slots};

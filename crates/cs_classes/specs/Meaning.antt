@@ -7,10 +7,10 @@ use Rattle.std.specs.FinMap.{FinMap, from_entries, entries}
 use Rattle.cs_model.specs.Words.{byte_in, unused_units, unused_bytes, bytes_of_words}
 use Rattle.cs_word.specs.declared.Kind.{Kind}
 use Rattle.cs_word.specs.declared.Kind.TheVariants as kind
-use Rattle.cs_word.specs.Word.{kind_of}
+use Rattle.cs_word.specs.Word.{kind_of, natural_of_word}
 use Rattle.cs_heap.specs.Format.{is_pointers, is_code}
 use Rattle.cs_heap.specs.Object.{Object, birth_at, heap_object}
-use Rattle.cs_model.specs.Ref.{Ref, natural_of}
+use Rattle.cs_model.specs.Ref.{Ref}
 use Rattle.cs_model.specs.Ref as ref
 use Rattle.cs_word.specs.Header.{is_immutable}
 use Rattle.cs_model.specs.Obj.{Obj, Head, Context, Ptr, Raw, Method, Ctx, context_class, context_fields, literal_count}
@@ -30,16 +30,6 @@ ref_of_kind objects (kind.Link word) = ref.Small (pos 0)
 -- the reference that a word is
 unfoldable pub ref_of : List Object → ℕ → Ref
 ref_of objects word = ref_of_kind objects (kind_of word)
-
-abbrev pub natural_by_kind : Kind → Option ℕ
-natural_by_kind (kind.Small value) = natural_of value
-natural_by_kind (kind.Character code) = None
-natural_by_kind (kind.Object address) = None
-natural_by_kind (kind.Link word) = None
-
--- the number that a word is, where it is a SmallInteger that isn't negative
-unfoldable pub natural_of_word : ℕ → Option ℕ
-natural_of_word word = natural_by_kind (kind_of word)
 
 -- ---- objects
 

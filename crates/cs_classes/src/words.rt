@@ -17,7 +17,6 @@ pub fn is_context(heap: &Heap, o: Oop) -> bool
 }
 
 /// The header of a method, which its first slot says. A slot that is no number says 0.
-#[tactic(auto, using(crate::proofs::Naturals::natural_is))]
 pub fn method_header(heap: &Heap, method: Oop) -> MethodHeader
     requires { 0 < slot_count_of heap.now.objects method.0 }
     ensures { result.0 ≡ unwrap_or (natural_of_word (slot_of heap.now.objects method.0 0)) 0 }

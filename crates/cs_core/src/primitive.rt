@@ -1,8 +1,8 @@
 //! The primitives that no crate of their own has yet: 1, the sum of two SmallIntegers, and 900, which writes bytes.
 ghost use Rattle.std.specs.Prelude.{◌≡◌, ◌<◌, ◌≤◌, ◌+◌, ◌*◌, ◌-◌, [], ◌∷◌, true, IfSome, OnErr, OnOk, Some, drop};
 ghost use Rattle.std.specs.Prelude.{option_and_then, option_map, take};
-ghost use Rattle.cs_model.specs.Words.{unused_bytes};
 ghost use Rattle.cs_word.specs.Word.{natural_of_word};
+ghost use Rattle.cs_model.specs.Words.{unused_bytes};
 ghost use Rattle.arrayvec.specs.ArrayVec.{array_vec_len};
 ghost use Rattle.cs_model.specs.Exec.{small_operands};
 ghost use Rattle.cs_model.specs.Number.{number_result};

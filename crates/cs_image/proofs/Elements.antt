@@ -35,11 +35,6 @@ pub refs_same : (births : List ℕ) (f : File) (ws : List ℕ) → NoneLost f ws
 refs_same births f [] h = refl
 refs_same births f (w ∷ ws) h = λ i. ref_translated births f w (h 0 (omega arith)) i ∷ refs_same births f ws (none_lost_tail f w ws h) i
 
-bytes_same : (ws : List ℕ) → bytes_of_words ws ≡ bytes_of_words ws
-unfolding bytes_of_words bytes_of_words
-bytes_same [] = refl
-bytes_same (w ∷ ws) = ap (λ (bs : List ℕ). w / 256 ^ 0 % 256 ∷ w / 256 ^ 1 % 256 ∷ w / 256 ^ 2 % 256 ∷ w / 256 ^ 3 % 256 ∷ bs) (bytes_same ws)
-
 -- the object that stands in memory
 abbrev pub standing : File → ℕ → FileObject → Object
 standing f j o = loaded f j o
@@ -147,7 +142,6 @@ method_same births f j o other m same fine = λ i. Method (head_other f j o othe
     code : used_bytes (plain_format o.format) (code_in ws) ≡ bytecodes_in_words o.format o.words
     code = ap (λ n. used_bytes n (code_in ws)) same ∙ ap (used_bytes o.format) words_code
         ∙ ap (λ n. take (4 * n - unused_bytes o.format) (bytes_of_words (drop (1 + literal_count (header_in_words o.words)) o.words))) (length-drop (1 + literal_count (header_in_words o.words)) o.words)
-        ∙ ap (take (4 * (length o.words - (1 + literal_count (header_in_words o.words))) - unused_bytes o.format)) (bytes_same (drop (1 + literal_count (header_in_words o.words)) o.words))
 
 -- ---- all four sorts
 
@@ -175,7 +169,7 @@ unfolding obj_of obj_by method_meaning
 object_same births f j o fine = go (o.class == context_class) (is_pointer_format o.format) (is_method_format o.format) refl refl refl
   where
     raw_bytes : (a b : ℕ) (xs ys : List ℕ) → a ≡ b → xs ≡ ys → used_bytes a xs ≡ bytes_in_words b ys
-    raw_bytes a b xs ys e h = ap (λ n. used_bytes n xs) e ∙ ap (used_bytes b) h ∙ ap (take (4 * length ys - unused_bytes b)) (bytes_same ys)
+    raw_bytes a b xs ys e h = ap (λ n. used_bytes n xs) e ∙ ap (used_bytes b) h
 
     go : (b c d : Bool) → (o.class == context_class) ≡ b → is_pointer_format o.format ≡ c → is_method_format o.format ≡ d
         → obj_of (ref_of (memory_of births f)) (loaded f j o) ≡ obj_by (meant births f) (head_in o) o.words

@@ -21,9 +21,8 @@ use Rattle.cs_classes.proofs.Heaps.{object_there}
 use Rattle.cs_classes.proofs.Sorts.{obj_of-bytes, obj_of-context, obj_of-method, obj_of-pointers, references-method}
 use Rattle.cs_classes.proofs.Sounds.{method_other, whole_context}
 use Rattle.cs_inspect.specs.Reading.{context_seen, names_object, method_at, pointers_at, raw_at}
-use Rattle.cs_inspect.specs.Texts.{activation_text, object_text_at, activation_text}
+use Rattle.cs_inspect.specs.Texts.{activation_text, object_text_at}
 use Rattle.cs_inspect.proofs.Reading.{bytes_of-drop, length-words_at, there, word_is}
-use Rattle.cs_inspect.proofs.Texts.{natural_is}
 
 -- ---- formats
 
@@ -245,17 +244,17 @@ context_whole os a h n d g e f =
 
 pub header_read : (os : List Object) (a h w : ℕ) → MethodThere os a → Some h ≡ natural_of_word w → w ≡ slot_of os a 0 → h ≡ method_header (words_at os a)
 header_read os a h w t e is =
-    let same : Some h ≡ Some (method_header (words_at os a)) = e ∙ natural_is w ∙ ap natural_of_word is ∙ t.header in
+    let same : Some h ≡ Some (method_header (words_at os a)) = e ∙ ap natural_of_word is ∙ t.header in
     ap (λ (o : Option ℕ). unwrap_or o 0) same
 
 pub no_header : (os : List Object) (a w : ℕ) (r : Option MethodHeader) → MethodThere os a → r ≡ None → option_map (λ header. header.0) r ≡ natural_of_word w → w ≡ slot_of os a 0 → ⊥
 no_header os a w r t none e is =
-    let gone : None ≡ Some (method_header (words_at os a)) = sym (ap (option_map (λ (header : MethodHeader). header.0)) none) ∙ e ∙ natural_is w ∙ ap natural_of_word is ∙ t.header in
+    let gone : None ≡ Some (method_header (words_at os a)) = sym (ap (option_map (λ (header : MethodHeader). header.0)) none) ∙ e ∙ ap natural_of_word is ∙ t.header in
     cc
 
 pub depth_read : (os : List Object) (a d w : ℕ) (r : Option ℕ) → d ≡ unwrap_or r 0 → r ≡ natural_of_word w → w ≡ slot_of os a 2 → d ≡ depth_in (words_at os a)
 depth_read os a d w r e f is =
-    e ∙ ap (λ (o : Option ℕ). unwrap_or o 0) (f ∙ natural_is w ∙ ap natural_of_word (is ∙ sym (word_is os a 2)))
+    e ∙ ap (λ (o : Option ℕ). unwrap_or o 0) (f ∙ ap natural_of_word (is ∙ sym (word_is os a 2)))
 
 pub method_unused : (os : List Object) (a f : ℕ) → f ≡ format_at os a → is_code (format_at os a) ≡ true → f - 24 ≡ unused_bytes (format_at os a)
 method_unused os a f e m = ap (λ (g : ℕ). g - 24) e ∙ go (format_at os a) m

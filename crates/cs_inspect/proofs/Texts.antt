@@ -115,18 +115,6 @@ some_bytes from end bs less within = go (take (end - from) (drop from bs)) (omeg
     go [] h = absurd (omega (arith, h))
     go (u ∷ us) h = refl
 
--- ---- pcs
-
-pub natural_is : (w : ℕ) → natural_of_word w ≡ natural_of_word w
-unfolding natural_of_word natural_of_word
-natural_is w = go (kind_of w)
-  where
-    go : (k : Kind) → natural_by_kind k ≡ natural_by_kind k
-    go (kind.Small z) = refl
-    go (kind.Character c) = refl
-    go (kind.Object a) = refl
-    go (kind.Link l) = refl
-
 -- ---- references by their kinds
 
 pub named_object : (os : List Object) (w a : ℕ) → names_object os w ≡ true → kind.Object a ≡ kind_of w → a ≡ w → is_object os w ≡ true

@@ -17,7 +17,7 @@ use Rattle.cs_frame.specs.Page.{IsBase, IsFrame, IsTop, frame, frames_of, index_
 use Rattle.cs_frame.proofs.PageLaws.{frames_of-on_page, frames_of-on_page_other, length-on_page, on_page-on_page}
 use Rattle.cs_marriage.specs.Place.{link_word, names_place}
 use Rattle.cs_marriage.specs.Agree.{Agree, FrameAgrees, HasNoFrame, IsContextAt}
-use Rattle.cs_marriage.specs.Marriage.{CanBase, base_frame, cleared, linked, stack_words, words_if}
+use Rattle.cs_marriage.specs.Marriage.{CanBase, base_frame, cleared, linked, stack_words}
 use Rattle.cs_marriage.proofs.Agreeing.{Stays, fits_stays, size_some}
 use Rattle.cs_marriage.proofs.Clearing.{cleared_keeps, get_or-cleared}
 use Rattle.cs_marriage.proofs.Objects.{context_long, context_there, method_apart, method_like, method_same, method_there}
@@ -29,14 +29,14 @@ module _ (os : List Object) (a : ℕ) where
   pub slot_is : (i : ℕ) → slot_of os a i ≡ slice_index (words_at os a) i
   slot_is i = go (heap_object os a)
     where
-      go : (o : Option Object) → option_map_or (λ (x : Object). slice_index x.words i) o 0 ≡ slice_index (words_if o) i
+      go : (o : Option Object) → option_map_or (λ (x : Object). slice_index x.words i) o 0 ≡ slice_index (option_map_or (λ (x : Object). x.words) o []) i
       go None = refl
       go (Some x) = refl
 
   pub count_is : slot_count_of os a ≡ length (words_at os a)
   count_is = go (heap_object os a)
     where
-      go : (o : Option Object) → option_map_or (λ (x : Object). length x.words) o 0 ≡ length (words_if o)
+      go : (o : Option Object) → option_map_or (λ (x : Object). length x.words) o 0 ≡ length (option_map_or (λ (x : Object). x.words) o [])
       go None = refl
       go (Some x) = refl
 
@@ -221,7 +221,7 @@ module _ (os : List Object) (ps : List (List Frame)) (a p : ℕ) (agree : Agree 
   place_linked : slot_of the_objects a 0 ≡ link_word the_place
   place_linked = field_linked (λ x. slice_index x.words 0) ∙ go (heap_object os a) (let long = context_long os a can.context in omega (arith, long, count_is os a))
     where
-      go : (o : Option Object) → 0 < length (words_if o) → option_map_or (λ (x : Object). slice_index (linked the_place x).words 0) o 0 ≡ link_word the_place
+      go : (o : Option Object) → 0 < length (option_map_or (λ (x : Object). x.words) o []) → option_map_or (λ (x : Object). slice_index (linked the_place x).words 0) o 0 ≡ link_word the_place
       go None some = absurd (omega (arith, some))
       go (Some x) some = linked_place the_place x.words some
 

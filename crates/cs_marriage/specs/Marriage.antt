@@ -41,10 +41,6 @@ spouse_address os f = if f.context == nil then next_address os (context_fields +
 
 -- ---- a context as a base frame
 
-abbrev pub words_if : Option Object → List ℕ
-words_if None = []
-words_if (Some x) = x.words
-
 -- the stack of the context at an address
 abbrev pub stack_words : List Object → ℕ → List ℕ
 stack_words os a = take (depth_in (words_at os a)) (drop context_fields (words_at os a))

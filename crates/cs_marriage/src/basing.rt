@@ -74,7 +74,6 @@ fn copy_stack(heap: &Heap, frames: &mut Frames, ctx: Oop, f: FrameRef)
 }
 
 /// How many values the stack of a context holds, as its words say.
-#[tactic(auto, using(cs_classes::proofs::Naturals::natural_is))]
 fn stack_depth(heap: &Heap, ctx: Oop) -> u32
     requires { 2 < slot_count_of heap.now.objects ctx.0 }
     ensures { result ≡ unwrap_or (natural_of_word (slot_of heap.now.objects ctx.0 2)) 0 }
