@@ -9,7 +9,7 @@ use Rattle.std.proofs.lemmas.Bool.Decides.{nat_tests}
 use Rattle.cs_heap.specs.Object.{Object, address_among, address_of, base, header_address, object_place, is_object, heap_object, size, slot_counts, units, units_before, used}
 use Rattle.cs_heap.proofs.Laws.{IsPlaced, address_of-index, index_of-below, object_at-address, object_placed}
 use Rattle.cs_model.specs.SavedFile.{SavedObject, saved_base, saved_sizes, words_before}
-use Rattle.cs_file.specs.SoundFile.{saved_address}
+use Rattle.cs_model.specs.SoundFile.{saved_address}
 use Rattle.cs_save.specs.Filed.{filed, filed_words, file_address, file_word}
 use Rattle.cs_save.proofs.Files.{sizes_filed}
 use Rattle.cs_save.proofs.Headers.{length-filed}

@@ -14,7 +14,7 @@ use Rattle.cs_classes.specs.declared.Roots.{Roots}
 use Rattle.cs_classes.specs.Meaning.{classes_of}
 use Rattle.cs_classes.specs.Sound.{IsSoundClass, IsSoundTable}
 use Rattle.cs_classes.proofs.Wholes.{get-classes_of}
-use Rattle.cs_file.specs.SoundFile.{saved_birth, saved_classes, saved_entry}
+use Rattle.cs_model.specs.SoundFile.{saved_birth, saved_classes, saved_entry}
 use Rattle.cs_save.specs.Filed.{entry_word, file_address, saved_file, file_word, page_entries}
 use Rattle.cs_save.proofs.Addresses.{Object_at, StartsBare, object_there}
 use Rattle.cs_save.proofs.Meanings.{IsFiled, birth_same}

@@ -15,7 +15,7 @@ use Rattle.cs_classes.specs.Sound.{IsSoundObject, is_reference, is_weak, referen
 use Rattle.cs_classes.proofs.Refs.{is_reference-object}
 use Rattle.cs_classes.proofs.Sorts.{obj_of-context, obj_of-bytes, obj_of-method, obj_of-pointers, references-context, references-method, references-pointers}
 use Rattle.cs_heap.specs.Object.{is_object}
-use Rattle.cs_file.specs.SoundFile.{saved_head}
+use Rattle.cs_model.specs.SoundFile.{saved_head}
 use Rattle.cs_save.specs.Filed.{filed, filed_words, file_word, referring}
 use Rattle.cs_save.proofs.Headers.{length-filed}
 use Rattle.cs_save.proofs.Meanings.{count_same, natural_same}

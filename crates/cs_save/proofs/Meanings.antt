@@ -19,8 +19,8 @@ use Rattle.cs_classes.specs.declared.Roots.{Roots}
 use Rattle.cs_classes.specs.Meaning.{ref_of, method_header, literal_words}
 use Rattle.cs_classes.specs.Sound.{is_reference, is_reference_kind}
 use Rattle.cs_classes.proofs.Refs.{ref_of-object}
-use Rattle.cs_file.specs.SoundFile.{saved_birth, births_saved}
-use Rattle.cs_file.proofs.Births.{birth_by_number}
+use Rattle.cs_model.specs.SoundFile.{saved_birth, births_saved}
+use Rattle.cs_model.proofs.SavedBirths.{birth_by_number}
 use Rattle.cs_save.specs.Filed.{filed, filed_words, file_address, saved_file, file_word, referring}
 use Rattle.cs_save.proofs.Addresses.{Object_at, StartsBare, object_there}
 
