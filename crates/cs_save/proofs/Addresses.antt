@@ -36,11 +36,11 @@ pub record StartsBare (xs : List Object) : Type 0 where
   pub long : 3 ≤ length xs
   pub bare : (k : ℕ) (x : Object) → slice_get xs k ≡ Some x → k < 3 → length x.words ≡ 0
 
-record First (k u : ℕ) : Type 0 where
-  near : k < 3 → u ≡ 4 * k
-  far : 3 ≤ k → 12 ≤ u
+pub record First (k u : ℕ) : Type 0 where
+  pub near : k < 3 → u ≡ 4 * k
+  pub far : 3 ≤ k → 12 ≤ u
 
-first_used : (xs : List Object) (k : ℕ) (x : Object) → StartsBare xs → slice_get xs k ≡ Some x → First k (used (take k xs))
+pub first_used : (xs : List Object) (k : ℕ) (x : Object) → StartsBare xs → slice_get xs k ≡ Some x → First k (used (take k xs))
 first_used xs k x s e = go xs k refl
   where
     empty_size : (n : ℕ) → n ≡ 0 → size n ≡ 4
@@ -96,6 +96,7 @@ pub record Object_at (xs : List Object) (a : ℕ) : Type 0 where
   pub object : Object
   pub there : slice_get xs number ≡ Some object
   pub found : heap_object xs a ≡ Some object
+  pub index : object_place xs a ≡ Some number
   pub filed_there : slice_get (map filed xs) number ≡ Some (filed object)
   pub place : file_word a ≡ saved_address (map filed xs) number
 
@@ -127,6 +128,7 @@ object_there xs a s few h =
       number = i.0;
       object = x.0;
       there = x.1;
+      index = i.1;
       found = object_at-address xs a i.0 at ∙ x.1;
       filed_there = filed_there;
       place = word ∙ go (nat_lt i.0 3) refl at_is first sizes before p.below x.1;

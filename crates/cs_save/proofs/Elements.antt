@@ -92,11 +92,6 @@ words_method format (h ∷ ws) p m long =
 
 -- ---- what words mean
 
-bytes_same : (ws : List ℕ) → bytes_of_words ws ≡ bytes_of_words ws
-unfolding bytes_of_words bytes_of_words
-bytes_same [] = refl
-bytes_same (w ∷ ws) = ap (λ (bs : List ℕ). w / 256 ^ 0 % 256 ∷ w / 256 ^ 1 % 256 ∷ w / 256 ^ 2 % 256 ∷ w / 256 ^ 3 % 256 ∷ bs) (bytes_same ws)
-
 -- each of these words is a reference
 
 abbrev pub AreReferences : List Object → List ℕ → Type 0
@@ -179,7 +174,7 @@ unfolding filed
 head_plain x = refl
 
 raw_same : (format : ℕ) (ws : List ℕ) → bytes_in_words format ws ≡ used_bytes format ws
-raw_same format ws = ap (take (4 * length ws - unused_bytes format)) (bytes_same ws)
+raw_same format ws = refl
 
 code_same : (format : ℕ) (fw ws : List ℕ) → length fw ≡ length ws → FiledMethod fw ws → bytecodes_in_words format fw ≡ used_bytes format (code_in ws)
 code_same format fw ws long m =

@@ -5,3 +5,4 @@ pub mod Addresses
 pub mod Meanings
 pub mod Elements
 pub mod Classes
+pub mod Storing
