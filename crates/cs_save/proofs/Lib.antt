@@ -6,3 +6,4 @@ pub mod Meanings
 pub mod Elements
 pub mod Classes
 pub mod Storing
+pub mod Saved

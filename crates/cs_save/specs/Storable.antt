@@ -1,9 +1,9 @@
 -- When an image in memory can be saved.
-use Rattle.std.specs.Prelude.{◌≡◌, ℕ, ◌*◌, ◌^◌, ◌<◌, ◌≤◌, true, length, List, None, slice_index, slice_get, Some}
+use Rattle.std.specs.Prelude.{◌≡◌, ℕ, ◌^◌, ◌<◌, ◌≤◌, true, length, List, Some, None, slice_index, slice_get}
 use Rattle.std.specs.Ordering.{nat_cmp}
 use Rattle.std.specs.FinMap.{FinMap}
 use Rattle.std.specs.List.{AllByRecursion}
-use Rattle.cs_heap.specs.Object.{Object, is_object, used}
+use Rattle.cs_heap.specs.Object.{Object, is_object}
 use Rattle.cs_classes.specs.declared.Roots.{Roots}
 use Rattle.cs_classes.specs.Meaning.{is_heap_context}
 use Rattle.cs_classes.specs.Sound.{IsWhole}
@@ -11,15 +11,22 @@ use Rattle.cs_model.specs.Image.{image_fault}
 use Rattle.cs_model.specs.SavedFile.{IsWordValue}
 use Rattle.cs_save.specs.Filed.{saved_of}
 
--- what any memory holds: words of 32 bits and identity hashes of 22
+-- what any memory holds: identity hashes of 22 bits, and words of 32
 pub record FitsWords (x : Object) : Type 0 where
   pub hash : x.hash < 2 ^ 22
   pub words : AllByRecursion IsWordValue x.words
 
--- A heap with its class table and roots is storable where it is whole, the sender of each of its contexts is an object, and the
--- file that is saved of it has no fault for a heap of this limit.
+-- the sender of each context is an object, nil or a context, and no frame
+abbrev pub AreSingle : List Object → Type 0
+AreSingle objects = (k : ℕ) (x : Object) → slice_get objects k ≡ Some x → is_heap_context x ≡ true
+    → is_object objects (slice_index x.words 0) ≡ true
+
+-- A heap with its class table and roots is storable where it is whole, each context is single, and the file that is saved of it has
+-- no fault for a heap of this limit.
 pub record IsStorable (objects : List Object) (table : FinMap nat_cmp ℕ) (roots : Roots) (limit : ℕ) : Type 0 where
   pub whole : IsWhole objects table roots
-  pub single : (k : ℕ) (x : Object) → slice_get objects k ≡ Some x → is_heap_context x ≡ true → is_object objects (slice_index x.words 0) ≡ true
+  pub single : AreSingle objects
+  pub words : AllByRecursion FitsWords objects
+  pub header : length roots.header ≡ 64
   pub next : roots.next_birth ≤ 2 ^ 62
   pub fault : image_fault (saved_of objects table roots) limit ≡ None
