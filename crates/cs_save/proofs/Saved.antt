@@ -1,6 +1,6 @@
 -- The image of what is saved is the state.
-use Rattle.std.proofs.Common.{◌≡◌, ℕ, ◌<◌, ◌≤◌, ◌^◌, ◌==◌, ◌&&◌, Bool, true, false, not, nat_lt, List, length, map, Option, Some, None, refl, ap, sym, ◌∙◌, arith, slice_get}
-use Rattle.std.specs.Prelude.{Ok}
+use Rattle.std.proofs.Common.{◌≡◌, ℕ, ◌<◌, ◌≤◌, ◌^◌, ◌==◌, ◌&&◌, Bool, true, false, not, nat_lt, List, length, map, Option, Some, None, refl, ap, sym, ◌∙◌, arith, option_map, slice_get, subst}
+use Rattle.std.specs.Prelude.{Ok, IfSome}
 use Rattle.std.specs.List.{AllByRecursion}
 use Rattle.std.specs.Ordering.{nat_cmp}
 use Rattle.std.specs.FinMap.{FinMap}
@@ -43,3 +43,9 @@ unfolding image_of
 image_same xs table roots limit s few =
     ap (λ (fault : Option ImageFault). state_unless fault (described (saved_of xs table roots))) s.fault
     ∙ ap Ok (described_same xs table roots (filed_of xs table roots limit s few) s.whole s.single)
+
+-- what a content is of which it is known what was taken
+pub content_told : (content taken : Option (List ℕ)) (bytes : List ℕ) (P : List ℕ → Type 0) → P bytes → content ≡ option_map (λ (t : List ℕ). bytes) taken → IfSome content P
+content_told None taken bytes P p e = tt
+content_told (Some b) None bytes P p e = absurd (cc)
+content_told (Some b) (Some t) bytes P p e = let same : bytes ≡ b = cc in subst P same p
