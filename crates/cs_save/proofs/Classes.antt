@@ -84,7 +84,6 @@ abbrev pub class_by : SavedFile → ℕ → Option ℕ
 class_by f q = cond (saved_entry f q == saved_base) None (Some (saved_birth f (saved_entry f q)))
 
 pub get_above : (f : SavedFile) (n q : ℕ) → n ≤ q → get (saved_classes f n) q ≡ None
-
 get_above f zero q h = get-empty nat_cmp q
 get_above f (suc n) q h = go (saved_entry f n == saved_base) (get_above f n q (omega (arith, h)))
   where

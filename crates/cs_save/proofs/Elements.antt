@@ -44,6 +44,7 @@ words_raw format ws p m =
 
 -- a method's header, its literals and its bytecodes
 pub record FiledMethod (fw ws : List ℕ) : Type 0 where
+  pub first : natural_in_word (slice_index fw 0) ≡ natural_of_word (slice_index ws 0)
   pub header : header_in_words fw ≡ method_header ws
   pub literals : literals_in_words fw ≡ map file_word (literal_words ws)
   pub code : drop (1 + literal_count (header_in_words fw)) fw ≡ code_in ws
@@ -69,6 +70,7 @@ parts h ws m e long =
     let front : length (map file_word (take m ws)) ≡ m = omega (arith, length-map (take m ws) file_word, length-take m ws, long) in
     let next : (k : ℕ) → 1 + k ≡ suc k = λ k. omega arith in
     record {
+      first = count_same h;
       header = header;
       literals = ap (λ k. take k (map file_word (take m ws) ++ drop m ws)) count ∙ take_front (map file_word (take m ws)) (drop m ws) m front
           ∙ ap (λ k. map file_word (take k ws)) e;

@@ -7,3 +7,6 @@ pub mod Elements
 pub mod Classes
 pub mod Storing
 pub mod Saved
+pub mod Sounding
+pub mod Rooted
+pub mod Settled

@@ -43,7 +43,7 @@ pub all_mapped : {X Y : Type 0} (P : Y → Type 0) (g : X → Y) (xs : List X) �
 all_mapped P g [] h = tt
 all_mapped P g (x ∷ xs) h = (h.0, all_mapped P g xs h.1)
 
-all_taken : {X : Type 0} (P : X → Type 0) (n : ℕ) (xs : List X) → ((k : ℕ) (x : X) → slice_get xs k ≡ Some x → k < n → P x) → AllByRecursion P (take n xs)
+pub all_taken : {X : Type 0} (P : X → Type 0) (n : ℕ) (xs : List X) → ((k : ℕ) (x : X) → slice_get xs k ≡ Some x → k < n → P x) → AllByRecursion P (take n xs)
 all_taken P zero xs h = tt
 all_taken P (suc n) [] h = tt
 all_taken P (suc n) (x ∷ xs) h = (h 0 x refl (omega arith), all_taken P n xs (λ k y e l. h (suc k) y e (omega (arith, l))))
@@ -210,8 +210,10 @@ filed_from xs table roots w few header next f = record {
     first = first;
     three = omega (arith, bare.long, length-map xs filed);
     pages = all_ranged (λ entries. (length entries ≡ 1024) × AllByRecursion IsWordValue entries) (page_entries table) 0 16
-        (λ p l. (length-map-range_with_len (entry_word table) (1024 * p) 1024,
-        all_ranged IsWordValue (entry_word table) (1024 * p) 1024 (λ q m. entry_fits xs table few w.classes q)));
+        (λ p l. (
+          length-map-range_with_len (entry_word table) (1024 * p) 1024,
+          all_ranged IsWordValue (entry_word table) (1024 * p) 1024 (λ q m. entry_fits xs table few w.classes q),
+        ));
     count = omega (arith, length-map-range_with_len (page_entries table) 0 16);
     size = omega (arith, length-map-range_with_len (page_entries table) 0 16, sizes_filed xs, few);
     births = (omega (arith, next), (births_long, all_mapped (λ b. b < 2 ^ 64) (λ (x : Object). x.birth) xs (all_by_get (λ x. x.birth < 2 ^ 64) xs (λ k x e. let b = w.births k x e in omega (arith, b, next)))));
