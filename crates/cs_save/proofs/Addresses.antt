@@ -1,16 +1,15 @@
 -- Where the objects of a memory lie in the file that is saved of it.
-use Rattle.std.proofs.Common.{◌≡◌, ◌≢◌, ℕ, zero, suc, ◌+◌, ◌-◌, ◌*◌, ◌/◌, ◌%◌, ◌^◌, ◌<◌, ◌≤◌, ◌==◌, Bool, true, false, cond, leb, nat_lt, List, [], ◌∷◌, ◌++◌, length, map, take, drop, Option, Some, None, is_some, refl, ap, ap₂, sym, ◌∙◌, arith, slice_get, slice_index, option_map, subst}
+use Rattle.std.proofs.Common.{◌≡◌, ℕ, zero, suc, ◌+◌, ◌*◌, ◌%◌, ◌^◌, ◌<◌, ◌≤◌, ◌==◌, Bool, true, false, cond, leb, nat_lt, List, [], ◌∷◌, length, map, take, Option, Some, None, is_some, refl, ap, ◌∙◌, arith, slice_get, option_map}
 use Rattle.std.specs.Option.{option_map_or}
 use Rattle.std.specs.List.{take-map}
-use Rattle.std.proofs.lemmas.List.{length-map}
 use Rattle.std.proofs.lemmas.List.Sums.{sum_by-cons}
 use Rattle.std.proofs.lemmas.Option.{slice_get-map}
 use Rattle.std.proofs.lemmas.Bool.Decides.{nat_tests}
-use Rattle.cs_heap.specs.Object.{Object, address_among, address_of, base, header_address, object_place, is_object, heap_object, size, slot_counts, units, units_before, used}
-use Rattle.cs_heap.proofs.Laws.{IsPlaced, address_of-index, index_of-below, object_at-address, object_placed}
+use Rattle.cs_heap.specs.Object.{Object, address_among, base, object_place, is_object, heap_object, size, slot_counts, units, units_before, used}
+use Rattle.cs_heap.proofs.Laws.{address_of-index, index_of-below, object_at-address, object_placed}
 use Rattle.cs_model.specs.SavedFile.{SavedObject, saved_base, saved_sizes, words_before}
 use Rattle.cs_model.specs.SoundFile.{saved_address}
-use Rattle.cs_save.specs.Filed.{filed, filed_words, file_address, file_word}
+use Rattle.cs_save.specs.Filed.{filed, file_address, file_word}
 use Rattle.cs_save.proofs.Files.{sizes_filed}
 use Rattle.cs_save.proofs.Headers.{length-filed}
 

@@ -1,22 +1,20 @@
 -- The class table of a file that is saved.
-use Rattle.std.proofs.Common.{◌≡◌, ◌≢◌, ℕ, zero, suc, ◌+◌, ◌-◌, ◌*◌, ◌/◌, ◌%◌, ◌^◌, ◌<◌, ◌≤◌, ◌==◌, ◌&&◌, Bool, true, false, cond, leb, nat_lt, inl, inr, List, [], ◌∷◌, ◌++◌, length, map, take, drop, get_or, Option, Some, None, is_some, refl, ap, ap₂, sym, ◌∙◌, arith, rules, slice_get, slice_index, option_map, subst, nat_cmp}
+use Rattle.std.proofs.Common.{◌≡◌, ◌≢◌, ℕ, zero, suc, ◌+◌, ◌*◌, ◌/◌, ◌%◌, ◌^◌, ◌<◌, ◌≤◌, ◌==◌, Bool, true, false, cond, leb, nat_lt, inl, inr, List, map, Option, Some, None, refl, ap, sym, ◌∙◌, arith, rules, slice_get, slice_index, option_map, nat_cmp}
 use Rattle.std.specs.Option.{option_map_or}
 use Rattle.std.specs.List.{range_with_len}
-use Rattle.std.specs.FinMap.{FinMap, empty, get, get-empty, gets, insert, nat_cmp-IsAntisymmetric, same_map}
+use Rattle.std.specs.FinMap.{FinMap, get, get-empty, gets, insert, nat_cmp-IsAntisymmetric, same_map}
 use Rattle.std.specs.Cmp.{nat_cmp_total}
-use Rattle.std.proofs.lemmas.Option.{slice_get-map, slice_get_past}
+use Rattle.std.proofs.lemmas.Option.{slice_get_past}
 use Rattle.std.proofs.lemmas.List.FromFn.{get_or-map-range_with_len, length-map-range_with_len}
 use Rattle.std.proofs.lemmas.Bool.Decides.{nat_tests, eqb_tells}
-use Rattle.cs_heap.specs.Object.{Object, base, birth_at, is_object, heap_object}
+use Rattle.cs_heap.specs.Object.{Object, base, birth_at, is_object}
 use Rattle.cs_heap.proofs.Laws.{object_placed}
 use Rattle.cs_model.specs.SavedFile.{SavedFile, saved_base}
 use Rattle.cs_classes.specs.declared.Roots.{Roots}
 use Rattle.cs_classes.specs.Meaning.{classes_of}
-use Rattle.cs_classes.specs.Sound.{IsSoundClass, IsSoundTable}
 use Rattle.cs_classes.proofs.Wholes.{get-classes_of}
 use Rattle.cs_model.specs.SoundFile.{saved_birth, saved_classes, saved_entry}
 use Rattle.cs_save.specs.Filed.{entry_word, file_address, saved_file, file_word, page_entries}
-use Rattle.cs_save.proofs.Addresses.{Object_at, StartsBare, object_there}
 use Rattle.cs_save.proofs.Meanings.{IsFiled, birth_same}
 
 -- ---- numbers

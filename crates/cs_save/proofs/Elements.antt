@@ -1,24 +1,21 @@
 -- An object of a file that is saved is what the object of the memory means.
-use Rattle.std.proofs.Common.{◌≡◌, ◌≢◌, ℕ, zero, suc, ◌+◌, ◌-◌, ◌*◌, ◌/◌, ◌%◌, ◌^◌, ◌<◌, ◌≤◌, ◌==◌, ◌&&◌, Bool, true, false, cond, leb, nat_lt, List, [], ◌∷◌, ◌++◌, length, map, take, drop, get_or, Option, Some, None, is_some, unwrap_or, refl, ap, ap₂, sym, ◌∙◌, arith, slice_get, slice_index, subst, length-drop, length-append}
-use Rattle.std.specs.List.{AllPass, take-map, drop-map}
-use Rattle.std.proofs.lemmas.List.{append-nil, length-map, length-take, take_all, get_or-map, get_or-drop}
+use Rattle.std.proofs.Common.{◌≡◌, ℕ, zero, suc, ◌+◌, ◌-◌, ◌*◌, ◌<◌, ◌≤◌, ◌==◌, Bool, true, false, nat_lt, List, [], ◌∷◌, ◌++◌, length, map, take, drop, get_or, Option, unwrap_or, refl, ap, ap₂, sym, ◌∙◌, arith, slice_index, subst, length-drop}
+use Rattle.std.specs.List.{take-map, drop-map}
+use Rattle.std.proofs.lemmas.List.{append-nil, length-map, length-take, take_all, get_or-map}
 use Rattle.std.proofs.lemmas.Bool.Decides.{nat_tests}
 use Rattle.cs_word.specs.Word.{natural_of_word}
 use Rattle.cs_heap.specs.Object.{Object}
 use Rattle.cs_heap.specs.Format.{is_code, is_pointers}
 use Rattle.cs_model.specs.Ref.{Ref}
-use Rattle.cs_model.specs.Obj.{Obj, Head, Context, Ptr, Raw, Method, Ctx, context_class, context_fields, literal_count}
+use Rattle.cs_model.specs.Obj.{Head, Ptr, Raw, Method, Ctx, context_class, literal_count}
 use Rattle.cs_model.specs.Words.{obj_by, plain, plain_format, context_by, ref_by, natural_in_word, is_pointer_format, is_method_format, header_in_words, literals_in_words, bytecodes_in_words, bytes_in_words, stackp_in_words, unused_bytes, bytes_of_words}
-use Rattle.cs_model.specs.SavedFile.{SavedObject}
-use Rattle.cs_classes.specs.Meaning.{head_of, ref_of, obj_of, context_of, method_meaning, used_bytes, depth_in, code_in, literal_words, method_header, is_heap_context}
-use Rattle.cs_classes.specs.Sound.{IsSoundObject, is_reference, is_weak, references_in}
-use Rattle.cs_classes.proofs.Refs.{is_reference-object}
-use Rattle.cs_classes.proofs.Sorts.{obj_of-context, obj_of-bytes, obj_of-method, obj_of-pointers, references-context, references-method, references-pointers}
-use Rattle.cs_heap.specs.Object.{is_object}
+use Rattle.cs_classes.specs.Meaning.{head_of, ref_of, obj_of, context_of, used_bytes, depth_in, code_in, literal_words, method_header, is_heap_context}
+use Rattle.cs_classes.specs.Sound.{is_reference}
+use Rattle.cs_classes.proofs.Sorts.{obj_of-context, obj_of-bytes, obj_of-method, obj_of-pointers}
 use Rattle.cs_model.specs.SoundFile.{saved_head}
 use Rattle.cs_save.specs.Filed.{filed, filed_words, file_word, referring}
 use Rattle.cs_save.proofs.Headers.{length-filed}
-use Rattle.cs_save.proofs.Meanings.{count_same, natural_same}
+use Rattle.cs_save.proofs.Meanings.{count_same}
 
 -- ---- the words of an object
 

@@ -1,28 +1,25 @@
 -- What the words of a file that is saved mean is what those of the memory mean.
-use Rattle.std.proofs.Common.{◌≡◌, ◌≢◌, ℕ, zero, suc, ◌+◌, ◌-◌, ◌*◌, ◌/◌, ◌%◌, ◌^◌, ◌<◌, ◌≤◌, ◌==◌, ◌&&◌, Bool, true, false, cond, leb, nat_lt, inl, inr, List, [], ◌∷◌, ◌++◌, length, map, take, drop, get_or, Option, Some, None, is_some, unwrap_or, refl, ap, ap₂, sym, ◌∙◌, arith, slice_get, slice_index, option_map, subst, length-drop, length-append}
+use Rattle.std.proofs.Common.{◌≡◌, ◌≢◌, ℕ, zero, suc, ◌+◌, ◌/◌, ◌%◌, ◌^◌, ◌≤◌, ◌==◌, Bool, true, false, cond, nat_lt, inl, inr, List, [], ◌∷◌, length, map, Option, Some, None, refl, ap, sym, ◌∙◌, arith, slice_get, slice_index}
 use Rattle.std.specs.Option.{option_map_or}
-use Rattle.std.specs.List.{AllByRecursion, AllPass, take-map, drop-map}
 use Rattle.std.specs.Ordering.{nat_cmp}
 use Rattle.std.specs.FinMap.{FinMap}
-use Rattle.std.proofs.lemmas.List.{append-nil, length-map, length-take, take_all, get_or-map}
+use Rattle.std.proofs.lemmas.List.{length-map}
 use Rattle.std.proofs.lemmas.Bool.Decides.{nat_tests, eqb_tells}
 use Rattle.cs_word.specs.Word.{natural_by_kind, natural_of_word}
 use Rattle.cs_word.specs.declared.Kind.TheVariants as kind
-use Rattle.cs_heap.specs.Object.{Object, birth_at, is_object, heap_object, used}
-use Rattle.cs_heap.specs.Format.{is_code, is_pointers}
+use Rattle.cs_heap.specs.Object.{Object, birth_at, is_object, used}
 use Rattle.cs_model.specs.Ref.{Ref}
 use Rattle.cs_model.specs.Ref as ref
-use Rattle.cs_model.specs.Obj.{literal_count}
-use Rattle.cs_model.specs.Words.{ref_by, natural_in_word, header_in_words, literals_in_words, small_value}
-use Rattle.cs_model.specs.SavedFile.{SavedFile, FitsFile}
+use Rattle.cs_model.specs.Words.{ref_by, natural_in_word, small_value}
+use Rattle.cs_model.specs.SavedFile.{FitsFile}
 use Rattle.cs_classes.specs.declared.Roots.{Roots}
-use Rattle.cs_classes.specs.Meaning.{ref_of, method_header, literal_words}
+use Rattle.cs_classes.specs.Meaning.{ref_of}
 use Rattle.cs_classes.specs.Sound.{is_reference, is_reference_kind}
 use Rattle.cs_classes.proofs.Refs.{ref_of-object}
-use Rattle.cs_model.specs.SoundFile.{saved_birth, births_saved}
+use Rattle.cs_model.specs.SoundFile.{saved_birth}
 use Rattle.cs_model.proofs.SavedBirths.{birth_by_number}
-use Rattle.cs_save.specs.Filed.{filed, filed_words, file_address, saved_file, file_word, referring}
-use Rattle.cs_save.proofs.Addresses.{Object_at, StartsBare, object_there}
+use Rattle.cs_save.specs.Filed.{filed, saved_file, file_word}
+use Rattle.cs_save.proofs.Addresses.{StartsBare, object_there}
 
 -- a memory whose file can be written
 pub record IsFiled (xs : List Object) (table : FinMap nat_cmp ℕ) (roots : Roots) : Type 0 where

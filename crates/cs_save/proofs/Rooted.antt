@@ -1,29 +1,27 @@
 -- What a state says of its contexts and of its active process is said of the file that is saved.
-use Rattle.std.proofs.Common.{◌≡◌, ◌≢◌, ℕ, zero, suc, ◌+◌, ◌-◌, ◌*◌, ◌/◌, ◌%◌, ◌^◌, ◌<◌, ◌≤◌, ◌==◌, ◌&&◌, ◌||◌, Bool, true, false, cond, leb, nat_lt, not, List, [], ◌∷◌, ◌++◌, length, map, take, drop, get_or, Option, Some, None, is_some, unwrap_or, refl, ap, ap₂, sym, ◌∙◌, arith, slice_get, slice_index, option_map, subst, length-drop}
-use Rattle.std.specs.Prelude.{IsSome, IsTrue}
+use Rattle.std.proofs.Common.{◌≡◌, ◌≢◌, ℕ, ◌/◌, ◌%◌, ◌<◌, ◌≤◌, ◌==◌, Bool, true, false, cond, leb, List, [], ◌∷◌, length, map, Option, Some, None, is_some, unwrap_or, refl, ap, sym, ◌∙◌, arith, slice_get, slice_index, option_map, subst}
+use Rattle.std.specs.Prelude.{IsSome}
 use Rattle.std.specs.Option.{option_map_or, option_and_then}
-use Rattle.std.specs.List.{AllByRecursion}
 use Rattle.std.specs.Ordering.{nat_cmp}
 use Rattle.std.specs.FinMap.{FinMap, get}
-use Rattle.std.proofs.lemmas.List.{length-map, length-take}
+use Rattle.std.proofs.lemmas.List.{length-map}
 use Rattle.std.proofs.lemmas.Option.{slice_get-map, slice_get-get_or}
 use Rattle.std.proofs.lemmas.Bool.Decides.{nat_tests}
 use Rattle.cs_heap.specs.Object.{Object, address_of, base, birth_at, is_object, heap_object}
-use Rattle.cs_heap.specs.Format.{is_pointers, is_code}
+use Rattle.cs_heap.specs.Format.{is_pointers}
 use Rattle.cs_heap.proofs.Laws.{address_of-index}
 use Rattle.cs_model.specs.Ref.{Ref, same_ref}
 use Rattle.cs_model.specs.Ref as ref
-use Rattle.cs_model.specs.Obj.{Obj, Context, Ctx, Ptr, at_least, context_in, slots_in}
+use Rattle.cs_model.specs.Obj.{Obj, Context, at_least, context_in, slots_in}
 use Rattle.cs_model.specs.Words.{natural_in_word, small_value}
 use Rattle.cs_model.specs.State.{Kept, is_nil, object_at, object_of, slots_of}
-use Rattle.cs_model.specs.ImageFile.{FileObject, is_visible}
 use Rattle.cs_model.specs.ImageFault.{fields_of, is_file_context, is_live_context}
-use Rattle.cs_model.specs.SavedFile.{SavedFile, placed_at, saved_base}
+use Rattle.cs_model.specs.SavedFile.{placed_at}
 use Rattle.cs_model.specs.SoundFile.{IsFound, NamesSaved}
 use Rattle.cs_classes.specs.declared.Roots.{Roots}
 use Rattle.cs_classes.specs.Meaning.{context_of, is_heap_context, kept_of, nth_birth, obj_of, objects_of, ref_of}
 use Rattle.cs_word.specs.Word.{natural_of_word}
-use Rattle.cs_classes.specs.Sound.{AreSoundObjects, IsSoundObject, is_reference, nil_word}
+use Rattle.cs_classes.specs.Sound.{AreSoundObjects, is_reference, nil_word}
 use Rattle.cs_classes.proofs.Heaps.{birth_of-object_at}
 use Rattle.cs_classes.proofs.Heaps.{object_there as object_of_address}
 use Rattle.cs_classes.proofs.Objects.{get-objects_of}
@@ -31,7 +29,6 @@ use Rattle.cs_classes.proofs.Refs.{ref_of-object}
 use Rattle.cs_classes.proofs.Sorts.{Sort, sort_of, obj_of-context, obj_of-bytes, obj_of-method, obj_of-pointers}
 use Rattle.cs_save.specs.Filed.{filed, filed_words, file_word, saved_file}
 use Rattle.cs_save.proofs.Addresses.{Object_at, object_there}
-use Rattle.cs_save.proofs.Elements.{words_pointers}
 use Rattle.cs_save.proofs.Headers.{length-filed}
 use Rattle.cs_save.proofs.Meanings.{IsFiled, Low, Odd, Two, Zero, count_same, low, reference_object}
 use Rattle.cs_save.proofs.Sounding.{all_true, context_slot, found_word, test_apart, test_at_most, test_same, told_same}

@@ -1,5 +1,5 @@
 -- The image of what is saved is the state.
-use Rattle.std.proofs.Common.{◌≡◌, ℕ, ◌<◌, ◌≤◌, ◌^◌, ◌==◌, ◌&&◌, Bool, true, false, not, nat_lt, List, length, map, Option, Some, None, refl, ap, sym, ◌∙◌, arith, option_map, slice_get, subst}
+use Rattle.std.proofs.Common.{◌≡◌, ℕ, ◌≤◌, ◌==◌, ◌&&◌, true, not, List, map, Option, Some, None, ap, ◌∙◌, arith, option_map, subst}
 use Rattle.std.specs.Prelude.{Ok, IfSome}
 use Rattle.std.specs.List.{AllByRecursion}
 use Rattle.std.specs.Ordering.{nat_cmp}
@@ -7,15 +7,15 @@ use Rattle.std.specs.FinMap.{FinMap}
 use Rattle.std.proofs.lemmas.Bool.Decides.{nat_tests}
 use Rattle.cs_heap.specs.Object.{Object, used}
 use Rattle.cs_model.specs.State.{is_class_index}
-use Rattle.cs_model.specs.Image.{described, image_fault, image_of, state_unless}
+use Rattle.cs_model.specs.Image.{described, image_of, state_unless}
 use Rattle.cs_model.specs.ImageFault.{ImageFault}
-use Rattle.cs_model.specs.SavedFile.{SavedObject, IsSeen, saved_bytes}
+use Rattle.cs_model.specs.SavedFile.{IsSeen}
 use Rattle.cs_model.proofs.SavedDescribing.{state_there}
 use Rattle.cs_classes.specs.declared.Roots.{Roots}
 use Rattle.cs_classes.specs.Meaning.{kept_of}
 use Rattle.cs_classes.specs.Sound.{IsWhole}
 use Rattle.cs_save.specs.Filed.{filed, saved_file, saved_of}
-use Rattle.cs_save.specs.Storable.{AreSingle, FitsWords, IsStorable}
+use Rattle.cs_save.specs.Storable.{AreSingle, IsStorable}
 use Rattle.cs_save.proofs.Meanings.{IsFiled}
 use Rattle.cs_save.proofs.Storing.{all_by_get, all_mapped, filed_from, state_same}
 

@@ -1,8 +1,7 @@
 -- The file that is saved of a settled memory has no fault.
-use Rattle.std.proofs.Common.{◌≡◌, ◌≢◌, ℕ, zero, suc, ◌+◌, ◌-◌, ◌*◌, ◌/◌, ◌%◌, ◌^◌, ◌<◌, ◌≤◌, ◌==◌, ◌&&◌, ◌||◌, Bool, true, false, cond, leb, nat_lt, not, List, [], ◌∷◌, ◌++◌, length, map, take, drop, get_or, Option, Some, None, is_some, unwrap_or, refl, ap, ap₂, sym, ◌∙◌, arith, slice_get, slice_index, option_map, subst, length-drop}
-use Rattle.std.specs.Prelude.{IsSome, IsTrue}
+use Rattle.std.proofs.Common.{◌≡◌, ◌≢◌, ℕ, suc, ◌+◌, ◌-◌, ◌*◌, ◌%◌, ◌^◌, ◌<◌, ◌≤◌, ◌==◌, Bool, true, false, nat_lt, not, List, [], ◌∷◌, length, map, take, drop, Option, Some, None, is_some, refl, ap, ap₂, sym, ◌∙◌, arith, slice_get, slice_index, option_map, subst, length-drop}
 use Rattle.std.specs.Option.{option_map_or, option_and_then}
-use Rattle.std.specs.List.{AllByRecursion, list_any, range_with_len}
+use Rattle.std.specs.List.{AllByRecursion, list_any}
 use Rattle.std.specs.Ordering.{nat_cmp}
 use Rattle.std.specs.FinMap.{FinMap, get}
 use Rattle.std.proofs.lemmas.List.{length-map, length-take}
@@ -10,38 +9,36 @@ use Rattle.std.proofs.lemmas.List.FromFn.{length-map-range_with_len}
 use Rattle.std.proofs.lemmas.List.Sums.{sum_by-cons}
 use Rattle.std.proofs.lemmas.Option.{slice_get-map, slice_get-get_or}
 use Rattle.std.proofs.lemmas.Bool.Decides.{nat_tests}
-use Rattle.cs_heap.specs.Object.{Object, base, birth_at, format_at, is_object, heap_object, size, slot_count_of, slot_counts, used}
+use Rattle.cs_heap.specs.Object.{Object, is_object, heap_object, size, slot_counts, used}
 use Rattle.cs_heap.specs.Format.{is_pointers, is_code}
 use Rattle.cs_model.specs.Ref.{Ref, natural_of}
 use Rattle.cs_model.specs.Ref as ref
-use Rattle.cs_model.specs.Obj.{Obj, Context, Ctx, Ptr, context_class, context_in, first_pc, lies_between, lies_in, literal_count, slots_in}
-use Rattle.cs_model.specs.State.{Kept, IsLive, PcLies, active_process, is_nil, is_class_index, object_at, object_of, scheduler_of, slots_of, special_at}
+use Rattle.cs_model.specs.Obj.{Obj, Ctx, context_class, first_pc, lies_between, lies_in, literal_count, slots_in}
+use Rattle.cs_model.specs.State.{Kept, IsLive, active_process, is_nil, is_class_index, object_at, object_of, scheduler_of, slots_of, special_at}
 use Rattle.cs_model.specs.Settle.{context_kept}
-use Rattle.cs_model.specs.Words.{natural_in_word, header_in_words, bytecode_count, bytes_of_words, is_method_format, unused_bytes}
-use Rattle.cs_model.specs.Image.{image_fault}
-use Rattle.cs_model.specs.ImageFile.{FileObject}
-use Rattle.cs_model.specs.ImageFault.{fields_of, has_repeats, is_body, is_file_method, is_live_context, is_pc_of}
-use Rattle.cs_model.specs.SavedFile.{SavedObject, SavedBirths, SavedFile, birth_words, halves, placed_at, saved_base, saved_sizes}
+use Rattle.cs_model.specs.Words.{natural_in_word, header_in_words, bytecode_count, bytes_of_words, unused_bytes}
+use Rattle.cs_model.specs.ImageFault.{fields_of, has_repeats, is_body, is_live_context, is_pc_of}
+use Rattle.cs_model.specs.SavedFile.{SavedObject, SavedBirths, SavedFile, placed_at, saved_base}
 use Rattle.cs_model.specs.SoundFile.{IsActive, IsFound, IsReference, IsRooted, IsSavedContext, IsSoundFile, IsSoundSection, NamesSaved, saved_entry, saved_references}
 use Rattle.cs_model.proofs.SavedNumbers.{length-bytes_of_words, length-halves}
 use Rattle.cs_model.proofs.SavedDescribing.{no_fault}
 use Rattle.cs_classes.specs.declared.Roots.{Roots}
-use Rattle.cs_classes.specs.Meaning.{code_in, context_of, is_heap_context, kept_of, literal_words, method_header, obj_of, objects_of, ref_of, used_bytes}
+use Rattle.cs_classes.specs.Meaning.{code_in, context_of, is_heap_context, kept_of, literal_words, method_header, obj_of, ref_of, used_bytes}
 use Rattle.cs_word.specs.Word.{natural_of_word}
-use Rattle.cs_classes.specs.Sound.{AreSoundObjects, IsImageHeader, IsSoundContext, IsSoundHeader, IsSoundObject, IsWhole, is_reference, nil_word}
+use Rattle.cs_classes.specs.Sound.{IsImageHeader, IsSoundContext, IsSoundHeader, IsSoundObject, IsWhole, is_reference, nil_word}
 use Rattle.cs_classes.proofs.Heaps.{is_object-object_at}
 use Rattle.cs_classes.proofs.Heaps.{object_there as object_of_address}
 use Rattle.cs_classes.proofs.Objects.{get-objects_of-element}
 use Rattle.cs_classes.proofs.Sorts.{Sort, sort_of, obj_of-context, obj_of-bytes, obj_of-method, obj_of-pointers}
-use Rattle.cs_save.specs.Filed.{filed, filed_words, file_word, page_entries, saved_file, saved_of}
-use Rattle.cs_save.specs.Storable.{HasProcess, IsSettled, IsStorable, PcsLie}
-use Rattle.cs_save.proofs.Addresses.{Object_at, object_there}
-use Rattle.cs_save.proofs.Elements.{AreReferences, IsFine, words_method, words_pointers}
+use Rattle.cs_save.specs.Filed.{filed, filed_words, file_word, page_entries, saved_file}
+use Rattle.cs_save.specs.Storable.{IsSettled, IsStorable}
+use Rattle.cs_save.proofs.Addresses.{object_there}
+use Rattle.cs_save.proofs.Elements.{IsFine, words_method}
 use Rattle.cs_save.proofs.Files.{sizes_filed}
 use Rattle.cs_save.proofs.Headers.{length-filed}
 use Rattle.cs_save.proofs.Meanings.{IsFiled, count_same, reference_object}
 use Rattle.cs_save.proofs.Rooted.{Has, IsFields, address_object, and_then_some, fields_kept, no_address, fields_found, fields_word, live_context, next_word, nil_ref, no_object, word_object}
-use Rattle.cs_save.proofs.Sounding.{nil_stays, format_kept, body_formed, both_true, class_again, context_again, context_slot, entry_filled, found_word, object_references, or_second, table_again, test_apart, test_at_most, test_same, told_same}
+use Rattle.cs_save.proofs.Sounding.{nil_stays, format_kept, body_formed, both_true, context_again, context_slot, entry_filled, found_word, object_references, or_second, table_again, test_apart, test_same, told_same}
 use Rattle.cs_save.proofs.Storing.{all_by_get, all_mapped, all_taken, filed_from, fine_from}
 
 -- ---- pcs

@@ -1,34 +1,33 @@
 -- The file that is saved of a whole memory has sound objects.
-use Rattle.std.proofs.Common.{◌≡◌, ◌≢◌, ℕ, zero, suc, ◌+◌, ◌-◌, ◌*◌, ◌/◌, ◌%◌, ◌^◌, ◌<◌, ◌≤◌, ◌==◌, ◌&&◌, ◌||◌, Bool, true, false, cond, leb, nat_lt, not, List, [], ◌∷◌, ◌++◌, length, map, take, drop, get_or, Option, Some, None, is_some, unwrap_or, refl, ap, ap₂, sym, ◌∙◌, arith, slice_get, slice_index, option_map, subst, length-drop}
-use Rattle.std.specs.Prelude.{IsTrue}
+use Rattle.std.proofs.Common.{◌≡◌, ◌≢◌, ℕ, suc, ◌+◌, ◌-◌, ◌/◌, ◌%◌, ◌<◌, ◌≤◌, ◌==◌, ◌&&◌, ◌||◌, Bool, true, false, cond, leb, nat_lt, not, List, [], ◌∷◌, length, map, Option, Some, None, is_some, unwrap_or, refl, ap, ap₂, sym, ◌∙◌, arith, slice_index, subst}
 use Rattle.std.specs.Option.{option_map_or}
-use Rattle.std.specs.List.{AllByRecursion, list_any}
+use Rattle.std.specs.List.{AllByRecursion}
 use Rattle.std.specs.Ordering.{nat_cmp}
 use Rattle.std.specs.FinMap.{FinMap, get}
-use Rattle.std.proofs.lemmas.List.{length-map, length-take, get_or-map}
+use Rattle.std.proofs.lemmas.List.{get_or-map}
 use Rattle.std.proofs.lemmas.Bool.Decides.{nat_tests}
-use Rattle.cs_heap.specs.Object.{Object, base, class_at, format_at, is_object, heap_object, used}
+use Rattle.cs_heap.specs.Object.{Object, base, class_at, format_at, is_object, heap_object}
 use Rattle.cs_heap.specs.Format.{format_allows, is_pointers, is_code}
 use Rattle.cs_heap.proofs.Laws.{object_placed}
-use Rattle.cs_model.specs.Obj.{context_class, context_fields, is_header, literal_count}
+use Rattle.cs_model.specs.Obj.{context_class, is_header, literal_count}
 use Rattle.cs_model.specs.State.{is_class_index}
-use Rattle.cs_model.specs.Words.{small_value, natural_in_word, header_in_words, is_pointer_format, is_method_format, literals_in_words, unused_bytes}
-use Rattle.cs_model.specs.ImageFile.{FileObject, is_visible}
+use Rattle.cs_model.specs.Words.{small_value, natural_in_word, header_in_words, is_method_format, literals_in_words, unused_bytes}
+use Rattle.cs_model.specs.ImageFile.{FileObject}
 use Rattle.cs_model.specs.ImageFault.{is_body, is_class, is_file_context, is_file_method, is_method_body, is_pc_of, is_stackp}
-use Rattle.cs_model.specs.SavedFile.{SavedObject, SavedFile, placed_at, saved_base}
-use Rattle.cs_model.specs.SoundFile.{IsFound, NamesSaved, IsNilOr, IsReference, IsSavedContext, IsSavedTable, saved_entry, saved_references}
+use Rattle.cs_model.specs.SavedFile.{SavedFile, placed_at, saved_base}
+use Rattle.cs_model.specs.SoundFile.{IsFound, NamesSaved, IsReference, IsSavedContext, IsSavedTable, saved_entry, saved_references}
 use Rattle.cs_classes.specs.declared.Roots.{Roots}
-use Rattle.cs_classes.specs.Meaning.{depth_in, is_heap_context, literal_words, method_header}
+use Rattle.cs_classes.specs.Meaning.{depth_in, literal_words}
 use Rattle.cs_word.specs.declared.Kind.TheVariants as kind
 use Rattle.cs_word.specs.Word.{natural_of_word}
-use Rattle.cs_classes.specs.Sound.{IsSoundClass, IsSoundContext, IsSoundObject, IsSoundTable, IsWhole, is_reference, is_sender, is_sender_kind, is_method_address, is_closure_address, nil_word}
+use Rattle.cs_classes.specs.Sound.{IsSoundClass, IsSoundContext, IsSoundObject, IsWhole, is_reference, is_sender, is_sender_kind, is_method_address, is_closure_address, nil_word}
 use Rattle.cs_save.specs.Filed.{entry_word, filed, filed_words, file_word, saved_file}
 use Rattle.cs_save.proofs.Addresses.{Object_at, object_there}
-use Rattle.cs_save.proofs.Classes.{AreClasses, HasClass, class_named, entry_is, entry_none}
-use Rattle.cs_save.proofs.Elements.{AreReferences, IsFine, FiledMethod, words_method, words_pointers}
+use Rattle.cs_save.proofs.Classes.{class_named, entry_is, entry_none}
+use Rattle.cs_save.proofs.Elements.{AreReferences, IsFine, words_method, words_pointers}
 use Rattle.cs_save.proofs.Headers.{length-filed}
 use Rattle.cs_save.proofs.Meanings.{IsFiled, count_same, reference_object, word_stays}
-use Rattle.cs_save.proofs.Storing.{are_classes, fine_from}
+use Rattle.cs_save.proofs.Storing.{are_classes}
 
 -- ---- tests
 

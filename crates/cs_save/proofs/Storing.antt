@@ -1,5 +1,5 @@
 -- The file that is saved of a whole memory fits, and its objects are what those of the memory mean.
-use Rattle.std.proofs.Common.{◌≡◌, ◌≢◌, ℕ, zero, suc, ◌+◌, ◌-◌, ◌*◌, ◌/◌, ◌%◌, ◌^◌, ◌<◌, ◌≤◌, ◌==◌, ◌&&◌, ◌||◌, Bool, true, false, cond, leb, nat_lt, inl, inr, List, [], ◌∷◌, ◌++◌, length, map, take, drop, get_or, Option, Some, None, is_some, refl, ap, ap₂, sym, ◌∙◌, arith, slice_get, slice_index, option_map, subst, length-drop}
+use Rattle.std.proofs.Common.{◌≡◌, ◌≢◌, ℕ, zero, suc, ◌+◌, ◌*◌, ◌%◌, ◌^◌, ◌<◌, ◌≤◌, ◌==◌, ◌&&◌, ◌||◌, Bool, true, false, cond, leb, nat_lt, List, [], ◌∷◌, ◌++◌, length, map, take, drop, get_or, Option, Some, None, is_some, refl, ap, ap₂, sym, ◌∙◌, arith, slice_get, slice_index, option_map, subst, length-drop}
 use Rattle.std.specs.Prelude.{IsTrue}
 use Rattle.std.specs.List.{AllByRecursion, AllPass, range_with_len, zip}
 use Rattle.std.specs.Ordering.{nat_cmp}
@@ -9,25 +9,24 @@ use Rattle.std.proofs.lemmas.Option.{slice_get-map}
 use Rattle.std.proofs.lemmas.List.FromFn.{length-map-range_with_len}
 use Rattle.std.proofs.lemmas.List.Sums.{sum_by-cons}
 use Rattle.std.proofs.lemmas.Bool.Decides.{nat_tests}
-use Rattle.cs_heap.specs.Object.{Object, address_of, base, birth_at, is_object, heap_object, size, slot_counts, units_before, used}
+use Rattle.cs_heap.specs.Object.{Object, base, is_object, heap_object, size, slot_counts, units_before, used}
 use Rattle.cs_heap.specs.Format.{format_allows, is_pointers, is_raw, is_code}
 use Rattle.cs_heap.proofs.Laws.{address_of-index, object_placed}
 use Rattle.cs_model.specs.Ref as ref
-use Rattle.cs_model.specs.Obj.{Obj, literal_count}
-use Rattle.cs_model.specs.State.{Kept}
+use Rattle.cs_model.specs.Obj.{Obj}
 use Rattle.cs_model.specs.Words.{plain_format}
 use Rattle.cs_model.specs.ImageFault.{table_size}
-use Rattle.cs_model.specs.SavedFile.{SavedObject, SavedFile, FitsBirths, FitsFile, FitsObject, IsSeen, IsWordValue, saved_base}
-use Rattle.cs_model.specs.SoundFile.{births_saved, saved_birth, saved_classes, saved_obj, saved_rest, state_of_file}
+use Rattle.cs_model.specs.SavedFile.{SavedObject, FitsObject, IsWordValue}
+use Rattle.cs_model.specs.SoundFile.{births_saved, saved_birth, saved_obj, state_of_file}
 use Rattle.cs_classes.specs.declared.Roots.{Roots}
-use Rattle.cs_classes.specs.Meaning.{kept_header, is_heap_context, kept_of, literal_words, method_header, nth_birth, obj_of, objects_of, ref_of}
-use Rattle.cs_classes.specs.Sound.{IsSoundClass, IsSoundObject, IsSoundTable, IsWhole, is_reference, is_weak, references_in}
+use Rattle.cs_classes.specs.Meaning.{kept_header, is_heap_context, kept_of, literal_words, nth_birth, obj_of, objects_of, ref_of}
+use Rattle.cs_classes.specs.Sound.{IsSoundObject, IsSoundTable, IsWhole, is_reference, is_weak}
 use Rattle.cs_classes.proofs.Refs.{is_reference-object}
 use Rattle.cs_classes.proofs.Sorts.{references-context, references-method, references-pointers}
-use Rattle.cs_save.specs.Filed.{entry_word, filed, filed_words, file_address, file_word, page_entries, referring, saved_file}
+use Rattle.cs_save.specs.Filed.{entry_word, filed, filed_words, file_word, page_entries, referring, saved_file}
 use Rattle.cs_save.specs.Storable.{FitsWords}
-use Rattle.cs_save.proofs.Addresses.{First, Object_at, StartsBare, address_is, first_used, object_there}
-use Rattle.cs_save.proofs.Classes.{AreClasses, HasClass, classes_same, entry_none, entry_some}
+use Rattle.cs_save.proofs.Addresses.{First, StartsBare, address_is, first_used, object_there}
+use Rattle.cs_save.proofs.Classes.{AreClasses, classes_same, entry_none, entry_some}
 use Rattle.cs_save.proofs.Elements.{AreReferences, IsFine, element_same}
 use Rattle.cs_save.proofs.Files.{sizes_filed}
 use Rattle.cs_save.proofs.Headers.{length-filed}
