@@ -90,7 +90,7 @@ far_address : (a : ℕ) → base + 48 ≤ a → a + 88 < 2 ^ 32 → file_address
 far_address a h l = let high : nat_lt a (base + 48) ≡ false = grind (arith, nat_tests, h) in rw high (omega (arith, l))
 
 -- an object of a memory, by its address
-pub record Object_at (xs : List Object) (a : ℕ) : Type 0 where
+pub record AtAddress (xs : List Object) (a : ℕ) : Type 0 where
   pub number : ℕ
   pub object : Object
   pub there : slice_get xs number ≡ Some object
@@ -108,7 +108,7 @@ index_there : (r : Option ℕ) → is_some r ≡ true → (k : ℕ) × (r ≡ So
 index_there None h = absurd (cc)
 index_there (Some k) h = (k, refl)
 
-pub object_there : (xs : List Object) (a : ℕ) → StartsBare xs → used xs ≤ 67108864 → is_object xs a ≡ true → Object_at xs a
+pub object_there : (xs : List Object) (a : ℕ) → StartsBare xs → used xs ≤ 67108864 → is_object xs a ≡ true → AtAddress xs a
 unfolding filed
 object_there xs a s few h =
     let i = index_there (object_place xs a) h in

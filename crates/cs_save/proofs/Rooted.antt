@@ -28,7 +28,7 @@ use Rattle.cs_classes.proofs.Objects.{get-objects_of}
 use Rattle.cs_classes.proofs.Refs.{ref_of-object}
 use Rattle.cs_classes.proofs.Sorts.{Sort, sort_of, obj_of-context, obj_of-bytes, obj_of-method, obj_of-pointers}
 use Rattle.cs_save.specs.Filed.{filed, filed_words, file_word, saved_file}
-use Rattle.cs_save.proofs.Addresses.{Object_at, object_there}
+use Rattle.cs_save.proofs.Addresses.{AtAddress, object_there}
 use Rattle.cs_save.proofs.Headers.{length-filed}
 use Rattle.cs_save.proofs.Meanings.{IsFiled, Low, Odd, Two, Zero, count_same, low, reference_object}
 use Rattle.cs_save.proofs.Sounding.{all_true, context_slot, found_word, test_apart, test_at_most, test_same, told_same}
@@ -195,7 +195,7 @@ nil_ref xs table roots f sound nil w r h = go (w % 4 == 0) refl
         immediate_by (Two z) e = not_character xs v z (nth_birth xs 0) e
         immediate_by (Zero z) e = other z
 
-    first : (o : Object_at xs w) → o.object.birth ≡ nth_birth xs 0 → o.number ≡ 0
+    first : (o : AtAddress xs w) → o.object.birth ≡ nth_birth xs 0 → o.number ≡ 0
     first o e = at_first (slice_get xs 0) refl
       where
         at_first : (q : Option Object) → slice_get xs 0 ≡ q → o.number ≡ 0

@@ -15,7 +15,7 @@ use Rattle.cs_classes.specs.declared.Roots.{Roots}
 use Rattle.cs_classes.specs.Meaning.{kept_of}
 use Rattle.cs_classes.specs.Sound.{IsWhole}
 use Rattle.cs_save.specs.Filed.{filed, saved_file, saved_of}
-use Rattle.cs_save.specs.Storable.{AreSingle, IsStorable}
+use Rattle.cs_save.specs.Storable.{AreSingle, IsStorableImage}
 use Rattle.cs_save.proofs.Meanings.{IsFiled}
 use Rattle.cs_save.proofs.Storing.{all_by_get, all_mapped, filed_from, state_same}
 
@@ -34,10 +34,10 @@ pub described_same : (xs : List Object) (table : FinMap nat_cmp ℕ) (roots : Ro
 described_same xs table roots f w single =
     state_there (saved_file xs table roots) f.fits (all_seen xs table roots w) ∙ state_same xs table roots f w single
 
-pub filed_of : (xs : List Object) (table : FinMap nat_cmp ℕ) (roots : Roots) (limit : ℕ) → IsStorable xs table roots limit → used xs ≤ 67108864 → IsFiled xs table roots
+pub filed_of : (xs : List Object) (table : FinMap nat_cmp ℕ) (roots : Roots) (limit : ℕ) → IsStorableImage xs table roots limit → used xs ≤ 67108864 → IsFiled xs table roots
 filed_of xs table roots limit s few = filed_from xs table roots s.whole few s.header s.next s.words
 
-pub image_same : (xs : List Object) (table : FinMap nat_cmp ℕ) (roots : Roots) (limit : ℕ) → IsStorable xs table roots limit → used xs ≤ 67108864
+pub image_same : (xs : List Object) (table : FinMap nat_cmp ℕ) (roots : Roots) (limit : ℕ) → IsStorableImage xs table roots limit → used xs ≤ 67108864
     → image_of (saved_of xs table roots) limit ≡ Ok (kept_of xs table roots None)
 unfolding image_of
 image_same xs table roots limit s few =

@@ -31,7 +31,7 @@ use Rattle.cs_classes.proofs.Heaps.{object_there as object_of_address}
 use Rattle.cs_classes.proofs.Objects.{get-objects_of-element}
 use Rattle.cs_classes.proofs.Sorts.{Sort, sort_of, obj_of-context, obj_of-bytes, obj_of-method, obj_of-pointers}
 use Rattle.cs_save.specs.Filed.{filed, filed_words, file_word, page_entries, saved_file}
-use Rattle.cs_save.specs.Storable.{IsSettled, IsStorable}
+use Rattle.cs_save.specs.Storable.{IsSettled, IsStorableImage}
 use Rattle.cs_save.proofs.Addresses.{object_there}
 use Rattle.cs_save.proofs.Elements.{IsFine, words_method}
 use Rattle.cs_save.proofs.Files.{sizes_filed}
@@ -364,7 +364,7 @@ sound_file xs table roots limit s = record {
         let c : is_heap_context x ≡ true = test_same x.class context_class (sym (class_of_filed x) ∙ h) in
         context_again xs table roots f s.whole.nil x ((s.whole.heap.each k x e).context c) ((fine k x e).context c).1 (s.single k x e c) (context_pc xs table roots limit s k x e c)
 
-pub settled_storable : (xs : List Object) (table : FinMap nat_cmp ℕ) (roots : Roots) (limit : ℕ) → IsSettled xs table roots limit → IsStorable xs table roots limit
+pub settled_storable : (xs : List Object) (table : FinMap nat_cmp ℕ) (roots : Roots) (limit : ℕ) → IsSettled xs table roots limit → IsStorableImage xs table roots limit
 settled_storable xs table roots limit s = record {
   whole = s.whole;
   single = s.single;

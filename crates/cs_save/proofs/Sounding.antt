@@ -22,7 +22,7 @@ use Rattle.cs_word.specs.declared.Kind.TheVariants as kind
 use Rattle.cs_word.specs.Word.{natural_of_word}
 use Rattle.cs_classes.specs.Sound.{IsSoundClass, IsSoundContext, IsSoundObject, IsWhole, is_reference, is_sender, is_sender_kind, is_method_address, is_closure_address, nil_word}
 use Rattle.cs_save.specs.Filed.{entry_word, filed, filed_words, file_word, saved_file}
-use Rattle.cs_save.proofs.Addresses.{Object_at, object_there}
+use Rattle.cs_save.proofs.Addresses.{AtAddress, object_there}
 use Rattle.cs_save.proofs.Classes.{class_named, entry_is, entry_none}
 use Rattle.cs_save.proofs.Elements.{AreReferences, IsFine, words_method, words_pointers}
 use Rattle.cs_save.proofs.Headers.{length-filed}
@@ -298,7 +298,7 @@ table_again xs table roots f w = record {
         (found_word xs table roots f (λ x. is_class index x ≡ true) a c.object
         (λ x here first. class_again index x (w.entries.class index a x e other here) (kind_of_object x here o) first))
       where
-        kind_of_object : (x : Object) → heap_object xs a ≡ Some x → Object_at xs a → is_class_index x.class ≡ true
+        kind_of_object : (x : Object) → heap_object xs a ≡ Some x → AtAddress xs a → is_class_index x.class ≡ true
         kind_of_object x here o =
             let same : x ≡ o.object = let found = o.found in cc in
             ap (λ (y : Object). is_class_index y.class) same ∙ (w.heap.each o.number o.object o.there).kind

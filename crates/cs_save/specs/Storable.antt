@@ -28,7 +28,7 @@ AreSingle objects = (k : ℕ) (x : Object) → slice_get objects k ≡ Some x �
 
 -- A heap with its class table and roots is storable where it is whole, each context is single, and the file that is saved of it has
 -- no fault for a heap of this limit.
-pub record IsStorable (objects : List Object) (table : FinMap nat_cmp ℕ) (roots : Roots) (limit : ℕ) : Type 0 where
+pub record IsStorableImage (objects : List Object) (table : FinMap nat_cmp ℕ) (roots : Roots) (limit : ℕ) : Type 0 where
   pub whole : IsWhole objects table roots
   pub single : AreSingle objects
   pub words : AllByRecursion FitsWords objects

@@ -24,7 +24,7 @@ ghost use Rattle.cs_model.specs.Image.{image_of};
 ghost use Rattle.cs_model.specs.SavedFile.{FitsFile};
 ghost use Rattle.cs_model.specs.Words.{bytes_of_words};
 ghost use Rattle.cs_shelf.specs.Outside.{Rose, save_fault};
-ghost use Rattle.cs_save.specs.Storable.{IsSettled, IsStorable};
+ghost use Rattle.cs_save.specs.Storable.{IsSettled, IsStorableImage};
 ghost use Rattle.cs_save.specs.Filed.{saved_file, places_of, saved_heap_of, saved_of};
 ghost use Rattle.cs_save.specs.Writing.{BrokeOff, BrokeWords, WentOn, WroteWords, writing};
 
@@ -223,7 +223,7 @@ fn put_file<S: Shelf>(
 
 /// The image of what is saved is the state, where the heap is within its limit.
 pub fn the_image_of_what_is_saved_is_the_state()
-    ensures { (objects : List Object) (table : FinMap nat_cmp ℕ) (roots : RootsSeen) (limit : ℕ) → IsStorable objects table roots limit
+    ensures { (objects : List Object) (table : FinMap nat_cmp ℕ) (roots : RootsSeen) (limit : ℕ) → IsStorableImage objects table roots limit
         → used_of objects ≤ 67108864 → image_of (saved_of objects table roots) limit ≡ Ok (kept_of objects table roots None) }
 {}
 
@@ -231,7 +231,7 @@ pub fn the_image_of_what_is_saved_is_the_state()
 /// method, and in which there is an active process, nil or one that keeps a live context.
 pub fn what_is_settled_is_storable()
     ensures { (objects : List Object) (table : FinMap nat_cmp ℕ) (roots : RootsSeen) (limit : ℕ) → IsSettled objects table roots limit
-        → IsStorable objects table roots limit }
+        → IsStorableImage objects table roots limit }
 {}
 
 /// Saves an image under a name, in pieces of at most 4,096 bytes. It takes no memory. The image must be storable.
@@ -246,7 +246,7 @@ pub fn save<S: Shelf>(
     name: &str,
 ) -> Result<(), Failed>
     requires name { length name.now ≤ 4096 }
-    requires storable { IsStorable heap.now.objects classes.now roots.now heap.now.limit }
+    requires storable { IsStorableImage heap.now.objects classes.now roots.now heap.now.limit }
 
     // Where the shelf tells what it takes, the name holds these bytes.
     ensures saved { OnOk result (S.content shelf.new name.now ≡ option_map
