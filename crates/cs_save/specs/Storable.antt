@@ -26,8 +26,8 @@ abbrev pub AreSingle : List Object → Type 0
 AreSingle objects = (k : ℕ) (x : Object) → slice_get objects k ≡ Some x → is_heap_context x ≡ true
     → is_object objects (slice_index x.words 0) ≡ true
 
--- A heap with its class table and roots is storable where it is whole, each context is single, and the file that is saved of it has
--- no fault for a heap of this limit.
+-- A heap with its class table and roots is storable where it is whole, each context is single, and the file that is saved
+-- of it has no fault for a heap of this limit.
 pub record IsStorableImage (objects : List Object) (table : FinMap nat_cmp ℕ) (roots : Roots) (limit : ℕ) : Type 0 where
   pub whole : IsWhole objects table roots
   pub single : AreSingle objects
@@ -46,7 +46,8 @@ pub record HasProcess (k : Kept) : Type 0 where
   pub active : active_process k ≡ Some process
   pub live : is_nil k process ≡ false → (i : ℕ) × (context_kept k process ≡ Some (ref.Obj i)) × IsLive k i
 
--- A whole memory within its limit, in which each context is single, which can be opened.
+-- A whole memory within its limit, in which each context is single, and which can be opened: what is left of storable
+-- once it is told by the memory and by the state that it means, and not by its file.
 pub record IsSettled (objects : List Object) (table : FinMap nat_cmp ℕ) (roots : Roots) (limit : ℕ) : Type 0 where
   pub whole : IsWhole objects table roots
   pub single : AreSingle objects

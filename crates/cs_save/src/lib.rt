@@ -223,15 +223,16 @@ fn put_file<S: Shelf>(
 
 /// The image of what is saved is the state, where the heap is within its limit.
 pub fn the_image_of_what_is_saved_is_the_state()
-    ensures { (objects : List Object) (table : FinMap nat_cmp ℕ) (roots : RootsSeen) (limit : ℕ) → IsStorableImage objects table roots limit
-        → used_of objects ≤ 67108864 → image_of (saved_of objects table roots) limit ≡ Ok (kept_of objects table roots None) }
+    ensures { (objects : List Object) (table : FinMap nat_cmp ℕ) (roots : RootsSeen) (limit : ℕ)
+        → IsStorableImage objects table roots limit → used_of objects ≤ 67108864
+        → image_of (saved_of objects table roots) limit ≡ Ok (kept_of objects table roots None) }
 {}
 
-/// What is settled is storable: a whole memory within its limit, in which each context is single and each pc lies in its
-/// method, and in which there is an active process, nil or one that keeps a live context.
+/// What is settled is storable: a whole memory within its limit, in which each context is single and each pc lies in
+/// its method, and in which there is an active process, nil or one that keeps a live context.
 pub fn what_is_settled_is_storable()
-    ensures { (objects : List Object) (table : FinMap nat_cmp ℕ) (roots : RootsSeen) (limit : ℕ) → IsSettled objects table roots limit
-        → IsStorableImage objects table roots limit }
+    ensures { (objects : List Object) (table : FinMap nat_cmp ℕ) (roots : RootsSeen) (limit : ℕ)
+        → IsSettled objects table roots limit → IsStorableImage objects table roots limit }
 {}
 
 /// Saves an image under a name, in pieces of at most 4,096 bytes. It takes no memory. The image must be storable.
@@ -254,7 +255,7 @@ pub fn save<S: Shelf>(
     ensures part { OnErr result ((n : ℕ) × (S.taken shelf.new ≡ option_map
         (λ (taken : List ℕ). take n (saved_of heap.now.objects classes.now roots.now)) (S.taken shelf.old))) }
 
-    // The image of what it holds is the state of the heap, the class table and the roots, with their births and the header.
+    // The image of what it holds is the state of the heap, the class table and the roots, with births and the header.
     ensures image { OnOk result (IfSome (S.content shelf.new name.now) (λ (bytes : List ℕ).
         image_of bytes heap.now.limit ≡ Ok (kept_of heap.now.objects classes.now roots.now None))) }
 
