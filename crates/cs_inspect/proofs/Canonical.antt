@@ -1,8 +1,7 @@
 -- What is compared by addresses is what the model compares.
-use Rattle.std.proofs.Common.{◌≡◌, ℕ, zero, suc, ◌+◌, ◌-◌, ◌<◌, ◌≤◌, Bool, true, false, not, T, refl, sym, ap, ap₂, subst, ◌∙◌, arith, cond, Option, Some, None, List, [], ◌∷◌, length, map, take, drop, get_or, filter_map, option_map, is_some}
-use Rattle.std.specs.Prelude.{nat_eq, nat_lt, position, slice_index, ◌==◌, ◌&&◌, ◌||◌, if◌then◌else◌}
-use Rattle.std.specs.List.{All, AllPass, cons_option, position_or_len, prefix_len}
-use Rattle.std.specs.Option.{option_map_or}
+use Rattle.std.proofs.Common.{◌≡◌, ℕ, ◌+◌, Bool, true, false, not, refl, sym, ap, ap₂, ◌∙◌, cond, Option, Some, None, List, [], ◌∷◌, map, take, drop, filter_map, option_map}
+use Rattle.std.specs.Prelude.{nat_eq, nat_lt, slice_index, ◌==◌, ◌&&◌, ◌||◌, if◌then◌else◌}
+use Rattle.std.specs.List.{AllPass, cons_option, position_or_len}
 use Rattle.std.specs.Ordering.{nat_cmp}
 use Rattle.std.specs.FinMap.{FinMap, entries, get}
 use Rattle.std.proofs.lemmas.Bool.{eq-eqb, eqb-true, false≢true, ne_eqb, or_right}
@@ -10,14 +9,14 @@ use Rattle.std.proofs.lemmas.List.{length-map}
 use Rattle.cs_word.specs.declared.Kind.{Kind}
 use Rattle.cs_word.specs.declared.Kind.TheVariants as kind
 use Rattle.cs_word.specs.Word.{kind_of}
-use Rattle.cs_heap.specs.Object.{Object, birth_at, class_at, is_object, heap_object}
-use Rattle.cs_model.specs.Canon.{Canon, canon, canon_by, canon_context, difference, first_difference, canon_number, canon_object, order_of, ref_in, same_start}
-use Rattle.cs_model.specs.Obj.{Obj, Ptr, Raw, Method, Ctx}
+use Rattle.cs_heap.specs.Object.{Object, birth_at, class_at, is_object}
+use Rattle.cs_model.specs.Canon.{canon, canon_by, canon_context, difference, canon_number, canon_object, ref_in}
+use Rattle.cs_model.specs.Obj.{Ptr, Method, Ctx}
 use Rattle.cs_model.specs.Ref.{Ref}
 use Rattle.cs_model.specs.Ref as ref
 use Rattle.cs_model.specs.State.{Kept, object_at as kept_at}
 use Rattle.cs_classes.specs.declared.Roots.{Roots}
-use Rattle.cs_classes.specs.Meaning.{classes_of, code_in, context_of, depth_in, method_header, head_of, is_heap_context, kept_of, literal_words, meaning_at, obj_of, ref_of, ref_of_kind, used_bytes}
+use Rattle.cs_classes.specs.Meaning.{classes_of, code_in, context_of, depth_in, method_header, head_of, kept_of, literal_words, obj_of, ref_of, ref_of_kind, used_bytes}
 use Rattle.cs_classes.specs.Sound.{AreSoundObjects, IsWhole, is_reference, is_reference_kind, is_sender, is_sender_kind, nil_word}
 use Rattle.cs_classes.proofs.Objects.{get-objects_of}
 use Rattle.cs_classes.proofs.Refs.{same_births}
@@ -27,7 +26,6 @@ use Rattle.cs_classes.proofs.Wholes.{get-classes_of}
 use Rattle.cs_inspect.specs.Comparing.{address_number, class_numbers, difference_from, number_of, numbered, numbered_kind, numbered_object, numbered_objects, same_class_numbers}
 use Rattle.cs_inspect.specs.Numbering.{IsNumbering}
 use Rattle.cs_inspect.specs.Reading.{names_object}
-use Rattle.cs_inspect.proofs.Finding.{kind_of_address}
 use Rattle.cs_inspect.proofs.Meanings.{named_reference}
 use Rattle.cs_inspect.proofs.Reaching.{head_of_all, tail_of_all}
 use Rattle.cs_inspect.proofs.Reading.{There, there}

@@ -1,20 +1,18 @@
 -- What two images are compared by, step by step.
-use Rattle.std.proofs.Common.{◌≡◌, ℕ, zero, suc, ◌+◌, ◌-◌, ◌*◌, ◌<◌, ◌≤◌, Bool, true, false, not, refl, sym, ap, ap₂, subst, ◌∙◌, arith, Option, Some, None, List, [], ◌∷◌, ◌++◌, length, map, take, drop, get_or, option_map}
-use Rattle.std.specs.Prelude.{nat_eq, slice_index, unwrap_or, ◌==◌, ◌&&◌, if◌then◌else◌}
+use Rattle.std.proofs.Common.{◌≡◌, ℕ, suc, ◌+◌, ◌-◌, ◌*◌, ◌<◌, ◌≤◌, Bool, true, false, refl, sym, ap, ap₂, ◌∙◌, arith, Option, List, [], ◌∷◌, length, map, take, drop, get_or}
+use Rattle.std.specs.Prelude.{unwrap_or, ◌==◌, ◌&&◌}
 use Rattle.std.proofs.Math.Seq.{drop-cons}
-use Rattle.std.proofs.lemmas.Bool.{eq-eqb, eqb-true, false≢true, ne_eqb}
+use Rattle.std.proofs.lemmas.Bool.{eq-eqb, false≢true, ne_eqb}
 use Rattle.std.proofs.lemmas.List.{length-drop, length-map, length-take, take_all}
 use Rattle.cs_model.specs.Words.{bytes_of_words, unused_bytes}
-use Rattle.cs_heap.specs.Format.{is_code}
-use Rattle.cs_heap.specs.Object.{Object, byte_of, format_at, is_object, slot_count_of, slot_of, words_at}
-use Rattle.cs_model.specs.Canon.{same_list, same_numbers, same_pc, same_refs, same_truth}
+use Rattle.cs_heap.specs.Object.{Object, byte_of, format_at, slot_count_of, slot_of, words_at}
+use Rattle.cs_model.specs.Canon.{same_list, same_numbers, same_pc, same_refs}
 use Rattle.cs_model.specs.Obj.{literal_count}
-use Rattle.cs_model.specs.Ref.{Ref, same_ref}
-use Rattle.cs_classes.specs.Meaning.{code_in, context_of, depth_in, method_header, literal_words, used_bytes}
-use Rattle.cs_classes.specs.Sound.{AreSoundObjects}
+use Rattle.cs_model.specs.Ref.{same_ref}
+use Rattle.cs_classes.specs.Meaning.{code_in, depth_in, method_header, literal_words, used_bytes}
 use Rattle.cs_inspect.specs.Comparing.{numbered}
 use Rattle.cs_word.specs.Word.{natural_of_word}
-use Rattle.cs_inspect.proofs.Meanings.{MethodThere, method_there}
+use Rattle.cs_inspect.proofs.Meanings.{MethodThere}
 use Rattle.cs_inspect.proofs.Reading.{bytes_of-drop, byte_is, length-bytes_at, length-words_at, word_is}
 
 -- ---- lists

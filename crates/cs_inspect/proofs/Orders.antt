@@ -1,5 +1,5 @@
 -- The numbered objects are those of the model, in its order.
-use Rattle.std.proofs.Common.{◌≡◌, ℕ, zero, suc, ◌+◌, ◌-◌, ◌<◌, ◌≤◌, Bool, true, false, not, T, refl, sym, ap, ap₂, subst, ◌∙◌, arith, Option, Some, None, List, [], ◌∷◌, ◌++◌, length, map, take, drop, get_or, filter, filter_map, flat_map, fold, option_map, is_some}
+use Rattle.std.proofs.Common.{◌≡◌, ℕ, zero, suc, ◌+◌, ◌<◌, ◌≤◌, Bool, true, false, not, T, refl, sym, ap, ap₂, subst, ◌∙◌, arith, Option, Some, None, List, [], ◌∷◌, ◌++◌, length, map, take, drop, get_or, filter, filter_map, flat_map, option_map, is_some}
 use Rattle.std.specs.Prelude.{nat_eq, slice_get, slice_index, unwrap_or, ◌==◌, ◌&&◌, ◌||◌, if◌then◌else◌}
 use Rattle.std.specs.Option.{option_map_or}
 use Rattle.std.specs.List.{All, AllByRecursion, AllPass, IsDistinct, list_any}
@@ -14,14 +14,14 @@ use Rattle.std.proofs.lemmas.List.Concat.{flat_map-cons}
 use Rattle.std.proofs.lemmas.List.Folds.{list_any-append}
 use Rattle.std.proofs.lemmas.Map.Steps.{length-le_from_distinct_below}
 use Rattle.std.proofs.lemmas.List.Sums.{fold-append}
-use Rattle.std.proofs.lemmas.Option.{slice_get-map, slice_get_past, get_or_from_slice_get, slice_get_within}
+use Rattle.std.proofs.lemmas.Option.{slice_get-map}
 use Rattle.cs_word.specs.declared.Kind.{Kind}
 use Rattle.cs_word.specs.declared.Kind.TheVariants as kind
 use Rattle.cs_word.specs.declared.Oop.{Oop}
 use Rattle.cs_word.specs.Word.{kind_of}
-use Rattle.cs_heap.specs.Object.{Object, birth_at, class_at, object_place, is_object, heap_object, words_at}
+use Rattle.cs_heap.specs.Object.{Object, birth_at, class_at, object_place, is_object, heap_object}
 use Rattle.cs_heap.proofs.Laws.{index_of-below, index_of-injective}
-use Rattle.cs_model.specs.Canon.{all_queued, contexts_from, leads_to, order_of, plain_births, queued, reached_births, turned}
+use Rattle.cs_model.specs.Canon.{all_queued, contexts_from, leads_to, order_of, plain_births, queued, turned}
 use Rattle.cs_model.specs.Obj.{Obj, Ptr, Raw, Method, Ctx, is_context_at}
 use Rattle.cs_model.specs.Obj as model
 use Rattle.cs_model.specs.Ref.{Ref, named_object as named_birth}

@@ -1,38 +1,24 @@
 -- The order in which the objects of a heap are numbered is the model's.
-use Rattle.std.proofs.Common.{◌≡◌, ℕ, zero, suc, ◌+◌, ◌-◌, ◌<◌, ◌≤◌, Bool, true, false, not, refl, sym, ap, ap₂, subst, ◌∙◌, arith, Option, Some, None, List, [], ◌∷◌, ◌++◌, length, map, take, drop, get_or, Result, Ok, Err, OnOk, filter, filter_map, flat_map, fold, option_map, is_some}
-use Rattle.std.specs.Prelude.{nat_eq, slice_get, slice_index, unwrap_or, ◌==◌, ◌&&◌, ◌||◌, if◌then◌else◌}
+use Rattle.std.proofs.Common.{◌≡◌, ℕ, suc, ◌+◌, ◌-◌, ◌<◌, ◌≤◌, Bool, true, false, refl, sym, ap, ap₂, subst, ◌∙◌, arith, Option, Some, None, List, [], ◌∷◌, ◌++◌, length, take, drop, get_or, Result, Ok, Err, OnOk}
+use Rattle.std.specs.Prelude.{nat_eq, slice_get, slice_index, unwrap_or, ◌==◌, ◌&&◌, if◌then◌else◌}
 use Rattle.std.specs.Option.{option_map_or}
 use Rattle.std.specs.List.{All, AllPass, list_any, IsDistinct}
-use Rattle.std.specs.Ordering.{nat_cmp}
-use Rattle.std.specs.FinMap.{FinMap, entries, get}
 use Rattle.std.proofs.Math.Seq.{take-suc}
-use Rattle.std.proofs.lemmas.Bool.{eq-eqb, eqb-true, false≢true, ne_eqb}
-use Rattle.std.proofs.lemmas.List.{append_assoc, append-nil, get_or-drop, length-append, length-drop, length-map, map-append, take_all}
-use Rattle.std.proofs.lemmas.List.Elements.{All-append, filter_map-append}
+use Rattle.std.proofs.lemmas.List.{get_or-drop, length-drop, take_all}
+use Rattle.std.proofs.lemmas.List.Elements.{All-append}
 use Rattle.std.specs.Cmp.{nat_eq_equiv}
 use Rattle.std.proofs.lemmas.Map.Keys.{IsDistinct-push}
 use Rattle.std.proofs.lemmas.List.Sums.{fold-append}
-use Rattle.std.proofs.lemmas.Option.{slice_get-get_or, slice_get-map, slice_get_past, slice_get_within, get_or_from_slice_get}
-use Rattle.cs_word.specs.declared.Kind.{Kind}
-use Rattle.cs_word.specs.declared.Kind.TheVariants as kind
-use Rattle.cs_word.specs.declared.Oop.{Oop}
-use Rattle.cs_word.specs.Word.{kind_of, natural_of_word}
+use Rattle.std.proofs.lemmas.Option.{slice_get_within, get_or_from_slice_get}
+use Rattle.cs_word.specs.Word.{natural_of_word}
 use Rattle.cs_heap.specs.Format.{is_code, is_pointers}
-use Rattle.cs_heap.specs.Object.{Object, birth_at, class_at, format_at, is_object, heap_object, slot_count_of, slot_of, words_at}
-use Rattle.cs_model.specs.Canon.{all_queued, contexts_from, leads_to, order_of, plain_births, queued, reached_births, turned}
-use Rattle.cs_model.specs.Obj.{Obj, is_context_at, literal_count}
-use Rattle.cs_model.specs.Obj as model
-use Rattle.cs_model.specs.Ref.{Ref, named_object as named_birth}
-use Rattle.cs_model.specs.Ref as ref
-use Rattle.cs_classes.specs.declared.Roots.{Roots}
-use Rattle.cs_classes.specs.Meaning.{context_of, depth_in, method_header, is_heap_context, kept_of, literal_words, meaning_at, obj_of, objects_of, ref_of, ref_of_kind}
-use Rattle.cs_classes.specs.Sound.{AreSoundObjects, IsWhole, is_reference, is_sender}
-use Rattle.cs_classes.proofs.Objects.{get-objects_of}
-use Rattle.cs_classes.proofs.Refs.{ref_of-object, same_births}
-use Rattle.cs_classes.proofs.Sorts.{AContext, AMethod, Bytes, Pointers, Sort, obj_of-bytes, obj_of-context, obj_of-method, not_pointers, obj_of-pointers, sort_of}
+use Rattle.cs_heap.specs.Object.{Object, class_at, format_at, is_object, slot_count_of, slot_of, words_at}
+use Rattle.cs_model.specs.Obj.{literal_count}
+use Rattle.cs_classes.specs.Meaning.{depth_in, method_header, is_heap_context, literal_words}
+use Rattle.cs_classes.specs.Sound.{AreSoundObjects}
+use Rattle.cs_classes.proofs.Sorts.{not_pointers}
 use Rattle.indexmap.specs.IndexSet.{insert_key}
-use Rattle.cs_inspect.specs.Numbering.{all_reached, is_context_address, leading_from, leading_words, plain_among, reached, turn, turns}
-use Rattle.cs_inspect.specs.Reading.{IsInOrder, entry_at, names_object}
+use Rattle.cs_inspect.specs.Numbering.{all_reached, leading_from, leading_words, reached, turn, turns}
 use Rattle.cs_inspect.proofs.Meanings.{method_there}
 use Rattle.cs_inspect.proofs.Reading.{There, length-words_at, there, word_is}
 use Rattle.cs_inspect.proofs.Texts.{none_taken}

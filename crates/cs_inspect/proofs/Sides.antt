@@ -1,6 +1,6 @@
 -- What the kinds of two objects make of their comparison, and the comparison of all of them in their order.
-use Rattle.std.proofs.Common.{◌≡◌, ℕ, zero, suc, ◌+◌, ◌-◌, ◌<◌, ◌≤◌, Bool, true, false, not, T, refl, sym, ap, ap₂, subst, ◌∙◌, arith, cond, Option, Some, None, List, [], ◌∷◌, length, map, take, drop, get_or, filter_map, option_map, is_some}
-use Rattle.std.specs.Prelude.{min, nat_eq, nat_lt, slice_index, ◌==◌, ◌&&◌, if◌then◌else◌}
+use Rattle.std.proofs.Common.{◌≡◌, ℕ, zero, suc, ◌+◌, ◌-◌, ◌<◌, ◌≤◌, Bool, true, false, T, refl, sym, ap, ap₂, subst, ◌∙◌, arith, cond, Option, Some, None, List, [], ◌∷◌, length, map, take, drop, get_or, filter_map, option_map, is_some}
+use Rattle.std.specs.Prelude.{min, nat_lt, slice_index, ◌==◌, ◌&&◌, if◌then◌else◌}
 use Rattle.std.specs.List.{All, AllPass, cons_option}
 use Rattle.std.specs.Cmp.{nat_cmp_total}
 use Rattle.std.specs.Ordering.{eq_by_cmp, is_lt, nat_cmp}
@@ -10,8 +10,8 @@ use Rattle.std.proofs.lemmas.Bool.{eq-eqb, eqb-true, false≢true, ltb-false, lt
 use Rattle.std.proofs.lemmas.List.Sums.{sum_by-cons}
 use Rattle.cs_word.specs.Word.{natural_of_word}
 use Rattle.cs_heap.specs.Format.{is_code, is_pointers}
-use Rattle.cs_heap.specs.Object.{Object, class_at, format_at, is_object, heap_object, size, slot_counts, used}
-use Rattle.cs_model.specs.Canon.{first_difference, same_context, same_list, same_object, same_pc, same_refs}
+use Rattle.cs_heap.specs.Object.{Object, is_object, size, slot_counts, used}
+use Rattle.cs_model.specs.Canon.{first_difference, same_context, same_object, same_pc, same_refs}
 use Rattle.cs_model.specs.Obj.{Obj}
 use Rattle.cs_model.specs.Ref.{same_ref}
 use Rattle.cs_classes.specs.Meaning.{context_of, depth_in, is_heap_context, obj_of}

@@ -1,4 +1,4 @@
-use Rattle.std.proofs.Common.{◌∙◌, sym}
+use Rattle.std.proofs.Common.{◌∙◌}
 use Rattle.cs_inspect.proofs.Comparisons.{slots_other, slots_whole}
 use Rattle.cs_inspect.proofs.comparison.same_all_slots.Goals as goal
 

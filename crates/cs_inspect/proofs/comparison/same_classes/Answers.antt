@@ -1,4 +1,3 @@
-use Rattle.std.proofs.Common.{arith}
 use Rattle.cs_inspect.proofs.Sides.{classes_all, classes_more, classes_other, classes_same}
 use Rattle.cs_inspect.proofs.comparison.same_classes.Goals as goal
 

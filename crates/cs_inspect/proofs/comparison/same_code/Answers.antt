@@ -1,4 +1,4 @@
-use Rattle.std.proofs.Common.{◌∙◌, arith}
+use Rattle.std.proofs.Common.{◌∙◌}
 use Rattle.cs_inspect.proofs.Comparisons.{code_other, code_same}
 use Rattle.cs_inspect.proofs.Meanings.{method_there}
 use Rattle.cs_inspect.proofs.comparison.same_code.Goals as goal

@@ -1,4 +1,4 @@
-use Rattle.std.proofs.Common.{ap, ap₂, sym, subst, ◌∙◌, ◌+◌, ◌-◌, arith, refl, ℕ, List, length}
+use Rattle.std.proofs.Common.{ap, ap₂, sym, subst, ◌∙◌, ◌+◌, ◌-◌, ℕ}
 use Rattle.cs_inspect.specs.Numbering.{plain_among, turns}
 use Rattle.cs_inspect.specs.Reading.{IsInOrder}
 use Rattle.cs_inspect.proofs.Orders.{numbered_whole, plain_lined}

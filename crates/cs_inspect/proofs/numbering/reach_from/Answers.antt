@@ -1,5 +1,5 @@
 use Rattle.std.proofs.Common.{ap}
-use Rattle.cs_heap.specs.Object.{class_at, format_at, slot_count_of}
+use Rattle.cs_heap.specs.Object.{class_at, format_at}
 use Rattle.cs_inspect.specs.Numbering.{all_reached}
 use Rattle.cs_inspect.proofs.Meanings.{is_pointers_read, no_method_read, no_pointers_read, other_read}
 use Rattle.cs_inspect.proofs.Reaching.{leading_pointers, ok_is, raw_reached}

@@ -1,6 +1,4 @@
-use Rattle.std.proofs.Common.{arith, ap, ◌∙◌, ℕ, List}
-use Rattle.cs_heap.specs.Object.{words_at}
-use Rattle.cs_inspect.specs.Numbering.{all_reached, reached}
+use Rattle.std.proofs.Common.{arith}
 use Rattle.cs_inspect.proofs.Meanings.{context_there, depth_read}
 use Rattle.cs_inspect.proofs.Reaching.{context_reached, ok_is}
 use Rattle.cs_inspect.proofs.numbering.reach_from_context.Goals as goal

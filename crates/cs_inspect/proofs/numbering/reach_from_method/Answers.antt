@@ -1,5 +1,4 @@
-use Rattle.std.proofs.Common.{arith, ap, ◌∙◌}
-use Rattle.cs_model.specs.Obj.{literal_count}
+use Rattle.std.proofs.Common.{arith, ap}
 use Rattle.cs_inspect.specs.Numbering.{all_reached}
 use Rattle.cs_inspect.proofs.Meanings.{method_there}
 use Rattle.cs_inspect.proofs.Reaching.{leading_method, method_slots, ok_is}
