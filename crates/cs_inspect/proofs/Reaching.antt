@@ -214,3 +214,9 @@ turns_begin os n keys = ap (λ (m : ℕ). turns m os 0 keys) whole
   where
     whole : n - 0 ≡ n
     whole = omega arith
+
+pub stack_reached : (os : List Object) (keys ws : List ℕ) (d e : ℕ) → e ≡ d → all_reached os keys (take (6 + e - 6) (drop 6 ws)) ≡ all_reached os keys (take d (drop 6 ws))
+stack_reached os keys ws d e same = ap (λ (n : ℕ). all_reached os keys (take n (drop 6 ws))) whole
+  where
+    whole : 6 + e - 6 ≡ d
+    whole = omega (arith, same)

@@ -4,7 +4,7 @@ ghost use Rattle.std.specs.Prelude.{◌≡◌, ◌-◌, ◌≤◌, ◌==◌, tru
 ghost use Rattle.std.specs.List.{AllPass};
 ghost use Rattle.cs_heap.specs.Format.{is_code};
 ghost use Rattle.cs_heap.specs.Object.{class_at, format_at, is_object, slot_count_of, words_at};
-ghost use Rattle.cs_classes.specs.Meaning.{kept_of};
+ghost use Rattle.cs_classes.specs.Meaning.{depth_in, kept_of};
 ghost use Rattle.cs_classes.specs.Sound.{AreSoundObjects};
 ghost use Rattle.cs_inspect.specs.Numbering.{IsNumbering, all_reached, leading_from, plain_among, reached, turn};
 ghost use Rattle.cs_inspect.specs.Reading.{IsInOrder};
@@ -48,6 +48,18 @@ fn reach_slots(
     Ok(())
 }
 
+/// The same for what the stack of a context holds.
+fn reach_stack(addresses: &mut IndexSet<u32>, heap: &Heap, o: Oop) -> Result<(), AllocError>
+    requires sound { AreSoundObjects heap.now.objects }
+    requires object { is_object heap.now.objects o.0 ≡ true }
+    requires context { (class_at heap.now.objects o.0 == 36) ≡ true }
+    ensures { OnOk result (addresses.new.keys ≡ all_reached heap.now.objects addresses.old.keys
+        (take (depth_in (words_at heap.now.objects o.0)) (drop 6 (words_at heap.now.objects o.0)))) }
+{
+    let depth = heap.slot(o, STACKP).natural().unwrap_or(0);
+    reach_slots(addresses, heap, o, CONTEXT_FIELDS, CONTEXT_FIELDS + depth)
+}
+
 /// The same for what a context leads to: its sender, its closure, its receiver and its stack.
 fn reach_from_context(addresses: &mut IndexSet<u32>, heap: &Heap, o: Oop) -> Result<(), AllocError>
     requires sound { AreSoundObjects heap.now.objects }
@@ -59,8 +71,7 @@ fn reach_from_context(addresses: &mut IndexSet<u32>, heap: &Heap, o: Oop) -> Res
     reach(addresses, heap, heap.slot(o, SENDER))?;
     reach(addresses, heap, heap.slot(o, CLOSURE))?;
     reach(addresses, heap, heap.slot(o, RECEIVER))?;
-    let depth = heap.slot(o, STACKP).natural().unwrap_or(0);
-    reach_slots(addresses, heap, o, CONTEXT_FIELDS, CONTEXT_FIELDS + depth)
+    reach_stack(addresses, heap, o)
 }
 
 /// The same for the literals of a method.
