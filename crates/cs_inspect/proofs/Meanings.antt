@@ -7,7 +7,7 @@ use Rattle.std.proofs.lemmas.Bool.{eq-eqb, false≢true, or_left, or_right}
 use Rattle.std.proofs.lemmas.Bool.Decides.{nat_tests}
 use Rattle.std.proofs.lemmas.List.{append_assoc, get_or-drop, get_or-take, length-drop, length-take, take_all}
 use Rattle.cs_model.specs.Words.{bytes_of_words, unused_bytes}
-use Rattle.cs_word.specs.Header.{bit, flag_bits}
+use Rattle.cs_word.specs.Header.{flag_bits}
 use Rattle.cs_word.specs.Word.{natural_of_word}
 use Rattle.cs_word.specs.declared.method_header.MethodHeader.{MethodHeader}
 use Rattle.cs_heap.specs.Format.{format_allows, is_code, is_pointers, is_raw}

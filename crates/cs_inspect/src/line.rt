@@ -96,7 +96,7 @@ fn push_pointers(text: &mut Vec<u8>, heap: &Heap, o: Oop) -> Result<(), AllocErr
 }
 
 /// How many bytes at the end of an object with bytes or with units of 16 bits are unused.
-fn unused_bytes(format: u8) -> u32
+pub(crate) fn unused_bytes(format: u8) -> u32
     requires { is_raw format ≡ true }
     ensures { result ≡ unused_bytes_of format }
 {
