@@ -102,6 +102,14 @@ fn place_of<W: World>(w: &W) -> Place
     }
 }
 
+fn place_by<W: World>(w: &W, process: Oop) -> Place {
+    Place {
+        process: birth_of(w, process),
+        context: Some(w.act_birth(w.active())),
+        pc: Some(w.pc()),
+    }
+}
+
 /// Whether no process is active: the scheduler names nil.
 fn is_idle<W: World>(w: &W) -> bool
     requires { IsSound (W.stored w.now) (W.view w.now) }
@@ -141,10 +149,11 @@ pub fn run<W: World, K: Sink>(
     if is_idle(w) {
         return Ok(at_rest(w, 0, n));
     }
+    let mut process = match active_process(w) { Some(p) => p, None => nil(w) };
     for steps in 0..n {
-        let before = place_of(w);
+        let before = place_by(w, process);
         match step(w, sender, out) {
-            StepEnd::Active => {}
+            StepEnd::Active(p) => process = p,
             StepEnd::Idle => return Ok(at_rest(w, steps + 1, n)),
             StepEnd::Stopped(reason) => return Ok(Ran {
                 ending: Ending::Stopped(reason),

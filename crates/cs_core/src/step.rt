@@ -28,7 +28,7 @@ pub(crate) const BIRTH_LIMIT: u64 = (1 << 62) - 64;
 #[derive(Clone, Copy, PartialEq, Eq, Debug)]
 pub enum StepEnd {
     /// A bytecode is completed, and a process is active.
-    Active,
+    Active(Oop),
     /// A bytecode is completed, and no process is active.
     Idle,
     /// The step stops. It has written nothing; where it had begun, the world stands within it.
@@ -299,7 +299,7 @@ fn finish<W: World>(w: &W) -> StepEnd
     ensures sound { WhereStopped result (IsSound (W.stored w.now) (W.view w.now)) }
 {
     match shape_of(w) {
-        Shape::Active(_) => StepEnd::Active,
+        Shape::Active(p) => StepEnd::Active(p),
         Shape::Idle => StepEnd::Idle,
         Shape::Fault(reason) => StepEnd::Stopped(reason),
     }
