@@ -21,7 +21,7 @@ use Rattle.cs_frame.specs.declared.FrameRef.{FrameRef}
 use Rattle.cs_frame.specs.Frame.{Frame, nil}
 use Rattle.cs_frame.specs.Page.{frames_of, on_page}
 use Rattle.cs_frame.proofs.PageLaws.{frames_of-on_page, frames_of-on_page_other, length-on_page}
-use Rattle.cs_marriage.specs.Marriage.{base_frame, linked, stack_words, words_if}
+use Rattle.cs_marriage.specs.Marriage.{base_frame, linked, stack_words}
 use Rattle.cs_marriage.specs.Place.{names_place}
 use Rattle.cs_marriage.proofs.Agreeing.{size_some}
 use Rattle.cs_marriage.proofs.Based.{agree_based, deep, stack_long}
@@ -114,7 +114,7 @@ module _ {u : Parts} (good : IsGood u) (closed : u.pages.recent ≡ []) (s : ℕ
   slot_named i h = ap (λ q. q (slot_of os s i)) references ∙ live_named good.whole at good.pcs good.births i (omega (arith, h, six))
 
   words_are : words_at os s ≡ x.words
-  words_are = ap words_if at.there
+  words_are = ap (λ (o : Option Object). option_map_or (λ (x : Object). x.words) o []) at.there
 
   not_nil : s ≢ nil
   not_nil e = good.agree.nil_class (ap (class_at os) (sym e) ∙ (live_context good.whole at good.pcs good.births).class)
