@@ -43,8 +43,8 @@ stack_at-value-requires-clause-there g c =
     let now : depth_of (g.W.World.view c.loop-i.w) ≡ depth_of k = depth-over (g.W.World.view c.loop-i.w) k (closure_with k c.args.args all) c.requires.ready.running c.requires.ready.sound.births led.state in
     omega (arith, place, now, few, c.requires.there)
 
-pub store-requires-clause-ready : goal.store-requires-clause-ready
-store-requires-clause-ready g c = c.loop-i.invariant.0.ready
+pub store-requires-clause-sound : goal.store-requires-clause-sound
+store-requires-clause-sound g c = c.loop-i.invariant.0.ready.sound
 
 pub store-requires-clause-there : goal.store-requires-clause-there
 store-requires-clause-there g c =

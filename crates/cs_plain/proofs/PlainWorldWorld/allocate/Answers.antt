@@ -16,9 +16,9 @@ use Rattle.cs_plain.proofs.PlainWorldWorld.allocate.Goals as goal
 pub allocate-requires-clause-class : goal.allocate-requires-clause-class
 allocate-requires-clause-class c = below c.args.self.now c.args.class c.args.format c.args.slots c.requires.sound c.requires.fits c.len-entries.ensures.beyond
 
-pub returns-in_default-clause-full : goal.returns-in_default-clause-full
-returns-in_default-clause-full c =
-    full_made c.args.self.now c.args.class c.args.format c.args.slots c.requires.sound c.requires.fits c.allocate.new.self c.in_default.ensures.unchanged_if_full (c.in_default.ensures.full.0 refl)
+pub returns-in-Err-clause-full : goal.returns-in-Err-clause-full
+returns-in-Err-clause-full c =
+    full_made c.args.self.now c.args.class c.args.format c.args.slots c.requires.sound c.requires.fits c.allocate.new.self c.in-Err.ensures.unchanged_if_full (c.in-Err.ensures.full.0 refl)
 
 pub returns-clause-state : goal.returns-clause-state
 returns-clause-state c m k =
