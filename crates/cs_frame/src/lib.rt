@@ -18,7 +18,8 @@ ghost use Rattle.cs_frame.specs.Frame.{Frame, IsValue, IsPc, value_pushed, top_p
 ghost use Rattle.cs_frame.specs.Frame.{with_caller, with_saved_pc, with_method, with_closure, with_context};
 ghost use Rattle.cs_frame.specs.Frame.{with_receiver};
 ghost use Rattle.cs_frame.specs.Page.{frames_used, AreStacked, top, on_top, rest_of, frames_of, on_page, frame_ref};
-ghost use Rattle.cs_frame.specs.Page.{IsFrame, frame, caller_of, on_frame, IsTop, IsBase, called, HasArguments, HoldsValues};
+ghost use Rattle.cs_frame.specs.Page.{IsFrame, frame, caller_of, on_frame, IsTop, IsBase, called, HasArguments};
+ghost use Rattle.cs_frame.specs.Page.{HoldsValues};
 ghost use Rattle.cs_frame.specs.Layout.{part_of, with_part, CanHold, offset_of};
 ghost use Rattle.cs_frame.specs.Written.{empty_heads, SameOutside, AllAre, HasOverhead, half_word};
 

@@ -66,7 +66,8 @@ fn copy_stack(heap: &Heap, frames: &mut Frames, ctx: Oop, f: FrameRef)
     requires top { IsTop frames.old f }
     requires room { frames_used (frames_of frames.old f.page) + 56 ≤ 4096 }
     requires empty { (top (frames_of frames.old f.page)).stack ≡ [] }
-    ensures copied { frames.new ≡ on_page frames.old f.page (on_top (with_values (stack_words heap.now.objects ctx.0))) }
+    ensures copied { frames.new
+        ≡ on_page frames.old f.page (on_top (with_values (stack_words heap.now.objects ctx.0))) }
 {
     for i in 0..stack_depth(heap, ctx) {
         frames.push(f, heap.slot(ctx, FIRST_STACK + i));

@@ -55,7 +55,8 @@ ghost use Rattle.cs_model.specs.Shallow.{trials, bytecode_state};
 ghost use Rattle.cs_model.specs.Report.{place_of, report_of};
 ghost use Rattle.cs_model.specs.Canon.{canon};
 ghost use Rattle.cs_model.specs.Image.{described, image_of};
-ghost use Rattle.cs_model.specs.SavedFile.{SavedFile, SavedObject, FitsFile, IsReadAgain, IsSeen, IsSeenAgain, saved_bytes};
+ghost use Rattle.cs_model.specs.SavedFile.{SavedFile, SavedObject, FitsFile, IsReadAgain, IsSeen, IsSeenAgain};
+ghost use Rattle.cs_model.specs.SavedFile.{saved_bytes};
 ghost use Rattle.cs_model.specs.SoundFile.{IsSoundFile, births_saved, saved_address, saved_birth, state_of_file};
 ghost use Rattle.cs_model.specs.Built.{is_built_number, is_built_send, is_built_out, built_step, built_run};
 
@@ -471,8 +472,8 @@ pub fn an_address_names_the_birth_of_its_object()
         → slice_get f.objects k ≡ Some o → saved_birth f (saved_address f.objects k) ≡ slice_index (births_saved f) k }
 {}
 
-/// States of which one keeps the other have one form by which images are compared: it sees neither births of contexts nor
-/// contexts that nothing names.
+/// States of which one keeps the other have one form by which images are compared: it sees neither births of contexts
+/// nor contexts that nothing names.
 pub fn states_that_keep_each_other_have_one_form()
     ensures canon { (v m : Kept) → Keeps v m → canon v ≡ canon m }
 {}
