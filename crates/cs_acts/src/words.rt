@@ -47,8 +47,8 @@ pub(crate) fn is_read_only(heap: &Heap, o: Oop) -> bool
     heap.is_object(o) && heap.is_fixed(o)
 }
 
-/// Whether a word, which names something, is the address of a pointer object, which no context is, with at least so many
-/// slots. The object's header is read once.
+/// Whether a word, which names something, is the address of a pointer object, which no context is, with at least so
+/// many slots. The object's header is read once.
 pub(crate) fn has_slots(heap: &Heap, o: Oop, least: u32) -> bool
     requires { is_reference heap.now.objects o.0 ≡ true }
     ensures { result ≡ has_slots heap.now.objects least o.0 }

@@ -7,8 +7,8 @@ ghost use Rattle.cs_acts.specs.Targets.{CanEnter};
 ghost use Rattle.cs_prim_ctx.specs.Numbers.{reads_context};
 ghost use Rattle.cs_send.specs.Sent.{message_of};
 ghost use Rattle.cs_unwind.specs.Primitive.{unwinds};
-ghost use Rattle.cs_core.specs.Stepped.{CausedByFault, EndsBy, Fails, NamesActive, StepGives, TurnGives, WhereStopped, calling};
-ghost use Rattle.cs_core.specs.Stepped.{can_begin, returning, sending, trying};
+ghost use Rattle.cs_core.specs.Stepped.{CausedByFault, EndsBy, Fails, NamesActive, StepGives, TurnGives, WhereStopped};
+ghost use Rattle.cs_core.specs.Stepped.{calling, can_begin, returning, sending, trying};
 
 use crate::primitive::{Primitive, piece_of, sum, write};
 use cs_acts::answer::{answer, argument, receiver};

@@ -1,6 +1,6 @@
 //! What a world of frames keeps, and how its parts change.
-ghost use Rattle.std.specs.Prelude.{◌≡◌, ◌<◌, ◌≤◌, ◌-◌, length, nat_lt, Some, IfSome, IfErr, IfOk, OnErr, OnOk, false, IsSome};
-ghost use Rattle.std.specs.Prelude.{is_some, not, true, slice_get, unwrap_or};
+ghost use Rattle.std.specs.Prelude.{◌≡◌, ◌<◌, ◌≤◌, ◌-◌, length, nat_lt, Some, IfSome, IfErr, IfOk, OnErr, OnOk};
+ghost use Rattle.std.specs.Prelude.{IsSome, false, is_some, not, true, slice_get, unwrap_or};
 ghost use Rattle.cs_frame.specs.Page.{IsFrame, IsTop, frame, frame_ref, top};
 ghost use Rattle.cs_marriage.specs.Agree.{frame_size as size_of_frame};
 ghost use Rattle.cs_model.specs.Obj.{context_in, lies_in};
