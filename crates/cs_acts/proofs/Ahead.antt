@@ -3,10 +3,10 @@ use Rattle.std.proofs.Common.{◌≡◌, ℕ, ◌+◌, ◌-◌, ◌*◌, ◌<◌
 use Rattle.std.specs.Prelude.{if◌then◌else◌, ◌==◌}
 use Rattle.std.proofs.lemmas.Bool.Decides.{nat_tests}
 use Rattle.std.proofs.lemmas.List.{get_or-take, get_or_past, length-take}
+use Rattle.cs_model.specs.Words.{unused_bytes}
 use Rattle.cs_model.specs.declared.instruction.Instr.{Instr}
 use Rattle.cs_model.specs.declared.instruction.Op.{Op}
-use Rattle.cs_heap.specs.Object.{Object, format_of, slot_count_of}
-use Rattle.cs_classes.specs.Meaning.{unused_bytes}
+use Rattle.cs_heap.specs.Object.{Object, format_at, slot_count_of}
 use Rattle.cs_model.specs.Obj.{first_pc}
 use Rattle.cs_model.specs.State.{Kept}
 use Rattle.cs_model.specs.Read.{bytecodes_of, literals_of, method_of, pc_of}
@@ -101,7 +101,7 @@ decode_ahead bs at count a b c d e p q r s =
 
 -- the instruction at the active pc, of the bytes that the code reads there
 pub instruction_read : (os : List Object) (k : Kept) (w pc end count a b c d : ℕ) → IsMethodAt os (method_of k) w → IsPlaceOf os k w pc → pc ≡ pc_of k
-    → end ≡ 4 * slot_count_of os w - unused_bytes (format_of os w) → count ≡ min (end - (pc - 1)) 4
+    → end ≡ 4 * slot_count_of os w - unused_bytes (format_at os w) → count ≡ min (end - (pc - 1)) 4
     → a ≡ byte_before os w (pc - 1) end → b ≡ byte_before os w (pc - 1 + 1) end → c ≡ byte_before os w (pc - 1 + 2) end → d ≡ byte_before os w (pc - 1 + 3) end
     → decode_at (take count (a ∷ b ∷ c ∷ d ∷ [])) 0 ≡ instruction_at k
 unfolding instruction_at

@@ -5,7 +5,7 @@ use Rattle.std.specs.FinMap.{FinMap, get}
 use Rattle.std.specs.Ordering.{nat_cmp}
 use Rattle.std.proofs.lemmas.Bool.{false≢true}
 use Rattle.std.proofs.lemmas.Bool.Decides.{nat_tests}
-use Rattle.cs_heap.specs.Format.{is_method}
+use Rattle.cs_heap.specs.Format.{is_code}
 use Rattle.cs_heap.specs.Object.{Object}
 use Rattle.cs_classes.specs.Meaning.{classes_of}
 use Rattle.cs_classes.specs.Sound.{is_weak}
@@ -42,11 +42,11 @@ module _ (k : Kept) (class format slots : ℕ) (fits : CanAllocate k class forma
   pub no_immediate_class : (class ≢ 1) × (class ≢ 2) × (class ≢ 3)
   no_immediate_class = first_apart class fits.common
 
-  pub no_method_format : is_method format ≡ false
-  no_method_format = last_otherwise (format == 4) (format == 5) (is_method format) fits.plain
+  pub no_method_format : is_code format ≡ false
+  no_method_format = last_otherwise (format == 4) (format == 5) (is_code format) fits.plain
 
   pub no_weak_format : is_weak format ≡ false
-  no_weak_format = first_otherwise (format == 4) (format == 5) (is_method format) fits.plain
+  no_weak_format = first_otherwise (format == 4) (format == 5) (is_code format) fits.plain
 
 mapped : (f : ℕ → ℕ) (o : Option ℕ) → is_some (option_map f o) ≡ true → is_some o ≡ true
 mapped f None e = e

@@ -4,12 +4,13 @@ use Rattle.std.specs.Prelude.{◌==◌, ◌&&◌, ◌||◌, nat_le}
 use Rattle.std.specs.FinMap.{get}
 use Rattle.std.proofs.lemmas.Bool.{eq-eqb, false≢true, or_left, or_right}
 use Rattle.std.proofs.lemmas.Bool.Decides.{eqb_tells}
+use Rattle.cs_model.specs.Words.{unused_bytes}
 use Rattle.cs_heap.specs.Format.{is_pointers}
-use Rattle.cs_model.specs.Ref.{Ref, Small, Char, birth_of, index_of, same_ref}
+use Rattle.cs_model.specs.Ref.{Ref, Small, Char, named_object, small_index, same_ref}
 use Rattle.cs_model.specs.Ref as ref
 use Rattle.cs_model.specs.Obj.{Obj, Context, Head, Ptr, Raw, Method, Ctx, class_index_in, context_in, dead, is_context, is_context_at, is_method, new_head, popped, pushed, stored, with_pc}
 use Rattle.cs_model.specs.State.{Kept, Rest, ContextHeld, IsHeld, is_nil, object_at, object_of, put, with_rest}
-use Rattle.cs_model.specs.Read.{IsRunning, active_birth, active_context, blank}
+use Rattle.cs_model.specs.Read.{IsRunning, active_birth, active_context, blank_context}
 use Rattle.cs_model.specs.Context.{closure_class, has_class_index, lies_if_index}
 use Rattle.cs_model.specs.Enter.{block_context, can_evaluate, closure_method, closure_slot, closure_slots, enter_block_of, is_count, outer_context}
 use Rattle.cs_model.specs.Instance.{new_context}
@@ -18,7 +19,6 @@ use Rattle.cs_model.specs.Operation.{activate, add_of, cut_to_of, dead_object, d
 use Rattle.cs_model.specs.Return.{context_at, context_birth, is_live, sender_birth}
 use Rattle.cs_model.proofs.Objects.{at_put, object_at-put_other, object_at-put_same}
 use Rattle.cs_classes.specs.Kinds.{ContextKinds, KindsStand}
-use Rattle.cs_classes.specs.Meaning.{unused_bytes}
 use Rattle.cs_classes.proofs.Refs.{either_still}
 use Rattle.cs_acts.specs.Made.{blank_of}
 use Rattle.cs_acts.specs.Ready.{IsSound}
@@ -335,7 +335,7 @@ pub evaluated : (k : Kept) (x : Ref) (args : ℕ) → can_evaluate k x args ≡ 
 unfolding can_evaluate
 evaluated k x args h =
     let p = parts (nat_le 3 (length (closure_slots (object_of k x)))) (is_some (outer_context k x)) (is_method (object_of k (closure_method k x)))
-    (lies_if_index (object_of k (closure_method k x)) (index_of (closure_slot k x 1))) (is_count args (index_of (closure_slot k x 2))) h in
+    (lies_if_index (object_of k (closure_method k x)) (small_index (closure_slot k x 1))) (is_count args (small_index (closure_slot k x 2))) h in
     record { closure = slots_there (object_of k x) p.0; method = p.1 }
   where
     parts : (a b c d e : Bool) → (a && b && c && d && e) ≡ true → (a ≡ true) × (c ≡ true)
@@ -421,7 +421,7 @@ unfolding push_of resume_of active_context
 kinds-arrive k target x h kinds =
     let t : Kept = resume_of k target in
     let c = context_is (object_at k target) h in
-    let active : active_context t ≡ c.0 = ap (λ o. unwrap_or (context_in o) blank) c.1 in
+    let active : active_context t ≡ c.0 = ap (λ o. unwrap_or (context_in o) blank_context) c.1 in
     let all : KindsStand t = kinds-resume k target kinds in
     let found : object_at t (active_birth t) ≡ Some (Ctx (active_context t)) = c.1 ∙ ap (λ d. Some (Ctx d)) (sym active) in
     let own : ContextKinds t (active_context t) = all target (active_context t) found in
@@ -433,11 +433,11 @@ kinds-cut_to k dying target x live kinds =
     kinds-arrive (kill_all dying k) target x (still_context dying k target (live_context k target live)) (kinds-kill_all dying k kinds)
 
 -- the context to which a return goes is the sender of the active one
-pub sender_is : (k : Kept) (target : ℕ) → IsRunning k → sender_birth k (active_birth k) ≡ Some target → birth_of (active_context k).sender ≡ Some target
+pub sender_is : (k : Kept) (target : ℕ) → IsRunning k → sender_birth k (active_birth k) ≡ Some target → named_object (active_context k).sender ≡ Some target
 sender_is k target running e =
     go (context_at k (active_context k).sender) (sym (ap (λ o. option_and_then (λ c. context_birth k c.sender) (context_in o)) running.found) ∙ e)
   where
-    go : (o : Option Context) → option_and_then (λ c. birth_of (active_context k).sender) o ≡ Some target → birth_of (active_context k).sender ≡ Some target
+    go : (o : Option Context) → option_and_then (λ c. named_object (active_context k).sender) o ≡ Some target → named_object (active_context k).sender ≡ Some target
     go None h = absurd (cc)
     go (Some c) h = h
 

@@ -8,7 +8,7 @@ use Rattle.cs_model.specs.Ref.{Ref}
 use Rattle.cs_model.specs.Obj.{Obj, Context, Ctx, popped, pushed, with_stack}
 use Rattle.cs_model.specs.State.{Kept, Rest, object_at, put}
 use Rattle.cs_model.specs.Keeps.{Keeps, SameKept}
-use Rattle.cs_model.specs.Demand.{words_at, words_below, words_in}
+use Rattle.cs_model.specs.Demand.{words_taken, words_below, words_held}
 use Rattle.cs_model.specs.Read.{IsRunning, active_birth, active_context, depth_of, size_of, stack_of}
 use Rattle.cs_model.specs.Operation.{drop_of, edit_active, pop_of, push_of, put_active}
 use Rattle.cs_model.proofs.Objects.{object_at-put_other, object_at-put_same}
@@ -75,16 +75,16 @@ words-put : (k : Kept) (i : ℕ) (c d : Context) (n : ℕ) → object_at k i ≡
 unfolding words_below
 words-put k i c d zero there size = refl
 words-put k i c d (suc n) there size = ap₂ (λ (a b : ℕ). a + b) (words-put k i c d n there size) (elim (eqb_tells n i) [
-  | inl e ↦ ap (λ j. words_at (object_at (put k i (Ctx d)) j)) e.1 ∙ ap words_at (object_at-put_same k i (Ctx d)) ∙ ap (λ s. words_at (Some (Ctx (record c { size = s })))) size
-      ∙ ap words_at (sym there) ∙ ap (λ j. words_at (object_at k j)) (sym e.1)
-  | inr e ↦ ap words_at (object_at-put_other k i n (Ctx d) e.1)
+  | inl e ↦ ap (λ j. words_taken (object_at (put k i (Ctx d)) j)) e.1 ∙ ap words_taken (object_at-put_same k i (Ctx d)) ∙ ap (λ s. words_taken (Some (Ctx (record c { size = s })))) size
+      ∙ ap words_taken (sym there) ∙ ap (λ j. words_taken (object_at k j)) (sym e.1)
+  | inr e ↦ ap words_taken (object_at-put_other k i n (Ctx d) e.1)
 ])
 
 -- the active context changes its stack alone
-words-active : (k : Kept) (d : Context) → IsRunning k → d.size ≡ size_of k → words_in (put_active k d) ≡ words_in k
+words-active : (k : Kept) (d : Context) → IsRunning k → d.size ≡ size_of k → words_held (put_active k d) ≡ words_held k
 unfolding put
 words-active k d running size = words-put k (active_birth k) (active_context k) d k.rest.next running.found size
 
-pub words-answered : (k : Kept) (n : ℕ) (x : Ref) → IsRunning k → words_in (push_of (drop_of k n) x) ≡ words_in k
+pub words-answered : (k : Kept) (n : ℕ) (x : Ref) → IsRunning k → words_held (push_of (drop_of k n) x) ≡ words_held k
 unfolding drop_of push_of
-words-answered k n x running = ap words_in (edit-twice k (popped n) (pushed x)) ∙ words-active k (pushed x (popped n (active_context k))) running refl
+words-answered k n x running = ap words_held (edit-twice k (popped n) (pushed x)) ∙ words-active k (pushed x (popped n (active_context k))) running refl

@@ -5,11 +5,11 @@ use Rattle.std.specs.List.{AllByRecursion}
 use Rattle.cs_model.specs.Obj.{Obj, context_in, is_context_at}
 use Rattle.cs_model.specs.State.{Kept, Rest, object_at}
 use Rattle.cs_model.specs.Keeps.{Keeps}
-use Rattle.cs_model.specs.Demand.{words_at, words_below, words_in}
+use Rattle.cs_model.specs.Demand.{words_taken, words_below, words_held}
 use Rattle.cs_acts.specs.declared.act.Full.{Full as Why}
 use Rattle.cs_acts.specs.declared.act.Full.TheVariants.{Heap, Stack}
 use Rattle.cs_acts.specs.Full.{CausesFull}
-use Rattle.cs_acts.specs.Layout.{IsLaidOut, IsPage, LaidBy, Layout, depth_in, entered, first_page, frame_words, new_frame_words, page_words}
+use Rattle.cs_acts.specs.Layout.{IsLaidOut, IsPage, LaidBy, Layout, depth_if, entered, first_page, frame_words, new_frame_words, page_words}
 use Rattle.cs_acts.specs.Made.{made_by_entering}
 use Rattle.cs_acts.specs.Names.{Store}
 
@@ -20,15 +20,15 @@ unfolding words_below
 words_kept v m k zero = omega arith
 words_kept v m k (suc n) = go (words_kept v m k n) (object_at v n) refl
   where
-    go : words_below n v ≤ words_below n m → (o : Option Obj) → object_at v n ≡ o → words_below n v + words_at o ≤ words_below n m + words_at (object_at m n)
+    go : words_below n v ≤ words_below n m → (o : Option Obj) → object_at v n ≡ o → words_below n v + words_taken o ≤ words_below n m + words_taken (object_at m n)
     go before None e = omega (arith, before)
     go before (Some o) e =
-        let is : words_at (object_at m n) ≡ words_at (Some o) = ap words_at (k.same n o e) in
+        let is : words_taken (object_at m n) ≡ words_taken (Some o) = ap words_taken (k.same n o e) in
         omega (arith, before, is)
 
 -- a state counts no more words than one that it keeps
-pub fewer_words : (v m : Kept) → Keeps v m → words_in v ≤ words_in m
-fewer_words v m k = subst (λ (r : Rest). words_in v ≤ words_below r.next m) k.rest (words_kept v m k v.rest.next)
+pub fewer_words : (v m : Kept) → Keeps v m → words_held v ≤ words_held m
+fewer_words v m k = subst (λ (r : Rest). words_held v ≤ words_below r.next m) k.rest (words_kept v m k v.rest.next)
 
 -- ---- the frames of the first page
 
@@ -39,7 +39,7 @@ same_words v m k (i ∷ is) h = ap₂ (λ (a b : ℕ). a + b) (same_words v m k 
   where
     go : (o : Option Obj) → object_at v i ≡ o → is_context_at o ≡ true → frame_words v i ≡ frame_words m i
     go None e f = absurd (cc)
-    go (Some o) e f = ap (λ p. 10 + depth_in (context_in p)) (e ∙ sym (k.same i o e))
+    go (Some o) e f = ap (λ p. 10 + depth_if (context_in p)) (e ∙ sym (k.same i o e))
 
 first_same : (v m : Kept) → Keeps v m → (pages : List (List ℕ)) → AllByRecursion (IsPage v) pages → page_words v (first_page pages) ≡ page_words m (first_page pages)
 first_same v m k [] h = same_words v m k [] tt

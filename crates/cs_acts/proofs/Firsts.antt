@@ -5,7 +5,7 @@ use Rattle.std.specs.Option.{option_map_or}
 use Rattle.cs_word.specs.declared.Oop.{Oop}
 use Rattle.cs_heap.specs.Object.{Memory, Object, address_of, is_object, next_of}
 use Rattle.cs_heap.proofs.Laws.{address_of-below, index_of-address, next_of-address, object_at-address}
-use Rattle.cs_classes.specs.Meaning.{birth_at, ref_of}
+use Rattle.cs_classes.specs.Meaning.{nth_birth, ref_of}
 use Rattle.cs_classes.specs.Sound.{is_reference}
 use Rattle.cs_classes.proofs.Refs.{is_reference-object, ref_of-object}
 use Rattle.cs_model.specs.Ref.{Ref}
@@ -23,7 +23,7 @@ pub record IsNumber (os : List Object) (a j : ℕ) : Type 0 where
 pub number_object : (os : List Object) (a j : ℕ) → IsNumber os a j → is_object os a ≡ true
 number_object os a j n = ap is_some (index_of-address os a j n.address)
 
-pub number_birth : (os : List Object) (a j : ℕ) → IsNumber os a j → ref_of os a ≡ ref.Obj (birth_at os j)
+pub number_birth : (os : List Object) (a j : ℕ) → IsNumber os a j → ref_of os a ≡ ref.Obj (nth_birth os j)
 number_birth os a j n =
     ref_of-object os a (number_object os a j n)
     ∙ ap (λ (o : Option Object). ref.Obj (option_map_or (λ x. x.birth) o 0)) (object_at-address os a j n.address)
@@ -49,7 +49,7 @@ pub three : (s : Store) (k : Kept) (h : Memory) → h ≡ s.memory → IsSound s
 three s k h e sound = subst (λ m. 3 ≤ length m.objects) (sym e) sound.holds.whole.first
 
 -- what it refers to
-pub number_names : (s : Store) (k : Kept) (h : Memory) (o : Oop) (j i : ℕ) → h ≡ s.memory → IsNumber h.objects o.0 j → birth_at s.memory.objects j ≡ i → Names s o (ref.Obj i)
+pub number_names : (s : Store) (k : Kept) (h : Memory) (o : Oop) (j i : ℕ) → h ≡ s.memory → IsNumber h.objects o.0 j → nth_birth s.memory.objects j ≡ i → Names s o (ref.Obj i)
 number_names s k h o j i e n birth =
     let m : IsNumber s.memory.objects o.0 j = subst (λ m. IsNumber m.objects o.0 j) e n in
     record { sound = number_named s.memory.objects o.0 j m; is = number_birth s.memory.objects o.0 j m ∙ ap ref.Obj birth }

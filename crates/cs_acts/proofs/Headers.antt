@@ -3,11 +3,12 @@ use Rattle.std.proofs.Common.{◌≡◌, ℕ, ◌+◌, ◌-◌, ◌*◌, ◌<◌
 use Rattle.std.specs.Prelude.{unwrap_or, ◌==◌, ◌&&◌, if◌then◌else◌}
 use Rattle.std.proofs.lemmas.Bool.{false≢true}
 use Rattle.std.proofs.lemmas.Bool.Decides.{nat_tests}
+use Rattle.cs_model.specs.Words.{unused_bytes}
 use Rattle.cs_word.specs.declared.Oop.{Oop}
-use Rattle.cs_heap.specs.Format.{is_method}
-use Rattle.cs_heap.specs.Object.{Memory, Object, byte_of, format_of, is_object, object_at, slot_count_of, slot_of}
+use Rattle.cs_heap.specs.Format.{is_code}
+use Rattle.cs_heap.specs.Object.{Memory, Object, byte_of, format_at, is_object, heap_object, slot_count_of, slot_of}
 use Rattle.cs_classes.proofs.Refs.{both_true}
-use Rattle.cs_classes.specs.Meaning.{code_in, count_of, header_in, ref_of, unused_bytes, used_bytes}
+use Rattle.cs_classes.specs.Meaning.{code_in, count_of, method_header, ref_of, used_bytes}
 use Rattle.cs_classes.proofs.Sorts.{not_pointers, obj_of-method}
 use Rattle.cs_classes.proofs.Sounds.{method_other, sound_at}
 use Rattle.cs_model.specs.Obj as obj
@@ -16,7 +17,7 @@ use Rattle.cs_model.specs.State.{Kept, object_of}
 use Rattle.cs_acts.specs.Names.{Store, name_of}
 use Rattle.cs_acts.specs.Ready.{Holds}
 use Rattle.cs_classes.specs.Sound.{is_method_address}
-use Rattle.cs_acts.specs.Reading.{IsMethodNamed, number_between, object_named}
+use Rattle.cs_acts.specs.Reading.{IsMethodNamed, bounded_number, object_named}
 use Rattle.cs_acts.proofs.Held.{Says, says}
 use Rattle.cs_acts.proofs.Methods.{IsMethodAt, code_byte, end_is, header_is}
 use Rattle.cs_acts.proofs.Named.{Place, There, Nowhere, field_at, method_read, place}
@@ -30,7 +31,7 @@ method_here s k o holds m = go (place s.memory.objects o.0)
     in_heap : is_method_address s.memory.objects o.0 ≡ true
     in_heap = method_read s k s.memory o refl holds m.named ∙ m.method
 
-    there : (x : Object) → object_named s.memory.objects o.0 ≡ Some x → object_at s.memory.objects o.0 ≡ Some x → is_method x.format ≡ true → IsMethodAt s.memory.objects (object_of k (name_of s o)) o.0
+    there : (x : Object) → object_named s.memory.objects o.0 ≡ Some x → heap_object s.memory.objects o.0 ≡ Some x → is_code x.format ≡ true → IsMethodAt s.memory.objects (object_of k (name_of s o)) o.0
     there x f at format =
         let sound = sound_at s.memory.objects o.0 x holds.whole.heap at in
         let other = method_other s.memory.objects x sound format in
@@ -45,7 +46,7 @@ method_here s k o holds m = go (place s.memory.objects o.0)
 
     go : Place s.memory.objects o.0 → IsMethodAt s.memory.objects (object_of k (name_of s o)) o.0
     go (There x f at is) =
-        there x f at (ap is_method (sym (field_at (λ y. y.format) s.memory.objects o.0 x at)) ∙ (both_true (is_object s.memory.objects o.0) (is_method (format_of s.memory.objects o.0)) in_heap).1)
+        there x f at (ap is_code (sym (field_at (λ y. y.format) s.memory.objects o.0 x at)) ∙ (both_true (is_object s.memory.objects o.0) (is_code (format_at s.memory.objects o.0)) in_heap).1)
     go (Nowhere f is) = absurd (false≢true (sym (ap obj.is_method (said None f)) ∙ m.method))
 
 -- the same of the heap that the code reads
@@ -83,11 +84,11 @@ number_listed byte first end bs long at = go bs long at
         let fits : nat_le (first + 3) end ≡ true = enough (length (a ∷ b ∷ c ∷ bs)) e (omega arith) in
         rw (fits, here, second, third) refl
 
-pub number_read : (os : List Object) (o : Option Obj) (w first end : ℕ) (number : Option ℕ) → IsMethodAt os o w → first ≡ 4 * (literal_count (obj.header_in o) + 1) → end ≡ 4 * slot_count_of os w - unused_bytes (format_of os w)
-    → number ≡ number_between os w first end → number ≡ number_in (obj.bytecodes_in o)
+pub number_read : (os : List Object) (o : Option Obj) (w first end : ℕ) (number : Option ℕ) → IsMethodAt os o w → first ≡ 4 * (literal_count (obj.header_in o) + 1) → end ≡ 4 * slot_count_of os w - unused_bytes (format_at os w)
+    → number ≡ bounded_number os w first end → number ≡ number_in (obj.bytecodes_in o)
 number_read os o w first end number m begins ends is =
-    let header : obj.header_in o ≡ header_in m.object.words = ap obj.header_in m.means in
-    let from : first ≡ 4 * (literal_count (header_in m.object.words) + 1) = begins ∙ ap (λ n. 4 * (literal_count n + 1)) header in
+    let header : obj.header_in o ≡ method_header m.object.words = ap obj.header_in m.means in
+    let from : first ≡ 4 * (literal_count (method_header m.object.words) + 1) = begins ∙ ap (λ n. 4 * (literal_count n + 1)) header in
     let codes : List ℕ = used_bytes m.object.format (code_in m.object.words) in
     is ∙ number_listed (byte_of os w) first end codes (omega (arith, from, ends, end_is os o w m))
     (λ j less. code_byte os o w m j less ∙ ap (λ n. byte_of os w (n + j)) (sym from))

@@ -3,7 +3,7 @@ use Rattle.std.proofs.Common.{◌≡◌, ℕ, zero, suc, Bool, true, false, refl
 use Rattle.std.specs.Prelude.{slice_get, if◌then◌else◌}
 use Rattle.std.specs.FinMap.{get}
 use Rattle.cs_heap.specs.Object.{Object}
-use Rattle.cs_classes.specs.Meaning.{is_context, obj_of, objects_of, ref_of}
+use Rattle.cs_classes.specs.Meaning.{is_heap_context, obj_of, objects_of, ref_of}
 use Rattle.cs_classes.proofs.Objects.{objects_of-comes}
 use Rattle.cs_classes.proofs.Sorts.{obj_of-context}
 use Rattle.cs_model.specs.Ref.{Char, Ref, Small, same_ref}
@@ -110,7 +110,7 @@ both_at s k h i = in_heap (get (objects_of s.memory.objects) i) refl
         at true c = absent (Some o) c
         at false c = absurd (let e : Some o ≡ None = sym (h.back i o e c) ∙ n in cc)
 
-    found : (o : Obj) (x : Object) (j : ℕ) (c : Bool) → is_context x ≡ c → slice_get s.memory.objects j ≡ Some x → x.birth ≡ i → obj_of (ref_of s.memory.objects) x ≡ o → Both (Some o) (object_at k i)
+    found : (o : Obj) (x : Object) (j : ℕ) (c : Bool) → is_heap_context x ≡ c → slice_get s.memory.objects j ≡ Some x → x.birth ≡ i → obj_of (ref_of s.memory.objects) x ≡ o → Both (Some o) (object_at k i)
     found o x j false e at birth means = equal (Some o) (object_at k i) (sym (ap (object_at k) (sym birth) ∙ h.object j x at e ∙ ap (λ p. Some p) means))
     found o x j true e at birth means =
         contexts (Some o) (object_at k i) (ap (λ p. is_context_at (Some p)) (sym means ∙ obj_of-context (ref_of s.memory.objects) x e))
@@ -118,7 +118,7 @@ both_at s k h i = in_heap (get (objects_of s.memory.objects) i) refl
 
     in_heap : (o : Option Obj) → get (objects_of s.memory.objects) i ≡ o → Both o (object_at k i)
     in_heap None e = in_state (object_at k i) refl e
-    in_heap (Some o) e = let c = objects_of-comes s.memory.objects i o h.whole.heap.apart e in found o c.object c.place (is_context c.object) refl c.element c.birth c.meaning
+    in_heap (Some o) e = let c = objects_of-comes s.memory.objects i o h.whole.heap.apart e in found o c.object c.place (is_heap_context c.object) refl c.element c.birth c.meaning
 
 alike_heap : (s : Store) (k : Kept) → Holds s k → Alike (heap_state s k) k
 alike_heap s k h = record { slots = slots; methods = methods }

@@ -5,14 +5,14 @@ use Rattle.cs_model.specs.Ref.{Ref, Small, Char}
 use Rattle.cs_model.specs.Ref as ref
 use Rattle.cs_model.specs.Obj.{Obj, Context, Ctx, is_context, context_in, lies_in}
 use Rattle.cs_model.specs.State.{Kept, object_at, object_of, put}
-use Rattle.cs_model.specs.Read.{IsRunning, active_birth, active_context, blank, method_of, pc_of}
+use Rattle.cs_model.specs.Read.{IsRunning, active_birth, active_context, blank_context, method_of, pc_of}
 use Rattle.cs_model.specs.Operation.{edit_active, put_active}
 use Rattle.cs_model.proofs.Objects.{object_at-put_same, object_at-put_other}
 
 -- what is written to the active context is there
 pub active_context-put_active : (k : Kept) (c : Context) → active_context (put_active k c) ≡ c
 unfolding active_context put
-active_context-put_active k c = ap (λ o. unwrap_or (context_in o) blank) (object_at-put_same k (active_birth k) (Ctx c))
+active_context-put_active k c = ap (λ o. unwrap_or (context_in o) blank_context) (object_at-put_same k (active_birth k) (Ctx c))
 
 -- a pc lies in no context
 lies_outside : (k : Kept) (i : ℕ) (pc : ℕ) (c : Context) → object_at k i ≡ Some (Ctx c) → lies_in (object_at k i) pc ≡ true → ⊥
@@ -51,10 +51,10 @@ unfolding active_context method_of put
 running-put k i old new running there other lies =
     let apart : active_birth k ≢ i = λ e.
     let is : Some (Ctx (active_context k)) ≡ Some old = sym running.found ∙ ap (object_at k) e ∙ there in
-    let also : is_context (Ctx (active_context k)) ≡ is_context old = ap (λ o. is_context (unwrap_or o (Ctx blank))) is in
+    let also : is_context (Ctx (active_context k)) ≡ is_context old = ap (λ o. is_context (unwrap_or o (Ctx blank_context))) is in
     absurd (cc) in
     let stays : object_at (put k i new) (active_birth k) ≡ object_at k (active_birth k) = object_at-put_other k i (active_birth k) new apart in
-    let context : active_context (put k i new) ≡ active_context k = ap (λ o. unwrap_or (context_in o) blank) stays in
+    let context : active_context (put k i new) ≡ active_context k = ap (λ o. unwrap_or (context_in o) blank_context) stays in
     let pc_is : pc_of (put k i new) ≡ pc_of k = ap (λ c. unwrap_or c.pc 0) context in
     record {
       known = running.known;

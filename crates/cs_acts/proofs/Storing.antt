@@ -3,15 +3,15 @@ use Rattle.std.proofs.Common.{◌≡◌, ℕ, ◌+◌, ◌<◌, ◌≤◌, Bool,
 use Rattle.std.specs.Prelude.{◌==◌, ◌&&◌, if◌then◌else◌, nat_le, nat_lt, not, slice_get}
 use Rattle.std.proofs.lemmas.Bool.Decides.{nat_tests}
 use Rattle.std.proofs.lemmas.Option.{slice_get_past}
+use Rattle.cs_classes.specs.Sound.{has_slots}
 use Rattle.cs_word.specs.declared.Oop.{Oop}
 use Rattle.cs_heap.specs.Format.{is_pointers}
-use Rattle.cs_heap.specs.Object.{Memory, Object, class_of, format_of, is_immutable_at, is_object, slot_count_of, slot_of}
+use Rattle.cs_heap.specs.Object.{Memory, Object, class_at, format_at, is_immutable_at, is_object, slot_count_of, slot_of}
 use Rattle.cs_model.specs.Ref.{Ref}
 use Rattle.cs_model.specs.Obj.{at_least, context_class, slots_in}
 use Rattle.cs_model.specs.State.{Kept, is_read_only, object_of, slots_of}
 use Rattle.cs_acts.specs.Names.{IsNamed, Store, name_of}
 use Rattle.cs_acts.specs.Ready.{Holds}
-use Rattle.cs_acts.specs.Reading.{has_slots}
 use Rattle.cs_acts.specs.Storing.{slot_at, target_at, target_by, target_of}
 use Rattle.cs_acts.specs.declared.store.StoreTarget.TheVariants.{Missing, ReadOnly, Writable}
 use Rattle.cs_acts.proofs.Named.{any_names, no_slot_names, past_names, read_only_read, slot_names}
@@ -39,11 +39,11 @@ module _ (s : Store) (k : Kept) (i : ℕ) (o : Oop) (holds : Holds s k) (named :
   meets : (b c : Bool) → has_slots os 0 o.0 ≡ b → nat_lt i (slot_count_of os o.0) ≡ c → target_at os o.0 i ≡ (if b && c then (if is_immutable_at os o.0 then ReadOnly else Writable) else Missing)
   meets b c p q =
       ap (λ d. if d then (if is_immutable_at os o.0 then ReadOnly else Writable) else Missing)
-      (by_count (is_object os o.0) (not (class_of os o.0 == context_class)) (is_pointers (format_of os o.0)) i (slot_count_of os o.0) ∙ ap₂ (λ d f. d && f) p q)
+      (by_count (is_object os o.0) (not (class_at os o.0 == context_class)) (is_pointers (format_at os o.0)) i (slot_count_of os o.0) ∙ ap₂ (λ d f. d && f) p q)
 
   fixed_is : has_slots os 0 o.0 ≡ true → is_immutable_at os o.0 ≡ is_read_only k x
   fixed_is p =
-      of_slots (is_object os o.0) (not (class_of os o.0 == context_class)) (is_pointers (format_of os o.0)) (is_immutable_at os o.0) (slot_count_of os o.0) p
+      of_slots (is_object os o.0) (not (class_at os o.0 == context_class)) (is_pointers (format_at os o.0)) (is_immutable_at os o.0) (slot_count_of os o.0) p
       ∙ read_only_read s k s.memory o refl holds named
 
   pub target_read : (m : Memory) → m ≡ s.memory → target_at m.objects o.0 i ≡ target_of k x i

@@ -7,7 +7,7 @@ use Rattle.cs_classes.specs.Meaning.{objects_of}
 use Rattle.cs_model.specs.Obj.{Obj, Context, Ctx, context_in, is_context_at}
 use Rattle.cs_model.specs.State.{Kept, object_at}
 use Rattle.cs_model.specs.Return.{is_among, sender_birth}
-use Rattle.cs_model.specs.Demand.{words_in}
+use Rattle.cs_model.specs.Demand.{words_held}
 use Rattle.cs_acts.specs.Names.{Store}
 
 -- How many pages a world may use, and the used ones, the most recent first, each with the births of its frames, the last one
@@ -21,13 +21,13 @@ with_pages pages l = record l { pages = pages }
 
 -- ---- words
 
-abbrev pub depth_in : Option Context → ℕ
-depth_in None = 0
-depth_in (Some c) = length c.stack
+abbrev pub depth_if : Option Context → ℕ
+depth_if None = 0
+depth_if (Some c) = length c.stack
 
 -- a frame counts 10 words, and one for each value of its context's stack
 abbrev pub frame_words : Kept → ℕ → ℕ
-frame_words k i = 10 + depth_in (context_in (object_at k i))
+frame_words k i = 10 + depth_if (context_in (object_at k i))
 
 unfoldable pub page_words : Kept → List ℕ → ℕ
 page_words k [] = 0
@@ -83,7 +83,7 @@ pub record IsLaid (s : Store) (k : Kept) (l : Layout) : Type 0 where
 -- without pages all of the state stands in the heap, and takes the heap's words
 pub record IsPlain (s : Store) (k : Kept) : Type 0 where
   pub objects : (i : ℕ) (o : Obj) → object_at k i ≡ Some o → get (objects_of s.memory.objects) i ≡ Some o
-  pub words : words_in k ≡ used s.memory.objects
+  pub words : words_held k ≡ used s.memory.objects
 
 abbrev pub IsLaidOut : Store → Kept → Option Layout → Type 0
 IsLaidOut s k None = IsPlain s k

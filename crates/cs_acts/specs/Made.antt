@@ -1,9 +1,10 @@
 -- What a call makes in the heap of a world.
 use Rattle.std.specs.Prelude.{◌≡◌, ℕ, ◌+◌, ◌*◌, ◌-◌, ◌<◌, ◌≤◌, ◌==◌, ◌||◌, Bool, true, false, IsTrue, nat_le, if◌then◌else◌, List, [], ◌∷◌, replicate, Option, Some, None, is_some}
 use Rattle.std.specs.FinMap.{get}
-use Rattle.cs_heap.specs.Format.{format_allows, is_method, is_pointers}
+use Rattle.cs_model.specs.Words.{unused_bytes}
+use Rattle.cs_heap.specs.Format.{format_allows, is_code, is_pointers}
 use Rattle.cs_heap.specs.Object.{Object}
-use Rattle.cs_classes.specs.Meaning.{is_context, unused_bytes}
+use Rattle.cs_classes.specs.Meaning.{is_heap_context}
 use Rattle.cs_model.specs.Obj.{Obj, Raw, context_class, new_head}
 use Rattle.cs_model.specs.State.{Kept}
 use Rattle.cs_model.specs.Operation.{new_pointers}
@@ -18,7 +19,7 @@ is_made_apart class = class == 1 || class == 2 || class == 3 || class == context
 
 -- weak objects, ephemerons and methods
 abbrev pub is_made_otherwise : ℕ → Bool
-is_made_otherwise format = format == 4 || format == 5 || is_method format
+is_made_otherwise format = format == 4 || format == 5 || is_code format
 
 -- The format allows so many slots, the class index has an entry, and a birth is left.
 pub record CanAllocate (k : Kept) (class format slots : ℕ) : Type 0 where
@@ -38,7 +39,7 @@ blank_of k class format slots =
 -- how many contexts a heap has
 unfoldable pub contexts_in : List Object → ℕ
 contexts_in [] = 0
-contexts_in (x ∷ xs) = contexts_in xs + (if is_context x then 1 else 0)
+contexts_in (x ∷ xs) = contexts_in xs + (if is_heap_context x then 1 else 0)
 
 -- A world with pages makes at most so many contexts in its heap. One without has all contexts of its state there.
 abbrev pub MakesAtMost : ℕ → Option Layout → Store → Store → Type 0

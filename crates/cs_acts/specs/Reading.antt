@@ -5,17 +5,17 @@ use Rattle.cs_word.specs.declared.Kind.{Kind}
 use Rattle.cs_word.specs.declared.Kind.TheVariants as kind
 use Rattle.cs_word.specs.Word.{kind_of}
 use Rattle.cs_heap.specs.Format.{is_pointers}
-use Rattle.cs_heap.specs.Object.{Object, byte_of, class_of, format_of, is_immutable_at, is_object, object_at, slot_count_of}
+use Rattle.cs_heap.specs.Object.{Object, byte_of, class_at, format_at, is_immutable_at, is_object, heap_object, slot_count_of}
 use Rattle.cs_model.specs.Obj as obj
 use Rattle.cs_model.specs.Obj.{context_class}
 use Rattle.cs_model.specs.State.{Kept, object_of}
-use Rattle.cs_classes.specs.Meaning.{is_context}
+use Rattle.cs_classes.specs.Meaning.{is_heap_context}
 use Rattle.cs_acts.specs.Names.{Store, IsNamed, name_of}
 
 abbrev pub object_of_kind : List Object → Kind → Option Object
 object_of_kind objects (kind.Small value) = None
 object_of_kind objects (kind.Character code) = None
-object_of_kind objects (kind.Object address) = object_at objects address
+object_of_kind objects (kind.Object address) = heap_object objects address
 object_of_kind objects (kind.Link word) = None
 
 -- the object whose address a word is
@@ -23,21 +23,16 @@ abbrev pub object_named : List Object → ℕ → Option Object
 object_named objects word = object_of_kind objects (kind_of word)
 
 -- the words of a pointer object with at least n slots; a context is none
-abbrev pub words_in : ℕ → Option Object → Option (List ℕ)
-words_in n None = None
-words_in n (Some x) = if is_context x then None else if is_pointers x.format then (if nat_le n (length x.words) then Some x.words else None) else None
+abbrev pub slots_if : ℕ → Option Object → Option (List ℕ)
+slots_if n None = None
+slots_if n (Some x) = if is_heap_context x then None else if is_pointers x.format then (if nat_le n (length x.words) then Some x.words else None) else None
 
 unfoldable pub pointer_words : List Object → ℕ → ℕ → Option (List ℕ)
-pointer_words objects n word = words_in n (object_named objects word)
-
--- the same by what the heap tells of an address
-abbrev pub has_slots : List Object → ℕ → ℕ → Bool
-has_slots objects n word = is_object objects word && not (class_of objects word == context_class)
-    && is_pointers (format_of objects word) && nat_le n (slot_count_of objects word)
+pointer_words objects n word = slots_if n (object_named objects word)
 
 -- a word is the address of a context
-abbrev pub is_context_at : List Object → ℕ → Bool
-is_context_at objects word = is_object objects word && class_of objects word == context_class
+abbrev pub is_context_word : List Object → ℕ → Bool
+is_context_word objects word = is_object objects word && class_at objects word == context_class
 
 -- a word is the address of a read-only object
 abbrev pub is_read_only_at : List Object → ℕ → Bool
@@ -46,20 +41,20 @@ is_read_only_at objects word = is_object objects word && is_immutable_at objects
 abbrev pub class_index_of_kind : List Object → Kind → ℕ
 class_index_of_kind objects (kind.Small value) = 1
 class_index_of_kind objects (kind.Character code) = 2
-class_index_of_kind objects (kind.Object address) = class_of objects address
+class_index_of_kind objects (kind.Object address) = class_at objects address
 class_index_of_kind objects (kind.Link word) = 0
 
 -- the class index of what a word names
-unfoldable pub class_index_of : List Object → ℕ → ℕ
-class_index_of objects word = class_index_of_kind objects (kind_of word)
+unfoldable pub word_class : List Object → ℕ → ℕ
+word_class objects word = class_index_of_kind objects (kind_of word)
 
 -- byte i of an object, where it is before the end; else 0
 abbrev pub byte_before : List Object → ℕ → ℕ → ℕ → ℕ
 byte_before objects address i end = if nat_lt i end then byte_of objects address i else 0
 
 -- a number behind the bytecode 139, the lower byte first: three bytes before the end
-abbrev pub number_between : List Object → ℕ → ℕ → ℕ → Option ℕ
-number_between objects address first end =
+abbrev pub bounded_number : List Object → ℕ → ℕ → ℕ → Option ℕ
+bounded_number objects address first end =
     if nat_le (first + 3) end && byte_of objects address first == 139 then Some (byte_of objects address (first + 1) + 256 * byte_of objects address (first + 2)) else None
 
 -- the word names a method of the state

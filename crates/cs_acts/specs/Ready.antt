@@ -2,7 +2,7 @@
 use Rattle.std.specs.Prelude.{◌≡◌, ℕ, ◌<◌, ◌≤◌, Bool, true, false, ◌&&◌, nat_lt, nat_le, length, slice_get, Option, Some, None}
 use Rattle.std.specs.FinMap.{get}
 use Rattle.cs_heap.specs.Object.{Object, used}
-use Rattle.cs_classes.specs.Meaning.{obj_of, objects_of, ref_of, is_context, kept_of}
+use Rattle.cs_classes.specs.Meaning.{obj_of, objects_of, ref_of, is_heap_context, kept_of}
 use Rattle.cs_classes.specs.Kinds.{KindsStand}
 use Rattle.cs_classes.specs.Sound.{IsWhole}
 use Rattle.cs_model.specs.Obj.{Obj, Context, Ptr, Raw, Method, Ctx, is_context_at}
@@ -15,8 +15,8 @@ use Rattle.cs_acts.specs.Names.{Store}
 -- The class table and the roots are those of the state.
 pub record Holds (s : Store) (k : Kept) : Type 0 where
   pub whole : IsWhole s.memory.objects s.table s.roots
-  pub object : (j : ℕ) (x : Object) → slice_get s.memory.objects j ≡ Some x → is_context x ≡ false → object_at k x.birth ≡ Some (obj_of (ref_of s.memory.objects) x)
-  pub context : (j : ℕ) (x : Object) → slice_get s.memory.objects j ≡ Some x → is_context x ≡ true → is_context_at (object_at k x.birth) ≡ true
+  pub object : (j : ℕ) (x : Object) → slice_get s.memory.objects j ≡ Some x → is_heap_context x ≡ false → object_at k x.birth ≡ Some (obj_of (ref_of s.memory.objects) x)
+  pub context : (j : ℕ) (x : Object) → slice_get s.memory.objects j ≡ Some x → is_heap_context x ≡ true → is_context_at (object_at k x.birth) ≡ true
   pub back : (i : ℕ) (o : Obj) → object_at k i ≡ Some o → is_context_at (Some o) ≡ false → get (objects_of s.memory.objects) i ≡ Some o
   pub within : used s.memory.objects ≤ s.memory.limit
   pub most : s.memory.limit ≤ 67108864

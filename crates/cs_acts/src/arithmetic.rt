@@ -7,7 +7,7 @@ ghost use Rattle.cs_model.specs.Number.{comparison, computation, number_result};
 ghost use Rattle.cs_model.specs.Read.{depth_of};
 ghost use Rattle.cs_model.specs.Ref as ref;
 ghost use Rattle.cs_model.specs.Ref.{small_of};
-ghost use Rattle.cs_acts.specs.Arithmetic.{is_comparison, number_of};
+ghost use Rattle.cs_acts.specs.Arithmetic.{is_comparison, primitive_of};
 ghost use Rattle.cs_acts.specs.Names.{IsNamed, Names, NamesOption, Store, name_of};
 ghost use Rattle.cs_acts.specs.Ready.{IsReady, IsSound};
 
@@ -73,7 +73,7 @@ pub fn number_result<W: World>(w: &W, operation: Operation, a: i32, b: i32) -> O
     requires sound { IsSound (W.stored w.now) (W.view w.now) }
     requires a_small { IsSmall a }
     requires b_small { IsSmall b }
-    ensures { NamesOption (W.stored w.now) result (number_result (W.view w.now) (number_of operation) a b) }
+    ensures { NamesOption (W.stored w.now) result (number_result (W.view w.now) (primitive_of operation) a b) }
 {
     if let Some(truth) = compare(operation, a, b) {
         return Some(boolean(w, truth));
@@ -110,7 +110,7 @@ fn small_in(word: Oop) -> Option<i32>
 
 /// What a comparison gives; None exactly where the operation is none.
 fn compare(operation: Operation, a: i32, b: i32) -> Option<bool>
-    ensures { result ≡ (if is_comparison (number_of operation) then Some (comparison (number_of operation) a b)
+    ensures { result ≡ (if is_comparison (primitive_of operation) then Some (comparison (primitive_of operation) a b)
         else None) }
 {
     match operation {
@@ -129,7 +129,7 @@ fn compare(operation: Operation, a: i32, b: i32) -> Option<bool>
 fn compute(operation: Operation, a: i32, b: i32) -> Option<i32>
     requires a_small { IsSmall a }
     requires b_small { IsSmall b }
-    ensures value { result ≡ computation (number_of operation) a b }
+    ensures value { result ≡ computation (primitive_of operation) a b }
     ensures small { IfSome result (λ z. IsSmall z) }
 {
     match operation {

@@ -7,7 +7,7 @@ ghost use Rattle.cs_model.specs.Obj.{number_in, primitive_number};
 ghost use Rattle.cs_model.specs.State.{object_of};
 ghost use Rattle.cs_acts.specs.Names.{name_of};
 ghost use Rattle.cs_acts.specs.Ready.{IsSound};
-ghost use Rattle.cs_acts.specs.Reading.{IsMethodNamed, number_between};
+ghost use Rattle.cs_acts.specs.Reading.{IsMethodNamed, bounded_number};
 
 use crate::World;
 use crate::words::{byte_count, count_of_literals, is_between};
@@ -80,7 +80,7 @@ fn first_number<W: World>(w: &W, method: Oop, first: u32) -> Option<u32>
 fn number_between(heap: &Heap, method: Oop, first: u32, end: u32) -> Option<u32>
     requires first { first < 4294967292 }
     requires end { end ≤ 4 * slot_count_of heap.now.objects method.0 }
-    ensures { result ≡ number_between heap.now.objects method.0 first end }
+    ensures { result ≡ bounded_number heap.now.objects method.0 first end }
 {
     if first + 3 <= end && heap.byte(method, first) == CALL_PRIMITIVE {
         let low = u32::from(heap.byte(method, first + 1));

@@ -1,12 +1,13 @@
 //! What is read of the heap by its words alone.
 ghost use Rattle.std.specs.Prelude.{◌≡◌, ◌<◌, ◌≤◌, ◌+◌, ◌*◌, ◌-◌, ◌&&◌, IsSome, IsTrue, Some, nat_le, is_some, true};
 ghost use Rattle.std.specs.Prelude.{unwrap_or};
-ghost use Rattle.cs_heap.specs.Format.{is_method};
-ghost use Rattle.cs_heap.specs.Object.{format_of, is_object, next_of, slot_count_of, slot_of};
-ghost use Rattle.cs_classes.specs.Meaning.{count_of, unused_bytes};
-ghost use Rattle.cs_classes.specs.Sound.{is_method_address, is_reference};
+ghost use Rattle.cs_model.specs.Words.{unused_bytes};
+ghost use Rattle.cs_heap.specs.Format.{is_code};
+ghost use Rattle.cs_heap.specs.Object.{format_at, is_object, next_of, slot_count_of, slot_of};
+ghost use Rattle.cs_classes.specs.Meaning.{count_of};
+ghost use Rattle.cs_classes.specs.Sound.{is_method_address, is_reference, has_slots};
 ghost use Rattle.cs_model.specs.Obj.{literal_count};
-ghost use Rattle.cs_acts.specs.Reading.{byte_before, class_index_of, has_slots, is_read_only_at};
+ghost use Rattle.cs_acts.specs.Reading.{byte_before, word_class, is_read_only_at};
 ghost use Rattle.cs_acts.specs.Storing.{target_at};
 
 use crate::StoreTarget;
@@ -18,10 +19,10 @@ use cs_word::{Kind, Oop};
 const POINTERS_END: u8 = 6;
 
 /// The class index of what a word names: 1 of a SmallInteger, 2 of a Character, and for an object that in its header.
-#[tactic(auto, unfolding(cs_classes::specs::Sound::is_reference, crate::specs::Reading::class_index_of))]
+#[tactic(auto, unfolding(cs_classes::specs::Sound::is_reference, crate::specs::Reading::word_class))]
 pub(crate) fn class_index(heap: &Heap, o: Oop) -> u32
     requires { is_reference heap.now.objects o.0 ≡ true }
-    ensures { result ≡ class_index_of heap.now.objects o.0 }
+    ensures { result ≡ word_class heap.now.objects o.0 }
 {
     match o.kind() {
         Kind::Small(_) => 1,
@@ -97,9 +98,9 @@ pub(crate) fn behind(heap: &Heap, o: Oop) -> Oop
 pub(crate) fn byte_count(heap: &Heap, method: Oop) -> u32
     requires object { IsTrue (is_object heap.now.objects method.0) }
     requires slots { 0 < slot_count_of heap.now.objects method.0 }
-    requires format { IsTrue (is_method (format_of heap.now.objects method.0)) }
+    requires format { IsTrue (is_code (format_at heap.now.objects method.0)) }
     ensures value { result ≡ 4 * slot_count_of heap.now.objects method.0 - unused_bytes
-        (format_of heap.now.objects method.0) }
+        (format_at heap.now.objects method.0) }
     ensures most { result ≤ 268435456 }
 {
     4 * heap.slot_count(method) - (u32::from(heap.format(method)) - 24)

@@ -8,7 +8,7 @@ use Rattle.cs_model.specs.Image.{described, object_in}
 use Rattle.cs_model.specs.ImageFile.{file_of, File, visible, births_in}
 use Rattle.cs_model.specs.SavedFile.{SavedObject, IsSeen, saved_bytes, saved_size, saved_base, placed_from}
 use Rattle.cs_model.proofs.SavedFiles.{read_again, seen_again}
-use Rattle.cs_build.specs.Laid.{Laid, FitsLayout, laid, laid_slots, laid_size, saved_by, addresses_of, file_for}
+use Rattle.cs_build.specs.Laid.{Laid, FitsLayout, laid, laid_slots, laid_size, saved_by, laid_addresses, file_for}
 use Rattle.cs_build.specs.Stored.{IsStored}
 use Rattle.cs_build.proofs.Putting.{size_cons, length-map}
 use Rattle.cs_build.proofs.Filing.{objects_are}
@@ -48,7 +48,7 @@ kept_objects os table fits stored seen =
     let again = seen_again (file_for (map laid os) table) (file_fits (map laid os) table fits) seen in
     let read = read_again (file_for (map laid os) table) (file_fits (map laid os) table fits) in
     let base : f.base ≡ saved_base = ap (λ (x : File). x.base) again.file in
-    let there : visible f ≡ placed_from 0 (take 3 (map (saved_by (addresses_of (map laid os))) (map laid os))) ++ placed_from 34 (drop 3 (map (saved_by (addresses_of (map laid os))) (map laid os))) =
+    let there : visible f ≡ placed_from 0 (take 3 (map (saved_by (laid_addresses (map laid os))) (map laid os))) ++ placed_from 34 (drop 3 (map (saved_by (laid_addresses (map laid os))) (map laid os))) =
     again.visible ∙ ap (λ (xs : List SavedObject). placed_from 0 (take 3 xs) ++ placed_from 34 (drop 3 xs)) (objects_are (map laid os) table) in
     let back : map (object_in f (range_with_len 0 (length os))) (visible f) ≡ os =
     objects_back f os base (front_size (map laid os) (omega (arith, fits.four)) fits.first) stored there in

@@ -8,7 +8,7 @@ use Rattle.cs_model.specs.Words.{bytes_of_words}
 use Rattle.cs_model.specs.SavedFile.{SavedObject, SavedFile, saved_words, saved_size, saved_sizes, saved_base, saved_heap, saved_bytes, all_saved, free_lists, table_root, table_page, page_address, hidden_object}
 use Rattle.cs_model.specs.Builder.{header_bytes}
 use Rattle.cs_model.proofs.SavedObjects.{sizes-cons}
-use Rattle.cs_build.specs.Laid.{Laid, laid_slots, laid_size, saved_by, addresses_of, file_for, pages_of, root_word_of, root_words, all_header_words, put_words, page_of, addresses_from}
+use Rattle.cs_build.specs.Laid.{Laid, laid_slots, laid_size, saved_by, laid_addresses, file_for, table_pages, root_word_of, root_words, all_header_words, put_words, page_of, addresses_from}
 use Rattle.cs_build.proofs.Putting.{flat_map_append, map_take, map_drop, slots_of_laid, size_cons, length-map}
 
 pub sizes_saved : (a : List ℕ) (ls : List Laid) → saved_sizes (map (saved_by a) ls) ≡ laid_size ls
@@ -65,10 +65,10 @@ seq a b c d e nil =
     ∙ ap (λ (zs : List ℕ). a ++ zs) (sym (append_assoc b c d)) ∙ sym (append_assoc a (b ++ c) d)
 
 pub image_is : (ls : List Laid) (table : List ℕ) (heap_bytes : ℕ) → heap_bytes ≡ 4 * length (saved_heap (file_for ls table))
-    → saved_bytes (file_for ls table) ≡ put_words (put_words [] (all_header_words heap_bytes (slice_index (addresses_of ls) 3))) (saved_heap (file_for ls table))
+    → saved_bytes (file_for ls table) ≡ put_words (put_words [] (all_header_words heap_bytes (slice_index (laid_addresses ls) 3))) (saved_heap (file_for ls table))
 unfolding saved_bytes file_for bytes_of_words
 image_is ls table heap_bytes e =
-    let special : ℕ = slice_index (addresses_of ls) 3 in
+    let special : ℕ = slice_index (laid_addresses ls) 3 in
     let h : List ℕ = saved_heap (file_for ls table) in
     seq (take 8 header_bytes) (bytes_of_words (4 * length h ∷ saved_base ∷ special ∷ 0 ∷ [])) (drop 24 header_bytes) (bytes_of_words h) (bytes_of_words []) no_words
     ∙ ap (λ (bytes : List ℕ). ([] ++ bytes) ++ bytes_of_words h) (sym (header_is (4 * length h) special))
@@ -76,40 +76,40 @@ image_is ls table heap_bytes e =
 
 -- ---- the parts of the heap
 
-pub objects_are : (ls : List Laid) (table : List ℕ) → (file_for ls table).objects ≡ map (saved_by (addresses_of ls)) ls
+pub objects_are : (ls : List Laid) (table : List ℕ) → (file_for ls table).objects ≡ map (saved_by (laid_addresses ls)) ls
 unfolding file_for
 objects_are ls table = refl
 
-pub pages_are : (ls : List Laid) (table : List ℕ) → (file_for ls table).pages ≡ pages_of (addresses_of ls) table
+pub pages_are : (ls : List Laid) (table : List ℕ) → (file_for ls table).pages ≡ table_pages (laid_addresses ls) table
 unfolding file_for
 pages_are ls table = refl
 
 pub size_of_file : (ls : List Laid) (table : List ℕ) → saved_sizes (file_for ls table).objects ≡ laid_size ls
-size_of_file ls table = ap saved_sizes (objects_are ls table) ∙ sizes_saved (addresses_of ls) ls
+size_of_file ls table = ap saved_sizes (objects_are ls table) ∙ sizes_saved (laid_addresses ls) ls
 
-pub count_pages : (a table : List ℕ) → length (pages_of a table) ≡ length table / 1024
+pub count_pages : (a table : List ℕ) → length (table_pages a table) ≡ length table / 1024
 count_pages a table = length-map (page_of a table) (range_with_len 0 (length table / 1024)) ∙ length-range_with_len 0 (length table / 1024)
 
 root_for : (ls : List Laid) (table : List ℕ) → length table ≤ 16384
     → table_root (file_for ls table) ≡ hidden_object 2 (root_words (laid_size ls) (length table / 1024))
 root_for ls table few =
-    let count : length (file_for ls table).pages ≡ length table / 1024 = ap length (pages_are ls table) ∙ count_pages (addresses_of ls) table in
+    let count : length (file_for ls table).pages ≡ length table / 1024 = ap length (pages_are ls table) ∙ count_pages (laid_addresses ls) table in
     ap (hidden_object 2) (ap (λ (k : ℕ). map (page_address (file_for ls table).objects) (range_with_len 0 k) ++ replicate (16 - k) saved_base) count
     ∙ root_is (file_for ls table).objects (laid_size ls) (length table / 1024) (sym (size_of_file ls table)) (omega (arith, few)))
 
-pub heap_for : (ls : List Laid) (table a : List ℕ) (words : ℕ) → a ≡ addresses_of ls → words ≡ laid_size ls → length table ≤ 16384
+pub heap_for : (ls : List Laid) (table a : List ℕ) (words : ℕ) → a ≡ laid_addresses ls → words ≡ laid_size ls → length table ≤ 16384
     → saved_heap (file_for ls table) ≡ (((flat_map saved_words (map (saved_by a) (take 3 ls)) ++ saved_words free_lists)
-    ++ saved_words (hidden_object 2 (root_words words (length table / 1024)))) ++ flat_map saved_words (map (saved_by a) (drop 3 ls))) ++ flat_map saved_words (map table_page (pages_of a table))
+    ++ saved_words (hidden_object 2 (root_words words (length table / 1024)))) ++ flat_map saved_words (map (saved_by a) (drop 3 ls))) ++ flat_map saved_words (map table_page (table_pages a table))
 heap_for ls table a words ea ew few =
-    let os : List SavedObject = map (saved_by (addresses_of ls)) ls in
+    let os : List SavedObject = map (saved_by (laid_addresses ls)) ls in
     heap_is (file_for ls table)
     ∙ ap (λ (xs : List SavedObject). (((flat_map saved_words (take 3 xs) ++ saved_words free_lists) ++ saved_words (table_root (file_for ls table))) ++ flat_map saved_words (drop 3 xs)) ++ flat_map saved_words (map table_page (file_for ls table).pages)) (objects_are ls table)
     ∙ ap (λ (ps : List (List ℕ)). (((flat_map saved_words (take 3 os) ++ saved_words free_lists) ++ saved_words (table_root (file_for ls table))) ++ flat_map saved_words (drop 3 os)) ++ flat_map saved_words (map table_page ps)) (pages_are ls table)
-    ∙ ap (λ (r : SavedObject). (((flat_map saved_words (take 3 os) ++ saved_words free_lists) ++ saved_words r) ++ flat_map saved_words (drop 3 os)) ++ flat_map saved_words (map table_page (pages_of (addresses_of ls) table))) (root_for ls table few)
-    ∙ ap₂ (λ (xs ys : List SavedObject). (((flat_map saved_words xs ++ saved_words free_lists) ++ saved_words (hidden_object 2 (root_words (laid_size ls) (length table / 1024)))) ++ flat_map saved_words ys) ++ flat_map saved_words (map table_page (pages_of (addresses_of ls) table)))
-    (sym (map_take (saved_by (addresses_of ls)) 3 ls)) (sym (map_drop (saved_by (addresses_of ls)) 3 ls))
+    ∙ ap (λ (r : SavedObject). (((flat_map saved_words (take 3 os) ++ saved_words free_lists) ++ saved_words r) ++ flat_map saved_words (drop 3 os)) ++ flat_map saved_words (map table_page (table_pages (laid_addresses ls) table))) (root_for ls table few)
+    ∙ ap₂ (λ (xs ys : List SavedObject). (((flat_map saved_words xs ++ saved_words free_lists) ++ saved_words (hidden_object 2 (root_words (laid_size ls) (length table / 1024)))) ++ flat_map saved_words ys) ++ flat_map saved_words (map table_page (table_pages (laid_addresses ls) table)))
+    (sym (map_take (saved_by (laid_addresses ls)) 3 ls)) (sym (map_drop (saved_by (laid_addresses ls)) 3 ls))
     ∙ ap₂ (λ (b : List ℕ) (w : ℕ). (((flat_map saved_words (map (saved_by b) (take 3 ls)) ++ saved_words free_lists)
-    ++ saved_words (hidden_object 2 (root_words w (length table / 1024)))) ++ flat_map saved_words (map (saved_by b) (drop 3 ls))) ++ flat_map saved_words (map table_page (pages_of b table))) (sym ea) (sym ew)
+    ++ saved_words (hidden_object 2 (root_words w (length table / 1024)))) ++ flat_map saved_words (map (saved_by b) (drop 3 ls))) ++ flat_map saved_words (map table_page (table_pages b table))) (sym ea) (sym ew)
 
 -- ---- addresses
 
@@ -117,7 +117,7 @@ length-from : (at : ℕ) (ls : List Laid) → length (addresses_from at ls) ≡ 
 length-from at [] = refl
 length-from at (l ∷ ls) = ap suc (length-from (at + saved_size (laid_slots l)) ls)
 
-pub length-addresses : (ls : List Laid) → length (addresses_of ls) ≡ length ls
+pub length-addresses : (ls : List Laid) → length (laid_addresses ls) ≡ length ls
 length-addresses ls = omega (arith, length-append (addresses_from 0 (take 3 ls)) (addresses_from 34 (drop 3 ls)), length-from 0 (take 3 ls), length-from 34 (drop 3 ls), length-take 3 ls, length-drop 3 ls)
 
 pub first_size : (ls : List Laid) → 3 ≤ length ls → AllByRecursion (λ l. laid_slots l ≡ 0) (take 3 ls) → laid_size ls ≡ 12 + laid_size (drop 3 ls)

@@ -7,7 +7,7 @@ use Rattle.cs_model.specs.Ref.{Ref}
 use Rattle.cs_model.specs.Ref as ref
 use Rattle.cs_model.specs.ImageFile.{u32_at}
 use Rattle.cs_model.specs.SavedFile.{SavedObject, FitsObject, FitsFile, IsWordValue, saved_base, saved_size}
-use Rattle.cs_build.specs.Laid.{Laid, FitsLaid, FitsLayout, FitsRef, laid_slots, laid_size, ref_word, byte_words, saved_by, addresses_from, addresses_of, page_of, file_for}
+use Rattle.cs_build.specs.Laid.{Laid, FitsLaid, FitsLayout, FitsRef, laid_slots, laid_size, ref_word, byte_words, saved_by, addresses_from, laid_addresses, page_of, file_for}
 use Rattle.cs_build.proofs.Putting.{slots_of_laid, size_cons, length-map, map_take}
 use Rattle.cs_build.proofs.Filing.{size_of_file, count_pages, first_size}
 
@@ -40,7 +40,7 @@ addresses_fit at (l ∷ ls) h =
     (omega (arith, h, size_cons l ls), addresses_fit (at + saved_size (laid_slots l)) ls (omega (arith, h, size_cons l ls)))
 
 all_addresses : (ls : List Laid) → 3 ≤ length ls → AllByRecursion (λ l. laid_slots l ≡ 0) (take 3 ls) → saved_base + 4 * (laid_size ls + 22) ≤ 2 ^ 32
-    → AllByRecursion IsWordValue (addresses_of ls)
+    → AllByRecursion IsWordValue (laid_addresses ls)
 all_addresses ls three first h = all_append IsWordValue (addresses_from 0 (take 3 ls)) (addresses_from 34 (drop 3 ls))
     (addresses_fit 0 (take 3 ls) (omega (arith, h, front ls three first, first_size ls three first)))
     (addresses_fit 34 (drop 3 ls) (omega (arith, h, first_size ls three first)))
@@ -106,10 +106,10 @@ first_fit a ls all = subst (λ (os : List SavedObject). AllByRecursion (λ o. le
 pub file_fits : (ls : List Laid) (table : List ℕ) → FitsLayout ls table → FitsFile (file_for ls table)
 unfolding file_for
 file_fits ls table fits =
-    let a : List ℕ = addresses_of ls in
+    let a : List ℕ = laid_addresses ls in
     let three : 3 ≤ length ls = omega (arith, fits.four) in
     let room : saved_base + 4 * (laid_size ls + 22 + 1028 * (length table / 1024)) ≤ 2 ^ 31 = omega (arith, fits.size, size_of_file ls table) in
-    let all : AllByRecursion IsWordValue (addresses_of ls) = all_addresses ls three fits.first (omega (arith, room)) in
+    let all : AllByRecursion IsWordValue (laid_addresses ls) = all_addresses ls three fits.first (omega (arith, room)) in
     record {
       header = refl;
       special = below (2 ^ 32) a 3 (omega arith) all;

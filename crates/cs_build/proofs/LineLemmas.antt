@@ -6,7 +6,7 @@ use Rattle.std.specs.List.{position_or_len}
 use Rattle.cs_model.specs.BuilderText.{has_byte}
 use Rattle.std.specs.Borrow.{Bor}
 use Rattle.cs_model.specs.Text.{is_empty, lines_in}
-use Rattle.cs_build.specs.Narrow.{ends_empty, texts}
+use Rattle.cs_build.specs.Narrow.{ends_empty, word_texts}
 
 -- a byte is there exactly where its first place is below the length
 pub has_byte-place : (b : ℕ) (text : List ℕ) → position_or_len (λ c. c == b) text < length text → has_byte b text ≡ true
@@ -40,7 +40,7 @@ place-none (Some at) place len e = search rules
 
 -- whether the last part of some is empty
 pub ends_empty-some : (xs : List (Bor (List ℕ))) (i : ℕ) (d : Bor (List ℕ)) → i + 1 ≡ length xs
-    → is_empty (get_or xs i d).now ≡ ends_empty (texts xs)
+    → is_empty (get_or xs i d).now ≡ ends_empty (word_texts xs)
 ends_empty-some [] i d h = absurd (omega (arith, h))
 ends_empty-some (x ∷ []) zero d h = refl
 ends_empty-some (x ∷ []) (suc i) d h = absurd (omega (arith, h))
@@ -53,13 +53,13 @@ lines_in-keep [] h = refl
 lines_in-keep (x ∷ []) h = rw h refl
 lines_in-keep (x ∷ y ∷ parts) h = ap (λ rest. x ∷ rest) (lines_in-keep (y ∷ parts) h)
 
-pub lines_in-drop : (xs : List (Bor (List ℕ))) (i : ℕ) → i + 1 ≡ length xs → ends_empty (texts xs) ≡ true → texts (take i xs) ≡ lines_in (texts xs)
+pub lines_in-drop : (xs : List (Bor (List ℕ))) (i : ℕ) → i + 1 ≡ length xs → ends_empty (word_texts xs) ≡ true → word_texts (take i xs) ≡ lines_in (word_texts xs)
 lines_in-drop [] i h e = absurd (omega (arith, h))
 lines_in-drop (x ∷ []) zero h e = rw e refl
 lines_in-drop (x ∷ []) (suc i) h e = absurd (omega (arith, h))
 lines_in-drop (x ∷ y ∷ xs) zero h e = absurd (omega (arith, h))
 lines_in-drop (x ∷ y ∷ xs) (suc i) h e = ap (λ rest. x.now ∷ rest) (lines_in-drop (y ∷ xs) i (omega (arith, h)) e)
 
-pub ends_empty-length : (xs : List (Bor (List ℕ))) → ends_empty (texts xs) ≡ true → 0 < length xs
+pub ends_empty-length : (xs : List (Bor (List ℕ))) → ends_empty (word_texts xs) ≡ true → 0 < length xs
 ends_empty-length [] h = absurd cc
 ends_empty-length (x ∷ xs) h = omega arith

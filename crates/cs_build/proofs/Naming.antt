@@ -10,7 +10,7 @@ use Rattle.cs_model.specs.Ref as ref
 use Rattle.cs_model.specs.ImageFile.{FileObject, File, address_in, visible}
 use Rattle.cs_model.specs.Image.{birth_in}
 use Rattle.cs_model.specs.SavedFile.{SavedObject, placed_from, saved_base, saved_size, words_before}
-use Rattle.cs_build.specs.Laid.{Laid, laid_slots, laid_size, saved_by, addresses_from, addresses_of}
+use Rattle.cs_build.specs.Laid.{Laid, laid_slots, laid_size, saved_by, addresses_from, laid_addresses}
 use Rattle.cs_build.proofs.Putting.{slots_of_laid, size_cons, map_take, map_drop, length-map}
 use Rattle.cs_build.proofs.Filing.{length-addresses}
 use Rattle.cs_build.proofs.Reading.{AreAddresses}
@@ -63,7 +63,7 @@ all_below at top (l ∷ ls) h =
     let size : words_before (laid_slots l) + 4 ≤ saved_size (laid_slots l) = omega arith in
     (omega (arith, h, size, size_cons l ls), all_below (at + saved_size (laid_slots l)) top ls (omega (arith, h, size_cons l ls)))
 
-addresses_rise : (ls : List Laid) → laid_size (take 3 ls) ≤ 34 → Rises saved_base (addresses_of ls)
+addresses_rise : (ls : List Laid) → laid_size (take 3 ls) ≤ 34 → Rises saved_base (laid_addresses ls)
 addresses_rise ls h = rises_append saved_base (saved_base + 4 * 34) (addresses_from 0 (take 3 ls)) (addresses_from 34 (drop 3 ls)) (omega arith)
     (all_rise 0 (take 3 ls)) (all_below 0 34 (take 3 ls) (omega (arith, h))) (all_rise 34 (drop 3 ls))
 
@@ -108,22 +108,22 @@ length-placed at (o ∷ os) = ap suc (length-placed (at + saved_size (length o.w
 
 -- the visible objects of a file are found by their addresses
 pub are_addresses : (f : File) (ls : List Laid) → f.base ≡ saved_base
-    → visible f ≡ placed_from 0 (take 3 (map (saved_by (addresses_of ls)) ls)) ++ placed_from 34 (drop 3 (map (saved_by (addresses_of ls)) ls))
+    → visible f ≡ placed_from 0 (take 3 (map (saved_by (laid_addresses ls)) ls)) ++ placed_from 34 (drop 3 (map (saved_by (laid_addresses ls)) ls))
     → laid_size (take 3 ls) ≤ 34
-    → AreAddresses (addresses_of ls) (λ word. ref.Obj (birth_in f (range_with_len 0 (length ls)) word)) (length ls)
+    → AreAddresses (laid_addresses ls) (λ word. ref.Obj (birth_in f (range_with_len 0 (length ls)) word)) (length ls)
 are_addresses f ls base seen room =
-    let a : List ℕ = addresses_of ls in
-    let addresses : map (address_in f) (visible f) ≡ addresses_of ls =
+    let a : List ℕ = laid_addresses ls in
+    let addresses : map (address_in f) (visible f) ≡ laid_addresses ls =
     ap (map (address_in f)) seen
     ∙ map-append (address_in f) (placed_from 0 (take 3 (map (saved_by a) ls))) (placed_from 34 (drop 3 (map (saved_by a) ls)))
     ∙ ap₂ (λ (xs ys : List SavedObject). map (address_in f) (placed_from 0 xs) ++ map (address_in f) (placed_from 34 ys)) (sym (map_take (saved_by a) 3 ls)) (sym (map_drop (saved_by a) 3 ls))
     ∙ ap₂ (λ (xs ys : List ℕ). xs ++ ys) (placed_addresses f a 0 (take 3 ls) base) (placed_addresses f a 34 (drop 3 ls) base) in
     let count : length (visible f) ≡ length ls = sym (length-map (address_in f) (visible f)) ∙ ap length addresses ∙ length-addresses ls in
     let rises : Rises saved_base (map (address_in f) (visible f)) = subst (Rises saved_base) (sym addresses) (addresses_rise ls room) in
-    let units : AllByRecursion (λ (x : ℕ). x % 8 ≡ 0) (addresses_of ls) =
+    let units : AllByRecursion (λ (x : ℕ). x % 8 ≡ 0) (laid_addresses ls) =
     all_both (λ (x : ℕ). x % 8 ≡ 0) (addresses_from 0 (take 3 ls)) (addresses_from 34 (drop 3 ls)) (units_from 0 (take 3 ls) refl) (units_from 34 (drop 3 ls) refl) in
     record {
-      units = λ i h. all_index (λ (x : ℕ). x % 8 ≡ 0) (addresses_of ls) i units (omega (arith, h, length-addresses ls));
+      units = λ i h. all_index (λ (x : ℕ). x % 8 ≡ 0) (laid_addresses ls) i units (omega (arith, h, length-addresses ls));
       found = λ i h. ap ref.Obj
           (ap₂ (λ (n : ℕ) (xs : List ℕ). option_map_or (λ e. e.0) (find (λ e. address_in f e.1 == slice_index xs i) (zip (range_with_len 0 n) (visible f))) 0) (sym count) (sym addresses)
           ∙ found_from (address_in f) (visible f) saved_base 0 i rises (omega (arith, h, count)) ∙ omega arith);

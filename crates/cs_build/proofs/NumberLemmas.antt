@@ -4,7 +4,7 @@ use Rattle.std.proofs.lemmas.Bool.Decides.{nat_tests}
 use Rattle.std.proofs.lemmas.List.{drop_all}
 use Rattle.std.specs.Prelude.{pos, Option}
 use Rattle.std.specs.Char.{is_ascii_digit}
-use Rattle.cs_model.specs.Line.{digits_from, number_in}
+use Rattle.cs_model.specs.Line.{digits_from, decimal_number}
 use Rattle.cs_build.specs.Narrow.{narrow}
 
 -- what a number of digits comes to, where one above the bound is the bound
@@ -52,11 +52,11 @@ bounded-digit n m bytes i h digit e = rw (digits_from-digit n bytes i h digit)
     (digits_from-bounded (drop (i + 1) bytes) (10 * n + (get_or bytes i 0 - 48)) m (omega (arith, e)))
 
 -- a number that doesn't begin with a zero that more bytes follow
-pub number_in-digits : (bytes : List ℕ) → 0 < length bytes → (get_or bytes 0 0 ≡ 48 → length bytes ≤ 1) → number_in bytes ≡ digits_from 0 bytes
+pub number_in-digits : (bytes : List ℕ) → 0 < length bytes → (get_or bytes 0 0 ≡ 48 → length bytes ≤ 1) → decimal_number bytes ≡ digits_from 0 bytes
 number_in-digits [] some alone = absurd (omega (arith, some))
 number_in-digits (b ∷ bytes) some alone = go (b == 48) refl
   where
-    go : (zero : Bool) → (b == 48) ≡ zero → number_in (b ∷ bytes) ≡ digits_from 0 (b ∷ bytes)
+    go : (zero : Bool) → (b == 48) ≡ zero → decimal_number (b ∷ bytes) ≡ digits_from 0 (b ∷ bytes)
     go true e =
         let first : b ≡ 48 = grind (arith, nat_tests) in
         let none : length bytes ≡ 0 = omega (arith, alone first) in
@@ -64,7 +64,7 @@ number_in-digits (b ∷ bytes) some alone = go (b == 48) refl
     go false e = rw e refl
 
 -- one that does
-pub number_in-zero : (bytes : List ℕ) → get_or bytes 0 0 ≡ 48 → 1 < length bytes → number_in bytes ≡ None
+pub number_in-zero : (bytes : List ℕ) → get_or bytes 0 0 ≡ 48 → 1 < length bytes → decimal_number bytes ≡ None
 number_in-zero [] zero more = absurd (omega (arith, more))
 number_in-zero (b ∷ bytes) zero more =
     let first : (b == 48) ≡ true = grind (arith, nat_tests, zero) in

@@ -7,7 +7,7 @@ use Rattle.cs_model.specs.declared.instruction.Op.TheVariants.{PushRcvr, PushTem
 use Rattle.cs_model.specs.declared.instruction.Op.TheVariants as op
 use Rattle.cs_model.specs.BuilderText.{op_named, ops_of_one, ops_of_two}
 use Rattle.cs_model.specs.BuilderFault.{plain_bytes}
-use Rattle.cs_model.specs.Assemble.{IsInstr, has_form, name_of}
+use Rattle.cs_model.specs.Assemble.{IsInstr, has_form, op_name}
 use Rattle.cs_model.specs.declared.instruction.Instr.{Instr}
 use Rattle.cs_decode.proofs.HasForm.{IsInstr-has_form}
 use Rattle.cs_decode.proofs.Assembled.{has_form-IsInstr}
@@ -82,11 +82,11 @@ pub ruleset has_form_tells = (has_form-tells)
 
 -- the one of that word, or none behind those that aren't
 pub op_named-yes : (word : List ℕ) (ops : List Op) (i : ℕ) (o : Op) → i < length ops → o ≡ get_or ops i o
-    → bytes_eq (name_of o) word ≡ true → op_named word (drop i ops) ≡ Some o
+    → bytes_eq (op_name o) word ≡ true → op_named word (drop i ops) ≡ Some o
 op_named-yes word ops i o h e is = rw (drop-cons ops i o, ← e, is) refl
 
 pub op_named-no : (word : List ℕ) (ops : List Op) (i : ℕ) (o : Op) → i < length ops → o ≡ get_or ops i o
-    → bytes_eq (name_of o) word ≡ false → op_named word (drop i ops) ≡ op_named word (drop (i + 1) ops)
+    → bytes_eq (op_name o) word ≡ false → op_named word (drop i ops) ≡ op_named word (drop (i + 1) ops)
 op_named-no word ops i o h e is = rw (add-one, drop-cons ops i o, ← e, is) refl
 
 pub op_named-end : (word : List ℕ) (ops : List Op) (i : ℕ) → length ops ≤ i → op_named word (drop i ops) ≡ None

@@ -7,16 +7,16 @@ use Rattle.std.proofs.lemmas.Grind.{common_steps}
 use Rattle.cs_build.specs.declared.form.Mention as code
 use Rattle.cs_build.specs.declared.form.Form as code_form
 use Rattle.cs_build.specs.Meaning.{mention_by}
-use Rattle.cs_build.specs.Narrow.{Reads, ReadsMention, narrow, narrow_form, narrow_mention, texts}
+use Rattle.cs_build.specs.Narrow.{Reads, ReadsMention, narrow, narrow_form, narrow_mention, word_texts}
 
-pub class_form-short : (words : List (Bor (List ℕ))) → length words < 4 → class_form (texts words) ≡ None
+pub class_form-short : (words : List (Bor (List ℕ))) → length words < 4 → class_form (word_texts words) ≡ None
 class_form-short ([]) h = refl
 class_form-short (a ∷ []) h = refl
 class_form-short (a ∷ b ∷ []) h = refl
 class_form-short (a ∷ b ∷ c ∷ []) h = refl
 class_form-short (a ∷ b ∷ c ∷ d ∷ words) h = absurd (omega (arith, h))
 
-pub class_form-long : (words : List (Bor (List ℕ))) → 5 ≤ length words → class_form (texts words) ≡ None
+pub class_form-long : (words : List (Bor (List ℕ))) → 5 ≤ length words → class_form (word_texts words) ≡ None
 class_form-long ([]) h = absurd (omega (arith, h))
 class_form-long (a ∷ []) h = absurd (omega (arith, h))
 class_form-long (a ∷ b ∷ []) h = absurd (omega (arith, h))
@@ -24,7 +24,7 @@ class_form-long (a ∷ b ∷ c ∷ []) h = absurd (omega (arith, h))
 class_form-long (a ∷ b ∷ c ∷ d ∷ []) h = absurd (omega (arith, h))
 class_form-long (a ∷ b ∷ c ∷ d ∷ e ∷ words) h = refl
 
-pub process_form-short : (words : List (Bor (List ℕ))) → length words < 5 → process_form (texts words) ≡ None
+pub process_form-short : (words : List (Bor (List ℕ))) → length words < 5 → process_form (word_texts words) ≡ None
 process_form-short ([]) h = refl
 process_form-short (a ∷ []) h = refl
 process_form-short (a ∷ b ∷ []) h = refl
@@ -32,7 +32,7 @@ process_form-short (a ∷ b ∷ c ∷ []) h = refl
 process_form-short (a ∷ b ∷ c ∷ d ∷ []) h = refl
 process_form-short (a ∷ b ∷ c ∷ d ∷ e ∷ words) h = absurd (omega (arith, h))
 
-pub process_form-long : (words : List (Bor (List ℕ))) → 6 ≤ length words → process_form (texts words) ≡ None
+pub process_form-long : (words : List (Bor (List ℕ))) → 6 ≤ length words → process_form (word_texts words) ≡ None
 process_form-long ([]) h = absurd (omega (arith, h))
 process_form-long (a ∷ []) h = absurd (omega (arith, h))
 process_form-long (a ∷ b ∷ []) h = absurd (omega (arith, h))
@@ -41,52 +41,52 @@ process_form-long (a ∷ b ∷ c ∷ d ∷ []) h = absurd (omega (arith, h))
 process_form-long (a ∷ b ∷ c ∷ d ∷ e ∷ []) h = absurd (omega (arith, h))
 process_form-long (a ∷ b ∷ c ∷ d ∷ e ∷ f ∷ words) h = refl
 
-pub special_form-short : (words : List (Bor (List ℕ))) → length words < 2 → special_form (texts words) ≡ None
+pub special_form-short : (words : List (Bor (List ℕ))) → length words < 2 → special_form (word_texts words) ≡ None
 special_form-short ([]) h = refl
 special_form-short (a ∷ []) h = refl
 special_form-short (a ∷ b ∷ words) h = absurd (omega (arith, h))
 
-pub special_form-long : (words : List (Bor (List ℕ))) → 3 ≤ length words → special_form (texts words) ≡ None
+pub special_form-long : (words : List (Bor (List ℕ))) → 3 ≤ length words → special_form (word_texts words) ≡ None
 special_form-long ([]) h = absurd (omega (arith, h))
 special_form-long (a ∷ []) h = absurd (omega (arith, h))
 special_form-long (a ∷ b ∷ []) h = absurd (omega (arith, h))
 special_form-long (a ∷ b ∷ c ∷ words) h = refl
 
-pub bytes_form-short : (words : List (Bor (List ℕ))) → length words < 3 → bytes_form (texts words) ≡ None
+pub bytes_form-short : (words : List (Bor (List ℕ))) → length words < 3 → bytes_form (word_texts words) ≡ None
 bytes_form-short ([]) h = refl
 bytes_form-short (a ∷ []) h = refl
 bytes_form-short (a ∷ b ∷ []) h = refl
 bytes_form-short (a ∷ b ∷ c ∷ words) h = absurd (omega (arith, h))
 
-pub bytes_form-long : (words : List (Bor (List ℕ))) → 4 ≤ length words → bytes_form (texts words) ≡ None
+pub bytes_form-long : (words : List (Bor (List ℕ))) → 4 ≤ length words → bytes_form (word_texts words) ≡ None
 bytes_form-long ([]) h = absurd (omega (arith, h))
 bytes_form-long (a ∷ []) h = absurd (omega (arith, h))
 bytes_form-long (a ∷ b ∷ []) h = absurd (omega (arith, h))
 bytes_form-long (a ∷ b ∷ c ∷ []) h = absurd (omega (arith, h))
 bytes_form-long (a ∷ b ∷ c ∷ d ∷ words) h = refl
 
-pub method_form-short : (words : List (Bor (List ℕ))) → length words < 4 → method_form (texts words) ≡ None
+pub method_form-short : (words : List (Bor (List ℕ))) → length words < 4 → method_form (word_texts words) ≡ None
 method_form-short ([]) h = refl
 method_form-short (a ∷ []) h = refl
 method_form-short (a ∷ b ∷ []) h = refl
 method_form-short (a ∷ b ∷ c ∷ []) h = refl
 method_form-short (a ∷ b ∷ c ∷ d ∷ words) h = absurd (omega (arith, h))
 
-pub object_form-short : (words : List (Bor (List ℕ))) → length words < 2 → object_form (texts words) ≡ None
+pub object_form-short : (words : List (Bor (List ℕ))) → length words < 2 → object_form (word_texts words) ≡ None
 object_form-short ([]) h = refl
 object_form-short (a ∷ []) h = refl
 object_form-short (a ∷ b ∷ words) h = absurd (omega (arith, h))
 
 -- the first four words and those behind them
 pub method_form-four : (r : Option code_form.Form) (words rest : List (Bor (List ℕ))) (d : Bor (List ℕ)) → 4 ≤ length words
-    → Reads r (method_form ((get_or words 0 d).now ∷ (get_or words 1 d).now ∷ (get_or words 2 d).now ∷ (get_or words 3 d).now ∷ texts rest))
-    → rest ≡ drop 4 words → Reads r (method_form (texts words))
+    → Reads r (method_form ((get_or words 0 d).now ∷ (get_or words 1 d).now ∷ (get_or words 2 d).now ∷ (get_or words 3 d).now ∷ word_texts rest))
+    → rest ≡ drop 4 words → Reads r (method_form (word_texts words))
 method_form-four r ([]) rest d h e is = absurd (omega (arith, h))
 method_form-four r (a ∷ []) rest d h e is = absurd (omega (arith, h))
 method_form-four r (a ∷ b ∷ []) rest d h e is = absurd (omega (arith, h))
 method_form-four r (a ∷ b ∷ c ∷ []) rest d h e is = absurd (omega (arith, h))
 method_form-four r (w ∷ x ∷ y ∷ z ∷ words) rest d h e is =
-    subst (λ rest. Reads r (method_form (w.now ∷ x.now ∷ y.now ∷ z.now ∷ texts rest))) is e
+    subst (λ rest. Reads r (method_form (w.now ∷ x.now ∷ y.now ∷ z.now ∷ word_texts rest))) is e
 
 -- one slot more, or none
 slots-tail : (slots : List code.Mention) (slot : code.Mention) (m : Mention) (rest : List Mention) → mention_by slot ≡ m
@@ -105,9 +105,9 @@ slots-more (Some x) (Some xs) slots slot e =
 
 pub slots-step : (read : List ℕ → Option Mention) (words : List (Bor (List ℕ))) (i : ℕ) (d : Bor (List ℕ)) (slots : List code.Mention) (slot : code.Mention)
     → i < length words → ReadsMention (Some slot) (read (get_or words i d).now)
-    → option_map (λ rest. map mention_by slots ++ map narrow_mention rest) (all_of read (texts (drop i words)))
-    ≡ option_map (λ rest. map mention_by (slots ++ slot ∷ []) ++ map narrow_mention rest) (all_of read (texts (drop (i + 1) words)))
-slots-step read words i d slots slot h e = rw (add-one, drop-cons words i d) (slots-more (read (get_or words i d).now) (all_of read (texts (drop (suc i) words))) slots slot e)
+    → option_map (λ rest. map mention_by slots ++ map narrow_mention rest) (all_of read (word_texts (drop i words)))
+    ≡ option_map (λ rest. map mention_by (slots ++ slot ∷ []) ++ map narrow_mention rest) (all_of read (word_texts (drop (i + 1) words)))
+slots-step read words i d slots slot h e = rw (add-one, drop-cons words i d) (slots-more (read (get_or words i d).now) (all_of read (word_texts (drop (suc i) words))) slots slot e)
 
 slots-end : (o : Option Mention) (rest : Option (List Mention)) → ReadsMention None o → option_and_then (λ x. option_map (λ xs. x ∷ xs) rest) o ≡ None
 slots-end None rest e = refl
@@ -115,8 +115,8 @@ slots-end (Some x) rest e = cc
 
 pub slots-none : (read : List ℕ → Option Mention) (words : List (Bor (List ℕ))) (i : ℕ) (d : Bor (List ℕ)) (slots : List code.Mention)
     → i < length words → ReadsMention None (read (get_or words i d).now)
-    → option_map (λ rest. map mention_by slots ++ map narrow_mention rest) (all_of read (texts (drop i words))) ≡ None
-slots-none read words i d slots h e = rw (drop-cons words i d, slots-end (read (get_or words i d).now) (all_of read (texts (drop (suc i) words))) e) refl
+    → option_map (λ rest. map mention_by slots ++ map narrow_mention rest) (all_of read (word_texts (drop i words))) ≡ None
+slots-none read words i d slots h e = rw (drop-cons words i d, slots-end (read (get_or words i d).now) (all_of read (word_texts (drop (suc i) words))) e) refl
 
 -- one of the parts of a form isn't there
 pub special-none : (k : Option ℤ) (x : Option Mention) → ReadsMention None x

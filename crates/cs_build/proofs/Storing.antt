@@ -10,7 +10,7 @@ use Rattle.cs_model.specs.Words.{obj_by}
 use Rattle.cs_model.specs.ImageFile.{File, visible}
 use Rattle.cs_model.specs.Image.{birth_in, object_in}
 use Rattle.cs_model.specs.SavedFile.{SavedObject, placed_from, saved_size, saved_base}
-use Rattle.cs_build.specs.Laid.{Laid, laid, laid_words, laid_size, saved_by, addresses_of}
+use Rattle.cs_build.specs.Laid.{Laid, laid, laid_words, laid_size, saved_by, laid_addresses}
 use Rattle.cs_build.specs.Stored.{IsStored}
 use Rattle.cs_build.proofs.Putting.{map_take, map_drop, all_take, all_drop, length-map}
 use Rattle.cs_build.proofs.Naming.{are_addresses}
@@ -49,14 +49,14 @@ take_drop (suc n) (x ∷ xs) = ap (λ (ys : List _). x ∷ ys) (take_drop n xs)
 
 -- all objects of a file, in order
 pub objects_back : (f : File) (os : List Obj) → f.base ≡ saved_base → laid_size (take 3 (map laid os)) ≤ 34 → AllByRecursion (IsStored (length os)) os
-    → visible f ≡ placed_from 0 (take 3 (map (saved_by (addresses_of (map laid os))) (map laid os))) ++ placed_from 34 (drop 3 (map (saved_by (addresses_of (map laid os))) (map laid os)))
+    → visible f ≡ placed_from 0 (take 3 (map (saved_by (laid_addresses (map laid os))) (map laid os))) ++ placed_from 34 (drop 3 (map (saved_by (laid_addresses (map laid os))) (map laid os)))
     → map (object_in f (range_with_len 0 (length os))) (visible f) ≡ os
 objects_back f os base room all seen =
     let ls : List Laid = map laid os in
-    let a : List ℕ = addresses_of (map laid os) in
+    let a : List ℕ = laid_addresses (map laid os) in
     let count : length (map laid os) ≡ length os = length-map laid os in
     let are : AreAddresses a (λ word. ref.Obj (birth_in f (range_with_len 0 (length os)) word)) (length os) =
-    subst (λ (n : ℕ). AreAddresses (addresses_of (map laid os)) (λ word. ref.Obj (birth_in f (range_with_len 0 n) word)) n) count (are_addresses f ls base seen room) in
+    subst (λ (n : ℕ). AreAddresses (laid_addresses (map laid os)) (λ word. ref.Obj (birth_in f (range_with_len 0 n) word)) n) count (are_addresses f ls base seen room) in
     let births : List ℕ = range_with_len 0 (length os) in
     let part : (k : ℕ) → take k (map (saved_by a) (map laid os)) ≡ map (saved_by a) (map laid (take k os)) = λ k.
     sym (map_take (saved_by a) k ls) ∙ ap (map (saved_by a)) (sym (map_take laid k os)) in

@@ -47,17 +47,17 @@ laid_slots l = length l.refs + (length l.bytes + 3) / 4
 
 -- ---- what the code has
 
-abbrev pub ref_by : Reference → Ref
-ref_by (reference.Small value) = ref.Small value
-ref_by (reference.Character code) = ref.Char code
-ref_by (reference.Object number) = ref.Obj number
+abbrev pub reference_by : Reference → Ref
+reference_by (reference.Small value) = ref.Small value
+reference_by (reference.Character code) = ref.Char code
+reference_by (reference.Object number) = ref.Obj number
 
 abbrev pub laid_by : Object → Laid
 laid_by o = record {
   class = o.class;
   format = o.format;
   hash = o.hash;
-  refs = map ref_by o.slots.items;
+  refs = map reference_by o.slots.items;
   bytes = o.bytes.items;
 }
 
@@ -122,8 +122,8 @@ addresses_from place (l ∷ ls) = (saved_base + 4 * (place + words_before (laid_
     ∷ addresses_from (place + saved_size (laid_slots l)) ls
 
 -- nil, false and true stand in front of the hidden objects, and the others behind them
-abbrev pub addresses_of : List Laid → List ℕ
-addresses_of ls = addresses_from 0 (take 3 ls) ++ addresses_from 34 (drop 3 ls)
+abbrev pub laid_addresses : List Laid → List ℕ
+laid_addresses ls = addresses_from 0 (take 3 ls) ++ addresses_from 34 (drop 3 ls)
 
 -- ---- the file
 
@@ -131,17 +131,17 @@ addresses_of ls = addresses_from 0 (take 3 ls) ++ addresses_from 34 (drop 3 ls)
 abbrev pub page_of : List ℕ → List ℕ → ℕ → List ℕ
 page_of addresses table p = map (slice_index addresses) (take 1024 (drop (1024 * p) table))
 
-abbrev pub pages_of : List ℕ → List ℕ → List (List ℕ)
-pages_of addresses table = map (page_of addresses table) (range_with_len 0 (length table / 1024))
+abbrev pub table_pages : List ℕ → List ℕ → List (List ℕ)
+table_pages addresses table = map (page_of addresses table) (range_with_len 0 (length table / 1024))
 
 -- The file of these objects, of which the first are nil, false, true and the special-object array.
 unfoldable pub file_for : List Laid → List ℕ → SavedFile
 file_for ls table = record {
   header = header_bytes;
-  special = slice_index (addresses_of ls) 3;
+  special = slice_index (laid_addresses ls) 3;
   last_hash = 0;
-  objects = map (saved_by (addresses_of ls)) ls;
-  pages = pages_of (addresses_of ls) table;
+  objects = map (saved_by (laid_addresses ls)) ls;
+  pages = table_pages (laid_addresses ls) table;
   births = None;
 }
 

@@ -31,8 +31,8 @@ class_by line = record {
   fields = line.fields;
 }
 
-abbrev pub method_by : MethodLine → text.MethodLine
-method_by line = record {
+abbrev pub method_line_by : MethodLine → text.MethodLine
+method_line_by line = record {
   class = line.class.now;
   selector = line.selector.now;
   arguments = line.arguments;
@@ -59,7 +59,7 @@ abbrev pub form_by : Form → text.Form
 form_by (form.Class line) = text.Class (class_by line)
 form_by (form.Object name class slots) = text.Object name.now class.now (map mention_by slots.items)
 form_by (form.Bytes name class bytes) = text.Bytes name.now class.now bytes.items
-form_by (form.Method line) = text.Method (method_by line)
+form_by (form.Method line) = text.Method (method_line_by line)
 form_by (form.Process line) = text.Process (process_by line)
 form_by (form.Special place value) = text.Special place (mention_by value)
 form_by (form.Active name) = text.Active name.now

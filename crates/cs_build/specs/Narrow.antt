@@ -51,8 +51,8 @@ narrow_form (ClosureTo copied args label) = ClosureTo (narrow copied) (narrow ar
 narrow_form form = form
 
 -- a number that fits a byte
-abbrev pub byte_in : ℤ → Option ℕ
-byte_in z = option_and_then (λ n. if nat_lt n 256 then Some n else None) (natural_of z)
+abbrev pub narrow_byte : ℤ → Option ℕ
+narrow_byte z = option_and_then (λ n. if nat_lt n 256 then Some n else None) (natural_of z)
 
 -- a byte of code or an instruction with one number, where the number may be none
 abbrev pub numbered : List ℕ → Option ℤ → Option Form
@@ -60,8 +60,8 @@ numbered word number =
     if bytes_eq word (codes "byte") then option_map (λ n. Byte n) number else option_and_then (one_form word) number
 
 -- the words of a line without where they lie
-abbrev pub texts : List (Bor (List ℕ)) → List (List ℕ)
-texts words = map (λ word. word.now) words
+abbrev pub word_texts : List (Bor (List ℕ)) → List (List ℕ)
+word_texts words = map (λ word. word.now) words
 
 -- what the code reads is what the model reads, with narrow numbers
 abbrev pub Reads : Option code.Form → Option Form → Type 0

@@ -9,8 +9,8 @@ ghost use Rattle.cs_model.specs.ImageFile.{u32_at};
 ghost use Rattle.cs_model.specs.SavedFile.{body_size as body_size_of, overflow_words, words_before as words_before_of};
 ghost use Rattle.cs_model.specs.SavedFile.{saved_size, saved_words, saved_bytes, saved_base, page_address, table_page};
 ghost use Rattle.cs_model.specs.SavedFile.{free_lists, table_root, page_place};
-ghost use Rattle.cs_build.specs.Laid.{laid_by, laid_slots, ref_by, ref_word, byte_words, laid_words, saved_by};
-ghost use Rattle.cs_build.specs.Laid.{addresses_from, addresses_of, page_of, pages_of, file_for, FitsRef, FitsLaid};
+ghost use Rattle.cs_build.specs.Laid.{laid_by, laid_slots, reference_by, ref_word, byte_words, laid_words, saved_by};
+ghost use Rattle.cs_build.specs.Laid.{addresses_from, laid_addresses, page_of, table_pages, file_for, FitsRef, FitsLaid};
 ghost use Rattle.cs_build.specs.Laid.{FitsLayout, head_words, put_words};
 ghost use Rattle.cs_build.specs.Laid.{root_words, root_word_of, all_header_words, laid_size, head_bits_of};
 ghost use Rattle.cs_model.specs.SavedFile.{hidden_object, saved_heap};
@@ -68,8 +68,8 @@ fn slot_count(object: &Object) -> usize
 
 /// The word of a slot.
 fn word_of(addresses: &[u32], slot: Reference) -> u32
-    requires { FitsRef (length addresses.now) (ref_by slot) }
-    ensures { result ≡ ref_word addresses.now (ref_by slot) }
+    requires { FitsRef (length addresses.now) (reference_by slot) }
+    ensures { result ≡ ref_word addresses.now (reference_by slot) }
 {
     match slot {
         Reference::Small(value) => (value.cast_unsigned() << 1) + 1,
@@ -177,9 +177,9 @@ fn put_bytes(out: &mut Vec<u8>, bytes: &[u8]) -> Result<(), AllocError>
 
 /// Appends slots.
 fn put_slots(out: &mut Vec<u8>, addresses: &[u32], slots: &[Reference]) -> Result<(), AllocError>
-    requires { AllByRecursion (FitsRef (length addresses.now)) (map ref_by slots.now) }
+    requires { AllByRecursion (FitsRef (length addresses.now)) (map reference_by slots.now) }
     ensures { OnOk result (out.new.items ≡
-        put_words out.old.items (map (ref_word addresses.now) (map ref_by slots.now))) }
+        put_words out.old.items (map (ref_word addresses.now) (map reference_by slots.now))) }
 {
     for slot in slots {
         put_word(out, word_of(addresses, *slot))?;
@@ -264,7 +264,7 @@ fn put_page(out: &mut Vec<u8>, addresses: &[u32], entries: &[u32]) -> Result<(),
 fn put_pages(out: &mut Vec<u8>, addresses: &[u32], table: &[u32]) -> Result<(), AllocError>
     requires held { AllByRecursion (λ number. number < length addresses.now) table.now }
     ensures { OnOk result (out.new.items ≡ put_words out.old.items
-        (flat_map saved_words (map table_page (pages_of addresses.now table.now)))) }
+        (flat_map saved_words (map table_page (table_pages addresses.now table.now)))) }
 {
     for page in 0..table.len() / PAGE_ENTRIES {
         let from = PAGE_ENTRIES * page;
@@ -315,7 +315,7 @@ fn put_heap(
     table: &[u32],
 ) -> Result<(), AllocError>
     requires fits { FitsLayout (map laid_by objects.now) table.now }
-    requires addresses { addresses.now ≡ addresses_of (map laid_by objects.now) }
+    requires addresses { addresses.now ≡ laid_addresses (map laid_by objects.now) }
     requires words { words ≡ laid_size (map laid_by objects.now) }
     ensures { OnOk result (out.new.items ≡
         put_words out.old.items (saved_heap (file_for (map laid_by objects.now) table.now))) }

@@ -6,7 +6,7 @@ ghost use Rattle.cs_model.specs.Obj.{new_head, given_hash, Ptr};
 ghost use Rattle.cs_model.specs.Builder.{natural as natural_in, spare as spare_of, obj_or_nil};
 ghost use Rattle.cs_model.specs.Builder.{index_at as index_of};
 ghost use Rattle.cs_model.specs.Builder.{raw_object as raw_object_of};
-ghost use Rattle.cs_build.specs.Laid.{ref_by, laid_by, laid};
+ghost use Rattle.cs_build.specs.Laid.{reference_by, laid_by, laid};
 
 use crate::object::{Object, Reference};
 use std::alloc::{AllocError, Global};
@@ -40,7 +40,7 @@ pub(crate) fn index_at(place: u32) -> u32
 
 /// The object of a number, and nil where there is none.
 pub(crate) fn object_or_nil(number: Option<u32>) -> Reference
-    ensures { ref_by result ≡ obj_or_nil number }
+    ensures { reference_by result ≡ obj_or_nil number }
 {
     match number {
         Some(number) => Reference::Object(number),
@@ -74,7 +74,7 @@ pub(crate) fn pointers(
     format: u8,
     slots: &[Reference],
 ) -> Result<Object, AllocError>
-    ensures { IfOk result (λ o. laid_by o ≡ laid (Ptr (new_head class format) (map ref_by slots.now))) }
+    ensures { IfOk result (λ o. laid_by o ≡ laid (Ptr (new_head class format) (map reference_by slots.now))) }
 {
     Ok(Object {
         class,

@@ -2,9 +2,9 @@
 
 ghost use Rattle.std.specs.Prelude.{◌≡◌, ◌<◌, ◌≤◌, ◌*◌, ◌+◌, pos, map, count_by, is_some};
 ghost use Rattle.std.specs.List.{before_first};
-ghost use Rattle.cs_model.specs.Builder.{header_of, natural as natural_in, object_count as object_count_of, bit};
-ghost use Rattle.cs_model.specs.BuilderFault.{is_end as is_end_of, is_literal as is_literal_of};
-ghost use Rattle.cs_build.specs.Meaning.{form_by, method_by};
+ghost use Rattle.cs_model.specs.Builder.{built_header, natural as natural_in, object_count as object_count_of, bit_of};
+ghost use Rattle.cs_model.specs.BuilderFault.{is_end_line as is_end_of, is_literal as is_literal_of};
+ghost use Rattle.cs_build.specs.Meaning.{form_by, method_line_by};
 
 use crate::form::{Form, MethodLine};
 use crate::making::natural;
@@ -56,7 +56,7 @@ pub(crate) fn method_header(line: &MethodLine<'_>, literals: usize) -> i32
     requires arguments { natural_in line.now.arguments ≤ 15 }
     requires temporaries { natural_in line.now.temporaries ≤ 56 }
     requires literals { literals ≤ 32767 }
-    ensures { result ≡ pos (header_of (method_by line.now) literals) }
+    ensures { result ≡ pos (built_header (method_line_by line.now) literals) }
 {
     let primitive = if line.primitive.is_some() { 1 } else { 0 };
     let large = if line.large { 1 } else { 0 };

@@ -1,7 +1,7 @@
 //! Numbers in decimal digits.
 
 ghost use Rattle.std.specs.Prelude.{◌≡◌, ℕ, pos, ◌≤◌, min, option_map, IfSome};
-ghost use Rattle.cs_model.specs.Line.{number_in};
+ghost use Rattle.cs_model.specs.Line.{decimal_number};
 ghost use Rattle.cs_model.specs.Text.{integer_in, negative_in};
 ghost use Rattle.cs_build.specs.Narrow.{narrow};
 
@@ -26,7 +26,7 @@ pub fn read_integer(word: &[u8]) -> Option<i32>
 /// The number without a sign, or the greatest `i32` where it is greater.
 #[tactic(auto, using(crate::proofs::NumberLemmas::narrowing))]
 fn read_natural(word: &[u8]) -> Option<i32>
-    ensures { result ≡ option_map (λ n. narrow (pos n)) (number_in word.now) }
+    ensures { result ≡ option_map (λ n. narrow (pos n)) (decimal_number word.now) }
 {
     let size = read_size(word)?;
     Some(size.min(LARGEST - 1) as i32)
@@ -47,7 +47,7 @@ fn read_negative(digits: &[u8]) -> Option<i32>
 /// The number in digits, or 2^31 where it is greater.
 #[tactic(auto, using(crate::proofs::NumberLemmas::numbers))]
 fn read_size(digits: &[u8]) -> Option<u64>
-    ensures value { result ≡ option_map (min 2147483648) (number_in digits.now) }
+    ensures value { result ≡ option_map (min 2147483648) (decimal_number digits.now) }
     ensures bound { IfSome result (λ size. size ≤ 2147483648) }
 {
     if digits.is_empty() || (digits[0] == b'0' && digits.len() > 1) {

@@ -3,10 +3,10 @@
 ghost use Rattle.std.specs.Prelude.{◌≡◌, ◌≢◌, ◌∷◌, [], map, option_map, IfOk, OnOk};
 ghost use Rattle.hex.specs.declared.error.FromHexError.TheVariants.{OutOfMemory};
 ghost use Rattle.cs_model.specs.BuilderText.{all_of, behind_large, bytes_form, bytes_in, class_form, is_large, mention_in};
-ghost use Rattle.cs_model.specs.BuilderText.{method_form, object_form, outer_form, primitive_in, process_form};
+ghost use Rattle.cs_model.specs.BuilderText.{method_form, object_form, outer_form, primitive_given, process_form};
 ghost use Rattle.cs_model.specs.BuilderText.{special_form, super_in};
 ghost use Rattle.cs_build.specs.Meaning.{mention_by};
-ghost use Rattle.cs_build.specs.Narrow.{Reads, lone_name, narrow, narrow_mention, plain_outer, texts};
+ghost use Rattle.cs_build.specs.Narrow.{Reads, lone_name, narrow, narrow_mention, plain_outer, word_texts};
 
 use crate::form::{ClassLine, Form, Mention, MethodLine, ProcessLine};
 use crate::mention::read_mention;
@@ -17,7 +17,7 @@ use std::alloc::{AllocError, Global};
 
 /// What a line outside of methods says, if it has such a form.
 pub fn read_outer<'a>(alloc: Global, words: &[&'a [u8]]) -> Result<Option<Form<'a>>, AllocError>
-    ensures { IfOk result (λ form. Reads form (outer_form (texts words.now))) }
+    ensures { IfOk result (λ form. Reads form (outer_form (word_texts words.now))) }
 {
     let [first, rest @ ..] = words else {
         return Ok(None);
@@ -37,7 +37,7 @@ pub fn read_outer<'a>(alloc: Global, words: &[&'a [u8]]) -> Result<Option<Form<'
 
 /// The forms behind those of classes and objects. They take no memory.
 fn read_plain<'a>(word: &[u8], rest: &[&'a [u8]]) -> Option<Form<'a>>
-    ensures { Reads result (plain_outer word.now (texts rest.now)) }
+    ensures { Reads result (plain_outer word.now (word_texts rest.now)) }
 {
     if is_word(word, "method") {
         return read_method(rest);
@@ -60,7 +60,7 @@ fn read_plain<'a>(word: &[u8], rest: &[&'a [u8]]) -> Option<Form<'a>>
 }
 
 fn read_class<'a>(words: &[&'a [u8]]) -> Option<Form<'a>>
-    ensures { Reads result (class_form (texts words.now)) }
+    ensures { Reads result (class_form (word_texts words.now)) }
 {
     let [name, superclass, format, fields] = words else {
         return None;
@@ -104,7 +104,7 @@ fn read_superclass(word: &[u8]) -> Option<Option<&[u8]>>
 }
 
 fn read_object<'a>(alloc: Global, words: &[&'a [u8]]) -> Result<Option<Form<'a>>, AllocError>
-    ensures { IfOk result (λ form. Reads form (object_form (texts words.now))) }
+    ensures { IfOk result (λ form. Reads form (object_form (word_texts words.now))) }
 {
     let [name, class, references @ ..] = words else {
         return Ok(None);
@@ -121,7 +121,7 @@ fn read_object<'a>(alloc: Global, words: &[&'a [u8]]) -> Result<Option<Form<'a>>
 /// The references that all of the words are.
 fn read_slots<'a>(alloc: Global, words: &[&'a [u8]]) -> Result<Option<Vec<Mention<'a>>>, AllocError>
     ensures { IfOk result (λ slots. option_map (λ v. map mention_by v.items) slots
-        ≡ option_map (map narrow_mention) (all_of mention_in (texts words.now))) }
+        ≡ option_map (map narrow_mention) (all_of mention_in (word_texts words.now))) }
 {
     let mut slots = Vec::new(alloc);
     for word in words {
@@ -134,7 +134,7 @@ fn read_slots<'a>(alloc: Global, words: &[&'a [u8]]) -> Result<Option<Vec<Mentio
 }
 
 fn read_bytes<'a>(alloc: Global, words: &[&'a [u8]]) -> Result<Option<Form<'a>>, AllocError>
-    ensures { IfOk result (λ form. Reads form (bytes_form (texts words.now))) }
+    ensures { IfOk result (λ form. Reads form (bytes_form (word_texts words.now))) }
 {
     let [name, class, digits] = words else {
         return Ok(None);
@@ -177,7 +177,7 @@ fn memory_of(error: FromHexError) -> Result<(), AllocError>
 
 #[tactic(auto, using(crate::proofs::OuterLemmas::lengths))]
 fn read_method<'a>(words: &[&'a [u8]]) -> Option<Form<'a>>
-    ensures { Reads result (method_form (texts words.now)) }
+    ensures { Reads result (method_form (word_texts words.now)) }
 {
     let [class, selector, arguments, temporaries, rest @ ..] = words else {
         return None;
@@ -193,7 +193,7 @@ fn method_of<'a>(
     rest: &[&[u8]],
 ) -> Option<Form<'a>>
     ensures { Reads result
-        (method_form (class.now ∷ selector.now ∷ arguments.now ∷ temporaries.now ∷ texts rest.now)) }
+        (method_form (class.now ∷ selector.now ∷ arguments.now ∷ temporaries.now ∷ word_texts rest.now)) }
 {
     let arguments = read_integer(arguments)?;
     let temporaries = read_integer(temporaries)?;
@@ -214,7 +214,7 @@ fn method_of<'a>(
 
 /// Whether a method's contexts are large: whether the words behind its numbers begin with `large`.
 fn is_large(words: &[&[u8]]) -> bool
-    ensures { result ≡ is_large (texts words.now) }
+    ensures { result ≡ is_large (word_texts words.now) }
 {
     match words {
         [word, ..] => is_word(word, "large"),
@@ -224,7 +224,7 @@ fn is_large(words: &[&[u8]]) -> bool
 
 /// The words behind `large`, if it stands there.
 fn behind_large<'w, 'a>(words: &'w [&'a [u8]]) -> &'w [&'a [u8]]
-    ensures { texts result.now ≡ behind_large (texts words.now) }
+    ensures { word_texts result.now ≡ behind_large (word_texts words.now) }
 {
     match words {
         [word, rest @ ..] if is_word(word, "large") => rest,
@@ -234,7 +234,7 @@ fn behind_large<'w, 'a>(words: &'w [&'a [u8]]) -> &'w [&'a [u8]]
 
 /// A method's primitive, or none where the line ends.
 fn read_primitive(words: &[&[u8]]) -> Option<Option<i32>>
-    ensures { result ≡ option_map (option_map narrow) (primitive_in (texts words.now)) }
+    ensures { result ≡ option_map (option_map narrow) (primitive_given (word_texts words.now)) }
 {
     match words {
         [] => Some(None),
@@ -247,7 +247,7 @@ fn read_primitive(words: &[&[u8]]) -> Option<Option<i32>>
 }
 
 fn read_process<'a>(words: &[&'a [u8]]) -> Option<Form<'a>>
-    ensures { Reads result (process_form (texts words.now)) }
+    ensures { Reads result (process_form (word_texts words.now)) }
 {
     let [name, priority, class, selector, receiver] = words else {
         return None;
@@ -280,7 +280,7 @@ fn process_of<'a>(
 }
 
 fn read_special<'a>(words: &[&'a [u8]]) -> Option<Form<'a>>
-    ensures { Reads result (special_form (texts words.now)) }
+    ensures { Reads result (special_form (word_texts words.now)) }
 {
     let [place, value] = words else {
         return None;
@@ -298,7 +298,7 @@ fn special_of<'a>(place: &[u8], value: &'a [u8]) -> Option<Form<'a>>
 
 /// The name that alone stands behind the first word.
 fn read_name<'a>(words: &[&'a [u8]]) -> Option<&'a [u8]>
-    ensures { option_map (λ name. name.now) result ≡ lone_name (texts words.now) }
+    ensures { option_map (λ name. name.now) result ≡ lone_name (word_texts words.now) }
 {
     match words {
         [name] if is_name(name) => Some(name),

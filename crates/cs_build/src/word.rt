@@ -4,9 +4,9 @@ ghost use Rattle.std.specs.Prelude.{◌≡◌, ◌==◌, ◌&&◌, ◌<◌, ◌�
 ghost use Rattle.std.specs.Char.{is_ascii_alphanumeric};
 ghost use Rattle.std.specs.Str.{bytes_eq};
 ghost use Rattle.std.specs.List.{before_first, after_first, list_all, position_or_len, slice_split};
-ghost use Rattle.cs_model.specs.Text.{words_of, is_name};
+ghost use Rattle.cs_model.specs.Text.{line_words, is_name};
 ghost use Rattle.cs_model.specs.BuilderText.{has_byte, is_trim};
-ghost use Rattle.cs_build.specs.Narrow.{texts};
+ghost use Rattle.cs_build.specs.Narrow.{word_texts};
 
 use std::alloc::{AllocError, Global};
 
@@ -16,14 +16,14 @@ pub fn parts_of<'a>(
     text: &'a [u8],
     separator: u8,
 ) -> Result<Vec<&'a [u8]>, AllocError>
-    ensures { IfOk result (λ parts. texts parts.items ≡ slice_split (λ b. b == separator) text.now) }
+    ensures { IfOk result (λ parts. word_texts parts.items ≡ slice_split (λ b. b == separator) text.now) }
 {
     text.split(|byte| *byte == separator).collect(alloc)
 }
 
 /// The words of a line, which single spaces or more stand between.
 pub fn words_of<'a>(alloc: Global, line: &'a [u8]) -> Result<Vec<&'a [u8]>, AllocError>
-    ensures { IfOk result (λ words. texts words.items ≡ words_of line.now) }
+    ensures { IfOk result (λ words. word_texts words.items ≡ line_words line.now) }
 {
     line.split(|byte| *byte == b' ')
         .filter(|word| !word.is_empty())

@@ -5,7 +5,7 @@ use Rattle.std.proofs.lemmas.List.{get_or-drop, get_or-set_other, get_or-set_sam
 use Rattle.cs_heap.specs.Object.{Object}
 use Rattle.cs_model.specs.Ref.{Ref}
 use Rattle.cs_model.specs.Obj.{edit_context, Context, Ctx, pushed, stored, with_pc, with_stack}
-use Rattle.cs_classes.specs.Meaning.{context_of, count_of, depth_in, is_context, obj_of}
+use Rattle.cs_classes.specs.Meaning.{context_of, count_of, depth_in, is_heap_context, obj_of}
 use Rattle.cs_classes.proofs.Edits.{take_set}
 use Rattle.cs_classes.proofs.Sorts.{obj_of-context}
 
@@ -129,6 +129,6 @@ context_of-push refer hash ws v w h l e =
 
 -- ---- the context as an object
 
-pub obj_of-edit_context : (refer : ℕ → Ref) (x y : Object) (f : Context → Context) → is_context x ≡ true → is_context y ≡ true
+pub obj_of-edit_context : (refer : ℕ → Ref) (x y : Object) (f : Context → Context) → is_heap_context x ≡ true → is_heap_context y ≡ true
     → context_of refer y.hash y.words ≡ f (context_of refer x.hash x.words) → obj_of refer y ≡ edit_context f (obj_of refer x)
 obj_of-edit_context refer x y f is also e = obj_of-context refer y also ∙ ap Ctx e ∙ sym (ap (edit_context f) (obj_of-context refer x is))

@@ -7,30 +7,31 @@ use Rattle.std.specs.Ordering.{nat_cmp}
 use Rattle.std.proofs.lemmas.Bool.{cases_eq}
 use Rattle.std.proofs.lemmas.Bool.Decides.{nat_tests}
 use Rattle.std.proofs.lemmas.List.{length-map}
+use Rattle.cs_model.specs.Words.{bytes_of_words, unused_bytes}
 use Rattle.cs_heap.specs.Format.{format_allows, is_pointers}
 use Rattle.cs_heap.specs.Object.{Object, size, used}
 use Rattle.cs_heap.proofs.Places.{used-cons}
 use Rattle.cs_model.specs.Obj.{Obj, literal_count, words_of}
 use Rattle.cs_model.specs.State.{Kept, object_at}
-use Rattle.cs_classes.specs.Meaning.{bytes_of, code_in, context_of, header_in, literals_in, obj_of, objects_of, ref_of, unused_bytes, used_bytes}
+use Rattle.cs_classes.specs.Meaning.{code_in, context_of, method_header, literal_words, obj_of, objects_of, ref_of, used_bytes}
 use Rattle.cs_classes.specs.Sound.{IsSoundObject}
 use Rattle.cs_classes.proofs.Objects.{AreApart, IsFresh, entries_by}
 use Rattle.cs_classes.proofs.Sorts.{AContext, AMethod, Bytes, Pointers, Sort, obj_of-bytes, obj_of-context, obj_of-method, obj_of-pointers, sort_of}
 use Rattle.cs_classes.proofs.Sounds.{whole_context}
 use Rattle.cs_classes.proofs.Tables.{ties_other, ties_same}
-use Rattle.cs_model.specs.Demand.{words_at, words_below}
+use Rattle.cs_model.specs.Demand.{words_taken, words_below}
 
 -- ---- a sum over births
 
 -- the words of what g has below n
 unfoldable pub words_by : ℕ → (ℕ → Option Obj) → ℕ
 words_by zero g = 0
-words_by (suc n) g = words_by n g + words_at (g n)
+words_by (suc n) g = words_by n g + words_taken (g n)
 
 pub words_by-same : (n : ℕ) (g h : ℕ → Option Obj) → ((i : ℕ) → i < n → g i ≡ h i) → words_by n g ≡ words_by n h
 unfolding words_by
 words_by-same zero g h same = refl
-words_by-same (suc n) g h same = ap₂ (λ (a b : ℕ). a + b) (words_by-same n g h (λ i l. same i (omega (arith, l)))) (ap words_at (same n (omega arith)))
+words_by-same (suc n) g h same = ap₂ (λ (a b : ℕ). a + b) (words_by-same n g h (λ i l. same i (omega (arith, l)))) (ap words_taken (same n (omega arith)))
 
 -- one more is there
 words_by-more : (n b : ℕ) (o : Obj) (g h : ℕ → Option Obj) → b < n → g b ≡ Some o → h b ≡ None → ((i : ℕ) → (i ≡ b → ⊥) → g i ≡ h i) → words_by n g ≡ words_of o + words_by n h
@@ -38,15 +39,15 @@ unfolding words_by
 words_by-more zero b o g h less here there same = absurd (omega (arith, less))
 words_by-more (suc n) b o g h less here there same = go (cases_eq b n) (λ l. words_by-more n b o g h l here there same)
   where
-    go : (b ≡ n) ⊎ (b ≡ n → ⊥) → (b < n → words_by n g ≡ words_of o + words_by n h) → words_by n g + words_at (g n) ≡ words_of o + (words_by n h + words_at (h n))
+    go : (b ≡ n) ⊎ (b ≡ n → ⊥) → (b < n → words_by n g ≡ words_of o + words_by n h) → words_by n g + words_taken (g n) ≡ words_of o + (words_by n h + words_taken (h n))
     go (inl e) rest =
         let below = words_by-same n g h (λ i l. same i (λ d. omega (arith, l, d, e))) in
-        let new : words_at (g n) ≡ words_of o = ap words_at (ap g (sym e) ∙ here) in
-        let old : words_at (h n) ≡ 0 = ap words_at (ap h (sym e) ∙ there) in
+        let new : words_taken (g n) ≡ words_of o = ap words_taken (ap g (sym e) ∙ here) in
+        let old : words_taken (h n) ≡ 0 = ap words_taken (ap h (sym e) ∙ there) in
         omega (arith, below, new, old)
     go (inr other) rest =
         let below = rest (omega (arith, less, other)) in
-        let last = ap words_at (same n (λ e. other (sym e))) in
+        let last = ap words_taken (same n (λ e. other (sym e))) in
         omega (arith, below, last)
 
 words_by-none : (n : ℕ) → words_by n (λ i. None) ≡ 0
@@ -55,21 +56,21 @@ words_by-none zero = refl
 words_by-none (suc n) = omega (arith, words_by-none n)
 
 -- none takes fewer words
-pub words_by-less : (n : ℕ) (g h : ℕ → Option Obj) → ((i : ℕ) → words_at (g i) ≤ words_at (h i)) → words_by n g ≤ words_by n h
+pub words_by-less : (n : ℕ) (g h : ℕ → Option Obj) → ((i : ℕ) → words_taken (g i) ≤ words_taken (h i)) → words_by n g ≤ words_by n h
 unfolding words_by
 words_by-less zero g h less = omega arith
 words_by-less (suc n) g h less = omega (arith, words_by-less n g h less, less n)
 
 -- and one takes so many more
-pub words_by-gap : (n b more : ℕ) (g h : ℕ → Option Obj) → b < n → words_at (g b) + more ≤ words_at (h b) → ((i : ℕ) → words_at (g i) ≤ words_at (h i))
+pub words_by-gap : (n b more : ℕ) (g h : ℕ → Option Obj) → b < n → words_taken (g b) + more ≤ words_taken (h b) → ((i : ℕ) → words_taken (g i) ≤ words_taken (h i))
     → words_by n g + more ≤ words_by n h
 unfolding words_by
 words_by-gap zero b more g h within gap less = absurd (omega (arith, within))
 words_by-gap (suc n) b more g h within gap less = go (cases_eq b n) (λ l. words_by-gap n b more g h l gap less)
   where
-    go : (b ≡ n) ⊎ (b ≡ n → ⊥) → (b < n → words_by n g + more ≤ words_by n h) → words_by n g + words_at (g n) + more ≤ words_by n h + words_at (h n)
+    go : (b ≡ n) ⊎ (b ≡ n → ⊥) → (b < n → words_by n g + more ≤ words_by n h) → words_by n g + words_taken (g n) + more ≤ words_by n h + words_taken (h n)
     go (inl e) rest =
-        let last : words_at (g n) + more ≤ words_at (h n) = subst (λ k. words_at (g k) + more ≤ words_at (h k)) e gap in
+        let last : words_taken (g n) + more ≤ words_taken (h n) = subst (λ k. words_taken (g k) + more ≤ words_taken (h k)) e gap in
         omega (arith, last, words_by-less n g h less)
     go (inr other) rest = omega (arith, rest (omega (arith, within, other)), less n)
 
@@ -95,12 +96,12 @@ words_by-list f (x ∷ os) n apart below sizes =
 pub words_by-state : (n : ℕ) (k : Kept) → words_below n k ≡ words_by n (object_at k)
 unfolding words_below words_by
 words_by-state zero k = refl
-words_by-state (suc n) k = ap (λ m. m + words_at (object_at k n)) (words_by-state n k)
+words_by-state (suc n) k = ap (λ m. m + words_taken (object_at k n)) (words_by-state n k)
 
 -- ---- bytes
 
-pub length-bytes_of : (ws : List ℕ) → length (bytes_of ws) ≡ 4 * length ws
-unfolding bytes_of
+pub length-bytes_of : (ws : List ℕ) → length (bytes_of_words ws) ≡ 4 * length ws
+unfolding bytes_of_words
 length-bytes_of [] = refl
 length-bytes_of (w ∷ ws) = omega (arith, length-bytes_of ws)
 
@@ -143,19 +144,19 @@ words_of-sound os x sound = go (sort_of x)
     go (Pointers a p) = ap words_of (obj_of-pointers (ref_of os) x a p) ∙ ap size (length-map x.words (ref_of os))
     go (AMethod a p m) =
         let s = sound.method m in
-        let count : ℕ = literal_count (header_in x.words) in
+        let count : ℕ = literal_count (method_header x.words) in
         let literals = length-take count (drop 1 x.words) in
         let behind = length-drop 1 x.words in
-        let mapped = length-map (literals_in x.words) (ref_of os) in
+        let mapped = length-map (literal_words x.words) (ref_of os) in
         let code = length-drop (1 + count) x.words in
-        let bytes = length-take (4 * length (code_in x.words) - unused_bytes x.format) (bytes_of (code_in x.words)) in
+        let bytes = length-take (4 * length (code_in x.words) - unused_bytes x.format) (bytes_of_words (code_in x.words)) in
         let all = length-bytes_of (code_in x.words) in
         ap words_of (obj_of-method (ref_of os) x a p m)
         ∙ ap size (ap (λ n. 1 + n + (length (used_bytes x.format (code_in x.words)) + 3) / 4) (omega (arith, mapped, literals, behind, s.literals))
         ∙ method_slots count (length x.words) (length (code_in x.words)) (unused_bytes x.format) (length (used_bytes x.format (code_in x.words))) (omega (arith, s.literals)) code
         (few_unused x.format (length x.words) sound.shape p) (subst (λ n. (unused_bytes x.format ≡ 0) ⊎ (0 < n)) (sym code) (code_slot (unused_bytes x.format) count (length x.words) s.literals)) (omega (arith, bytes, all)))
     go (Bytes a p m) =
-        let bytes = length-take (4 * length x.words - unused_bytes x.format) (bytes_of x.words) in
+        let bytes = length-take (4 * length x.words - unused_bytes x.format) (bytes_of_words x.words) in
         let all = length-bytes_of x.words in
         ap words_of (obj_of-bytes (ref_of os) x a p m) ∙ ap size (raw_slots (length x.words) (unused_bytes x.format) (length (used_bytes x.format x.words))
         (few_unused x.format (length x.words) sound.shape p) (some_slot x.format (length x.words) sound.shape p) (omega (arith, bytes, all)))

@@ -3,7 +3,7 @@ use Rattle.std.proofs.Common.{◌≡◌, ◌≢◌, ℕ, zero, suc, ◌⊎◌, i
 use Rattle.std.specs.Prelude.{slice_get}
 use Rattle.std.specs.Option.{option_map_or}
 use Rattle.std.proofs.lemmas.List.{length-set}
-use Rattle.cs_heap.specs.Object.{Object, at_index, birth_of, index_of, is_object, object_at, set_word, with_object}
+use Rattle.cs_heap.specs.Object.{Object, at_index, birth_at, object_place, is_object, heap_object, set_word, with_object}
 use Rattle.cs_heap.proofs.Laws.{field_of-old, field_of-with_object_kept, index_of-with_object, object_at-old}
 use Rattle.cs_heap.proofs.Places.{has_index, object_at-found}
 
@@ -20,23 +20,23 @@ set_word-IsEdit i v = record { slots = λ (x : Object). length-set x.words i v; 
 -- ---- what is at an address
 
 pub record Stands (os : List Object) (a : ℕ) (x : Object) (k : ℕ) : Type 0 where
-  pub index : index_of os a ≡ Some k
+  pub index : object_place os a ≡ Some k
   pub element : slice_get os k ≡ Some x
 
-pub stands : (os : List Object) (a : ℕ) (x : Object) → object_at os a ≡ Some x → (k : ℕ) × Stands os a x k
-stands os a x h = go (index_of os a) refl h
+pub stands : (os : List Object) (a : ℕ) (x : Object) → heap_object os a ≡ Some x → (k : ℕ) × Stands os a x k
+stands os a x h = go (object_place os a) refl h
   where
-    go : (o : Option ℕ) → index_of os a ≡ o → option_and_then (slice_get os) o ≡ Some x → (k : ℕ) × Stands os a x k
+    go : (o : Option ℕ) → object_place os a ≡ o → option_and_then (slice_get os) o ≡ Some x → (k : ℕ) × Stands os a x k
     go None e h = absurd (cc)
     go (Some k) e h = (k, record { index = e; element = h })
 
-pub is_object-object_at : (os : List Object) (a : ℕ) (x : Object) → object_at os a ≡ Some x → is_object os a ≡ true
+pub is_object-object_at : (os : List Object) (a : ℕ) (x : Object) → heap_object os a ≡ Some x → is_object os a ≡ true
 is_object-object_at os a x h = ap is_some (stands os a x h).1.index
 
-pub birth_of-object_at : (os : List Object) (a : ℕ) (x : Object) → object_at os a ≡ Some x → birth_of os a ≡ x.birth
+pub birth_of-object_at : (os : List Object) (a : ℕ) (x : Object) → heap_object os a ≡ Some x → birth_at os a ≡ x.birth
 birth_of-object_at os a x h = ap (λ (o : Option Object). option_map_or (λ (y : Object). y.birth) o 0) h
 
-pub object_there : (os : List Object) (a : ℕ) → is_object os a ≡ true → (x : Object) × (object_at os a ≡ Some x)
+pub object_there : (os : List Object) (a : ℕ) → is_object os a ≡ true → (x : Object) × (heap_object os a ≡ Some x)
 object_there os a h = let f = has_index os a h in (f.1.split.x, object_at-found os a f.0 f.1)
 
 pub element_within : {X : Type 0} (xs : List X) (k : ℕ) → k < length xs → (x : X) × (slice_get xs k ≡ Some x)
@@ -68,7 +68,7 @@ with_object-stands os a x k f s = ap (λ (o : Option ℕ). option_map_or (λ (j 
 pub with_object-twice : (os : List Object) (a : ℕ) (f g : Object → Object) → IsEdit f → with_object (with_object os a f) a g ≡ with_object os a (λ x. g (f x))
 unfolding at_index
 with_object-twice os a f g edit =
-    ap (λ (o : Option ℕ). option_map_or (λ (k : ℕ). at_index k g (with_object os a f)) o (with_object os a f)) (index_of-with_object os a a f edit.slots) ∙ go (index_of os a)
+    ap (λ (o : Option ℕ). option_map_or (λ (k : ℕ). at_index k g (with_object os a f)) o (with_object os a f)) (index_of-with_object os a a f edit.slots) ∙ go (object_place os a)
   where
     twice : (k : ℕ) (xs : List Object) → at_index k g (at_index k f xs) ≡ at_index k (λ x. g (f x)) xs
     twice k [] = refl
@@ -81,13 +81,13 @@ with_object-twice os a f g edit =
     go (Some k) = twice k os
 
 -- births stay, of the object at an address and of the k-th
-pub birth_of-with_object : (os : List Object) (a b : ℕ) (f : Object → Object) → IsEdit f → birth_of (with_object os a f) b ≡ birth_of os b
+pub birth_of-with_object : (os : List Object) (a b : ℕ) (f : Object → Object) → IsEdit f → birth_at (with_object os a f) b ≡ birth_at os b
 birth_of-with_object os a b f edit = field_of-with_object_kept (λ (x : Object). x.birth) os a b f edit.slots edit.birth
 
 pub birth_at-with_object : (os : List Object) (a j : ℕ) (f : Object → Object) → IsEdit f
     → option_map_or (λ (y : Object). y.birth) (slice_get (with_object os a f) j) 0 ≡ option_map_or (λ (y : Object). y.birth) (slice_get os j) 0
 unfolding at_index
-birth_at-with_object os a j f edit = go (index_of os a)
+birth_at-with_object os a j f edit = go (object_place os a)
   where
     at : (k j : ℕ) (xs : List Object) → option_map_or (λ (y : Object). y.birth) (slice_get (at_index k f xs) j) 0 ≡ option_map_or (λ (y : Object). y.birth) (slice_get xs j) 0
     at k j [] = refl
@@ -102,10 +102,10 @@ birth_at-with_object os a j f edit = go (index_of os a)
 
 -- ---- one object more
 
-pub object_at-push : (os : List Object) (y : Object) (a : ℕ) (x : Object) → object_at os a ≡ Some x → object_at (os ++ y ∷ []) a ≡ Some x
+pub object_at-push : (os : List Object) (y : Object) (a : ℕ) (x : Object) → heap_object os a ≡ Some x → heap_object (os ++ y ∷ []) a ≡ Some x
 object_at-push os y a x h = object_at-old os y a (is_object-object_at os a x h) ∙ h
 
-pub birth_of-push : (os : List Object) (y : Object) (a : ℕ) → is_object os a ≡ true → birth_of (os ++ y ∷ []) a ≡ birth_of os a
+pub birth_of-push : (os : List Object) (y : Object) (a : ℕ) → is_object os a ≡ true → birth_at (os ++ y ∷ []) a ≡ birth_at os a
 birth_of-push os y a h = field_of-old (λ (x : Object). x.birth) os y a h
 
 -- an element is one of those that were there, or the new one

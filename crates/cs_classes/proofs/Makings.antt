@@ -9,8 +9,9 @@ use Rattle.std.proofs.lemmas.Bool.{eq-eqb, false≢true, or_left}
 use Rattle.std.proofs.lemmas.Bool.Decides.{nat_tests}
 use Rattle.std.proofs.lemmas.List.{get_or-replicate, length-replicate, take-replicate}
 use Rattle.std.proofs.lemmas.List.Elements.{All-drop}
+use Rattle.cs_model.specs.Words.{bytes_of_words, unused_bytes}
 use Rattle.cs_word.specs.Header.{flag_bits}
-use Rattle.cs_heap.specs.Format.{format_allows, is_method, is_pointers}
+use Rattle.cs_heap.specs.Format.{format_allows, is_code, is_pointers}
 use Rattle.cs_heap.specs.Object.{Object, address_of, base, is_object, new_object, new_slot}
 use Rattle.cs_heap.proofs.Laws.{address_of-below, index_of-address, is_object-old, object_at-address}
 use Rattle.cs_model.specs.Ref.{Ref}
@@ -21,8 +22,8 @@ use Rattle.cs_model.specs.Operation.{add_of, new_pointers}
 use Rattle.cs_model.specs.Operation as operation
 use Rattle.cs_model.specs.Instance.{new_context}
 use Rattle.cs_classes.specs.declared.Roots.{Roots}
-use Rattle.cs_classes.specs.Meaning.{birth_at, bytes_of, code_in, context_of, count_of, depth_in, header_in, is_context, kept_of, literals_in, obj_of, ref_of, unused_bytes, used_bytes, head_of}
-use Rattle.cs_classes.specs.Sound.{IsSoundMethod, IsSoundObject, IsWhole, is_closure_address, is_method_address, is_reference, is_sender, is_weak, nil_of, references_in}
+use Rattle.cs_classes.specs.Meaning.{nth_birth, code_in, context_of, count_of, depth_in, method_header, is_heap_context, kept_of, literal_words, obj_of, ref_of, used_bytes, head_of}
+use Rattle.cs_classes.specs.Sound.{IsSoundMethod, IsSoundObject, IsWhole, is_closure_address, is_method_address, is_reference, is_sender, is_weak, nil_word, references_in}
 use Rattle.cs_classes.proofs.Refs.{is_nil_or_closure, is_nil_or_method, is_reference-object, is_reference-push, is_sender-nil, nil_of-push, ref_of-object, ref_of-push}
 use Rattle.cs_classes.proofs.Sorts.{map_alike, not_pointers, obj_of-bytes, obj_of-context, obj_of-method, obj_of-pointers, references-context, references-method, references-pointers}
 use Rattle.cs_classes.proofs.Wholes.{after_birth, kept_of-push, whole-push}
@@ -34,7 +35,7 @@ pub record Makes (os : List Object) (y : Object) (table : FinMap nat_cmp ℕ) (r
 
 -- ---- nil
 
-nil_address : (os : List Object) → 0 < length os → nil_of os ≡ base → address_of os 0 ≡ Some base
+nil_address : (os : List Object) → 0 < length os → nil_word os ≡ base → address_of os 0 ≡ Some base
 nil_address os some e = go (address_of os 0) refl (address_of-below os 0 some)
   where
     go : (o : Option ℕ) → address_of os 0 ≡ o → is_some o ≡ true → address_of os 0 ≡ Some base
@@ -44,7 +45,7 @@ nil_address os some e = go (address_of os 0) refl (address_of-below os 0 some)
 pub nil_is_object : (os : List Object) (table : FinMap nat_cmp ℕ) (roots : Roots) → IsWhole os table roots → is_object os base ≡ true
 nil_is_object os table roots w = ap is_some (index_of-address os base 0 (nil_address os (omega (arith, w.first)) w.nil))
 
-pub ref_of-nil : (os : List Object) (table : FinMap nat_cmp ℕ) (roots : Roots) → IsWhole os table roots → ref_of os base ≡ ref.Obj (birth_at os 0)
+pub ref_of-nil : (os : List Object) (table : FinMap nat_cmp ℕ) (roots : Roots) → IsWhole os table roots → ref_of os base ≡ ref.Obj (nth_birth os 0)
 ref_of-nil os table roots w =
     ref_of-object os base (nil_is_object os table roots w)
     ∙ ap (λ (o : Option Object). ref.Obj (option_map_or (λ (x : Object). x.birth) o 0)) (object_at-address os base 0 (nil_address os (omega (arith, w.first)) w.nil))
@@ -56,10 +57,10 @@ is_sender-base os table roots w =
     subst (λ n. is_sender os n ≡ true) w.nil (is_sender-nil os (ap (is_object os) w.nil ∙ nil_is_object os table roots w))
 
 pub is_nil_or_method-base : (os : List Object) (table : FinMap nat_cmp ℕ) (roots : Roots) → IsWhole os table roots → is_nil_or_method os base ≡ true
-is_nil_or_method-base os table roots w = or_left (base == nil_of os) (is_method_address os base) (eq-eqb base (nil_of os) (sym w.nil))
+is_nil_or_method-base os table roots w = or_left (base == nil_word os) (is_method_address os base) (eq-eqb base (nil_word os) (sym w.nil))
 
 pub is_nil_or_closure-base : (os : List Object) (table : FinMap nat_cmp ℕ) (roots : Roots) → IsWhole os table roots → is_nil_or_closure os base ≡ true
-is_nil_or_closure-base os table roots w = or_left (base == nil_of os) (is_closure_address os base) (eq-eqb base (nil_of os) (sym w.nil))
+is_nil_or_closure-base os table roots w = or_left (base == nil_word os) (is_closure_address os base) (eq-eqb base (nil_word os) (sym w.nil))
 
 -- ---- the new object
 
@@ -71,10 +72,10 @@ module _ {os : List Object} {table : FinMap nat_cmp ℕ} {roots : Roots} (w : Is
     kept = λ active. kept_of-push os table roots active y w next ∙ ap (add_of (kept_of os table roots active)) (means active);
   }
 
-  nil_ref : (y : Object) → ref_of (os ++ y ∷ []) base ≡ ref.Obj (birth_at os 0)
+  nil_ref : (y : Object) → ref_of (os ++ y ∷ []) base ≡ ref.Obj (nth_birth os 0)
   nil_ref y = ref_of-push os y base (is_reference-object os base (nil_is_object os table roots w)) ∙ ref_of-nil os table roots w
 
-  nils : (y : Object) (n : ℕ) → map (ref_of (os ++ y ∷ [])) (replicate n base) ≡ replicate n (ref.Obj (birth_at os 0))
+  nils : (y : Object) (n : ℕ) → map (ref_of (os ++ y ∷ [])) (replicate n base) ≡ replicate n (ref.Obj (nth_birth os 0))
   nils y zero = refl
   nils y (suc n) = ap₂ (λ (r : Ref) (rs : List Ref). r ∷ rs) (nil_ref y) (nils y n)
 
@@ -104,14 +105,14 @@ module _ {os : List Object} {table : FinMap nat_cmp ℕ} {roots : Roots} (w : Is
         method = λ m. absurd (false≢true (sym (not_pointers format m) ∙ p));
       }
 
-      means : obj_of (ref_of (os ++ y ∷ [])) y ≡ Ptr (new_head class format) (replicate slots (ref.Obj (birth_at os 0)))
+      means : obj_of (ref_of (os ++ y ∷ [])) y ≡ Ptr (new_head class format) (replicate slots (ref.Obj (nth_birth os 0)))
       means = obj_of-pointers (ref_of (os ++ y ∷ [])) y other p ∙ ap (Ptr (new_head class format)) (ap (map (ref_of (os ++ y ∷ []))) words ∙ nils y slots)
 
   bits_plain : (n : ℕ) → is_pointers n ≡ false → is_weak n ≡ false
   bits_plain n h = grind (arith, nat_tests)
 
-  zero_bytes : (n : ℕ) → bytes_of (replicate n 0) ≡ replicate (4 * n) 0
-  unfolding bytes_of
+  zero_bytes : (n : ℕ) → bytes_of_words (replicate n 0) ≡ replicate (4 * n) 0
+  unfolding bytes_of_words
   zero_bytes zero = refl
   zero_bytes (suc n) = ap (λ (rest : List ℕ). 0 ∷ 0 ∷ 0 ∷ 0 ∷ rest) (zero_bytes n) ∙ ap (λ (m : ℕ). replicate m 0) (later n)
     where
@@ -119,7 +120,7 @@ module _ {os : List Object} {table : FinMap nat_cmp ℕ} {roots : Roots} (w : Is
       later n = omega arith
 
   -- a raw object, whose bytes are 0
-  pub makes-bytes : (class format slots : ℕ) → is_class_index class ≡ true → (class == 36) ≡ false → is_pointers format ≡ false → is_method format ≡ false → IsTrue (format_allows format slots) → is_some (get table class) ≡ true
+  pub makes-bytes : (class format slots : ℕ) → is_class_index class ≡ true → (class == 36) ≡ false → is_pointers format ≡ false → is_code format ≡ false → IsTrue (format_allows format slots) → is_some (get table class) ≡ true
       → Makes os (new_object class format slots roots.next_birth) table roots (λ k. Raw (new_head class format) (replicate (4 * slots - unused_bytes format) 0))
   makes-bytes class format slots kind other p m shape entry = makes y (λ k. Raw (new_head class format) (replicate (4 * slots - unused_bytes format) 0)) refl entry sound (λ active. means)
     where
@@ -144,7 +145,7 @@ module _ {os : List Object} {table : FinMap nat_cmp ℕ} {roots : Roots} (w : Is
       }
 
       bytes : used_bytes format (replicate slots 0) ≡ replicate (4 * slots - unused_bytes format) 0
-      bytes = ap (λ (n : ℕ). take (4 * n - unused_bytes format) (bytes_of (replicate slots 0))) (length-replicate slots 0)
+      bytes = ap (λ (n : ℕ). take (4 * n - unused_bytes format) (bytes_of_words (replicate slots 0))) (length-replicate slots 0)
           ∙ ap (take (4 * slots - unused_bytes format)) (zero_bytes slots)
           ∙ take-replicate (4 * slots - unused_bytes format) (4 * slots) 0 (omega arith)
 
@@ -152,11 +153,11 @@ module _ {os : List Object} {table : FinMap nat_cmp ℕ} {roots : Roots} (w : Is
       means = obj_of-bytes (ref_of (os ++ y ∷ [])) y other p m ∙ ap (Raw (new_head class format)) (ap (used_bytes format) words ∙ bytes)
 
   -- a method, whose header and literals stand already: all words of a new one are 0 until these are written
-  pub makes-method : (y : Object) → y.birth ≡ roots.next_birth → is_some (get table y.class) ≡ true → is_class_index y.class ≡ true → flag_bits y.flags < 2 → is_context y ≡ false → is_method y.format ≡ true
-      → IsTrue (format_allows y.format (length y.words)) → IsSoundMethod y → AllPass (is_reference os) (literals_in y.words)
-      → Makes os y table roots (λ k. Method (head_of y) (header_in y.words) (map (ref_of os) (literals_in y.words)) (used_bytes y.format (code_in y.words)))
+  pub makes-method : (y : Object) → y.birth ≡ roots.next_birth → is_some (get table y.class) ≡ true → is_class_index y.class ≡ true → flag_bits y.flags < 2 → is_heap_context y ≡ false → is_code y.format ≡ true
+      → IsTrue (format_allows y.format (length y.words)) → IsSoundMethod y → AllPass (is_reference os) (literal_words y.words)
+      → Makes os y table roots (λ k. Method (head_of y) (method_header y.words) (map (ref_of os) (literal_words y.words)) (used_bytes y.format (code_in y.words)))
   makes-method y next entry kind flags other m shape sound_method all =
-      makes y (λ k. Method (head_of y) (header_in y.words) (map (ref_of os) (literals_in y.words)) (used_bytes y.format (code_in y.words))) next entry sound (λ active. means)
+      makes y (λ k. Method (head_of y) (method_header y.words) (map (ref_of os) (literal_words y.words)) (used_bytes y.format (code_in y.words))) next entry sound (λ active. means)
     where
       sound : IsSoundObject (os ++ y ∷ []) y
       sound = record {
@@ -164,15 +165,15 @@ module _ {os : List Object} {table : FinMap nat_cmp ℕ} {roots : Roots} (w : Is
         flags = flags;
         plain = bits_plain y.format (not_pointers y.format m);
         shape = shape;
-        references = subst (AllPass (is_reference (os ++ y ∷ []))) (sym (references-method y m)) (λ k d l. is_reference-push os y (get_or (literals_in y.words) k d) (all k d l));
+        references = subst (AllPass (is_reference (os ++ y ∷ []))) (sym (references-method y m)) (λ k d l. is_reference-push os y (get_or (literal_words y.words) k d) (all k d l));
         context = λ c. absurd (false≢true (sym other ∙ c));
         method = λ _. sound_method;
       }
 
-      means : obj_of (ref_of (os ++ y ∷ [])) y ≡ Method (head_of y) (header_in y.words) (map (ref_of os) (literals_in y.words)) (used_bytes y.format (code_in y.words))
+      means : obj_of (ref_of (os ++ y ∷ [])) y ≡ Method (head_of y) (method_header y.words) (map (ref_of os) (literal_words y.words)) (used_bytes y.format (code_in y.words))
       means = obj_of-method (ref_of (os ++ y ∷ [])) y other (not_pointers y.format m) m
-          ∙ ap (λ (ls : List Ref). Method (head_of y) (header_in y.words) ls (used_bytes y.format (code_in y.words)))
-          (map_alike (is_reference os) (ref_of (os ++ y ∷ [])) (ref_of os) (ref_of-push os y) (literals_in y.words) all)
+          ∙ ap (λ (ls : List Ref). Method (head_of y) (method_header y.words) ls (used_bytes y.format (code_in y.words)))
+          (map_alike (is_reference os) (ref_of (os ++ y ∷ [])) (ref_of os) (ref_of-push os y) (literal_words y.words) all)
 
   -- a context: its fields are nil and its stack is empty
   new_context_of : (refer : ℕ → Ref) (m : ℕ) → context_of refer 0 (replicate (suc (suc (suc (suc (suc (suc m)))))) base) ≡ new_context (refer base) m
@@ -198,17 +199,17 @@ module _ {os : List Object} {table : FinMap nat_cmp ℕ} {roots : Roots} (w : Is
       depth : depth_in y.words ≡ 0
       depth = ap (λ (v : ℕ). unwrap_or (count_of v) 0) (word 2 (omega arith))
 
-      nil : nil_of (os ++ y ∷ []) ≡ base
+      nil : nil_word (os ++ y ∷ []) ≡ base
       nil = nil_of-push os y (omega (arith, w.first)) ∙ w.nil
 
-      nil_there : is_object (os ++ y ∷ []) (nil_of (os ++ y ∷ [])) ≡ true
+      nil_there : is_object (os ++ y ∷ []) (nil_word (os ++ y ∷ [])) ≡ true
       nil_there = ap (is_object (os ++ y ∷ [])) nil ∙ is_object-old os y base (nil_is_object os table roots w)
 
-      no_more : (i : ℕ) → i < 6 → (b : Bool) → (slice_index y.words i == nil_of (os ++ y ∷ []) || b) ≡ true
-      no_more i l b = or_left (slice_index y.words i == nil_of (os ++ y ∷ [])) b (eq-eqb (slice_index y.words i) (nil_of (os ++ y ∷ [])) (word i l ∙ sym nil))
+      no_more : (i : ℕ) → i < 6 → (b : Bool) → (slice_index y.words i == nil_word (os ++ y ∷ []) || b) ≡ true
+      no_more i l b = or_left (slice_index y.words i == nil_word (os ++ y ∷ [])) b (eq-eqb (slice_index y.words i) (nil_word (os ++ y ∷ [])) (word i l ∙ sym nil))
 
-      is_nil : (i : ℕ) → i < 6 → IsTrue (slice_index y.words i == nil_of (os ++ y ∷ []) || is_some (count_of (slice_index y.words i)))
-      is_nil i l = or_left (slice_index y.words i == nil_of (os ++ y ∷ [])) (is_some (count_of (slice_index y.words i))) (eq-eqb (slice_index y.words i) (nil_of (os ++ y ∷ [])) (word i l ∙ sym nil))
+      is_nil : (i : ℕ) → i < 6 → IsTrue (slice_index y.words i == nil_word (os ++ y ∷ []) || is_some (count_of (slice_index y.words i)))
+      is_nil i l = or_left (slice_index y.words i == nil_word (os ++ y ∷ [])) (is_some (count_of (slice_index y.words i))) (eq-eqb (slice_index y.words i) (nil_word (os ++ y ∷ [])) (word i l ∙ sym nil))
 
       shape : (n : ℕ) → (n == 16 || n == 56) ≡ true → ((6 + n) == 22 || (6 + n) == 62) ≡ true
       shape n h = grind (arith, nat_tests)
@@ -238,7 +239,7 @@ module _ {os : List Object} {table : FinMap nat_cmp ℕ} {roots : Roots} (w : Is
         method = λ m. absurd (false≢true m);
       }
 
-      means : obj_of (ref_of (os ++ y ∷ [])) y ≡ Ctx (new_context (ref.Obj (birth_at os 0)) size)
+      means : obj_of (ref_of (os ++ y ∷ [])) y ≡ Ctx (new_context (ref.Obj (nth_birth os 0)) size)
       means =
           let refer : ℕ → Ref = ref_of (os ++ y ∷ []) in
           let six : 6 + size ≡ suc (suc (suc (suc (suc (suc size))))) = omega arith in

@@ -6,11 +6,11 @@ use Rattle.std.specs.Cmp.{nat_cmp_total}
 use Rattle.std.specs.FinMap.{find, from_entries, from_entries_push, get, get-from_entries, get-insert, insert, nat_cmp-IsAntisymmetric, same_map}
 use Rattle.std.proofs.lemmas.Bool.{cases_eq}
 use Rattle.std.proofs.lemmas.List.{map-append}
-use Rattle.cs_heap.specs.Object.{Object, at_index, birth_of, is_object, object_at, with_object}
+use Rattle.cs_heap.specs.Object.{Object, at_index, birth_at, is_object, heap_object, with_object}
 use Rattle.cs_model.specs.Ref.{Ref}
 use Rattle.cs_model.specs.Obj.{Obj}
 use Rattle.cs_classes.specs.Meaning.{meaning_at, obj_of, objects_of, ref_of}
-use Rattle.cs_classes.specs.Sound.{IsSound}
+use Rattle.cs_classes.specs.Sound.{AreSoundObjects}
 use Rattle.cs_classes.proofs.Heaps.{IsEdit, birth_of-object_at, is_object-object_at, object_there, stands, with_object-stands}
 use Rattle.cs_classes.proofs.Refs.{ref_of-with_object}
 use Rattle.cs_classes.proofs.Tables.{ties_other, ties_same}
@@ -110,17 +110,17 @@ unfolding objects_of
 get-objects_of-fresh os b fresh = get-from_entries nat_cmp_total (entries_by (obj_of (ref_of os)) os) b ∙ find_fresh (obj_of (ref_of os)) os b fresh
 
 -- at the birth of the object at an address is what that object means
-pub get-objects_of : (os : List Object) (a : ℕ) → IsSound os → is_object os a ≡ true → get (objects_of os) (birth_of os a) ≡ meaning_at os a
+pub get-objects_of : (os : List Object) (a : ℕ) → AreSoundObjects os → is_object os a ≡ true → get (objects_of os) (birth_at os a) ≡ meaning_at os a
 get-objects_of os a sound h =
     let x = object_there os a h in
     let s = stands os a x.0 x.1 in
     ap (get (objects_of os)) (birth_of-object_at os a x.0 x.1) ∙ get-objects_of-element os s.0 x.0 sound.apart s.1.element
     ∙ sym (ap (option_map (obj_of (ref_of os))) x.1)
 
-pub get-objects_of-meaning : (os : List Object) (a : ℕ) (o : Obj) → IsSound os → meaning_at os a ≡ Some o → get (objects_of os) (birth_of os a) ≡ Some o
-get-objects_of-meaning os a o sound h = get-objects_of os a sound (there (object_at os a) refl h) ∙ h
+pub get-objects_of-meaning : (os : List Object) (a : ℕ) (o : Obj) → AreSoundObjects os → meaning_at os a ≡ Some o → get (objects_of os) (birth_at os a) ≡ Some o
+get-objects_of-meaning os a o sound h = get-objects_of os a sound (there (heap_object os a) refl h) ∙ h
   where
-    there : (p : Option Object) → object_at os a ≡ p → option_map (obj_of (ref_of os)) p ≡ Some o → is_object os a ≡ true
+    there : (p : Option Object) → heap_object os a ≡ p → option_map (obj_of (ref_of os)) p ≡ Some o → is_object os a ≡ true
     there None e h = absurd (cc)
     there (Some x) e h = is_object-object_at os a x e
 
@@ -143,7 +143,7 @@ objects_of-comes os b o apart h = go (birth_cases os b)
 
 -- ---- when one changes
 
-pub objects_of-with_object : (os : List Object) (a : ℕ) (x : Object) (f : Object → Object) → IsEdit f → AreApart os → object_at os a ≡ Some x
+pub objects_of-with_object : (os : List Object) (a : ℕ) (x : Object) (f : Object → Object) → IsEdit f → AreApart os → heap_object os a ≡ Some x
     → objects_of (with_object os a f) ≡ insert (objects_of os) x.birth (obj_of (ref_of os) (f x))
 unfolding objects_of
 objects_of-with_object os a x f edit apart there = same_map nat_cmp_total nat_cmp-IsAntisymmetric _ _ alike

@@ -8,13 +8,13 @@ use Rattle.cs_word.specs.declared.Kind.{Kind}
 use Rattle.cs_word.specs.declared.Kind.TheVariants as kind
 use Rattle.cs_word.specs.Word.{IsSmall, character_word, kind_of, small_word}
 use Rattle.cs_word.proofs.Words.{kind_of-character_word, kind_of-injective, kind_of-link, kind_of-object, kind_of-small_word}
-use Rattle.cs_heap.specs.Format.{is_method}
-use Rattle.cs_heap.specs.Object.{Object, address_among, base, birth_of, class_of, field_of, format_of, is_object, slot_count_of, with_object}
+use Rattle.cs_heap.specs.Format.{is_code}
+use Rattle.cs_heap.specs.Object.{Object, address_among, base, birth_at, class_at, part_at, format_at, is_object, slot_count_of, with_object}
 use Rattle.cs_heap.proofs.Laws.{field_of-old, field_of-with_object_kept, index_of-injective, is_object-old, is_object-with_object, object_placed, slot_counts-with_object}
-use Rattle.cs_model.specs.Ref.{Ref, index_of, same_ref}
+use Rattle.cs_model.specs.Ref.{Ref, small_index, same_ref}
 use Rattle.cs_model.specs.Ref as ref
 use Rattle.cs_classes.specs.Meaning.{count_of, count_of_kind, ref_of, ref_of_kind}
-use Rattle.cs_classes.specs.Sound.{IsSound, is_closure_address, is_method_address, is_reference, is_reference_kind, is_sender, is_sender_kind, nil_of}
+use Rattle.cs_classes.specs.Sound.{AreSoundObjects, is_closure_address, is_method_address, is_reference, is_reference_kind, is_sender, is_sender_kind, nil_word}
 use Rattle.cs_classes.proofs.Heaps.{IsEdit, birth_of-object_at, birth_of-push, birth_of-with_object, object_there, stands}
 
 -- ---- what a word of each kind refers to
@@ -27,7 +27,7 @@ pub ref_of-character : (os : List Object) (code : ℕ) → ref_of os (character_
 unfolding ref_of
 ref_of-character os code = ap (ref_of_kind os) (kind_of-character_word code)
 
-pub ref_of-object : (os : List Object) (a : ℕ) → is_object os a ≡ true → ref_of os a ≡ ref.Obj (birth_of os a)
+pub ref_of-object : (os : List Object) (a : ℕ) → is_object os a ≡ true → ref_of os a ≡ ref.Obj (birth_at os a)
 unfolding ref_of
 ref_of-object os a h = ap (ref_of_kind os) (kind_of-object a (object_placed os a h).aligned)
 
@@ -51,11 +51,11 @@ unfolding count_of
 count_of-small n h = ap count_of_kind (kind_of-small_word (pos n) (small_natural n h))
 
 -- a count is the same as a word and as a reference
-pub index_of-ref_of : (os : List Object) (w : ℕ) → is_reference os w ≡ true → index_of (ref_of os w) ≡ count_of w
+pub index_of-ref_of : (os : List Object) (w : ℕ) → is_reference os w ≡ true → small_index (ref_of os w) ≡ count_of w
 unfolding ref_of is_reference count_of
 index_of-ref_of os w h = at (kind_of w) h
   where
-    at : (k : Kind) → is_reference_kind os k ≡ true → index_of (ref_of_kind os k) ≡ count_of_kind k
+    at : (k : Kind) → is_reference_kind os k ≡ true → small_index (ref_of_kind os k) ≡ count_of_kind k
     at (kind.Small z) h = refl
     at (kind.Character c) h = refl
     at (kind.Object a) h = refl
@@ -103,23 +103,23 @@ placed-sender os w h = at (kind_of w) h
     at : (k : Kind) → is_sender_kind os k ≡ true → is_placed_kind os k ≡ true
     at (kind.Small z) h = refl
     at (kind.Character c) h = refl
-    at (kind.Object a) h = (both_true (is_object os a) (a == nil_of os || class_of os a == 36) h).0
+    at (kind.Object a) h = (both_true (is_object os a) (a == nil_word os || class_at os a == 36) h).0
     at (kind.Link b) h = refl
 
 -- ---- senders
 
-pub is_sender-nil : (os : List Object) → is_object os (nil_of os) ≡ true → is_sender os (nil_of os) ≡ true
+pub is_sender-nil : (os : List Object) → is_object os (nil_word os) ≡ true → is_sender os (nil_word os) ≡ true
 unfolding is_sender
 is_sender-nil os h =
-    let nil : ℕ = nil_of os in
-    ap (is_sender_kind os) (kind_of-object nil (object_placed os nil h).aligned) ∙ ap (λ b. b && (nil == nil || class_of os nil == 36)) h
-    ∙ or_left (nil == nil) (class_of os nil == 36) (eq-eqb nil nil refl)
+    let nil : ℕ = nil_word os in
+    ap (is_sender_kind os) (kind_of-object nil (object_placed os nil h).aligned) ∙ ap (λ b. b && (nil == nil || class_at os nil == 36)) h
+    ∙ or_left (nil == nil) (class_at os nil == 36) (eq-eqb nil nil refl)
 
-pub is_sender-context : (os : List Object) (a : ℕ) → is_object os a ≡ true → class_of os a ≡ 36 → is_sender os a ≡ true
+pub is_sender-context : (os : List Object) (a : ℕ) → is_object os a ≡ true → class_at os a ≡ 36 → is_sender os a ≡ true
 unfolding is_sender
 is_sender-context os a h c =
-    ap (is_sender_kind os) (kind_of-object a (object_placed os a h).aligned) ∙ ap (λ b. b && (a == nil_of os || class_of os a == 36)) h
-    ∙ or_right (a == nil_of os) (class_of os a == 36) (eq-eqb (class_of os a) 36 c)
+    ap (is_sender_kind os) (kind_of-object a (object_placed os a h).aligned) ∙ ap (λ b. b && (a == nil_word os || class_at os a == 36)) h
+    ∙ or_right (a == nil_word os) (class_at os a == 36) (eq-eqb (class_at os a) 36 c)
 
 pub is_sender-small : (os : List Object) (z : ℤ) → IsSmall z → is_sender os (small_word z) ≡ true
 unfolding is_sender
@@ -137,7 +137,7 @@ sender_named os w b h e = at (kind_of w) h e
     at : (k : Kind) → is_sender_kind os k ≡ true → ref_of_kind os k ≡ ref.Obj b → is_reference_kind os k ≡ true
     at (kind.Small z) h e = refl
     at (kind.Character c) h e = refl
-    at (kind.Object a) h e = (both_true (is_object os a) (a == nil_of os || class_of os a == 36) h).0
+    at (kind.Object a) h e = (both_true (is_object os a) (a == nil_word os || class_at os a == 36) h).0
     at (kind.Link v) h e = absurd (cc)
 
 -- ---- when an object changes
@@ -162,13 +162,13 @@ is_reference-with_object os a f h = λ i w. at (kind_of w) i
     at (kind.Object b) = is_object-with_object os a b f h.slots
     at (kind.Link w) = refl
 
-pub nil_of-with_object : (os : List Object) (a : ℕ) (f : Object → Object) → IsEdit f → nil_of (with_object os a f) ≡ nil_of os
+pub nil_of-with_object : (os : List Object) (a : ℕ) (f : Object → Object) → IsEdit f → nil_word (with_object os a f) ≡ nil_word os
 nil_of-with_object os a f h = ap (λ (ns : List ℕ). unwrap_or (address_among ns base 0) 0) (slot_counts-with_object os a f h.slots)
 
-pub class_of-with_object : (os : List Object) (a b : ℕ) (f : Object → Object) → IsEdit f → class_of (with_object os a f) b ≡ class_of os b
+pub class_of-with_object : (os : List Object) (a b : ℕ) (f : Object → Object) → IsEdit f → class_at (with_object os a f) b ≡ class_at os b
 class_of-with_object os a b f h = field_of-with_object_kept (λ x. x.class) os a b f h.slots h.class
 
-pub format_of-with_object : (os : List Object) (a b : ℕ) (f : Object → Object) → IsEdit f → format_of (with_object os a f) b ≡ format_of os b
+pub format_of-with_object : (os : List Object) (a b : ℕ) (f : Object → Object) → IsEdit f → format_at (with_object os a f) b ≡ format_at os b
 format_of-with_object os a b f h = field_of-with_object_kept (λ x. x.format) os a b f h.slots h.format
 
 pub slot_count_of-with_object : (os : List Object) (a b : ℕ) (f : Object → Object) → IsEdit f → slot_count_of (with_object os a f) b ≡ slot_count_of os b
@@ -186,13 +186,13 @@ is_sender-with_object os a f h = λ i w. at (kind_of w) i
 
 -- a word is nil or the address of a method, or of a closure
 abbrev pub is_nil_or_method : List Object → ℕ → Bool
-is_nil_or_method os w = w == nil_of os || is_method_address os w
+is_nil_or_method os w = w == nil_word os || is_method_address os w
 
 abbrev pub is_nil_or_closure : List Object → ℕ → Bool
-is_nil_or_closure os w = w == nil_of os || is_closure_address os w
+is_nil_or_closure os w = w == nil_word os || is_closure_address os w
 
 pub is_nil_or_method-with_object : (os : List Object) (a : ℕ) (f : Object → Object) → IsEdit f → is_nil_or_method (with_object os a f) ≡ is_nil_or_method os
-is_nil_or_method-with_object os a f h = λ i w. w == nil_of-with_object os a f h i || (is_object-with_object os a w f h.slots i && is_method (format_of-with_object os a w f h i))
+is_nil_or_method-with_object os a f h = λ i w. w == nil_of-with_object os a f h i || (is_object-with_object os a w f h.slots i && is_code (format_of-with_object os a w f h i))
 
 pub is_nil_or_closure-with_object : (os : List Object) (a : ℕ) (f : Object → Object) → IsEdit f → is_nil_or_closure (with_object os a f) ≡ is_nil_or_closure os
 is_nil_or_closure-with_object os a f h = λ i w. w == nil_of-with_object os a f h i || (is_object-with_object os a w f h.slots i && class_of-with_object os a w f h i == 37)
@@ -222,26 +222,26 @@ is_reference-push os y w h = at (kind_of w) h
     at (kind.Object b) h = is_object-old os y b h
     at (kind.Link w) h = h
 
-pub nil_of-push : (os : List Object) (y : Object) → 0 < length os → nil_of (os ++ y ∷ []) ≡ nil_of os
+pub nil_of-push : (os : List Object) (y : Object) → 0 < length os → nil_word (os ++ y ∷ []) ≡ nil_word os
 unfolding address_among
 nil_of-push [] y h = absurd (omega (arith, h))
 nil_of-push (x ∷ os) y h = refl
 
 -- what is said of the object at an address still holds
-object_still : (os : List Object) (y : Object) (a : ℕ) (g : Object → ℕ) (p : ℕ → Bool) → (is_object os a && p (field_of g os a)) ≡ true
-    → (is_object (os ++ y ∷ []) a && p (field_of g (os ++ y ∷ []) a)) ≡ true
+object_still : (os : List Object) (y : Object) (a : ℕ) (g : Object → ℕ) (p : ℕ → Bool) → (is_object os a && p (part_at g os a)) ≡ true
+    → (is_object (os ++ y ∷ []) a && p (part_at g (os ++ y ∷ []) a)) ≡ true
 object_still os y a g p h =
-    let s = both_true (is_object os a) (p (field_of g os a)) h in
+    let s = both_true (is_object os a) (p (part_at g os a)) h in
     ap₂ (λ (b : Bool) (n : ℕ). b && p n) (is_object-old os y a s.0) (field_of-old g os y a s.0) ∙ s.1
 
 pub is_nil_or_method-push : (os : List Object) (y : Object) (w : ℕ) → 0 < length os → is_nil_or_method os w ≡ true → is_nil_or_method (os ++ y ∷ []) w ≡ true
 is_nil_or_method-push os y w some =
-    either_still (w == nil_of os) (is_method_address os w) (w == nil_of (os ++ y ∷ [])) (is_method_address (os ++ y ∷ []) w)
-    (ap (λ n. w == n) (sym (nil_of-push os y some))) (object_still os y w (λ x. x.format) is_method)
+    either_still (w == nil_word os) (is_method_address os w) (w == nil_word (os ++ y ∷ [])) (is_method_address (os ++ y ∷ []) w)
+    (ap (λ n. w == n) (sym (nil_of-push os y some))) (object_still os y w (λ x. x.format) is_code)
 
 pub is_nil_or_closure-push : (os : List Object) (y : Object) (w : ℕ) → 0 < length os → is_nil_or_closure os w ≡ true → is_nil_or_closure (os ++ y ∷ []) w ≡ true
 is_nil_or_closure-push os y w some =
-    either_still (w == nil_of os) (is_closure_address os w) (w == nil_of (os ++ y ∷ [])) (is_closure_address (os ++ y ∷ []) w)
+    either_still (w == nil_word os) (is_closure_address os w) (w == nil_word (os ++ y ∷ [])) (is_closure_address (os ++ y ∷ []) w)
     (ap (λ n. w == n) (sym (nil_of-push os y some))) (object_still os y w (λ x. x.class) (λ n. n == 37))
 
 pub is_sender-push : (os : List Object) (y : Object) (w : ℕ) → 0 < length os → is_sender os w ≡ true → is_sender (os ++ y ∷ []) w ≡ true
@@ -252,15 +252,15 @@ is_sender-push os y w some h = at (kind_of w) h
     at (kind.Small z) h = refl
     at (kind.Character c) h = h
     at (kind.Object b) h =
-        let s = both_true (is_object os b) (b == nil_of os || class_of os b == 36) h in
-        ap (λ t. t && (b == nil_of (os ++ y ∷ []) || class_of (os ++ y ∷ []) b == 36)) (is_object-old os y b s.0)
-        ∙ either_still (b == nil_of os) (class_of os b == 36) (b == nil_of (os ++ y ∷ [])) (class_of (os ++ y ∷ []) b == 36)
+        let s = both_true (is_object os b) (b == nil_word os || class_at os b == 36) h in
+        ap (λ t. t && (b == nil_word (os ++ y ∷ []) || class_at (os ++ y ∷ []) b == 36)) (is_object-old os y b s.0)
+        ∙ either_still (b == nil_word os) (class_at os b == 36) (b == nil_word (os ++ y ∷ [])) (class_at (os ++ y ∷ []) b == 36)
         (ap (λ n. b == n) (sym (nil_of-push os y some))) (λ e. ap (λ n. n == 36) (field_of-old (λ x. x.class) os y b s.0) ∙ e) s.1
     at (kind.Link v) h = refl
 
 -- ---- one thing has one word
 
-pub same_births : (os : List Object) (a b : ℕ) → IsSound os → is_object os a ≡ true → is_object os b ≡ true → birth_of os a ≡ birth_of os b → a ≡ b
+pub same_births : (os : List Object) (a b : ℕ) → AreSoundObjects os → is_object os a ≡ true → is_object os b ≡ true → birth_at os a ≡ birth_at os b → a ≡ b
 same_births os a b sound p q e =
     let x = object_there os a p in
     let y = object_there os b q in
@@ -275,7 +275,7 @@ same_ref-refl (ref.Small z) = (Decides-int_eq z z).1 refl
 same_ref-refl (ref.Char c) = eq-eqb c c refl
 same_ref-refl (ref.Obj b) = eq-eqb b b refl
 
-same_kinds : (os : List Object) (p q : Kind) → IsSound os → is_reference_kind os p ≡ true → is_reference_kind os q ≡ true
+same_kinds : (os : List Object) (p q : Kind) → AreSoundObjects os → is_reference_kind os p ≡ true → is_reference_kind os q ≡ true
     → same_ref (ref_of_kind os p) (ref_of_kind os q) ≡ true → p ≡ q
 same_kinds os (kind.Small a) (kind.Small b) sound h i e = ap kind.Small ((Decides-int_eq a b).0 e)
 same_kinds os (kind.Small a) (kind.Character b) sound h i e = absurd (false≢true e)
@@ -287,12 +287,12 @@ same_kinds os (kind.Character a) (kind.Object b) sound h i e = absurd (false≢t
 same_kinds os (kind.Character a) (kind.Link b) sound h i e = absurd (false≢true i)
 same_kinds os (kind.Object a) (kind.Small b) sound h i e = absurd (false≢true e)
 same_kinds os (kind.Object a) (kind.Character b) sound h i e = absurd (false≢true e)
-same_kinds os (kind.Object a) (kind.Object b) sound h i e = ap kind.Object (same_births os a b sound h i (eqb-true (birth_of os a) (birth_of os b) e))
+same_kinds os (kind.Object a) (kind.Object b) sound h i e = ap kind.Object (same_births os a b sound h i (eqb-true (birth_at os a) (birth_at os b) e))
 same_kinds os (kind.Object a) (kind.Link b) sound h i e = absurd (false≢true i)
 same_kinds os (kind.Link a) q sound h i e = absurd (false≢true h)
 
 -- two words refer to the same exactly where they are equal
-pub same_ref-ref_of : (os : List Object) (v w : ℕ) → IsSound os → is_reference os v ≡ true → is_reference os w ≡ true → v < 2 ^ 32 → w < 2 ^ 32
+pub same_ref-ref_of : (os : List Object) (v w : ℕ) → AreSoundObjects os → is_reference os v ≡ true → is_reference os w ≡ true → v < 2 ^ 32 → w < 2 ^ 32
     → same_ref (ref_of os v) (ref_of os w) ≡ (v == w)
 unfolding ref_of is_reference
 same_ref-ref_of os v w sound h i v_fits w_fits = go (same_ref (ref_of os v) (ref_of os w)) refl

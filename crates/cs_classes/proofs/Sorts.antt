@@ -4,42 +4,42 @@ use Rattle.std.specs.List.{AllPass}
 use Rattle.std.specs.Prelude.{slice_index}
 use Rattle.std.proofs.lemmas.Bool.Decides.{nat_tests}
 use Rattle.std.proofs.lemmas.List.Elements.{All-drop, All-take}
-use Rattle.cs_heap.specs.Format.{is_method, is_pointers}
+use Rattle.cs_heap.specs.Format.{is_code, is_pointers}
 use Rattle.cs_heap.specs.Object.{Object}
 use Rattle.cs_model.specs.Ref.{Ref}
 use Rattle.cs_model.specs.Obj.{Context, Ctx, Method, Ptr, Raw, Head}
-use Rattle.cs_classes.specs.Meaning.{code_in, context_of, depth_in, header_in, is_context, literals_in, method_of, obj_of, used_bytes, head_of}
+use Rattle.cs_classes.specs.Meaning.{code_in, context_of, depth_in, method_header, is_heap_context, literal_words, method_meaning, obj_of, used_bytes, head_of}
 use Rattle.cs_classes.specs.Sound.{references_in}
 
 pub data Sort (x : Object) : Type 0 where
-  AContext : (context : is_context x ≡ true) → Sort x
-  Pointers : (other : is_context x ≡ false) (pointers : is_pointers x.format ≡ true) → Sort x
-  AMethod : (other : is_context x ≡ false) (bits : is_pointers x.format ≡ false) (method : is_method x.format ≡ true) → Sort x
-  Bytes : (other : is_context x ≡ false) (bits : is_pointers x.format ≡ false) (bytes : is_method x.format ≡ false) → Sort x
+  AContext : (context : is_heap_context x ≡ true) → Sort x
+  Pointers : (other : is_heap_context x ≡ false) (pointers : is_pointers x.format ≡ true) → Sort x
+  AMethod : (other : is_heap_context x ≡ false) (bits : is_pointers x.format ≡ false) (method : is_code x.format ≡ true) → Sort x
+  Bytes : (other : is_heap_context x ≡ false) (bits : is_pointers x.format ≡ false) (bytes : is_code x.format ≡ false) → Sort x
 
 pub sort_of : (x : Object) → Sort x
-sort_of x = go (is_context x) (is_pointers x.format) (is_method x.format) refl refl refl
+sort_of x = go (is_heap_context x) (is_pointers x.format) (is_code x.format) refl refl refl
   where
-    go : (a b c : Bool) → is_context x ≡ a → is_pointers x.format ≡ b → is_method x.format ≡ c → Sort x
+    go : (a b c : Bool) → is_heap_context x ≡ a → is_pointers x.format ≡ b → is_code x.format ≡ c → Sort x
     go true b c p q r = AContext p
     go false true c p q r = Pointers p q
     go false false true p q r = AMethod p q r
     go false false false p q r = Bytes p q r
 
-pub obj_of-context : (refer : ℕ → Ref) (x : Object) → is_context x ≡ true → obj_of refer x ≡ Ctx (context_of refer x.hash x.words)
+pub obj_of-context : (refer : ℕ → Ref) (x : Object) → is_heap_context x ≡ true → obj_of refer x ≡ Ctx (context_of refer x.hash x.words)
 unfolding obj_of
 obj_of-context refer x h = rw h refl
 
-pub obj_of-pointers : (refer : ℕ → Ref) (x : Object) → is_context x ≡ false → is_pointers x.format ≡ true → obj_of refer x ≡ Ptr (head_of x) (map refer x.words)
+pub obj_of-pointers : (refer : ℕ → Ref) (x : Object) → is_heap_context x ≡ false → is_pointers x.format ≡ true → obj_of refer x ≡ Ptr (head_of x) (map refer x.words)
 unfolding obj_of
 obj_of-pointers refer x h i = rw (h, i) refl
 
-pub obj_of-method : (refer : ℕ → Ref) (x : Object) → is_context x ≡ false → is_pointers x.format ≡ false → is_method x.format ≡ true
-    → obj_of refer x ≡ Method (head_of x) (header_in x.words) (map refer (literals_in x.words)) (used_bytes x.format (code_in x.words))
-unfolding obj_of method_of
+pub obj_of-method : (refer : ℕ → Ref) (x : Object) → is_heap_context x ≡ false → is_pointers x.format ≡ false → is_code x.format ≡ true
+    → obj_of refer x ≡ Method (head_of x) (method_header x.words) (map refer (literal_words x.words)) (used_bytes x.format (code_in x.words))
+unfolding obj_of method_meaning
 obj_of-method refer x h i j = rw (h, i, j) refl
 
-pub obj_of-bytes : (refer : ℕ → Ref) (x : Object) → is_context x ≡ false → is_pointers x.format ≡ false → is_method x.format ≡ false
+pub obj_of-bytes : (refer : ℕ → Ref) (x : Object) → is_heap_context x ≡ false → is_pointers x.format ≡ false → is_code x.format ≡ false
     → obj_of refer x ≡ Raw (head_of x) (used_bytes x.format x.words)
 unfolding obj_of
 obj_of-bytes refer x h i j = rw (h, i, j) refl
@@ -47,7 +47,7 @@ obj_of-bytes refer x h i j = rw (h, i, j) refl
 -- ---- and from what it is to its sort
 
 pub record IsPointersOf (refer : ℕ → Ref) (x : Object) (head : Head) (refs : List Ref) : Type 0 where
-  pub other : is_context x ≡ false
+  pub other : is_heap_context x ≡ false
   pub pointers : is_pointers x.format ≡ true
   pub head_is : head_of x ≡ head
   pub slots : map refer x.words ≡ refs
@@ -62,7 +62,7 @@ pointers_of refer x head slots h = go (sort_of x)
     go (Bytes p q r) = absurd (let e = sym (obj_of-bytes refer x p q r) ∙ h in cc)
 
 pub record IsContextOf (refer : ℕ → Ref) (x : Object) (c : Context) : Type 0 where
-  pub context : is_context x ≡ true
+  pub context : is_heap_context x ≡ true
   pub value : context_of refer x.hash x.words ≡ c
 
 pub context_is : (refer : ℕ → Ref) (x : Object) (c : Context) → obj_of refer x ≡ Ctx c → IsContextOf refer x c
@@ -108,20 +108,20 @@ context_alike p r s h hash ws enough sender all =
       size = (context_of r hash ws).size;
     }
 
-pub not_pointers : (format : ℕ) → is_method format ≡ true → is_pointers format ≡ false
+pub not_pointers : (format : ℕ) → is_code format ≡ true → is_pointers format ≡ false
 not_pointers format h = grind (arith, nat_tests)
 
-pub references-pointers : (x : Object) → is_context x ≡ false → is_pointers x.format ≡ true → references_in x ≡ x.words
+pub references-pointers : (x : Object) → is_heap_context x ≡ false → is_pointers x.format ≡ true → references_in x ≡ x.words
 references-pointers x other h = rw (h, other) refl
 
-pub references-context : (x : Object) → is_context x ≡ true → x.format ≡ 3 → references_in x ≡ drop 1 x.words
+pub references-context : (x : Object) → is_heap_context x ≡ true → x.format ≡ 3 → references_in x ≡ drop 1 x.words
 references-context x c f = let h : is_pointers x.format ≡ true = ap is_pointers f in rw (h, c) refl
 
-pub references-method : (x : Object) → is_method x.format ≡ true → references_in x ≡ literals_in x.words
+pub references-method : (x : Object) → is_code x.format ≡ true → references_in x ≡ literal_words x.words
 references-method x h = rw (not_pointers x.format h, h) refl
 
 pub obj_of-alike : (p : ℕ → Bool) (r s : ℕ → Ref) → ((w : ℕ) → p w ≡ true → r w ≡ s w) → (x : Object) → AllPass p (references_in x)
-    → (is_context x ≡ true → (x.format ≡ 3) × ((6 ≤ length x.words) × (r (slice_index x.words 0) ≡ s (slice_index x.words 0)))) → obj_of r x ≡ obj_of s x
+    → (is_heap_context x ≡ true → (x.format ≡ 3) × ((6 ≤ length x.words) × (r (slice_index x.words 0) ≡ s (slice_index x.words 0)))) → obj_of r x ≡ obj_of s x
 obj_of-alike p r s h x all context = go (sort_of x)
   where
     go : Sort x → obj_of r x ≡ obj_of s x
@@ -134,5 +134,5 @@ obj_of-alike p r s h x all context = go (sort_of x)
         obj_of-pointers r x o q ∙ ap (Ptr (head_of x)) (map_alike p r s h x.words words) ∙ sym (obj_of-pointers s x o q)
     go (AMethod o b m) =
         let words = subst (AllPass p) (references-method x m) all in
-        obj_of-method r x o b m ∙ ap (λ (ls : List Ref). Method (head_of x) (header_in x.words) ls (used_bytes x.format (code_in x.words))) (map_alike p r s h (literals_in x.words) words) ∙ sym (obj_of-method s x o b m)
+        obj_of-method r x o b m ∙ ap (λ (ls : List Ref). Method (head_of x) (method_header x.words) ls (used_bytes x.format (code_in x.words))) (map_alike p r s h (literal_words x.words) words) ∙ sym (obj_of-method s x o b m)
     go (Bytes o b m) = obj_of-bytes r x o b m ∙ sym (obj_of-bytes s x o b m)

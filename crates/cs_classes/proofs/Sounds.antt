@@ -7,11 +7,11 @@ use Rattle.std.proofs.lemmas.Bool.Decides.{nat_tests}
 use Rattle.std.proofs.lemmas.List.{get_or-set_other, get_or-set_same, length-set}
 use Rattle.std.proofs.lemmas.List.Elements.{All-drop, All-set}
 use Rattle.std.proofs.lemmas.Option.{slice_get_within}
-use Rattle.cs_heap.specs.Format.{is_method, is_pointers, format_allows}
-use Rattle.cs_heap.specs.Object.{Object, at_index, object_at, set_word, with_object}
+use Rattle.cs_heap.specs.Format.{is_code, is_pointers, format_allows}
+use Rattle.cs_heap.specs.Object.{Object, at_index, heap_object, set_word, with_object}
 use Rattle.cs_model.specs.Obj.{is_header, literal_count}
-use Rattle.cs_classes.specs.Meaning.{count_of, depth_in, header_in, is_context, literals_in}
-use Rattle.cs_classes.specs.Sound.{IsSound, IsSoundObject, is_reference, is_sender, nil_of, references_in}
+use Rattle.cs_classes.specs.Meaning.{count_of, depth_in, method_header, is_heap_context, literal_words}
+use Rattle.cs_classes.specs.Sound.{AreSoundObjects, IsSoundObject, is_reference, is_sender, nil_word, references_in}
 use Rattle.cs_classes.proofs.Heaps.{IsEdit, slice_get-at_index_other, slice_get-at_index_same, slice_get-push, stands, with_object-stands}
 use Rattle.cs_classes.proofs.Objects.{IsFresh}
 use Rattle.cs_classes.proofs.Refs.{is_nil_or_closure, is_nil_or_closure-push, is_nil_or_closure-with_object, is_nil_or_method, is_nil_or_method-push, is_nil_or_method-with_object, is_reference-push, is_reference-with_object, is_sender-push, is_sender-with_object, nil_of-push, nil_of-with_object}
@@ -20,7 +20,7 @@ use Rattle.cs_classes.proofs.Sorts.{behind_first, drop_six, not_pointers, refere
 
 -- ---- what a sound object is
 
-pub sound_at : (os : List Object) (a : ℕ) (x : Object) → IsSound os → object_at os a ≡ Some x → IsSoundObject os x
+pub sound_at : (os : List Object) (a : ℕ) (x : Object) → AreSoundObjects os → heap_object os a ≡ Some x → IsSoundObject os x
 sound_at os a x sound h = let s = stands os a x h in sound.each s.0 x s.1.element
 
 -- a context has six fields, and all its words behind its sender are references
@@ -36,7 +36,7 @@ pub record IsWholeContext (os : List Object) (x : Object) : Type 0 where
 slots_at_least : (n : ℕ) → (n == 22 || n == 62) ≡ true → 6 ≤ n
 slots_at_least n h = grind (arith, nat_tests)
 
-pub whole_context : (os : List Object) (x : Object) → IsSoundObject os x → is_context x ≡ true → IsWholeContext os x
+pub whole_context : (os : List Object) (x : Object) → IsSoundObject os x → is_heap_context x ≡ true → IsWholeContext os x
 whole_context os x sound c =
     let s = sound.context c in
     let behind : AllPass (is_reference os) (drop 1 x.words) = subst (AllPass (is_reference os)) (references-context x c s.format) sound.references in
@@ -51,11 +51,11 @@ whole_context os x sound c =
     }
 
 -- a sound method is no context
-pub method_other : (os : List Object) (x : Object) → IsSoundObject os x → is_method x.format ≡ true → is_context x ≡ false
-method_other os x sound m = go (is_context x) refl
+pub method_other : (os : List Object) (x : Object) → IsSoundObject os x → is_code x.format ≡ true → is_heap_context x ≡ false
+method_other os x sound m = go (is_heap_context x) refl
   where
-    go : (b : Bool) → is_context x ≡ b → is_context x ≡ false
-    go true e = absurd (false≢true (sym (ap is_method (sound.context e).format) ∙ m))
+    go : (b : Bool) → is_heap_context x ≡ b → is_heap_context x ≡ false
+    go true e = absurd (false≢true (sym (ap is_code (sound.context e).format) ∙ m))
     go false e = e
 
 -- ---- one object changes
@@ -63,7 +63,7 @@ method_other os x sound m = go (is_context x) refl
 -- what is said of words is the same in two heaps
 pub record ReadsAlike (os us : List Object) : Type 0 where
   pub references : is_reference us ≡ is_reference os
-  pub nil : nil_of us ≡ nil_of os
+  pub nil : nil_word us ≡ nil_word os
   pub senders : is_sender us ≡ is_sender os
   pub methods : is_nil_or_method us ≡ is_nil_or_method os
   pub closures : is_nil_or_closure us ≡ is_nil_or_closure os
@@ -99,7 +99,7 @@ sound-alike os us alike x s = record {
   method = s.method;
 }
 
-pub sound-with_object : (os : List Object) (a : ℕ) (x : Object) (f : Object → Object) → IsEdit f → IsSound os → object_at os a ≡ Some x → IsSoundObject os (f x) → IsSound (with_object os a f)
+pub sound-with_object : (os : List Object) (a : ℕ) (x : Object) (f : Object → Object) → IsEdit f → AreSoundObjects os → heap_object os a ≡ Some x → IsSoundObject os (f x) → AreSoundObjects (with_object os a f)
 sound-with_object os a x f edit sound there new =
     let s = stands os a x there in
     let list = with_object-stands os a x s.0 f s.1 in
@@ -156,7 +156,7 @@ more os y some x s = record {
   method = s.method;
 }
 
-pub sound-push : (os : List Object) (y : Object) → IsSound os → IsFresh os y.birth → IsSoundObject (os ++ y ∷ []) y → IsSound (os ++ y ∷ [])
+pub sound-push : (os : List Object) (y : Object) → AreSoundObjects os → IsFresh os y.birth → IsSoundObject (os ++ y ∷ []) y → AreSoundObjects (os ++ y ∷ [])
 sound-push os y sound fresh new = record {
   apart = λ j k u v p q e. apart j k u v (slice_get-push os y j u p) (slice_get-push os y k v q) e;
   each = λ k x h. each k x (slice_get-push os y k x h);
@@ -178,7 +178,7 @@ allows_set : (format : ℕ) (ws : List ℕ) (i v : ℕ) → IsTrue (format_allow
 allows_set format ws i v h = subst (λ (n : ℕ). IsTrue (format_allows format n)) (sym (length-set ws i v)) h
 
 -- a slot of a pointer object
-pub sound-set_slot : (os : List Object) (x : Object) (i v : ℕ) → IsSoundObject os x → is_context x ≡ false → is_pointers x.format ≡ true → is_reference os v ≡ true → IsSoundObject os (set_word i v x)
+pub sound-set_slot : (os : List Object) (x : Object) (i v : ℕ) → IsSoundObject os x → is_heap_context x ≡ false → is_pointers x.format ≡ true → is_reference os v ≡ true → IsSoundObject os (set_word i v x)
 sound-set_slot os x i v s other p h = record {
   kind = s.kind;
   flags = s.flags;
@@ -191,10 +191,10 @@ sound-set_slot os x i v s other p h = record {
 }
 
 -- a word of a method behind its header
-sound_method : (os : List Object) (x : Object) (i v : ℕ) → IsSoundObject os x → is_method x.format ≡ true → 0 < i → AllPass (is_reference os) (literals_in (set x.words i v)) → IsSoundObject os (set_word i v x)
+sound_method : (os : List Object) (x : Object) (i v : ℕ) → IsSoundObject os x → is_code x.format ≡ true → 0 < i → AllPass (is_reference os) (literal_words (set x.words i v)) → IsSoundObject os (set_word i v x)
 sound_method os x i v s m h all =
     let word : slice_index (set x.words i v) 0 ≡ slice_index x.words 0 = get_or-set_other x.words i 0 v 0 (λ e. omega (arith, e, h)) in
-    let header : header_in (set x.words i v) ≡ header_in x.words = ap (λ (w : ℕ). unwrap_or (count_of w) 0) word in
+    let header : method_header (set x.words i v) ≡ method_header x.words = ap (λ (w : ℕ). unwrap_or (count_of w) 0) word in
     let old = s.method m in
     record {
       kind = s.kind;
@@ -210,18 +210,18 @@ sound_method os x i v s m h all =
       };
     }
 
-pub sound-set_literal : (os : List Object) (x : Object) (i v : ℕ) → IsSoundObject os x → is_method x.format ≡ true → 0 < i → is_reference os v ≡ true → IsSoundObject os (set_word i v x)
+pub sound-set_literal : (os : List Object) (x : Object) (i v : ℕ) → IsSoundObject os x → is_code x.format ≡ true → 0 < i → is_reference os v ≡ true → IsSoundObject os (set_word i v x)
 sound-set_literal os x i v s m h r =
     sound_method os x i v s m h (subst (AllPass (is_reference os)) (sym (literals_in-set x.words i v h))
-    (All-set (λ (w : ℕ). is_reference os w ≡ true) (literals_in x.words) (i - 1) v r (subst (AllPass (is_reference os)) (references-method x m) s.references)))
+    (All-set (λ (w : ℕ). is_reference os w ≡ true) (literal_words x.words) (i - 1) v r (subst (AllPass (is_reference os)) (references-method x m) s.references)))
 
 -- a word of its bytecodes
-pub sound-set_code : (os : List Object) (x : Object) (i v : ℕ) → IsSoundObject os x → is_method x.format ≡ true → literal_count (header_in x.words) < i → IsSoundObject os (set_word i v x)
+pub sound-set_code : (os : List Object) (x : Object) (i v : ℕ) → IsSoundObject os x → is_code x.format ≡ true → literal_count (method_header x.words) < i → IsSoundObject os (set_word i v x)
 sound-set_code os x i v s m h =
     sound_method os x i v s m (omega (arith, h)) (subst (AllPass (is_reference os)) (sym (literals_in-set_code x.words i v h)) (subst (AllPass (is_reference os)) (references-method x m) s.references))
 
 -- a word of raw bytes
-pub sound-set_bytes : (os : List Object) (x : Object) (i v : ℕ) → IsSoundObject os x → is_context x ≡ false → is_pointers x.format ≡ false → is_method x.format ≡ false → IsSoundObject os (set_word i v x)
+pub sound-set_bytes : (os : List Object) (x : Object) (i v : ℕ) → IsSoundObject os x → is_heap_context x ≡ false → is_pointers x.format ≡ false → is_code x.format ≡ false → IsSoundObject os (set_word i v x)
 sound-set_bytes os x i v s other p m = record {
   kind = s.kind;
   flags = s.flags;
@@ -232,7 +232,7 @@ sound-set_bytes os x i v s other p m = record {
   method = λ n. absurd (false≢true (sym m ∙ n));
 }
   where
-    none : (y : Object) → is_pointers y.format ≡ false → is_method y.format ≡ false → references_in y ≡ []
+    none : (y : Object) → is_pointers y.format ≡ false → is_code y.format ≡ false → references_in y ≡ []
     none y q n = rw (q, n) refl
 
 -- A word of a context. Its sender stays nil, a context or no address; its pc stays nil or a count, and so does its stackp, which is at
@@ -240,8 +240,8 @@ sound-set_bytes os x i v s other p m = record {
 pub record IsContextWrite (os : List Object) (x : Object) (i v : ℕ) : Type 0 where
   pub reference : 0 < i → is_reference os v ≡ true
   pub sender : i ≡ 0 → is_sender os v ≡ true
-  pub pc : i ≡ 1 → IsTrue (v == nil_of os || is_some (count_of v))
-  pub stackp : i ≡ 2 → IsTrue (v == nil_of os || is_some (count_of v))
+  pub pc : i ≡ 1 → IsTrue (v == nil_word os || is_some (count_of v))
+  pub stackp : i ≡ 2 → IsTrue (v == nil_word os || is_some (count_of v))
   pub depth : i ≡ 2 → unwrap_or (count_of v) 0 ≤ length x.words - 6
   pub method : i ≡ 3 → is_nil_or_method os v ≡ true
   pub closure : i ≡ 4 → is_nil_or_closure os v ≡ true
@@ -252,7 +252,7 @@ behind_set P [] i v h all = all
 behind_set P (w ∷ ws) zero v h all = all
 behind_set P (w ∷ ws) (suc i) v h all = All-set P ws i v (h (omega arith)) all
 
-pub sound-set_context : (os : List Object) (x : Object) (i v : ℕ) → IsSoundObject os x → is_context x ≡ true → IsContextWrite os x i v → IsSoundObject os (set_word i v x)
+pub sound-set_context : (os : List Object) (x : Object) (i v : ℕ) → IsSoundObject os x → is_heap_context x ≡ true → IsContextWrite os x i v → IsSoundObject os (set_word i v x)
 sound-set_context os x i v s c w =
     let old = s.context c in
     let whole = whole_context os x s c in
@@ -270,8 +270,8 @@ sound-set_context os x i v s c w =
         format = old.format;
         slots = subst (λ (n : ℕ). IsTrue (n == 22 || n == 62)) (sym slots) old.slots;
         sender = read 0 (λ (u : ℕ). IsTrue (is_sender os u)) (omega (arith, whole.fields)) w.sender old.sender;
-        pc = read 1 (λ (u : ℕ). IsTrue (u == nil_of os || is_some (count_of u))) (omega (arith, whole.fields)) w.pc old.pc;
-        stackp = read 2 (λ (u : ℕ). IsTrue (u == nil_of os || is_some (count_of u))) (omega (arith, whole.fields)) w.stackp old.stackp;
+        pc = read 1 (λ (u : ℕ). IsTrue (u == nil_word os || is_some (count_of u))) (omega (arith, whole.fields)) w.pc old.pc;
+        stackp = read 2 (λ (u : ℕ). IsTrue (u == nil_word os || is_some (count_of u))) (omega (arith, whole.fields)) w.stackp old.stackp;
         depth = subst (λ (n : ℕ). depth_in (set x.words i v) ≤ n - 6) (sym slots)
             (read 2 (λ (u : ℕ). unwrap_or (count_of u) 0 ≤ length x.words - 6) (omega (arith, whole.fields)) w.depth old.depth);
         method = read 3 (λ (u : ℕ). IsTrue (is_nil_or_method os u)) (omega (arith, whole.fields)) w.method old.method;

@@ -13,7 +13,7 @@ use Rattle.cs_word.specs.Word.{kind_of}
 use Rattle.std.proofs.lemmas.Bool.{cases_eq, false≢true}
 use Rattle.std.proofs.lemmas.Bool.Decides.{nat_tests}
 use Rattle.std.proofs.lemmas.List.{length-append}
-use Rattle.cs_heap.specs.Object.{Object, at_index, birth_of, is_object, object_at, with_object}
+use Rattle.cs_heap.specs.Object.{Object, at_index, birth_at, is_object, heap_object, with_object}
 use Rattle.std.proofs.lemmas.List.Elements.{All-take}
 use Rattle.cs_heap.proofs.Laws.{field_of-old, is_object-old, is_object-with_object, length-with_object, object_at-old, object_at-with_object_other, object_at-with_object_same}
 use Rattle.cs_model.specs.Ref as ref
@@ -23,8 +23,8 @@ use Rattle.cs_model.specs.State.{IsHeld, is_class_index, Kept, NamesHeld, RestHe
 use Rattle.cs_model.specs.Operation.{add_of, edit_found, edit_object}
 use Rattle.cs_model.specs.Instance.{with_class, with_last_hash}
 use Rattle.cs_classes.specs.declared.Roots.{Roots}
-use Rattle.cs_classes.specs.Meaning.{birth_at, classes_of, context_of, depth_in, kept_of, literals_in, obj_of, objects_of, ref_of, ref_of_kind}
-use Rattle.cs_classes.specs.Sound.{IsSound, IsSoundClass, IsSoundObject, IsWhole, is_reference}
+use Rattle.cs_classes.specs.Meaning.{nth_birth, classes_of, context_of, depth_in, kept_of, literal_words, obj_of, objects_of, ref_of, ref_of_kind}
+use Rattle.cs_classes.specs.Sound.{AreSoundObjects, IsSoundClass, IsSoundObject, IsWhole, is_reference}
 use Rattle.cs_classes.proofs.Heaps.{object_there, element_within, IsEdit, birth_at-with_object, birth_of-object_at, birth_of-push, birth_of-with_object, is_object-object_at, slice_get-at_index_other, slice_get-at_index_same, slice_get-push, stands, with_object-stands}
 use Rattle.cs_classes.proofs.Objects.{IsFresh, get-objects_of, get-objects_of-element, objects_of-comes, objects_of-push, objects_of-with_object}
 use Rattle.cs_classes.proofs.Refs.{format_of-with_object, is_placed, is_placed_kind, nil_of-push, nil_of-with_object, placed-reference, placed-sender, ref_of-push, ref_of-push_placed, slot_count_of-with_object}
@@ -43,30 +43,30 @@ find-map_values g q (e ∷ es) = go (eq_by_cmp nat_cmp q e.0) (find-map_values g
     go true h = refl
     go false h = h
 
-pub get-classes_of : (os : List Object) (table : FinMap nat_cmp ℕ) (q : ℕ) → get (classes_of os table) q ≡ option_map (birth_of os) (get table q)
+pub get-classes_of : (os : List Object) (table : FinMap nat_cmp ℕ) (q : ℕ) → get (classes_of os table) q ≡ option_map (birth_at os) (get table q)
 unfolding classes_of
 get-classes_of os table q =
-    get-from_entries nat_cmp_total (map (λ (e : ℕ × ℕ). (e.0, birth_of os e.1)) (entries table)) q
-    ∙ find-map_values (birth_of os) q (entries table) ∙ ap (option_map (birth_of os)) (sym (get-entries table q))
+    get-from_entries nat_cmp_total (map (λ (e : ℕ × ℕ). (e.0, birth_at os e.1)) (entries table)) q
+    ∙ find-map_values (birth_at os) q (entries table) ∙ ap (option_map (birth_at os)) (sym (get-entries table q))
 
 -- a class enters the table
-pub classes_of-insert : (os : List Object) (table : FinMap nat_cmp ℕ) (index a : ℕ) → classes_of os (insert table index a) ≡ insert (classes_of os table) index (birth_of os a)
+pub classes_of-insert : (os : List Object) (table : FinMap nat_cmp ℕ) (index a : ℕ) → classes_of os (insert table index a) ≡ insert (classes_of os table) index (birth_at os a)
 classes_of-insert os table index a = same_map nat_cmp_total nat_cmp-IsAntisymmetric _ _ alike
   where
-    moved : (b : Bool) (o : Option ℕ) → option_map (birth_of os) (cond b (Some a) o) ≡ cond b (Some (birth_of os a)) (option_map (birth_of os) o)
+    moved : (b : Bool) (o : Option ℕ) → option_map (birth_at os) (cond b (Some a) o) ≡ cond b (Some (birth_at os a)) (option_map (birth_at os) o)
     moved true o = refl
     moved false o = refl
 
-    alike : (q : ℕ) → get {R = nat_cmp} (classes_of os (insert table index a)) q ≡ get {R = nat_cmp} (insert (classes_of os table) index (birth_of os a)) q
+    alike : (q : ℕ) → get {R = nat_cmp} (classes_of os (insert table index a)) q ≡ get {R = nat_cmp} (insert (classes_of os table) index (birth_at os a)) q
     alike q =
-        get-classes_of os (insert table index a) q ∙ ap (option_map (birth_of os)) (get-insert nat_cmp_total table index a q)
-        ∙ moved (eq_by_cmp nat_cmp q index) (get table q) ∙ ap (cond (eq_by_cmp nat_cmp q index) (Some (birth_of os a))) (sym (get-classes_of os table q))
-        ∙ sym (get-insert nat_cmp_total (classes_of os table) index (birth_of os a) q)
+        get-classes_of os (insert table index a) q ∙ ap (option_map (birth_at os)) (get-insert nat_cmp_total table index a q)
+        ∙ moved (eq_by_cmp nat_cmp q index) (get table q) ∙ ap (cond (eq_by_cmp nat_cmp q index) (Some (birth_at os a))) (sym (get-classes_of os table q))
+        ∙ sym (get-insert nat_cmp_total (classes_of os table) index (birth_at os a) q)
 
-classes_of-alike : (os us : List Object) (table : FinMap nat_cmp ℕ) → ((index a : ℕ) → get table index ≡ Some a → birth_of us a ≡ birth_of os a) → classes_of us table ≡ classes_of os table
+classes_of-alike : (os us : List Object) (table : FinMap nat_cmp ℕ) → ((index a : ℕ) → get table index ≡ Some a → birth_at us a ≡ birth_at os a) → classes_of us table ≡ classes_of os table
 classes_of-alike os us table same = same_map nat_cmp_total nat_cmp-IsAntisymmetric _ _ alike
   where
-    go : (q : ℕ) (o : Option ℕ) → get table q ≡ o → option_map (birth_of us) o ≡ option_map (birth_of os) o
+    go : (q : ℕ) (o : Option ℕ) → get table q ≡ o → option_map (birth_at us) o ≡ option_map (birth_at os) o
     go q None e = refl
     go q (Some a) e = ap Some (same q a e)
 
@@ -74,7 +74,7 @@ classes_of-alike os us table same = same_map nat_cmp_total nat_cmp-IsAntisymmetr
     alike q = get-classes_of us table q ∙ go q (get table q) refl ∙ sym (get-classes_of os table q)
 
 pub kept_of-set_entry : (os : List Object) (table : FinMap nat_cmp ℕ) (roots : Roots) (active : Option ℕ) (index a : ℕ)
-    → kept_of os (insert table index a) roots active ≡ with_rest (with_class index (birth_of os a) (kept_of os table roots active).rest) (kept_of os table roots active)
+    → kept_of os (insert table index a) roots active ≡ with_rest (with_class index (birth_at os a) (kept_of os table roots active).rest) (kept_of os table roots active)
 kept_of-set_entry os table roots active index a = ap (λ (classes : FinMap nat_cmp ℕ). with_rest (record (kept_of os table roots active).rest { classes = classes }) (kept_of os table roots active)) (classes_of-insert os table index a)
 
 -- A class may take this index: it is none of the reserved ones, which are at most 16, and the class has it as its hash.
@@ -82,7 +82,7 @@ pub record CanTake (os : List Object) (index a : ℕ) : Type 0 where
   pub within : index < 16384
   pub free : 16 < index
   pub there : is_object os a ≡ true
-  pub class : (x : Object) → object_at os a ≡ Some x → IsSoundClass index x
+  pub class : (x : Object) → heap_object os a ≡ Some x → IsSoundClass index x
 
 pub whole-set_entry : (os : List Object) (table : FinMap nat_cmp ℕ) (roots : Roots) (index a : ℕ) → IsWhole os table roots → CanTake os index a → IsWhole os (insert table index a) roots
 whole-set_entry os table roots index a w can = record {
@@ -128,8 +128,8 @@ whole-set_entry os table roots index a w can = record {
     within i b (inl h) = omega (arith, h.0, can.within)
     within i b (inr h) = w.entries.within i b h
 
-    class : (i b : ℕ) (x : Object) → (i ≢ 3) → object_at os b ≡ Some x → ((i ≡ index) × (a ≡ b)) ⊎ (get table i ≡ Some b) → IsSoundClass i x
-    class i b x three h (inl e) = subst (λ n. IsSoundClass n x) (sym e.0) (can.class x (ap (object_at os) e.1 ∙ h))
+    class : (i b : ℕ) (x : Object) → (i ≢ 3) → heap_object os b ≡ Some x → ((i ≡ index) × (a ≡ b)) ⊎ (get table i ≡ Some b) → IsSoundClass i x
+    class i b x three h (inl e) = subst (λ n. IsSoundClass n x) (sym e.0) (can.class x (ap (heap_object os) e.1 ∙ h))
     class i b x three h (inr e) = w.entries.class i b x e three h
 
     entered : (b : Bool) (o : Option ℕ) {p : Option ℕ} → p ≡ cond b (Some a) o → is_some o ≡ true → is_some p ≡ true
@@ -141,7 +141,7 @@ whole-set_entry os table roots index a w can = record {
     there i b (inr e) = w.classes i b e
 
 -- an object without a hash is in no entry
-pub no_entry : (os : List Object) (table : FinMap nat_cmp ℕ) (roots : Roots) (a : ℕ) (x : Object) → IsWhole os table roots → object_at os a ≡ Some x → x.hash ≡ 0
+pub no_entry : (os : List Object) (table : FinMap nat_cmp ℕ) (roots : Roots) (a : ℕ) (x : Object) → IsWhole os table roots → heap_object os a ≡ Some x → x.hash ≡ 0
     → (index : ℕ) → get table index ≡ Some a → ⊥
 no_entry os table roots a x w there none index e = go (cases_eq index 3)
   where
@@ -170,17 +170,17 @@ kind_of-entry os table roots class w entry one two three =
 -- ---- one object changes
 
 pub kept_of-with_object : (os : List Object) (table : FinMap nat_cmp ℕ) (roots : Roots) (active : Option ℕ) (a : ℕ) (x : Object) (f : Object → Object) (g : Obj → Obj)
-    → IsEdit f → IsSound os → object_at os a ≡ Some x → obj_of (ref_of os) (f x) ≡ g (obj_of (ref_of os) x)
-    → kept_of (with_object os a f) table roots active ≡ edit_object (kept_of os table roots active) (ref.Obj (birth_of os a)) g
+    → IsEdit f → AreSoundObjects os → heap_object os a ≡ Some x → obj_of (ref_of os) (f x) ≡ g (obj_of (ref_of os) x)
+    → kept_of (with_object os a f) table roots active ≡ edit_object (kept_of os table roots active) (ref.Obj (birth_at os a)) g
 unfolding put
 kept_of-with_object os table roots active a x f g edit sound there means =
     let k : Kept = kept_of os table roots active in
-    let birth : birth_of os a ≡ x.birth = birth_of-object_at os a x there in
-    let found : get (objects_of os) (birth_of os a) ≡ Some (obj_of (ref_of os) x) = get-objects_of os a sound (is_object-object_at os a x there) ∙ ap (option_map (obj_of (ref_of os))) there in
-    let objects : objects_of (with_object os a f) ≡ insert (objects_of os) (birth_of os a) (g (obj_of (ref_of os) x)) =
+    let birth : birth_at os a ≡ x.birth = birth_of-object_at os a x there in
+    let found : get (objects_of os) (birth_at os a) ≡ Some (obj_of (ref_of os) x) = get-objects_of os a sound (is_object-object_at os a x there) ∙ ap (option_map (obj_of (ref_of os))) there in
+    let objects : objects_of (with_object os a f) ≡ insert (objects_of os) (birth_at os a) (g (obj_of (ref_of os) x)) =
     objects_of-with_object os a x f edit sound.apart there ∙ ap₂ (insert (objects_of os)) (sym birth) means in
     let classes = classes_of-alike os (with_object os a f) table (λ index b e. birth_of-with_object os a b f edit) in
-    let changed : kept_of (with_object os a f) table roots active ≡ put k (birth_of os a) (g (obj_of (ref_of os) x)) = λ i. record {
+    let changed : kept_of (with_object os a f) table roots active ≡ put k (birth_at os a) (g (obj_of (ref_of os) x)) = λ i. record {
       objects = objects i;
       rest = record {
         nil = birth_at-with_object os a 0 f edit i;
@@ -194,7 +194,7 @@ kept_of-with_object os table roots active a x f g edit sound there means =
         active = active;
       };
     } in
-    changed ∙ sym (ap (λ (o : Option Obj). edit_found g (birth_of os a) o k) found)
+    changed ∙ sym (ap (λ (o : Option Obj). edit_found g (birth_at os a) o k) found)
 
 -- what an object was before one was edited
 pub record Before (os : List Object) (j : ℕ) (y : Object) : Type 0 where
@@ -209,7 +209,7 @@ abbrev pub HashFits : FinMap nat_cmp ℕ → ℕ → ℕ → Type 0
 HashFits table a hash = (index : ℕ) → get table index ≡ Some a → index ≢ 3 → hash ≡ index
 
 pub whole-with_hash : (os : List Object) (table : FinMap nat_cmp ℕ) (roots : Roots) (a : ℕ) (x : Object) (f : Object → Object)
-    → IsEdit f → HashFits table a (f x).hash → IsWhole os table roots → object_at os a ≡ Some x → IsSoundObject os (f x) → IsWhole (with_object os a f) table roots
+    → IsEdit f → HashFits table a (f x).hash → IsWhole os table roots → heap_object os a ≡ Some x → IsSoundObject os (f x) → IsWhole (with_object os a f) table roots
 whole-with_hash os table roots a x f edit hash w there new =
     let s = stands os a x there in
     let list = with_object-stands os a x s.0 f s.1 in
@@ -262,13 +262,13 @@ whole-with_hash os table roots a x f edit hash w there new =
         go (inl e) = changed (slice_get os j) refl (sym (slice_get-at_index_same j f os) ∙ ap (λ (n : ℕ). slice_get (at_index n f os) j) (sym e) ∙ h)
         go (inr other) = record { object = y; element = sym (slice_get-at_index_other k j f os other) ∙ h; birth = refl; class = refl; format = refl }
 
-    class : (index b : ℕ) (y : Object) → get table index ≡ Some b → index ≢ 3 → object_at (with_object os a f) b ≡ Some y → IsSoundClass index y
+    class : (index b : ℕ) (y : Object) → get table index ≡ Some b → index ≢ 3 → heap_object (with_object os a f) b ≡ Some y → IsSoundClass index y
     class index b y e three h = go (cases_eq a b)
       where
         go : (a ≡ b) ⊎ (a ≡ b → ⊥) → IsSoundClass index y
         go (inl is) =
             let entry : get table index ≡ Some a = e ∙ ap Some (sym is) in
-            let found : option_map f (Some x) ≡ Some y = sym (object_at-with_object_same os a f edit.slots ∙ ap (option_map f) there) ∙ ap (object_at (with_object os a f)) is ∙ h in
+            let found : option_map f (Some x) ≡ Some y = sym (object_at-with_object_same os a f edit.slots ∙ ap (option_map f) there) ∙ ap (heap_object (with_object os a f)) is ∙ h in
             let same : f x ≡ y = cc in
             let old = w.entries.class index a x entry three there in
             subst (IsSoundClass index) same (record {
@@ -281,7 +281,7 @@ whole-with_hash os table roots a x f edit hash w there new =
 
 -- the same where its hash stays
 pub whole-with_object : (os : List Object) (table : FinMap nat_cmp ℕ) (roots : Roots) (a : ℕ) (x : Object) (f : Object → Object)
-    → IsEdit f → (f x).hash ≡ x.hash → IsWhole os table roots → object_at os a ≡ Some x → IsSoundObject os (f x) → IsWhole (with_object os a f) table roots
+    → IsEdit f → (f x).hash ≡ x.hash → IsWhole os table roots → heap_object os a ≡ Some x → IsSoundObject os (f x) → IsWhole (with_object os a f) table roots
 whole-with_object os table roots a x f edit hash w there new =
     whole-with_hash os table roots a x f edit (λ index e three. hash ∙ (w.entries.class index a x e three there).hash) w there new
 
@@ -297,7 +297,7 @@ obj_of-push os y x s = obj_of-alike (is_reference os) (ref_of (os ++ y ∷ [])) 
     (λ c. let whole = whole_context os x s c in
     (whole.format, (whole.fields, ref_of-push_placed os y (slice_index x.words 0) (placed-sender os (slice_index x.words 0) whole.sender))))
 
-births_push : (os : List Object) (y : Object) (k : ℕ) → k < length os → birth_at (os ++ y ∷ []) k ≡ birth_at os k
+births_push : (os : List Object) (y : Object) (k : ℕ) → k < length os → nth_birth (os ++ y ∷ []) k ≡ nth_birth os k
 births_push [] y k h = absurd (omega (arith, h))
 births_push (x ∷ os) y zero h = refl
 births_push (x ∷ os) y (suc k) h = births_push os y k (omega (arith, h))
@@ -379,7 +379,7 @@ whole-push os table roots y w next class new = record {
 
 -- ---- what the kept parts name is there
 
-ref_of-held_placed : (os : List Object) (table : FinMap nat_cmp ℕ) (roots : Roots) (active : Option ℕ) (w : ℕ) → IsSound os → is_placed os w ≡ true → IsHeld (kept_of os table roots active) (ref_of os w)
+ref_of-held_placed : (os : List Object) (table : FinMap nat_cmp ℕ) (roots : Roots) (active : Option ℕ) (w : ℕ) → AreSoundObjects os → is_placed os w ≡ true → IsHeld (kept_of os table roots active) (ref_of os w)
 unfolding ref_of is_placed
 ref_of-held_placed os table roots active w sound h = at (kind_of w) h
   where
@@ -391,16 +391,16 @@ ref_of-held_placed os table roots active w sound h = at (kind_of w) h
         ap is_some (get-objects_of os a sound h ∙ ap (option_map (obj_of (ref_of os))) x.1)
     at (kind.Link b) h = tt
 
-pub ref_of-held : (os : List Object) (table : FinMap nat_cmp ℕ) (roots : Roots) (active : Option ℕ) (w : ℕ) → IsSound os → is_reference os w ≡ true → IsHeld (kept_of os table roots active) (ref_of os w)
+pub ref_of-held : (os : List Object) (table : FinMap nat_cmp ℕ) (roots : Roots) (active : Option ℕ) (w : ℕ) → AreSoundObjects os → is_reference os w ≡ true → IsHeld (kept_of os table roots active) (ref_of os w)
 ref_of-held os table roots active w sound h = ref_of-held_placed os table roots active w sound (placed-reference os w h)
 
-all_held : (os : List Object) (table : FinMap nat_cmp ℕ) (roots : Roots) (active : Option ℕ) → IsSound os → (ws : List ℕ) → AllPass (is_reference os) ws
+all_held : (os : List Object) (table : FinMap nat_cmp ℕ) (roots : Roots) (active : Option ℕ) → AreSoundObjects os → (ws : List ℕ) → AllPass (is_reference os) ws
     → AllByRecursion (IsHeld (kept_of os table roots active)) (map (ref_of os) ws)
 all_held os table roots active sound [] all = tt
 all_held os table roots active sound (w ∷ ws) all =
     (ref_of-held os table roots active w sound (all 0 0 (omega arith)), all_held os table roots active sound ws (λ k d l. all (suc k) d (omega (arith, l))))
 
-pub obj_of-held : (os : List Object) (table : FinMap nat_cmp ℕ) (roots : Roots) (active : Option ℕ) (x : Object) → IsSound os → IsSoundObject os x → NamesHeld (kept_of os table roots active) (obj_of (ref_of os) x)
+pub obj_of-held : (os : List Object) (table : FinMap nat_cmp ℕ) (roots : Roots) (active : Option ℕ) (x : Object) → AreSoundObjects os → IsSoundObject os x → NamesHeld (kept_of os table roots active) (obj_of (ref_of os) x)
 unfolding context_of
 obj_of-held os table roots active x sound s = go (sort_of x)
   where
@@ -422,16 +422,16 @@ obj_of-held os table roots active x sound s = go (sort_of x)
     go (Pointers o p) = subst held (sym (obj_of-pointers (ref_of os) x o p))
         (all_held os table roots active sound x.words (subst (AllPass (is_reference os)) (references-pointers x o p) s.references))
     go (AMethod o p m) = subst held (sym (obj_of-method (ref_of os) x o p m))
-        (all_held os table roots active sound (literals_in x.words) (subst (AllPass (is_reference os)) (references-method x m) s.references))
+        (all_held os table roots active sound (literal_words x.words) (subst (AllPass (is_reference os)) (references-method x m) s.references))
     go (Bytes o p m) = subst held (sym (obj_of-bytes (ref_of os) x o p m)) tt
 
 -- all that an object names is there
-pub kept_of-closed : (os : List Object) (table : FinMap nat_cmp ℕ) (roots : Roots) (active : Option ℕ) (i : ℕ) (o : Obj) → IsSound os → get (objects_of os) i ≡ Some o → NamesHeld (kept_of os table roots active) o
+pub kept_of-closed : (os : List Object) (table : FinMap nat_cmp ℕ) (roots : Roots) (active : Option ℕ) (i : ℕ) (o : Obj) → AreSoundObjects os → get (objects_of os) i ≡ Some o → NamesHeld (kept_of os table roots active) o
 kept_of-closed os table roots active i o sound h =
     let from = objects_of-comes os i o sound.apart h in
     subst (NamesHeld (kept_of os table roots active)) from.meaning (obj_of-held os table roots active from.object sound (sound.each from.place from.object from.element))
 
-birth_at-held : (os : List Object) (table : FinMap nat_cmp ℕ) (roots : Roots) (active : Option ℕ) (k : ℕ) → IsSound os → k < length os → IsHeld (kept_of os table roots active) (ref.Obj (birth_at os k))
+birth_at-held : (os : List Object) (table : FinMap nat_cmp ℕ) (roots : Roots) (active : Option ℕ) (k : ℕ) → AreSoundObjects os → k < length os → IsHeld (kept_of os table roots active) (ref.Obj (nth_birth os k))
 birth_at-held os table roots active k sound l =
     let x = element_within os k l in
     ap is_some (ap (λ (o : Option Object). get (objects_of os) (option_map_or (λ (y : Object). y.birth) o 0)) x.1 ∙ get-objects_of-element os k x.0 sound.apart x.1)
@@ -447,12 +447,12 @@ kept_of-roots os table roots active w running = record {
   active = running;
 }
   where
-    object_held : (a : ℕ) → is_object os a ≡ true → IsHeld (kept_of os table roots active) (ref.Obj (birth_of os a))
+    object_held : (a : ℕ) → is_object os a ≡ true → IsHeld (kept_of os table roots active) (ref.Obj (birth_at os a))
     object_held a h = let x = object_there os a h in ap is_some (get-objects_of os a w.heap h ∙ ap (option_map (obj_of (ref_of os))) x.1)
 
-    class_held : (index i : ℕ) (o : Option ℕ) → get table index ≡ o → option_map (birth_of os) o ≡ Some i → IsHeld (kept_of os table roots active) (ref.Obj i)
+    class_held : (index i : ℕ) (o : Option ℕ) → get table index ≡ o → option_map (birth_at os) o ≡ Some i → IsHeld (kept_of os table roots active) (ref.Obj i)
     class_held index i None e h = absurd (cc)
-    class_held index i (Some a) e h = let is : birth_of os a ≡ i = cc in subst (λ (n : ℕ). IsHeld (kept_of os table roots active) (ref.Obj n)) is (object_held a (w.classes index a e))
+    class_held index i (Some a) e h = let is : birth_at os a ≡ i = cc in subst (λ (n : ℕ). IsHeld (kept_of os table roots active) (ref.Obj n)) is (object_held a (w.classes index a e))
 
 -- what is there is below the next birth
 pub kept_of-below : (os : List Object) (table : FinMap nat_cmp ℕ) (roots : Roots) (i : ℕ) (o : Obj) → IsWhole os table roots → get (objects_of os) i ≡ Some o → i < roots.next_birth

@@ -11,8 +11,8 @@ use Rattle.std.proofs.lemmas.Bool.{or_right}
 use Rattle.std.proofs.lemmas.Bool.Decides.{nat_tests}
 use Rattle.std.proofs.lemmas.List.{length-set}
 use Rattle.cs_word.specs.Word.{small_word}
-use Rattle.cs_heap.specs.Format.{is_method, is_pointers}
-use Rattle.cs_heap.specs.Object.{Object, birth_of, class_of, format_of, hash_of, is_object, slot_count_of, object_at, set_word, slot_of, with_byte, with_hash, with_object, with_slot}
+use Rattle.cs_heap.specs.Format.{is_code, is_pointers}
+use Rattle.cs_heap.specs.Object.{Object, birth_at, class_at, format_at, hash_at, is_object, slot_count_of, heap_object, set_word, slot_of, byte_set, hash_set, with_object, slot_set}
 use Rattle.cs_heap.specs.Object as heap
 use Rattle.cs_model.specs.Ref.{Ref}
 use Rattle.cs_model.specs.Obj.{Context, Obj, edit_context, literal_count, popped, pushed, stored, with_pc, with_stack}
@@ -20,8 +20,8 @@ use Rattle.cs_model.specs.State.{Kept}
 use Rattle.cs_model.specs.Operation.{edit_object, store_byte_of, store_of}
 use Rattle.cs_model.specs.Operation as operation
 use Rattle.cs_classes.specs.declared.Roots.{Roots}
-use Rattle.cs_classes.specs.Meaning.{context_of, count_of, depth_in, header_in, is_context, kept_of, obj_of, objects_of, ref_of}
-use Rattle.cs_classes.specs.Sound.{IsSoundObject, IsWhole, is_reference, is_sender, nil_of}
+use Rattle.cs_classes.specs.Meaning.{context_of, count_of, depth_in, method_header, is_heap_context, kept_of, obj_of, objects_of, ref_of}
+use Rattle.cs_classes.specs.Sound.{IsSoundObject, IsWhole, is_reference, is_sender, nil_word}
 use Rattle.cs_classes.proofs.Heaps.{IsEdit, is_object-object_at, object_there, set_word-IsEdit, with_object-twice}
 use Rattle.cs_classes.proofs.Objects.{get-objects_of}
 use Rattle.cs_classes.proofs.Refs.{count_of-small, is_nil_or_closure, is_nil_or_method, is_reference-small, ref_of-object, small_natural}
@@ -38,18 +38,18 @@ pub record Does (os us : List Object) (table : FinMap nat_cmp ℕ) (roots : Root
 -- what is known of the object that is written
 pub record Holds (os : List Object) (table : FinMap nat_cmp ℕ) (roots : Roots) (a : ℕ) (x : Object) : Type 0 where
   pub whole : IsWhole os table roots
-  pub there : object_at os a ≡ Some x
+  pub there : heap_object os a ≡ Some x
 
 -- the object at an address, and what the heap answers of it
 pub record Known (os : List Object) (table : FinMap nat_cmp ℕ) (roots : Roots) (a : ℕ) : Type 0 where
   pub object : Object
   pub holds : Holds os table roots a object
-  pub class : class_of os a ≡ object.class
-  pub format : format_of os a ≡ object.format
-  pub hash : hash_of os a ≡ object.hash
+  pub class : class_at os a ≡ object.class
+  pub format : format_at os a ≡ object.format
+  pub hash : hash_at os a ≡ object.hash
   pub count : slot_count_of os a ≡ length object.words
   pub slot : (i : ℕ) → slot_of os a i ≡ slice_index object.words i
-  pub meaning : get (objects_of os) (birth_of os a) ≡ Some (obj_of (ref_of os) object)
+  pub meaning : get (objects_of os) (birth_at os a) ≡ Some (obj_of (ref_of os) object)
 
 pub known : (os : List Object) (table : FinMap nat_cmp ℕ) (roots : Roots) (a : ℕ) → IsWhole os table roots → is_object os a ≡ true → Known os table roots a
 known os table roots a w h =
@@ -69,7 +69,7 @@ slots_at_most : (n : ℕ) → (n == 22 || n == 62) ≡ true → n ≤ 62
 slots_at_most n h = grind (arith, nat_tests)
 
 -- the depth of a stack is a SmallInteger
-small_depth : (os : List Object) (x : Object) (d : ℕ) → IsSoundObject os x → is_context x ≡ true → d ≤ length x.words - 6 → d < 2 ^ 30
+small_depth : (os : List Object) (x : Object) (d : ℕ) → IsSoundObject os x → is_heap_context x ≡ true → d ≤ length x.words - 6 → d < 2 ^ 30
 small_depth os x d s c l = omega (arith, l, slots_at_most (length x.words) (s.context c).slots)
 
 module _ {os : List Object} {table : FinMap nat_cmp ℕ} {roots : Roots} {a : ℕ} {x : Object} (h : Holds os table roots a x) where
@@ -95,64 +95,64 @@ module _ {os : List Object} {table : FinMap nat_cmp ℕ} {roots : Roots} {a : �
 
   -- ---- pointer objects
 
-  pub does-set_slot : (i v : ℕ) → is_context x ≡ false → is_pointers x.format ≡ true → is_reference os v ≡ true
-      → Does os (with_slot os a i v) table roots (λ k. store_of k (ref_of os a) i (ref_of os v))
+  pub does-set_slot : (i v : ℕ) → is_heap_context x ≡ false → is_pointers x.format ≡ true → is_reference os v ≡ true
+      → Does os (slot_set os a i v) table roots (λ k. store_of k (ref_of os a) i (ref_of os v))
   unfolding store_of
   does-set_slot i v other p r =
       does-edit (set_word i v) (operation.with_slot i (ref_of os v)) (set_word-IsEdit i v) refl (sound-set_slot os x i v sound_object other p r) (obj_of-set_word (ref_of os) x i v other p)
 
   -- ---- methods
 
-  pub does-set_literal : (i v : ℕ) → is_method x.format ≡ true → 0 < i → i ≤ literal_count (header_in x.words) → is_reference os v ≡ true
-      → Does os (with_slot os a i v) table roots (λ k. store_of k (ref_of os a) i (ref_of os v))
+  pub does-set_literal : (i v : ℕ) → is_code x.format ≡ true → 0 < i → i ≤ literal_count (method_header x.words) → is_reference os v ≡ true
+      → Does os (slot_set os a i v) table roots (λ k. store_of k (ref_of os a) i (ref_of os v))
   unfolding store_of
   does-set_literal i v m l u r =
       does-edit (set_word i v) (operation.with_slot i (ref_of os v)) (set_word-IsEdit i v) refl (sound-set_literal os x i v sound_object m l r)
       (obj_of-set_literal (ref_of os) x i v (method_other os x sound_object m) m l u)
 
   -- bytecode i, counted from behind the literals
-  pub does-set_code : (i b : ℕ) → is_method x.format ≡ true → b < 256
-      → Does os (with_byte os a (4 * (1 + literal_count (header_in x.words)) + i) b) table roots (λ k. store_byte_of k (ref_of os a) i b)
+  pub does-set_code : (i b : ℕ) → is_code x.format ≡ true → b < 256
+      → Does os (byte_set os a (4 * (1 + literal_count (method_header x.words)) + i) b) table roots (λ k. store_byte_of k (ref_of os a) i b)
   unfolding store_byte_of
   does-set_code i b m f =
-      let n : ℕ = 4 * (1 + literal_count (header_in x.words)) + i in
+      let n : ℕ = 4 * (1 + literal_count (method_header x.words)) + i in
       let v : ℕ = heap.with_byte_in (slice_index x.words (n / 4)) (n % 4) b in
       let done = does-edit (set_word (n / 4) v) (operation.with_byte i b) (set_word-IsEdit (n / 4) v) refl (sound-set_code os x (n / 4) v sound_object m (omega arith))
       (obj_of-set_code (ref_of os) x i b (method_other os x sound_object m) m f) in
-      subst (λ (w : ℕ). Does os (with_slot os a (n / 4) (heap.with_byte_in w (n % 4) b)) table roots (λ k. edit_object k (ref_of os a) (operation.with_byte i b))) (sym (slot_is (n / 4))) done
+      subst (λ (w : ℕ). Does os (slot_set os a (n / 4) (heap.with_byte_in w (n % 4) b)) table roots (λ k. edit_object k (ref_of os a) (operation.with_byte i b))) (sym (slot_is (n / 4))) done
 
   -- ---- raw bytes
 
-  pub does-set_byte : (i b : ℕ) → is_context x ≡ false → is_pointers x.format ≡ false → is_method x.format ≡ false → b < 256
-      → Does os (with_byte os a i b) table roots (λ k. store_byte_of k (ref_of os a) i b)
+  pub does-set_byte : (i b : ℕ) → is_heap_context x ≡ false → is_pointers x.format ≡ false → is_code x.format ≡ false → b < 256
+      → Does os (byte_set os a i b) table roots (λ k. store_byte_of k (ref_of os a) i b)
   unfolding store_byte_of
   does-set_byte i b other p m f =
       let v : ℕ = heap.with_byte_in (slice_index x.words (i / 4)) (i % 4) b in
       let done = does-edit (set_word (i / 4) v) (operation.with_byte i b) (set_word-IsEdit (i / 4) v) refl (sound-set_bytes os x (i / 4) v sound_object other p m)
       (obj_of-set_byte (ref_of os) x i b other p m f) in
-      subst (λ (w : ℕ). Does os (with_slot os a (i / 4) (heap.with_byte_in w (i % 4) b)) table roots (λ k. edit_object k (ref_of os a) (operation.with_byte i b))) (sym (slot_is (i / 4))) done
+      subst (λ (w : ℕ). Does os (slot_set os a (i / 4) (heap.with_byte_in w (i % 4) b)) table roots (λ k. edit_object k (ref_of os a) (operation.with_byte i b))) (sym (slot_is (i / 4))) done
 
   -- ---- hashes
 
   -- a class of the table keeps its index as its hash
-  pub does-set_hash : (hash : ℕ) → HashFits table a hash → Does os (with_hash os a hash) table roots (λ k. edit_object k (ref_of os a) (operation.with_hash hash))
+  pub does-set_hash : (hash : ℕ) → HashFits table a hash → Does os (hash_set os a hash) table roots (λ k. edit_object k (ref_of os a) (operation.with_hash hash))
   does-set_hash hash fits =
       does-edit_by (λ (y : Object). record y { hash = hash }) (operation.with_hash hash)
       (record { slots = λ (y : Object). refl; birth = λ (y : Object). refl; class = λ (y : Object). refl; format = λ (y : Object). refl })
       fits (sound-hash os x hash sound_object) (obj_of-hash (ref_of os) x hash)
 
   -- an object that has no hash yet may take any
-  pub does-first_hash : (hash : ℕ) → x.hash ≡ 0 → Does os (with_hash os a hash) table roots (λ k. edit_object k (ref_of os a) (operation.with_hash hash))
+  pub does-first_hash : (hash : ℕ) → x.hash ≡ 0 → Does os (hash_set os a hash) table roots (λ k. edit_object k (ref_of os a) (operation.with_hash hash))
   does-first_hash hash none = does-set_hash hash (λ index e three. absurd (no_entry os table roots a x h.whole h.there none index e))
 
   -- ---- contexts
 
-  module _ (c : is_context x ≡ true) where
+  module _ (c : is_heap_context x ≡ true) where
     fields : 6 ≤ length x.words
     fields = (whole_context os x sound_object c).fields
 
     context_edit : (i v : ℕ) (g : Context → Context) → IsContextWrite os x i v → context_of (ref_of os) x.hash (set x.words i v) ≡ g (context_of (ref_of os) x.hash x.words)
-        → Does os (with_slot os a i v) table roots (λ k. edit_object k (ref_of os a) (edit_context g))
+        → Does os (slot_set os a i v) table roots (λ k. edit_object k (ref_of os a) (edit_context g))
     context_edit i v g write means =
         does-edit (set_word i v) (edit_context g) (set_word-IsEdit i v) refl (sound-set_context os x i v sound_object c write) (obj_of-edit_context (ref_of os) x (set_word i v x) g c c means)
 
@@ -169,7 +169,7 @@ module _ {os : List Object} {table : FinMap nat_cmp ℕ} {roots : Roots} {a : �
     }
 
     -- nil, a context, or no address
-    pub does-set_sender : (v : ℕ) → is_sender os v ≡ true → Does os (with_slot os a 0 v) table roots (λ k. edit_object k (ref_of os a) (edit_context (λ d. record d { sender = ref_of os v })))
+    pub does-set_sender : (v : ℕ) → is_sender os v ≡ true → Does os (slot_set os a 0 v) table roots (λ k. edit_object k (ref_of os a) (edit_context (λ d. record d { sender = ref_of os v })))
     does-set_sender v r =
         context_edit 0 v (λ d. record d { sender = ref_of os v }) (record {
           reference = λ e. absurd (omega (arith, e));
@@ -182,7 +182,7 @@ module _ {os : List Object} {table : FinMap nat_cmp ℕ} {roots : Roots} {a : �
         }) (context_of-sender (ref_of os) x.hash x.words v fields)
 
     -- nil, or a SmallInteger that isn't negative
-    pub does-set_pc : (v : ℕ) → is_reference os v ≡ true → IsTrue (v == nil_of os || is_some (count_of v)) → Does os (with_slot os a 1 v) table roots (λ k. edit_object k (ref_of os a) (edit_context (with_pc (count_of v))))
+    pub does-set_pc : (v : ℕ) → is_reference os v ≡ true → IsTrue (v == nil_word os || is_some (count_of v)) → Does os (slot_set os a 1 v) table roots (λ k. edit_object k (ref_of os a) (edit_context (with_pc (count_of v))))
     does-set_pc v r h =
         context_edit 1 v (with_pc (count_of v)) (record {
           reference = λ some. r;
@@ -195,7 +195,7 @@ module _ {os : List Object} {table : FinMap nat_cmp ℕ} {roots : Roots} {a : �
         }) (context_of-pc (ref_of os) x.hash x.words v fields)
 
     -- nil or a method
-    pub does-set_method : (v : ℕ) → is_reference os v ≡ true → is_nil_or_method os v ≡ true → Does os (with_slot os a 3 v) table roots (λ k. edit_object k (ref_of os a) (edit_context (λ d. record d { method = ref_of os v })))
+    pub does-set_method : (v : ℕ) → is_reference os v ≡ true → is_nil_or_method os v ≡ true → Does os (slot_set os a 3 v) table roots (λ k. edit_object k (ref_of os a) (edit_context (λ d. record d { method = ref_of os v })))
     does-set_method v r h =
         context_edit 3 v (λ d. record d { method = ref_of os v }) (record {
           reference = λ some. r;
@@ -208,7 +208,7 @@ module _ {os : List Object} {table : FinMap nat_cmp ℕ} {roots : Roots} {a : �
         }) (context_of-method (ref_of os) x.hash x.words v fields)
 
     -- nil or a closure
-    pub does-set_closure : (v : ℕ) → is_reference os v ≡ true → is_nil_or_closure os v ≡ true → Does os (with_slot os a 4 v) table roots (λ k. edit_object k (ref_of os a) (edit_context (λ d. record d { closure = ref_of os v })))
+    pub does-set_closure : (v : ℕ) → is_reference os v ≡ true → is_nil_or_closure os v ≡ true → Does os (slot_set os a 4 v) table roots (λ k. edit_object k (ref_of os a) (edit_context (λ d. record d { closure = ref_of os v })))
     does-set_closure v r h =
         context_edit 4 v (λ d. record d { closure = ref_of os v }) (record {
           reference = λ some. r;
@@ -220,12 +220,12 @@ module _ {os : List Object} {table : FinMap nat_cmp ℕ} {roots : Roots} {a : �
           closure = λ e. h;
         }) (context_of-closure (ref_of os) x.hash x.words v fields)
 
-    pub does-set_receiver : (v : ℕ) → is_reference os v ≡ true → Does os (with_slot os a 5 v) table roots (λ k. edit_object k (ref_of os a) (edit_context (λ d. record d { receiver = ref_of os v })))
+    pub does-set_receiver : (v : ℕ) → is_reference os v ≡ true → Does os (slot_set os a 5 v) table roots (λ k. edit_object k (ref_of os a) (edit_context (λ d. record d { receiver = ref_of os v })))
     does-set_receiver v r =
         context_edit 5 v (λ d. record d { receiver = ref_of os v }) (plain 5 v (omega arith) r) (context_of-receiver (ref_of os) x.hash x.words v fields)
 
     -- a value of the stack, counted from the lowest; a word beyond the stack means nothing
-    pub does-set_stack : (i v : ℕ) → is_reference os v ≡ true → Does os (with_slot os a (6 + i) v) table roots (λ k. edit_object k (ref_of os a) (edit_context (stored i (ref_of os v))))
+    pub does-set_stack : (i v : ℕ) → is_reference os v ≡ true → Does os (slot_set os a (6 + i) v) table roots (λ k. edit_object k (ref_of os a) (edit_context (stored i (ref_of os v))))
     does-set_stack i v r =
         context_edit (6 + i) v (stored i (ref_of os v)) (plain (6 + i) v (omega arith) r) (context_of-stack (ref_of os) x.hash x.words i v fields)
 
@@ -238,14 +238,14 @@ module _ {os : List Object} {table : FinMap nat_cmp ℕ} {roots : Roots} {a : �
           reference = λ some. is_reference-small os (pos d) (small_natural d small);
           sender = λ e. absurd (omega (arith, e));
           pc = λ e. absurd (omega (arith, e));
-          stackp = λ e. or_right (small_word (pos d) == nil_of os) (is_some (count_of (small_word (pos d)))) (ap is_some count);
+          stackp = λ e. or_right (small_word (pos d) == nil_word os) (is_some (count_of (small_word (pos d)))) (ap is_some count);
           depth = λ e. omega (arith, ap (λ (o : Option ℕ). unwrap_or o 0) count, l, long);
           method = λ e. absurd (omega (arith, e));
           closure = λ e. absurd (omega (arith, e));
         }
 
     -- the n topmost values leave the stack
-    pub does-pop : (n : ℕ) → Does os (with_slot os a 2 (small_word (pos (depth_in x.words - n)))) table roots (λ k. edit_object k (ref_of os a) (edit_context (popped n)))
+    pub does-pop : (n : ℕ) → Does os (slot_set os a 2 (small_word (pos (depth_in x.words - n)))) table roots (λ k. edit_object k (ref_of os a) (edit_context (popped n)))
     does-pop n =
         let whole = whole_context os x sound_object c in
         let d : ℕ = depth_in x.words - n in
@@ -258,7 +258,7 @@ module _ {os : List Object} {table : FinMap nat_cmp ℕ} {roots : Roots} {a : �
 
     -- the stack is so deep: what stands in its words
     pub does-set_stackp : (d : ℕ) → d ≤ length x.words - 6
-        → Does os (with_slot os a 2 (small_word (pos d))) table roots (λ k. edit_object k (ref_of os a) (edit_context (with_stack (map (ref_of os) (take d (drop 6 x.words))))))
+        → Does os (slot_set os a 2 (small_word (pos d))) table roots (λ k. edit_object k (ref_of os a) (edit_context (with_stack (map (ref_of os) (take d (drop 6 x.words))))))
     does-set_stackp d l =
         context_edit 2 (small_word (pos d)) (with_stack (map (ref_of os) (take d (drop 6 x.words)))) (stackp_write x d refl l)
         (context_of-stackp (ref_of os) x.hash x.words (small_word (pos d)) fields
@@ -266,7 +266,7 @@ module _ {os : List Object} {table : FinMap nat_cmp ℕ} {roots : Roots} {a : �
 
     -- a value is pushed: first it, and then stackp
     pub does-push : (v : ℕ) → depth_in x.words < length x.words - 6 → is_reference os v ≡ true
-        → Does os (with_slot (with_slot os a (6 + depth_in x.words) v) a 2 (small_word (pos (depth_in x.words + 1)))) table roots (λ k. edit_object k (ref_of os a) (edit_context (pushed (ref_of os v))))
+        → Does os (slot_set (slot_set os a (6 + depth_in x.words) v) a 2 (small_word (pos (depth_in x.words + 1)))) table roots (λ k. edit_object k (ref_of os a) (edit_context (pushed (ref_of os v))))
     does-push v room r =
         let d : ℕ = depth_in x.words in
         let w : ℕ = small_word (pos (d + 1)) in

@@ -1,7 +1,7 @@
 //! What is read of the heap by its words alone.
 
 ghost use Rattle.std.specs.Prelude.{◌≡◌, ◌<◌, ◌==◌, ◌&&◌, unwrap_or};
-ghost use Rattle.cs_heap.specs.Object.{class_of, is_object, slot_count_of, slot_of};
+ghost use Rattle.cs_heap.specs.Object.{class_at, is_object, slot_count_of, slot_of};
 ghost use Rattle.cs_model.specs.Obj.{context_class};
 ghost use Rattle.cs_classes.specs.Meaning.{count_of};
 
@@ -11,7 +11,7 @@ use cs_word::{MethodHeader, Oop};
 
 /// Whether a word is the address of a context.
 pub fn is_context(heap: &Heap, o: Oop) -> bool
-    ensures { result ≡ (is_object heap.now.objects o.0 && class_of heap.now.objects o.0 == context_class) }
+    ensures { result ≡ (is_object heap.now.objects o.0 && class_at heap.now.objects o.0 == context_class) }
 {
     heap.is_object(o) && heap.class_index(o) == CONTEXT_CLASS
 }

@@ -1,7 +1,7 @@
 -- A run that finds no room.
 use Rattle.std.proofs.Common.{◌≡◌, inl, refl, ap, subst, ◌∙◌, ℕ, ◌<◌, ◌≤◌, List, Option, Some, None, IsSomeAnd, codes, unwrap_or}
 use Rattle.cs_model.specs.State.{Kept}
-use Rattle.cs_model.specs.Demand.{words_in}
+use Rattle.cs_model.specs.Demand.{words_held}
 use Rattle.cs_acts.specs.declared.act.Full.{Full as Why}
 use Rattle.cs_acts.specs.declared.act.Full.TheVariants.{Heap, Stack}
 use Rattle.cs_acts.specs.Layout.{Layout}
@@ -24,7 +24,7 @@ under_way k s m a b n kind f next = record { fewer = f.fewer; ending = f.ending;
 pub heap_reported : (k : Kept) (s : Store) (m : Option Layout) (a b : Option (List ℕ)) (i j n : ℕ) (e : RunError) (why : Why) → e ≡ Full why → why ≡ Heap → s.memory.limit ≡ heap_limit → RunFails k s m a b n e → Reported k n (writing a b i j) 5
 heap_reported k s m a b i j n e why is same limit h =
     let f = fills k s m a b n e why Heap is same h in
-    answer.heap f.done f.room.out (under_way k s m a b n Heap f f.room.next) f.room.needs (subst (λ l. l < words_in f.room.out.state) limit f.room.words) (inl (refl, f.written))
+    answer.heap f.done f.room.out (under_way k s m a b n Heap f f.room.next) f.room.needs (subst (λ l. l < words_held f.room.out.state) limit f.room.words) (inl (refl, f.written))
 
 -- the pages that the machine has
 deep_pages : (k : Kept) (n : ℕ) (m : Option Layout) → most_of m ≡ Some stack_pages → IsSomeAnd m (λ laid. IsDeep laid.most k n) → IsDeep stack_pages k n

@@ -1,19 +1,19 @@
 -- Why an image is refused.
 use Rattle.std.proofs.Common.{◌≡◌, ◌<◌, ℕ, true, List, Option, Some, None, IfSome, Err, length, refl, subst, arith}
 use Rattle.std.proofs.lemmas.Bool.Decides.{nat_tests}
-use Rattle.cs_model.specs.Image.{fault_of, image_of}
-use Rattle.cs_model.specs.ImageFault.{ImageFault, is_too_long}
+use Rattle.cs_model.specs.Image.{image_fault, image_of}
+use Rattle.cs_model.specs.ImageFault.{ImageFault, is_long_file}
 use Rattle.cs_image.specs.Answer.{Tells}
 use Rattle.cs_image.specs.declared.error.ImageError.{ImageError}
 use Rattle.cs_image.specs.declared.error.ImageError.TheVariants as error
 use Rattle.cs_cli.specs.Answer.{IsRefused, heap_limit}
 
-faulty : (bytes : List ℕ) (f : ImageFault) → fault_of bytes heap_limit ≡ Some f → IsRefused bytes
+faulty : (bytes : List ℕ) (f : ImageFault) → image_fault bytes heap_limit ≡ Some f → IsRefused bytes
 unfolding image_of
 faulty bytes f h = rw h refl
 
 -- an error that isn't want of memory
-pub refused_by : {X : Type 0} (P : X → Type 0) (bytes : List ℕ) (e : ImageError) → (e ≡ error.NoMemory → ⊥) → Tells (fault_of bytes heap_limit) P (Err e)
+pub refused_by : {X : Type 0} (P : X → Type 0) (bytes : List ℕ) (e : ImageError) → (e ≡ error.NoMemory → ⊥) → Tells (image_fault bytes heap_limit) P (Err e)
     → IsRefused bytes
 refused_by P bytes error.TooLong other h = faulty bytes _ h
 refused_by P bytes error.Short other h = faulty bytes _ h
@@ -33,9 +33,9 @@ refused_by P bytes error.NoMemory other h = absurd (other refl)
 
 -- a file that is longer than an image may be
 pub refused_long : (bytes : List ℕ) → 536870912 < length bytes → IsRefused bytes
-unfolding image_of fault_of
+unfolding image_of image_fault
 refused_long bytes long =
-    let is : is_too_long bytes ≡ true = grind (arith, nat_tests, long) in
+    let is : is_long_file bytes ≡ true = grind (arith, nat_tests, long) in
     rw is refl
 
 -- where the shelf tells a content, it is what was read

@@ -1,4 +1,3 @@
-pub mod NumberLemmas
 pub mod Writings
 pub mod Images
 pub mod Breaking

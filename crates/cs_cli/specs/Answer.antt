@@ -5,7 +5,7 @@ use Rattle.cs_model.specs.State.{Kept}
 use Rattle.cs_model.specs.Image.{image_of}
 use Rattle.cs_model.specs.Settle.{open_kept}
 use Rattle.cs_cli.specs.Said.{Said}
-use Rattle.cs_model.specs.Demand.{words_in}
+use Rattle.cs_model.specs.Demand.{words_held}
 use Rattle.cs_model.specs.End as ends
 use Rattle.cs_model.specs.End.{Out}
 use Rattle.cs_model.specs.Built.{is_built_bytecode}
@@ -112,7 +112,7 @@ full_stack k done = answering 10 ((run_of k done).state.run.output ++ codes "cog
 -- each of the stack pages
 pub data Reported (k : Kept) (n : ℕ) (out : Writing) (status : ℕ) : Type 0 where
   ended : Printed (run_answer (run_of k n)) out status → Reported k n out status
-  heap : (done : ℕ) (o : Out) → IsUnderWay k n done → Needs (next_turn (run_of k done).state) Heap o → heap_limit < words_in o.state → Printed (full_heap k done) out status → Reported k n out status
+  heap : (done : ℕ) (o : Out) → IsUnderWay k n done → Needs (next_turn (run_of k done).state) Heap o → heap_limit < words_held o.state → Printed (full_heap k done) out status → Reported k n out status
   stack : (done : ℕ) → IsUnderWay k n done → is_built_bytecode (state_of k done) ≡ true → (bytecode (run_of k done).state).out.end ≡ ends.Entered → IsDeep stack_pages k done → Printed (full_stack k done) out status → Reported k n out status
 
 -- or memory is wanted before the run begins

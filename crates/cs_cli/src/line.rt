@@ -1,7 +1,7 @@
 //! The command line, read by hand: `run IMAGE STEPS`.
 
 ghost use Rattle.std.specs.Prelude.{◌≡◌, ◌≤◌, IfSome, length, map, option_and_then, option_map, string_bytes};
-ghost use Rattle.cs_model.specs.Line.{at_most, most_steps, number_in};
+ghost use Rattle.cs_model.specs.Line.{at_most, most_steps, decimal_number};
 ghost use Rattle.cs_cli.specs.Meaning.{said_by};
 ghost use Rattle.cs_cli.specs.Said.{line_of};
 
@@ -42,9 +42,9 @@ pub fn parse(words: &[String]) -> Option<Line<'_>>
 }
 
 /// The number of steps that a word says, where it says one and that is at most what a line may ask for.
-#[tactic(auto, using(crate::proofs::NumberLemmas::numbers))]
+#[tactic(auto, using(cs_model::proofs::Digits::numbers))]
 fn parse_steps(text: &str) -> Option<u64>
-    ensures { result ≡ option_and_then (at_most most_steps) (number_in text.now) }
+    ensures { result ≡ option_and_then (at_most most_steps) (decimal_number text.now) }
 {
     let bytes = text.as_bytes();
     if bytes.is_empty() || (bytes[0] == b'0' && bytes.len() > 1) {

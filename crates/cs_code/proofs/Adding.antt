@@ -10,8 +10,8 @@ use Rattle.cs_model.specs.Ref as ref
 use Rattle.cs_model.specs.Obj.{Obj, Context, Ptr, Ctx, context_in, lies_in, words_of, Head}
 use Rattle.cs_model.specs.State.{Kept, object_at, object_of, put}
 use Rattle.cs_model.specs.Keeps.{Keeps}
-use Rattle.cs_model.specs.Demand.{words_at, words_below, words_in}
-use Rattle.cs_model.specs.Read.{IsRunning, active_birth, active_context, blank, method_of, depth_of, pc_of, size_of, stack_of}
+use Rattle.cs_model.specs.Demand.{words_taken, words_below, words_held}
+use Rattle.cs_model.specs.Read.{IsRunning, active_birth, active_context, blank_context, method_of, depth_of, pc_of, size_of, stack_of}
 use Rattle.cs_model.specs.Operation.{add_of, edit_active, edit_found, next_ref, store_of, with_next, with_slot}
 use Rattle.cs_model.proofs.LeadOperation.{add_below, add_there}
 use Rattle.cs_model.proofs.Reading.{stack_same}
@@ -51,7 +51,7 @@ AreBelow k = (i : ℕ) (o : Obj) → object_at k i ≡ Some o → i < k.rest.nex
 
 pub active-added : (k : Kept) (o : Obj) → IsRunning k → AreBelow k → active_context (add_of k o) ≡ active_context k
 unfolding active_context add_of put
-active-added k o running below = ap (λ (q : Option Obj). unwrap_or (context_in q) blank) (add_below k o (active_birth k) (below (active_birth k) (Ctx (active_context k)) running.found))
+active-added k o running below = ap (λ (q : Option Obj). unwrap_or (context_in q) blank_context) (add_below k o (active_birth k) (below (active_birth k) (Ctx (active_context k)) running.found))
 
 -- as a world sees it
 pub stack-over : (v k : Kept) (o : Obj) → IsRunning k → AreBelow k → Keeps v (add_of k o) → stack_of v ≡ stack_of k
@@ -115,7 +115,7 @@ next-edited : (k : Kept) (f : Context → Context) → (edit_active k f).rest.ne
 unfolding put
 next-edited k f = refl
 
-pub words-edited : (k : Kept) (f : Context → Context) → IsRunning k → (f (active_context k)).size ≡ size_of k → words_in (edit_active k f) ≡ words_in k
+pub words-edited : (k : Kept) (f : Context → Context) → IsRunning k → (f (active_context k)).size ≡ size_of k → words_held (edit_active k f) ≡ words_held k
 words-edited k f running size =
     ap (λ (n : ℕ). words_below n (edit_active k f)) (next-edited k f)
     ∙ words-put k (active_birth k) (Ctx (active_context k)) (Ctx (f (active_context k))) running.found (ap (λ (s : ℕ). words_of (Ctx (record (active_context k) { size = s }))) size) k.rest.next
@@ -124,15 +124,15 @@ next-added : (k : Kept) (o : Obj) → (add_of k o).rest.next ≡ suc k.rest.next
 unfolding add_of put
 next-added k o = omega arith
 
-pub words-added : (k : Kept) (o : Obj) → words_in (add_of k o) ≡ words_in k + words_of o
+pub words-added : (k : Kept) (o : Obj) → words_held (add_of k o) ≡ words_held k + words_of o
 unfolding words_below
 words-added k o =
     ap (λ (n : ℕ). words_below n (add_of k o)) (next-added k o)
-    ∙ ap₂ (λ (a b : ℕ). a + b) (old k.rest.next (omega arith)) (ap words_at (add_there k o))
+    ∙ ap₂ (λ (a b : ℕ). a + b) (old k.rest.next (omega arith)) (ap words_taken (add_there k o))
   where
     old : (n : ℕ) → n ≤ k.rest.next → words_below n (add_of k o) ≡ words_below n k
     old zero l = refl
-    old (suc n) l = ap₂ (λ (a b : ℕ). a + b) (old n (omega (arith, l))) (ap words_at (add_below k o n (omega (arith, l))))
+    old (suc n) l = ap₂ (λ (a b : ℕ). a + b) (old n (omega (arith, l))) (ap words_taken (add_below k o n (omega (arith, l))))
 
 -- what has no room before an object is added has none with it
 pub cause-added : (s : Store) (l : Option Layout) (k : Kept) (o : Obj) (size : ℕ) (why : Full) → CausesFull s l k 0 k why → CausesFull s l k size (add_of k o) why
@@ -144,6 +144,6 @@ cause-added s l k o size Heap cause = record { words = omega (arith, words-added
 cause-added s l k o size Stack cause = cause
 
 -- a cause says of the state behind a call its words alone
-pub cause-weighed : (s : Store) (l : Option Layout) (k t u : Kept) (size : ℕ) (why : Full) → words_in u ≡ words_in t → CausesFull s l k size t why → CausesFull s l k size u why
+pub cause-weighed : (s : Store) (l : Option Layout) (k t u : Kept) (size : ℕ) (why : Full) → words_held u ≡ words_held t → CausesFull s l k size t why → CausesFull s l k size u why
 cause-weighed s l k t u size Heap same cause = record { words = subst (λ (n : ℕ). s.memory.limit < n) (sym same) cause.words; room = cause.room }
 cause-weighed s l k t u size Stack same cause = cause

@@ -7,7 +7,7 @@ use Rattle.std.proofs.lemmas.Bool.Decides.{eqb_tells}
 use Rattle.cs_word.specs.declared.Oop.{Oop}
 use Rattle.cs_model.specs.Ref.{Ref}
 use Rattle.cs_model.specs.Obj.{Obj, Context, Ptr, Ctx, lies_in, popped, with_stack, words_of, words_of_slots, Head, new_head}
-use Rattle.cs_heap.specs.Object.{birth_of, size}
+use Rattle.cs_heap.specs.Object.{birth_at, size}
 use Rattle.cs_classes.proofs.Wholes.{get-classes_of}
 use Rattle.cs_model.specs.Context.{closure_class}
 use Rattle.cs_acts.specs.Led.{Leads}
@@ -17,7 +17,7 @@ use Rattle.cs_model.specs.State.{Rest, Kept, object_at, object_of, put}
 use Rattle.cs_model.specs.Keeps.{Keeps, SameKept}
 use Rattle.cs_model.specs.Read.{IsRunning, active_birth, active_context, depth_of, method_of, pc_of, stack_of}
 use Rattle.cs_model.specs.Operation.{add_of, drop_of, last_values, next_ref, nil_of, pop_of, put_active, store_of}
-use Rattle.cs_model.specs.Demand.{words_in}
+use Rattle.cs_model.specs.Demand.{words_held}
 use Rattle.cs_model.specs.Exec.{new_closure}
 use Rattle.cs_model.proofs.Editing.{edit_twice}
 use Rattle.cs_model.proofs.Objects.{object_at-put_same, object_at-put_other, rest-put}
@@ -187,7 +187,7 @@ can-make s k slots sound births = record {
   births = births;
 }
   where
-    there : (o : Option ℕ) → is_some o ≡ true → is_some (option_map (birth_of s.memory.objects) o) ≡ true
+    there : (o : Option ℕ) → is_some o ≡ true → is_some (option_map (birth_at s.memory.objects) o) ≡ true
     there None h = absurd (cc)
     there (Some a) h = refl
 
@@ -215,10 +215,10 @@ made-bare a b c l m n k v w copied slots size ready same laid limit contexts sou
 words-closure : (k : Kept) (copied args : ℕ) (values : List Ref) → length values ≡ copied → words_of (closure_with k args values) ≡ words_of_slots (3 + copied)
 words-closure k copied args values size = let slots : suc (suc (suc (length values))) ≡ 3 + copied = omega (arith, size) in ap (λ (n : ℕ). words_of_slots n) slots
 
-pub words-alike : (k : Kept) (copied args : ℕ) → copied ≤ depth_of k → words_in (add_of k (new_closure k copied args)) ≡ words_in (add_of k (bare_closure k copied args))
+pub words-alike : (k : Kept) (copied args : ℕ) → copied ≤ depth_of k → words_held (add_of k (new_closure k copied args)) ≡ words_held (add_of k (bare_closure k copied args))
 words-alike k copied args enough =
     words-added k (new_closure k copied args)
-    ∙ ap (λ (n : ℕ). words_in k + n) (words-closure k copied args (last_values copied (stack_of k)) (length-last (stack_of k) copied enough)
+    ∙ ap (λ (n : ℕ). words_held k + n) (words-closure k copied args (last_values copied (stack_of k)) (length-last (stack_of k) copied enough)
     ∙ sym (words-closure k copied args (replicate copied (nil_of k)) (length-replicate copied (nil_of k))))
     ∙ sym (words-added k (bare_closure k copied args))
 
@@ -229,9 +229,9 @@ bare-refused s l k v copied args slots why equal_slots same cause =
     let count : 3 + slots ≡ suc (suc (suc copied)) = omega (arith, equal_slots) in
     let there : CausesFull s l k (words_of_slots (3 + slots)) (add_of k (Ptr (new_head 37 3) (replicate (3 + slots) (nil_of k)))) why =
     subst (λ (u : Kept). CausesFull s l u (words_of_slots (3 + slots)) (add_of u (Ptr (new_head 37 3) (replicate (3 + slots) (nil_of u)))) why) same cause in
-    let same_words : words_in (add_of k (bare_closure k copied args)) ≡ words_in (add_of k (Ptr (new_head 37 3) (replicate (3 + slots) (nil_of k)))) =
+    let same_words : words_held (add_of k (bare_closure k copied args)) ≡ words_held (add_of k (Ptr (new_head 37 3) (replicate (3 + slots) (nil_of k)))) =
     words-added k (bare_closure k copied args)
-    ∙ ap (λ (n : ℕ). words_in k + n) (words-closure k copied args (replicate copied (nil_of k)) (length-replicate copied (nil_of k))
+    ∙ ap (λ (n : ℕ). words_held k + n) (words-closure k copied args (replicate copied (nil_of k)) (length-replicate copied (nil_of k))
     ∙ ap (λ (n : ℕ). words_of_slots (3 + n)) (sym equal_slots) ∙ ap (λ (n : ℕ). words_of_slots n) (sym (length-replicate (3 + slots) (nil_of k))))
     ∙ sym (words-added k (Ptr (new_head 37 3) (replicate (3 + slots) (nil_of k)))) in
     subst (λ (n : ℕ). CausesFull s l k (words_of_slots (3 + n)) (add_of k (bare_closure k copied args)) why) equal_slots

@@ -9,7 +9,7 @@ use Rattle.cs_model.specs.State.{Kept}
 use Rattle.cs_model.specs.Keeps.{Keeps, SameKept}
 use Rattle.cs_model.specs.Read.{IsRunning, depth_of, method_of, size_of}
 use Rattle.cs_model.specs.Operation.{add_of, drop_of, edit_active, next_ref, push_of, set_pc_of}
-use Rattle.cs_model.specs.Demand.{words_in}
+use Rattle.cs_model.specs.Demand.{words_held}
 use Rattle.cs_model.specs.End.{End, Out, and_then, done, given, looked, made, stop}
 use Rattle.cs_model.specs.End as ends
 use Rattle.cs_model.specs.Exec.{closure_out, new_closure, pc_after, push_out}
@@ -111,10 +111,10 @@ moved-edit : (k : Kept) (n pc : ℕ) (x : Ref) → set_pc_of (push_of (drop_of k
 unfolding set_pc_of
 moved-edit k n pc x = ap (λ (t : Kept). edit_active t (with_pc (Some pc))) (pushed-edit k n x) ∙ edit_twice k (λ c. pushed x (popped n c)) (with_pc (Some pc))
 
-words-moved : (k : Kept) (n pc : ℕ) (x : Ref) → IsRunning k → words_in (set_pc_of (push_of (drop_of k n) x) pc) ≡ words_in k
-words-moved k n pc x running = ap (λ (t : Kept). words_in t) (moved-edit k n pc x) ∙ words-edited k (λ c. with_pc (Some pc) (pushed x (popped n c))) running refl
+words-moved : (k : Kept) (n pc : ℕ) (x : Ref) → IsRunning k → words_held (set_pc_of (push_of (drop_of k n) x) pc) ≡ words_held k
+words-moved k n pc x running = ap (λ (t : Kept). words_held t) (moved-edit k n pc x) ∙ words-edited k (λ c. with_pc (Some pc) (pushed x (popped n c))) running refl
 
-words-dropped : (k : Kept) (n : ℕ) → IsRunning k → words_in (drop_of k n) ≡ words_in k
+words-dropped : (k : Kept) (n : ℕ) → IsRunning k → words_held (drop_of k n) ≡ words_held k
 unfolding drop_of
 words-dropped k n running = words-edited k (popped n) running refl
 
@@ -146,7 +146,7 @@ closure-refused s l k copied args size pc a b same_reason heap running below lie
     there : CausesFull s l k (words_of_slots (3 + copied)) t b
     there = subst (λ w. CausesFull s l k (words_of_slots (3 + copied)) t w) (reason a b same_reason) cause
 
-    caused : (o : Out) (e : End) (u : Kept) → MakesAs o e u (words_of_slots (3 + copied)) → words_in u ≡ words_in t → CausesFull s l k o.count.objects o.state b
+    caused : (o : Out) (e : End) (u : Kept) → MakesAs o e u (words_of_slots (3 + copied)) → words_held u ≡ words_held t → CausesFull s l k o.count.objects o.state b
     caused o e u makes words =
         subst (λ (n : ℕ). CausesFull s l k n o.state b) (sym makes.objects)
         (subst (λ (w : Kept). CausesFull s l k (words_of_slots (3 + copied)) w b) (sym makes.state) (cause-weighed s l k t u (words_of_slots (3 + copied)) b words there))

@@ -5,7 +5,7 @@ use Rattle.std.proofs.lemmas.Bool.Decides.{eqb_tells, nat_tests}
 use Rattle.cs_word.specs.declared.Oop.{Oop}
 use Rattle.cs_model.specs.declared.stop.Stop.{Stop}
 use Rattle.cs_model.specs.declared.stop.Stop.TheVariants as why
-use Rattle.cs_model.specs.Ref.{Ref, Small, index_of}
+use Rattle.cs_model.specs.Ref.{Ref, Small, small_index}
 use Rattle.cs_model.specs.Ref as ref
 use Rattle.cs_model.specs.Obj.{Obj, Context, Ptr, Raw, Method, Ctx, context_in, pushed, words_of}
 use Rattle.cs_model.specs.State.{Kept, object_at, object_of, put}
@@ -14,7 +14,7 @@ use Rattle.cs_model.specs.Context.{context_get, is_context_ref}
 use Rattle.cs_model.specs.Read.{IsRunning, active_birth, active_context, depth_of, receiver_of, size_of}
 use Rattle.cs_model.specs.Return.{context_at}
 use Rattle.cs_model.specs.Operation.{push_of}
-use Rattle.cs_model.specs.Demand.{words_at, words_below, words_in}
+use Rattle.cs_model.specs.Demand.{words_taken, words_below, words_held}
 use Rattle.cs_model.specs.End.{End, Out, done, given, looked, stop}
 use Rattle.cs_model.specs.End as ends
 use Rattle.cs_model.specs.Exec.{push_field, push_out, push_receiver_out, this_context_out}
@@ -38,16 +38,16 @@ pub words-put : (k : Kept) (i : ℕ) (o p : Obj) → object_at k i ≡ Some o �
 unfolding words_below
 words-put k i o p there size zero = refl
 words-put k i o p there size (suc n) = ap₂ (λ (a b : ℕ). a + b) (words-put k i o p there size n) (elim (eqb_tells n i) [
-  | inl e ↦ ap (λ j. words_at (object_at (put k i p) j)) e.1 ∙ ap (λ q. words_at q) (object_at-put_same k i p) ∙ size
-      ∙ sym (ap (λ j. words_at (object_at k j)) e.1 ∙ ap (λ q. words_at q) there)
-  | inr e ↦ ap (λ q. words_at q) (object_at-put_other k i n p e.1)
+  | inl e ↦ ap (λ j. words_taken (object_at (put k i p) j)) e.1 ∙ ap (λ q. words_taken q) (object_at-put_same k i p) ∙ size
+      ∙ sym (ap (λ j. words_taken (object_at k j)) e.1 ∙ ap (λ q. words_taken q) there)
+  | inr e ↦ ap (λ q. words_taken q) (object_at-put_other k i n p e.1)
 ])
 
 next-pushed : (k : Kept) (x : Ref) → (push_of k x).rest.next ≡ k.rest.next
 unfolding push_of put
 next-pushed k x = refl
 
-pub words-pushed : (k : Kept) (x : Ref) → IsRunning k → words_in (push_of k x) ≡ words_in k
+pub words-pushed : (k : Kept) (x : Ref) → IsRunning k → words_held (push_of k x) ≡ words_held k
 unfolding push_of
 words-pushed k x running =
     ap (λ n. words_below n (push_of k x)) (next-pushed k x)
@@ -239,20 +239,20 @@ high-field k r i depth context is above = go (context_at k r) context is
     go (Some c) h e = ap (nat_lt (i - 6)) e ∙ sym (high k c i above)
 
 -- field 2 is the depth of the stack
-stackp-read : (k : Kept) (o : Option Context) (y : Ref) (read : Option ℕ) → is_some o ≡ true → Some y ≡ option_and_then (λ c. context_get k c 2) o → read ≡ index_of y
+stackp-read : (k : Kept) (o : Option Context) (y : Ref) (read : Option ℕ) → is_some o ≡ true → Some y ≡ option_and_then (λ c. context_get k c 2) o → read ≡ small_index y
     → IfSome o (λ c. read ≡ Some (length c.stack))
 unfolding context_get
 stackp-read k None y read h there is = absurd (cc)
-stackp-read k (Some c) y read h there is = let same : y ≡ Small (pos (length c.stack)) = cc in is ∙ ap (λ r. index_of r) same
+stackp-read k (Some c) y read h there is = let same : y ≡ Small (pos (length c.stack)) = cc in is ∙ ap (λ r. small_index r) same
 
-pub stackp-there : (k : Kept) (r y : Ref) (read : Option ℕ) → is_context_ref k r ≡ true → Some y ≡ field_of k r 2 → read ≡ index_of y → read ≡ None → ⊥
+pub stackp-there : (k : Kept) (r y : Ref) (read : Option ℕ) → is_context_ref k r ≡ true → Some y ≡ field_of k r 2 → read ≡ small_index y → read ≡ None → ⊥
 stackp-there k r y read context there is none = go (context_at k r) context (stackp-read k (context_at k r) y read context there is)
   where
     go : (o : Option Context) → is_some o ≡ true → IfSome o (λ c. read ≡ Some (length c.stack)) → ⊥
     go None h e = absurd (cc)
     go (Some c) h e = absurd (cc)
 
-pub stackp-is : (k : Kept) (r y : Ref) (read : Option ℕ) (depth : ℕ) → is_context_ref k r ≡ true → Some y ≡ field_of k r 2 → read ≡ index_of y → read ≡ Some depth → IfSome (context_at k r) (λ c. depth ≡ length c.stack)
+pub stackp-is : (k : Kept) (r y : Ref) (read : Option ℕ) (depth : ℕ) → is_context_ref k r ≡ true → Some y ≡ field_of k r 2 → read ≡ small_index y → read ≡ Some depth → IfSome (context_at k r) (λ c. depth ≡ length c.stack)
 stackp-is k r y read depth context there is some = go (context_at k r) context (stackp-read k (context_at k r) y read context there is)
   where
     go : (o : Option Context) → is_some o ≡ true → IfSome o (λ c. read ≡ Some (length c.stack)) → IfSome o (λ c. depth ≡ length c.stack)

@@ -8,7 +8,7 @@ use Rattle.cs_model.specs.End.{done, given}
 use Rattle.cs_model.specs.Exec.{common_out, send_selector_out, small_operands, special_out}
 use Rattle.cs_model.specs.Number.{number_result, selector_primitive}
 use Rattle.cs_model.specs.Operation.{drop_of, push_of}
-use Rattle.cs_acts.specs.Arithmetic.{number_of}
+use Rattle.cs_acts.specs.Arithmetic.{primitive_of}
 use Rattle.cs_acts.specs.declared.arithmetic.Operation.{Operation}
 use Rattle.cs_acts.specs.declared.arithmetic.Operation.TheVariants as op
 use Rattle.cs_code.specs.Selectors.{HasIndex}
@@ -36,7 +36,7 @@ sent_alone TellsClass i h not = ap selector_primitive h
 sent_alone IsSent i h not = h.primitive
 
 -- every operation has a primitive, so that `==` and `class` are none
-has_primitive : (o : Operation) → 0 ≡ number_of o → ⊥
+has_primitive : (o : Operation) → 0 ≡ primitive_of o → ⊥
 has_primitive op.Add h = absurd (cc)
 has_primitive op.Subtract h = absurd (cc)
 has_primitive op.Less h = absurd (cc)
@@ -55,7 +55,7 @@ has_primitive op.BitOr h = absurd (cc)
 has_primitive op.BitXor h = absurd (cc)
 has_primitive op.BitShift h = absurd (cc)
 
-not_there : (i n : ℕ) (o : Operation) → selector_primitive (16 + n) ≡ 0 → selector_primitive (16 + i) ≡ number_of o → (i == n) ≡ false
+not_there : (i n : ℕ) (o : Operation) → selector_primitive (16 + n) ≡ 0 → selector_primitive (16 + i) ≡ primitive_of o → (i == n) ≡ false
 not_there i n o none h = elim (eqb_tells i n) [
   | inl same ↦ absurd (has_primitive o (sym none ∙ ap (λ m. selector_primitive (16 + m)) (sym same.1) ∙ h))
   | inr other ↦ other.0

@@ -7,7 +7,7 @@ ghost use Rattle.cs_model.specs.Number.{number_result};
 ghost use Rattle.cs_model.specs.Operation.{drop_of, nil_of, push_of};
 ghost use Rattle.cs_model.specs.Read.{class_of, depth_of};
 ghost use Rattle.cs_model.specs.End.{done};
-ghost use Rattle.cs_acts.specs.Arithmetic.{number_of};
+ghost use Rattle.cs_acts.specs.Arithmetic.{primitive_of};
 ghost use Rattle.cs_acts.specs.Made.{MakesAtMost};
 ghost use Rattle.cs_acts.specs.Names.{IsNamed, Names, NamesOption, name_of};
 ghost use Rattle.cs_acts.specs.Ready.{IsReady, IsSound};
@@ -134,7 +134,7 @@ fn replace_two<W: World>(w: &mut W, x: Oop) -> CodeEnd
 fn at_once<W: World>(w: &W, operation: Operation) -> Option<Oop>
     requires { IsReady (W.stored w.now) (W.view w.now) }
     ensures value { NamesOption (W.stored w.now) result (option_and_then
-        (λ p. number_result (W.view w.now) (number_of operation) p.0 p.1) (small_operands (W.view w.now))) }
+        (λ p. number_result (W.view w.now) (primitive_of operation) p.0 p.1) (small_operands (W.view w.now))) }
     ensures there { IfSome result (λ _. 2 ≤ depth_of (W.view w.now)) }
 {
     let (a, b) = operands(w)?;

@@ -21,7 +21,7 @@ use Rattle.cs_model.specs.Exec.{attempt_to_assign, refuse_store, store_slot, vec
 use Rattle.cs_model.specs.Built.{is_built_op}
 use Rattle.cs_model.proofs.Editing.{edit_twice}
 use Rattle.cs_model.proofs.Objects.{object_at-put_other, object_at-put_same, rest-put}
-use Rattle.cs_acts.specs.Layout.{depth_in, frame_words, page_words}
+use Rattle.cs_acts.specs.Layout.{depth_if, frame_words, page_words}
 use Rattle.cs_core.specs.Stepped.{least_of_return, least_of_send}
 use Rattle.cs_core.proofs.Laying.{FillsToo, fills_by_words, is_same, page_words_kept}
 use Rattle.cs_core.proofs.Returning.{Fits, Pushed, all_fit, fits, over}
@@ -73,11 +73,11 @@ put_words k c runs fewer (i ∷ is) = go (put_words k c runs fewer is) (i == act
     go : page_words (put_active k c) is ≤ page_words k is → (b : Bool) → (i == active_birth k) ≡ b → page_words (put_active k c) is + frame_words (put_active k c) i ≤ page_words k is + frame_words k i
     go before true e =
         let is : i ≡ active_birth k = is_same i (active_birth k) e in
-        let new : frame_words (put_active k c) i ≡ 10 + length c.stack = ap (frame_words (put_active k c)) is ∙ ap (λ o. 10 + depth_in (context_in o)) (object_at-put_same k (active_birth k) (Ctx c)) in
-        let old : frame_words k i ≡ 10 + depth_of k = ap (frame_words k) is ∙ ap (λ o. 10 + depth_in o) runs in
+        let new : frame_words (put_active k c) i ≡ 10 + length c.stack = ap (frame_words (put_active k c)) is ∙ ap (λ o. 10 + depth_if (context_in o)) (object_at-put_same k (active_birth k) (Ctx c)) in
+        let old : frame_words k i ≡ 10 + depth_of k = ap (frame_words k) is ∙ ap (λ o. 10 + depth_if o) runs in
         omega (arith, before, new, old, fewer)
     go before false e =
-        let same : frame_words (put_active k c) i ≡ frame_words k i = ap (λ o. 10 + depth_in (context_in o)) (object_at-put_other k (active_birth k) i (Ctx c) (eqb-false i (active_birth k) e)) in
+        let same : frame_words (put_active k c) i ≡ frame_words k i = ap (λ o. 10 + depth_if (context_in o)) (object_at-put_other k (active_birth k) i (Ctx c) (eqb-false i (active_birth k) e)) in
         omega (arith, before, same)
 
 popped_pushes : (k : Kept) → Runs k → Pushed 0 k (pop_of k)

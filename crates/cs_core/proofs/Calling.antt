@@ -11,9 +11,9 @@ use Rattle.cs_model.specs.End as ends
 use Rattle.cs_model.specs.End.{Out, given, stop}
 use Rattle.cs_model.specs.PrimRun.{Result, result}
 use Rattle.cs_model.specs.Return.{back}
-use Rattle.cs_model.specs.Step.{call_in, counting, do_call, do_return, do_send, shape_fault}
+use Rattle.cs_model.specs.Step.{call_in, result_counting, do_call, do_return, do_send, shape_fault}
 use Rattle.cs_model.specs.Built.{is_built_call, is_built_return, is_built_send}
-use Rattle.cs_model.specs.Demand.{words_in}
+use Rattle.cs_model.specs.Demand.{words_held}
 use Rattle.cs_model.proofs.Building.{is_built_call_same}
 use Rattle.cs_model.proofs.Same.{equal}
 use Rattle.cs_model.proofs.Stepping.{do_call_alike}
@@ -44,7 +44,7 @@ called_same s k special args o at output steps =
       end = ap (λ (p : Result). p.out.end) is;
       state = λ v keeps. subst (λ (p : Result). Keeps v p.out.state) (sym is) keeps;
       shape = ap (λ (p : Result). shape_fault p.out.state) is;
-      words = subst (λ (p : Result). words_in (do_send (run_at output steps) k x args None).out.state ≤ words_in p.out.state) (sym is) (omega arith);
+      words = subst (λ (p : Result). words_held (do_send (run_at output steps) k x args None).out.state ≤ words_held p.out.state) (sym is) (omega arith);
       made = subst (λ (p : Result). (do_send (run_at output steps) k x args None).out.count.objects ≤ p.out.count.objects) (sym is) (omega arith);
       run = ap (λ (p : Result). p.run) is;
       told = tells_nothing None;
@@ -60,9 +60,9 @@ sends_call st k special args o l n old new s v e at gives =
 -- ---- a return that asks for it
 
 told_of : (r : Run) (k : Kept) (x : Ref) (local : Bool) (special args : ℕ) → (back k x local).end ≡ ends.Call special args
-    → do_return r k x local ≡ counting (back k x local).count (do_call r (back k x local).state special args)
+    → do_return r k x local ≡ result_counting (back k x local).count (do_call r (back k x local).state special args)
 unfolding do_return
-told_of r k x local special args end = ap (λ e. given (call_in e) (result (back k x local) r) (λ c. counting (back k x local).count (do_call r (back k x local).state c.0 c.1))) end
+told_of r k x local special args end = ap (λ e. given (call_in e) (result (back k x local) r) (λ c. result_counting (back k x local).count (do_call r (back k x local).state c.0 c.1))) end
 
 told_built : (k : Kept) (x : Ref) (local : Bool) (special args : ℕ) → (back k x local).end ≡ ends.Call special args → is_built_return k x local ≡ is_built_call (back k x local).state special args
 told_built k x local special args end = ap (λ e. given (call_in e) true (λ c. is_built_call (back k x local).state c.0 c.1)) end
@@ -78,7 +78,7 @@ told_same k v x local special args end keeps output steps =
       end = ap (λ (p : Result). p.out.end) is ∙ s.end;
       state = λ w h. subst (λ (p : Result). Keeps w p.out.state) (sym is) (s.state w h);
       shape = ap (λ (p : Result). shape_fault p.out.state) is ∙ s.shape;
-      words = subst (λ (p : Result). words_in (calling v special args output steps).result.out.state ≤ words_in p.out.state) (sym is) s.words;
+      words = subst (λ (p : Result). words_held (calling v special args output steps).result.out.state ≤ words_held p.out.state) (sym is) s.words;
       made = subst (λ (p : Result). (calling v special args output steps).result.out.count.objects ≤ p.out.count.objects) (sym is) (omega (arith, s.made));
       run = ap (λ (p : Result). p.run) is ∙ s.run;
       told = tells_nothing (Some (back k x local));

@@ -28,9 +28,9 @@ use Rattle.cs_acts.specs.Layout.{Layout}
 use Rattle.cs_acts.specs.Names.{Store}
 use Rattle.cs_acts.specs.Ready.{IsReady}
 use Rattle.cs_code.specs.Gives.{IsMade}
-use Rattle.cs_model.specs.Demand.{words_in}
+use Rattle.cs_model.specs.Demand.{words_held}
 use Rattle.cs_unwind.specs.Back.{Asks}
-use Rattle.cs_core.specs.Stepped.{CausesNoRoom, DoneIn, EndsBy, EndsWithout, IsDone, IsOver, IsUnheld, Lays, Needs, whole, unheld, untold, Overfills, Turn, TurnStops, unbuilt, stopped, lost, Turns, TurnGives, returning, run_at, sending, told_by}
+use Rattle.cs_core.specs.Stepped.{CausesNoRoom, DoneIn, EndsBy, OverWithout, IsDone, IsOver, IsUnheld, Lays, Needs, whole, unheld, untold, Overfills, Turn, TurnStops, unbuilt, stopped, lost, Turns, TurnGives, returning, run_at, sending, told_by}
 use Rattle.cs_core.specs.declared.step.StepEnd.{StepEnd}
 use Rattle.cs_core.specs.declared.step.StepEnd.TheVariants.{Active, Idle, Stopped as Stop, Full, WriteFault}
 use Rattle.cs_core.specs.Stacked.{IsStacked}
@@ -43,7 +43,7 @@ use Rattle.cs_core.proofs.Turning.{effect, ends_quietly, model_turn, past, shape
 -- what needs room in one out needs as much in another one
 pub record IsAsMuch (a b : Out) : Type 0 where
   pub end : b.end ≡ a.end
-  pub words : words_in a.state ≤ words_in b.state
+  pub words : words_held a.state ≤ words_held b.state
   pub made : a.count.objects ≤ b.count.objects
 
 -- where one return is told, one is told that needs as much
@@ -63,7 +63,7 @@ pub record IsSame (a b : Turn) : Type 0 where
   pub end : b.result.out.end ≡ a.result.out.end
   pub state : (v : Kept) → Keeps v a.result.out.state → Keeps v b.result.out.state
   pub shape : shape_fault b.result.out.state ≡ shape_fault a.result.out.state
-  pub words : words_in a.result.out.state ≤ words_in b.result.out.state
+  pub words : words_held a.result.out.state ≤ words_held b.result.out.state
   pub made : a.result.out.count.objects ≤ b.result.out.count.objects
   pub run : b.result.run ≡ a.result.run
   pub told : TellsToo a.told b.told
@@ -92,7 +92,7 @@ overfills_too s l u k a b why pages is h = go h.out h.needs h.cause
     go : (o : Out) → Needs a why o → CausesNoRoom s l u a.least o why → Overfills s l k b why
     go _ (whole built end) cause = record {
       out = b.result.out;
-      needs = whole (is.built ∙ built) (subst (EndsWithout why) (sym is.end) end);
+      needs = whole (is.built ∙ built) (subst (OverWithout why) (sym is.end) end);
       cause = causes_too s l u k a.result.out b.result.out a.least b.least why pages is.words is.made cause;
     }
     go _ (unheld built heap stops) cause = record {
@@ -216,7 +216,7 @@ sends_same k i u m op end keeps held output steps =
       end = ap (λ (p : Result). p.out.end) is ∙ sent.end;
       state = λ v h. subst (λ (p : Result). Keeps v p.out.state) (sym is) (sent.state v h);
       shape = ap (λ (p : Result). shape_fault p.out.state) is ∙ sent.shape;
-      words = subst (λ (p : Result). words_in (sending u m output steps).result.out.state ≤ words_in p.out.state) (sym is) sent.words;
+      words = subst (λ (p : Result). words_held (sending u m output steps).result.out.state ≤ words_held p.out.state) (sym is) sent.words;
       made = subst (λ (p : Result). (sending u m output steps).result.out.count.objects ≤ p.out.count.objects) (sym is) (omega (arith, sent.made));
       run = ap (λ (p : Result). p.run) is ∙ sent.run;
       told = tells_nothing (told_by (effect k i));
@@ -234,7 +234,7 @@ returns_same k i u x local op end keeps held output steps =
       end = ap (λ (p : Result). p.out.end) is ∙ gone.end;
       state = λ v h. subst (λ (p : Result). Keeps v p.out.state) (sym is) (gone.state v h);
       shape = ap (λ (p : Result). shape_fault p.out.state) is ∙ gone.shape;
-      words = subst (λ (p : Result). words_in (returning u x local output steps).result.out.state ≤ words_in p.out.state) (sym is) gone.words;
+      words = subst (λ (p : Result). words_held (returning u x local output steps).result.out.state ≤ words_held p.out.state) (sym is) gone.words;
       made = subst (λ (p : Result). (returning u x local output steps).result.out.count.objects ≤ p.out.count.objects) (sym is) (omega (arith, gone.made));
       run = ap (λ (p : Result). p.run) is ∙ gone.run;
       told = subst (TellsToo (Some (back u x local))) (sym (ap (λ e. option_map (λ p. back (effect k i).state p.0 p.1) (return_in e)) end)) (tells_return keeps x local held);

@@ -5,7 +5,7 @@ use Rattle.std.specs.List.{AllByRecursion, concat}
 use Rattle.std.proofs.lemmas.Bool.{false≢true}
 use Rattle.std.proofs.lemmas.Bool.Decides.{nat_tests}
 use Rattle.std.proofs.lemmas.List.Folds.{list_any-append}
-use Rattle.cs_model.specs.Ref.{Ref, Small, Char, birth_of}
+use Rattle.cs_model.specs.Ref.{Ref, Small, Char, named_object}
 use Rattle.cs_model.specs.Ref as ref
 use Rattle.cs_model.specs.Obj.{Obj, Context, context_in}
 use Rattle.cs_model.specs.State.{Kept, object_at}
@@ -14,7 +14,7 @@ use Rattle.cs_model.specs.Return.{context_birth, sender_birth}
 use Rattle.cs_model.proofs.Reading.{Has}
 use Rattle.cs_model.proofs.Same.{SameOption, option_equal, option_holds, same}
 use Rattle.cs_model.proofs.Searching.{sender_birth_same}
-use Rattle.cs_acts.specs.Layout.{IsCalled, depth_in, frame_words, is_frame, is_on, page_words}
+use Rattle.cs_acts.specs.Layout.{IsCalled, depth_if, frame_words, is_frame, is_on, page_words}
 
 -- ---- places in a list
 
@@ -128,12 +128,12 @@ called_tail k i (j ∷ xs) c = c.1
 -- ---- words
 
 -- a frame counts the same words in a state that is kept
-pub frame_kept : (v t k : Kept) (i : ℕ) → Keeps v t → Has v i → depth_in (context_in (object_at t i)) ≡ depth_in (context_in (object_at k i)) → frame_words v i ≡ frame_words k i
+pub frame_kept : (v t k : Kept) (i : ℕ) → Keeps v t → Has v i → depth_if (context_in (object_at t i)) ≡ depth_if (context_in (object_at k i)) → frame_words v i ≡ frame_words k i
 frame_kept v t k i keeps has depth = go (object_at v i) refl has
   where
-    go : (o : Option Obj) → object_at v i ≡ o → is_some o ≡ true → 10 + depth_in (context_in o) ≡ frame_words k i
+    go : (o : Option Obj) → object_at v i ≡ o → is_some o ≡ true → 10 + depth_if (context_in o) ≡ frame_words k i
     go None e h = absurd (false≢true h)
-    go (Some o) e h = ap (λ n. 10 + n) (ap (λ p. depth_in (context_in p)) (sym (keeps.same i o e)) ∙ depth)
+    go (Some o) e h = ap (λ n. 10 + n) (ap (λ p. depth_if (context_in p)) (sym (keeps.same i o e)) ∙ depth)
 
 pub page_same : (v k : Kept) (page : List ℕ) → ((i : ℕ) → is_on i page ≡ true → frame_words v i ≡ frame_words k i) → page_words v page ≡ page_words k page
 unfolding page_words

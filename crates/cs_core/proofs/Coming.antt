@@ -15,7 +15,7 @@ use Rattle.cs_model.specs.End as ends
 use Rattle.cs_model.specs.End.{End, Out, given}
 use Rattle.cs_model.specs.PrimRun.{Result, result}
 use Rattle.cs_model.specs.PrimTable.{prim}
-use Rattle.cs_model.specs.Step.{arguments_of, counting, is_fail, or_enter, primitive_in, tried, try_performed, try_primitive, with_kept}
+use Rattle.cs_model.specs.Step.{arguments_of, result_counting, is_fail, or_enter, primitive_in, tried, try_performed, try_primitive, with_kept}
 use Rattle.cs_model.specs.Built.{is_built_number}
 use Rattle.cs_acts.specs.declared.act.Full.{Full as Why}
 use Rattle.cs_acts.specs.declared.act.Full.TheVariants.{Heap, Stack}
@@ -24,7 +24,7 @@ use Rattle.cs_acts.specs.declared.prim.PrimEnd.TheVariants as prims
 use Rattle.cs_acts.specs.Layout.{LaidBy, Layout, entered}
 use Rattle.cs_acts.specs.Names.{Store}
 use Rattle.cs_acts.specs.Primed.{EndsWithout as PrimWithout, IsSuccess, PrimGives, PrimLaid}
-use Rattle.cs_core.specs.Stepped.{DoneIn, EndsBy, EndsWithout, Fails, IsOver, Lays, TurnGives, run_at, state_at, stopped, trying}
+use Rattle.cs_core.specs.Stepped.{DoneIn, EndsBy, OverWithout, Fails, IsOver, Lays, TurnGives, run_at, state_at, stopped, trying}
 use Rattle.cs_core.specs.declared.step.StepEnd.{StepEnd}
 use Rattle.cs_core.specs.declared.step.StepEnd.TheVariants.{Stopped as Stop, Full}
 use Rattle.cs_core.proofs.Laying.{FillsToo, fills_by_words, overfills_whole}
@@ -66,7 +66,7 @@ no_primitive (stops reason e) = ap primitive_in e
 
 tried_itself : (s : State) (x : Ref) (p : Result) → primitive_in p.out.end ≡ None → is_fail p.out.end ≡ false → tried s x p ≡ p
 tried_itself s x p none goes =
-    ap (λ o. given o (or_enter s x p) (λ q. counting p.out.count (try_performed (with_kept p.out.state p.run) q.0 q.1))) none
+    ap (λ o. given o (or_enter s x p) (λ q. result_counting p.out.count (try_performed (with_kept p.out.state p.run) q.0 q.1))) none
     ∙ ap (λ b. if b then result (enter_out s.kept x (arguments_of s.kept x) true) s.run else p) goes
 
 -- A built primitive that comes to this, and changes nothing of the run.
@@ -142,7 +142,7 @@ module _ (k from : Kept) (x : Ref) (number args : ℕ) (made : Out) (count : arg
     λ output steps. stopped is_built (ap (λ (p : Result). p.out.end) (tries (ends.Stopped reason) end refl refl output steps) ∙ end),
   )
 
-  without : (why : Why) → PrimWithout why made.end → EndsWithout why made.end
+  without : (why : Why) → PrimWithout why made.end → OverWithout why made.end
   without Heap end = over end
   without Stack end = end
 

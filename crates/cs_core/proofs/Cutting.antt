@@ -9,11 +9,11 @@ use Rattle.cs_model.specs.Ref.{Ref}
 use Rattle.cs_model.specs.Obj.{Obj, Context, Ptr, Raw, Method, Ctx, context_in}
 use Rattle.cs_model.specs.State.{Kept, Rest, object_at}
 use Rattle.cs_model.specs.Keeps.{Keeps}
-use Rattle.cs_model.specs.Read.{IsRunning, active_birth, active_context, blank}
+use Rattle.cs_model.specs.Read.{IsRunning, active_birth, active_context, blank_context}
 use Rattle.cs_model.specs.Operation.{cut_to_of, dead_object, edit_found, kill_all, kill_of, resume_of}
 use Rattle.cs_model.specs.Return.{Search, Met, Ended, TooLong, is_among, is_live, passing, search_senders, sender_birth, senders_to, links}
 use Rattle.cs_model.proofs.Objects.{object_at-put_other, object_at-put_same, rest-put}
-use Rattle.cs_acts.specs.Layout.{IsApart, IsCalled, LaidBy, Layout, cut, depth_in, has_frame, is_frame, is_on, left_of, none_dies, page_words, touched}
+use Rattle.cs_acts.specs.Layout.{IsApart, IsCalled, LaidBy, Layout, cut, depth_if, has_frame, is_frame, is_on, left_of, none_dies, page_words, touched}
 use Rattle.cs_acts.specs.Names.{Store}
 use Rattle.cs_acts.specs.Targets.{CanCut, dying_in, dying_to}
 use Rattle.cs_core.specs.Stacked.{IsStack, IsStacked}
@@ -302,7 +302,7 @@ module _ (k v : Kept) (ds : List ℕ) (target : ℕ) (x : Ref) (keeps : Keeps v 
   unfolding resume_of active_context killed
   target_runs = go (context_in (object_at killed target)) (ap (λ o. is_some (context_in o)) (others_stay target stays) ∙ there)
     where
-      go : (o : Option Context) → is_some o ≡ true → o ≡ Some (unwrap_or o blank)
+      go : (o : Option Context) → is_some o ≡ true → o ≡ Some (unwrap_or o blank_context)
       go None h = absurd (false≢true h)
       go (Some c) h = refl
 
@@ -320,9 +320,9 @@ module _ (k v : Kept) (ds : List ℕ) (target : ℕ) (x : Ref) (keeps : Keeps v 
   cut_sender : (i : ℕ) → is_on i dying ≡ false → sender_in (object_at (cut_to_of k dying target x) i) ≡ sender_in (object_at k i)
   cut_sender i off = cut_stays.sender i ∙ ap sender_in (others_stay i off)
 
-  cut_depth : (i : ℕ) → is_on i dying ≡ false → (i ≡ target → ⊥) → depth_in (context_in (object_at (cut_to_of k dying target x) i)) ≡ depth_in (context_in (object_at k i))
+  cut_depth : (i : ℕ) → is_on i dying ≡ false → (i ≡ target → ⊥) → depth_if (context_in (object_at (cut_to_of k dying target x) i)) ≡ depth_if (context_in (object_at k i))
   unfolding resume_of killed
-  cut_depth i off apart = cut_stays.depth i apart ∙ ap (λ o. depth_in (context_in o)) (others_stay i off)
+  cut_depth i off apart = cut_stays.depth i apart ∙ ap (λ o. depth_if (context_in o)) (others_stay i off)
 
   alone_stack : IsStack v ((target ∷ []) ∷ [])
   alone_stack = record { active = sym cut_active; called = tt; apart = (refl, tt); filled = tt }

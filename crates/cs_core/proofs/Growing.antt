@@ -121,7 +121,7 @@ entered_last k x args skip = refl
 
 entered_run : (r : Run) (k : Kept) (x : Ref) (args : ℕ) (skip : Bool) → (sent r (enter_out k x args skip)).run ≡ r
 entered_run r k x args skip =
-    ap (λ p. (given p (result (enter_out k x args skip) r) (λ q. step.counting (enter_out k x args skip).count (try_primitive (with_kept (enter_out k x args skip).state r) q.0 q.1))).run) (entered_last k x args skip)
+    ap (λ p. (given p (result (enter_out k x args skip) r) (λ q. step.result_counting (enter_out k x args skip).count (try_primitive (with_kept (enter_out k x args skip).state r) q.0 q.1))).run) (entered_last k x args skip)
 
 or_enter_writes : (s : State) (x : Ref) (p : Result) → Writes s.run p.run → Writes s.run (or_enter s x p).run
 or_enter_writes s x p h = go (is_fail p.out.end)
@@ -132,7 +132,7 @@ or_enter_writes s x p h = go (is_fail p.out.end)
 
 tried_writes : (s : State) (x : Ref) (p : Result) → Leaves s p → Writes s.run (tried s x p).run
 tried_writes s x p l =
-    subst (λ (o : Option (Ref × ℕ)). Writes s.run (given o (or_enter s x p) (λ q. step.counting p.out.count (try_performed (with_kept p.out.state p.run) q.0 q.1))).run) (sym l.last) (or_enter_writes s x p l.writes)
+    subst (λ (o : Option (Ref × ℕ)). Writes s.run (given o (or_enter s x p) (λ q. step.result_counting p.out.count (try_performed (with_kept p.out.state p.run) q.0 q.1))).run) (sym l.last) (or_enter_writes s x p l.writes)
 
 primitive_writes : (s : State) (x : Ref) (number : ℕ) → is_built_number s.kept (arguments_of s.kept x) (Some number) ≡ true → Writes s.run (try_primitive s x number).run
 unfolding try_primitive
@@ -176,7 +176,7 @@ return_writes r k x local h = go (call_in (back k x local).end) h
     o : Out
     o = back k x local
 
-    go : (c : Option (ℕ × ℕ)) → given c true (λ c. is_built_call o.state c.0 c.1) ≡ true → Writes r (given c (result o r) (λ c. step.counting o.count (do_call r o.state c.0 c.1))).run
+    go : (c : Option (ℕ × ℕ)) → given c true (λ c. is_built_call o.state c.0 c.1) ≡ true → Writes r (given c (result o r) (λ c. step.result_counting o.count (do_call r o.state c.0 c.1))).run
     go None t = writes_none r
     go (Some c) t = call_writes r o.state c.0 c.1 t
 
@@ -186,7 +186,7 @@ followed_writes : (r : Run) (o : Out) → is_built_out o ≡ true → Writes r (
 followed_writes r o h = go (message_in o.end) (return_in o.end) h
   where
     go : (m : Option Message) (p : Option (Ref × Bool)) → given m (given p true (λ p. is_built_return o.state p.0 p.1)) (λ m. is_built_send o.state m) ≡ true
-        → Writes r (given m (given p (result o r) (λ p. step.counting o.count (do_return r o.state p.0 p.1))) (λ m. step.counting o.count (do_send r o.state m.selector m.args m.above))).run
+        → Writes r (given m (given p (result o r) (λ p. step.result_counting o.count (do_return r o.state p.0 p.1))) (λ m. step.result_counting o.count (do_send r o.state m.selector m.args m.above))).run
     go None None t = writes_none r
     go None (Some p) t = return_writes r o.state p.0 p.1 t
     go (Some m) p t = send_writes r o.state m t

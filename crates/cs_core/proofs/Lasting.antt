@@ -39,7 +39,7 @@ bytes-put k c (ref.Obj j) r = elim (eqb_tells j (active_birth k)) [
 pub write_behind : (k : Kept) (x y : Ref) → IsRunning k → bytes_to_write (push_of (drop_of k 2) x) y ≡ bytes_to_write k y
 unfolding push_of drop_of bytes_to_write
 write_behind k x y r =
-    ap (λ m. bytes_to_write m y) (edit_twice k (popped 2) (pushed x)) ∙ ap (λ bytes. or_bytes bytes (small_byte (ref.index_of y))) (bytes-put k _ y r)
+    ap (λ m. bytes_to_write m y) (edit_twice k (popped 2) (pushed x)) ∙ ap (λ bytes. or_bytes bytes (small_byte (ref.small_index y))) (bytes-put k _ y r)
 
 -- a state that keeps another one has its byte objects
 bytes_kept : (v m : Kept) (y : Ref) (bytes : List ℕ) → Keeps v m → bytes_to_write m y ≡ Some bytes → bytes_to_write v y ≡ Some bytes
@@ -76,7 +76,7 @@ bytes_last s t k v x o ready sound named names keeps is = go (is_bytes_at t.memo
     first false b h = absurd (false≢true h)
 
     no_number : count_of o.0 ≡ None
-    no_number = sym (index_of-ref_of s.memory.objects o.0 named) ∙ ap ref.index_of (ref_of-object s.memory.objects o.0 (first (is_object s.memory.objects o.0) _ is))
+    no_number = sym (index_of-ref_of s.memory.objects o.0 named) ∙ ap ref.small_index (ref_of-object s.memory.objects o.0 (first (is_object s.memory.objects o.0) _ is))
 
     go : (b : Bool) → is_bytes_at t.memory.objects o.0 ≡ b → Lasts s t (Bytes o)
     go true e =

@@ -12,12 +12,12 @@ use Rattle.cs_model.specs.End.{End, Out}
 use Rattle.cs_acts.specs.Full.{CausesFull}
 use Rattle.cs_acts.specs.declared.act.Full.{Full as Why}
 use Rattle.cs_acts.specs.declared.act.Full.TheVariants.{Heap, Stack}
-use Rattle.cs_acts.specs.Layout.{IsApart, LaidBy, Layout, depth_in, entered, first_page, frame_words, is_frame, is_on, left, page_words, touched}
+use Rattle.cs_acts.specs.Layout.{IsApart, LaidBy, Layout, depth_if, entered, first_page, frame_words, is_frame, is_on, left, page_words, touched}
 use Rattle.cs_acts.specs.Names.{Store}
 use Rattle.cs_heap.specs.Object.{used}
-use Rattle.cs_model.specs.Demand.{words_at, words_below, words_in}
-use Rattle.cs_send.specs.Sent.{Refuses}
-use Rattle.cs_core.specs.Stepped.{CausesNoRoom, EndsWithout, FramesFrom, IsOver, Needs, whole, Overfills, Turn}
+use Rattle.cs_model.specs.Demand.{words_taken, words_below, words_held}
+use Rattle.cs_send.specs.Sent.{RefusesSend}
+use Rattle.cs_core.specs.Stepped.{CausesNoRoom, OverWithout, FramesFrom, IsOver, Needs, whole, Overfills, Turn}
 
 -- ---- frames
 
@@ -123,29 +123,29 @@ unfolding words_below
 words_kept v m k zero = omega arith
 words_kept v m k (suc n) = go (words_kept v m k n) (object_at v n) refl
   where
-    go : words_below n v ≤ words_below n m → (o : Option Obj) → object_at v n ≡ o → words_below n v + words_at o ≤ words_below n m + words_at (object_at m n)
+    go : words_below n v ≤ words_below n m → (o : Option Obj) → object_at v n ≡ o → words_below n v + words_taken o ≤ words_below n m + words_taken (object_at m n)
     go before None e = omega (arith, before)
     go before (Some o) e =
-        let is : words_at (object_at m n) ≡ words_at (Some o) = ap words_at (k.same n o e) in
+        let is : words_taken (object_at m n) ≡ words_taken (Some o) = ap words_taken (k.same n o e) in
         omega (arith, before, is)
 
-pub state_words_kept : (v m : Kept) → Keeps v m → words_in v ≤ words_in m
-state_words_kept v m k = subst (λ (r : Rest). words_in v ≤ words_below r.next m) k.rest (words_kept v m k v.rest.next)
+pub state_words_kept : (v m : Kept) → Keeps v m → words_held v ≤ words_held m
+state_words_kept v m k = subst (λ (r : Rest). words_held v ≤ words_below r.next m) k.rest (words_kept v m k v.rest.next)
 
 pub page_words_kept : (v m : Kept) → Keeps v m → (page : List ℕ) → page_words v page ≤ page_words m page
 unfolding page_words
 page_words_kept v m k [] = omega arith
 page_words_kept v m k (i ∷ is) = go (page_words_kept v m k is) (object_at v i) refl
   where
-    go : page_words v is ≤ page_words m is → (o : Option Obj) → object_at v i ≡ o → page_words v is + (10 + depth_in (context_in o)) ≤ page_words m is + frame_words m i
+    go : page_words v is ≤ page_words m is → (o : Option Obj) → object_at v i ≡ o → page_words v is + (10 + depth_if (context_in o)) ≤ page_words m is + frame_words m i
     go before None e = omega (arith, before)
     go before (Some o) e =
-        let is : frame_words m i ≡ 10 + depth_in (context_in (Some o)) = ap (λ o. 10 + depth_in (context_in o)) (k.same i o e) in
+        let is : frame_words m i ≡ 10 + depth_if (context_in (Some o)) = ap (λ o. 10 + depth_if (context_in o)) (k.same i o e) in
         omega (arith, before, is)
 
 -- ---- no room
 
-entered_without : (why : Why) (e : End) → e ≡ ends.Entered → EndsWithout why e
+entered_without : (why : Why) (e : End) → e ≡ ends.Entered → OverWithout why e
 entered_without Heap e is = subst IsOver (sym is) tt
 entered_without Stack e is = is
 
@@ -162,29 +162,29 @@ pub fills_by_words : (u k : Kept) (least floor : ℕ) → ((page : List ℕ) →
 fills_by_words u k least floor words low page apart h = omega (arith, words page, low, h)
 
 -- the cause of a refusal is that of a part of a step that comes to no fewer words and makes no fewer
-pub causes_more : (s : Store) (l : Option Layout) (u k t : Kept) (o : Out) (made least : ℕ) (why : Why) → FillsToo u 4030 k least → words_in t ≤ words_in o.state → made ≤ o.count.objects → CausesFull s l u made t why
+pub causes_more : (s : Store) (l : Option Layout) (u k t : Kept) (o : Out) (made least : ℕ) (why : Why) → FillsToo u 4030 k least → words_held t ≤ words_held o.state → made ≤ o.count.objects → CausesFull s l u made t why
     → CausesNoRoom s l k least o why
 causes_more s l u k t o made least Heap pages words more h = record { words = omega (arith, words, h.words); room = more_room s l made o.count.objects more h.room }
 causes_more s None u k t o made least Stack pages words more h = h
 causes_more s (Some l) u k t o made least Stack pages words more h = (h.0, λ apart. pages (first_page l.pages) apart (omega (arith, h.1)))
 
 -- and so is the cause of another part
-pub causes_too : (s : Store) (l : Option Layout) (u k : Kept) (a b : Out) (least floor : ℕ) (why : Why) → FillsToo u least k floor → words_in a.state ≤ words_in b.state → a.count.objects ≤ b.count.objects → CausesNoRoom s l u least a why
+pub causes_too : (s : Store) (l : Option Layout) (u k : Kept) (a b : Out) (least floor : ℕ) (why : Why) → FillsToo u least k floor → words_held a.state ≤ words_held b.state → a.count.objects ≤ b.count.objects → CausesNoRoom s l u least a why
     → CausesNoRoom s l k floor b why
 causes_too s l u k a b least floor Heap pages words more h = record { words = omega (arith, words, h.words); room = more_room s l a.count.objects b.count.objects more h.room }
 causes_too s None u k a b least floor Stack pages words more h = h
 causes_too s (Some l) u k a b least floor Stack pages words more h = (h.0, λ apart. pages (first_page l.pages) apart (h.1 apart))
 
 -- a part of a step that is built and comes to this has no room for it
-pub overfills_whole : (s : Store) (l : Option Layout) (k u t : Kept) (a : Turn) (o : Out) (made : ℕ) (why : Why) → a.built ≡ true → a.result.out ≡ o → EndsWithout why o.end → FillsToo u 4030 k a.least → words_in t ≤ words_in o.state → made ≤ o.count.objects
+pub overfills_whole : (s : Store) (l : Option Layout) (k u t : Kept) (a : Turn) (o : Out) (made : ℕ) (why : Why) → a.built ≡ true → a.result.out ≡ o → OverWithout why o.end → FillsToo u 4030 k a.least → words_held t ≤ words_held o.state → made ≤ o.count.objects
     → CausesFull s l u made t why → Overfills s l k a why
 overfills_whole s l k u t a o made why built is end pages words more h = record {
   out = o;
-  needs = subst (Needs a why) is (whole built (subst (λ (p : Out). EndsWithout why p.end) (sym is) end));
+  needs = subst (Needs a why) is (whole built (subst (λ (p : Out). OverWithout why p.end) (sym is) end));
   cause = causes_more s l u k t o made a.least why pages words more h;
 }
 
 -- a refusal to enter a method
-pub refused : (s : Store) (l : Option Layout) (k : Kept) (a : Turn) (o : Out) (why : Why) → a.built ≡ true → a.result.out ≡ o → a.least ≤ 4030 → Refuses s l k o why → Overfills s l k a why
+pub refused : (s : Store) (l : Option Layout) (k : Kept) (a : Turn) (o : Out) (why : Why) → a.built ≡ true → a.result.out ≡ o → a.least ≤ 4030 → RefusesSend s l k o why → Overfills s l k a why
 refused s l k a o why built is low h =
     overfills_whole s l k k o.state a o 0 why built is (entered_without why o.end h.end) (fills_by_words k k 4030 a.least (λ page. omega arith) low) (omega arith) (omega arith) h.cause

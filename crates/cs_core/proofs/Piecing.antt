@@ -5,8 +5,8 @@ use Rattle.std.specs.Option.{option_map_or}
 use Rattle.std.proofs.lemmas.Bool.{false≢true}
 use Rattle.std.proofs.lemmas.Bool.Decides.{nat_tests}
 use Rattle.cs_word.specs.declared.Oop.{Oop}
-use Rattle.cs_heap.specs.Format.{format_allows, is_method, is_pointers}
-use Rattle.cs_heap.specs.Object.{Memory, Object, format_of}
+use Rattle.cs_heap.specs.Format.{format_allows, is_code, is_pointers}
+use Rattle.cs_heap.specs.Object.{Memory, Object, format_at}
 use Rattle.cs_classes.specs.Meaning.{count_of, ref_of, used_bytes}
 use Rattle.cs_classes.specs.Sound.{IsSoundObject}
 use Rattle.cs_classes.proofs.Refs.{index_of-ref_of}
@@ -43,10 +43,10 @@ no_bytes x e = ap (λ b. if b then Some (used_bytes x.format x.words) else None)
 of_pointers : (f : ℕ) → is_pointers f ≡ true → is_byte_format f ≡ false
 of_pointers f h = grind (arith, nat_tests)
 
-of_method : (f : ℕ) → is_method f ≡ true → is_byte_format f ≡ false
+of_method : (f : ℕ) → is_code f ≡ true → is_byte_format f ≡ false
 of_method f h = grind (arith, nat_tests)
 
-of_raw : (f n : ℕ) → is_pointers f ≡ false → is_method f ≡ false → format_allows f n ≡ true → nat_le 16 f ≡ is_byte_format f
+of_raw : (f n : ℕ) → is_pointers f ≡ false → is_code f ≡ false → format_allows f n ≡ true → nat_le 16 f ≡ is_byte_format f
 of_raw f n p m h = grind (arith, nat_tests)
 
 bytes_said : (os : List Object) (x : Object) (o : Option Obj) → IsSoundObject os x → Says (ref_of os) (Some x) o → byte_string o ≡ bytes_in (Some x)
@@ -78,16 +78,16 @@ bytes_in-there os w h = go (place os w)
   where
     go : Place os w → bytes_in (object_named os w) ≡ Some (bytes_at os w)
     go (There x named at is) =
-        let format : is_byte_format x.format ≡ true = sym (ap is_byte_format (field_at (λ y. y.format) os w x at)) ∙ sym (ap (λ b. b && is_byte_format (format_of os w)) is) ∙ h in
+        let format : is_byte_format x.format ≡ true = sym (ap is_byte_format (field_at (λ y. y.format) os w x at)) ∙ sym (ap (λ b. b && is_byte_format (format_at os w)) is) ∙ h in
         ap bytes_in named ∙ ap (λ b. if b then Some (used_bytes x.format x.words) else None) format ∙ sym (ap (λ p. Some (option_map_or (λ (y : Object). used_bytes y.format y.words) p [])) at)
-    go (Nowhere named is) = absurd (false≢true (sym (ap (λ b. b && is_byte_format (format_of os w)) is) ∙ h))
+    go (Nowhere named is) = absurd (false≢true (sym (ap (λ b. b && is_byte_format (format_at os w)) is) ∙ h))
 
 bytes_in-else : (os : List Object) (w : ℕ) → is_bytes_at os w ≡ false → bytes_in (object_named os w) ≡ None
 bytes_in-else os w h = go (place os w)
   where
     go : Place os w → bytes_in (object_named os w) ≡ None
     go (There x named at is) =
-        let format : is_byte_format x.format ≡ false = sym (ap is_byte_format (field_at (λ y. y.format) os w x at)) ∙ sym (ap (λ b. b && is_byte_format (format_of os w)) is) ∙ h in
+        let format : is_byte_format x.format ≡ false = sym (ap is_byte_format (field_at (λ y. y.format) os w x at)) ∙ sym (ap (λ b. b && is_byte_format (format_at os w)) is) ∙ h in
         ap bytes_in named ∙ no_bytes x format
     go (Nowhere named is) = ap bytes_in named
 

@@ -3,34 +3,35 @@ use Rattle.std.proofs.Common.{◌≡◌, ℕ, suc, ◌+◌, ◌-◌, ◌*◌, �
 use Rattle.std.specs.Option.{option_map_or}
 use Rattle.std.specs.Prelude.{slice_index}
 use Rattle.std.proofs.Math.Seq.{take-add}
-use Rattle.cs_heap.specs.Object.{Object, byte_in, byte_of, format_of, object_at, slot_count_of}
-use Rattle.cs_classes.specs.Meaning.{bytes_of, unused_bytes, used_bytes}
+use Rattle.cs_model.specs.Words.{byte_in, bytes_of_words, unused_bytes}
+use Rattle.cs_heap.specs.Object.{Object, byte_of, format_at, heap_object, slot_count_of}
+use Rattle.cs_classes.specs.Meaning.{used_bytes}
 use Rattle.cs_shelf.specs.Outside.{Appends, AppendsPart}
 use Rattle.cs_shelf.proofs.Appending.{appends_then}
 use Rattle.cs_acts.proofs.Methods.{get_or-bytes_of, length-bytes_of}
 use Rattle.cs_core.specs.Pieces.{all_bytes_at, bytes_at}
 
 -- the used bytes are the first of all
-pub used_first : (os : List Object) (a : ℕ) → bytes_at os a ≡ take (4 * slot_count_of os a - unused_bytes (format_of os a)) (all_bytes_at os a)
-used_first os a = go (object_at os a)
+pub used_first : (os : List Object) (a : ℕ) → bytes_at os a ≡ take (4 * slot_count_of os a - unused_bytes (format_at os a)) (all_bytes_at os a)
+used_first os a = go (heap_object os a)
   where
     go : (o : Option Object) → option_map_or (λ (x : Object). used_bytes x.format x.words) o []
-        ≡ take (4 * option_map_or (λ (x : Object). length x.words) o 0 - unused_bytes (option_map_or (λ (x : Object). x.format) o 0)) (option_map_or (λ (x : Object). bytes_of x.words) o [])
+        ≡ take (4 * option_map_or (λ (x : Object). length x.words) o 0 - unused_bytes (option_map_or (λ (x : Object). x.format) o 0)) (option_map_or (λ (x : Object). bytes_of_words x.words) o [])
     go None = refl
     go (Some x) = refl
 
 length-all : (os : List Object) (a : ℕ) → length (all_bytes_at os a) ≡ 4 * slot_count_of os a
-length-all os a = go (object_at os a)
+length-all os a = go (heap_object os a)
   where
-    go : (o : Option Object) → length (option_map_or (λ (x : Object). bytes_of x.words) o []) ≡ 4 * option_map_or (λ (x : Object). length x.words) o 0
+    go : (o : Option Object) → length (option_map_or (λ (x : Object). bytes_of_words x.words) o []) ≡ 4 * option_map_or (λ (x : Object). length x.words) o 0
     go None = refl
     go (Some x) = length-bytes_of x.words
 
 byte_is : (os : List Object) (a i : ℕ) → i < 4 * slot_count_of os a → get_or (all_bytes_at os a) i 0 ≡ byte_of os a i
-byte_is os a i h = go (object_at os a) h
+byte_is os a i h = go (heap_object os a) h
   where
     go : (o : Option Object) → i < 4 * option_map_or (λ (x : Object). length x.words) o 0
-        → get_or (option_map_or (λ (x : Object). bytes_of x.words) o []) i 0 ≡ byte_in (option_map_or (λ (x : Object). slice_index x.words (i / 4)) o 0) (i % 4)
+        → get_or (option_map_or (λ (x : Object). bytes_of_words x.words) o []) i 0 ≡ byte_in (option_map_or (λ (x : Object). slice_index x.words (i / 4)) o 0) (i % 4)
     go None h = absurd (omega (arith, h))
     go (Some x) h = get_or-bytes_of x.words i h
 

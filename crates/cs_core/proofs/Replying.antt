@@ -10,7 +10,7 @@ use Rattle.cs_model.specs.End as ends
 use Rattle.cs_model.specs.End.{Out, given, looked}
 use Rattle.cs_model.specs.PrimAnswer.{answer, argument, fail, receiver}
 use Rattle.cs_model.specs.PrimContext.{stack_at_prim, stackp_prim}
-use Rattle.cs_model.specs.PrimObject.{answer_field, slot_at, slot_at_prim, slot_index, small_count}
+use Rattle.cs_model.specs.PrimObject.{answer_field, read_slot, slot_at_prim, slot_index, small_count}
 use Rattle.cs_model.specs.PrimRun.{result}
 use Rattle.cs_model.specs.PrimTable.{kept_prim, prim}
 use Rattle.cs_model.specs.Step.{primitive_in}
@@ -46,7 +46,7 @@ if_replies k false x y s t = t
 field_replies : (k : Kept) (args i : ℕ) (value : Option Ref) → Replies k (answer_field k args i value)
 field_replies k args i value = given_replies k value _ (λ x. if_replies k (i == 0) _ _ (looking k (answer k args x) (answering k args x)) (answering k args x))
 
-slot_replies : (k : Kept) (args i : ℕ) (o : Option Obj) → Replies k (slot_at k args i o)
+slot_replies : (k : Kept) (args i : ℕ) (o : Option Obj) → Replies k (read_slot k args i o)
 slot_replies k args i None = failing k
 slot_replies k args i (Some (Ptr head slots)) = given_replies k (slice_get slots i) _ (λ x. answering k args x)
 slot_replies k args i (Some (Raw head bytes)) = failing k

@@ -24,7 +24,7 @@ use Rattle.cs_model.proofs.Objects.{object_at-put_other, object_at-put_same, res
 use Rattle.cs_acts.specs.declared.act.Full.{Full as Why}
 use Rattle.cs_acts.specs.declared.act.Full.TheVariants.{Heap}
 use Rattle.cs_acts.specs.Full.{CausesFull}
-use Rattle.cs_acts.specs.Layout.{IsApart, LaidBy, Layout, cut, depth_in, frame_words, left, page_words}
+use Rattle.cs_acts.specs.Layout.{IsApart, LaidBy, Layout, cut, depth_if, frame_words, left, page_words}
 use Rattle.cs_acts.specs.Names.{Store}
 use Rattle.cs_acts.specs.Primed.{GoesOn}
 use Rattle.cs_acts.specs.Targets.{CanCut, dying_in, dying_to}
@@ -51,13 +51,13 @@ pub record Pushed (n : ℕ) (k t : Kept) : Type 0 where
 active_words : (k : Kept) (x : Ref) → Runs k → frame_words (push_of k x) (active_birth k) ≤ frame_words k (active_birth k) + 1
 unfolding push_of
 active_words k x runs =
-    let new : frame_words (push_of k x) (active_birth k) ≡ 10 + length (pushed x (active_context k)).stack = ap (λ o. 10 + depth_in (context_in o)) (object_at-put_same k (active_birth k) (Ctx (pushed x (active_context k)))) in
-    let old : frame_words k (active_birth k) ≡ 10 + depth_of k = ap (λ o. 10 + depth_in o) runs in
+    let new : frame_words (push_of k x) (active_birth k) ≡ 10 + length (pushed x (active_context k)).stack = ap (λ o. 10 + depth_if (context_in o)) (object_at-put_same k (active_birth k) (Ctx (pushed x (active_context k)))) in
+    let old : frame_words k (active_birth k) ≡ 10 + depth_of k = ap (λ o. 10 + depth_if o) runs in
     omega (arith, new, old, length-append (stack_of k) (x ∷ []))
 
 other_words : (k : Kept) (x : Ref) (i : ℕ) → (i ≡ active_birth k → ⊥) → frame_words (push_of k x) i ≡ frame_words k i
 unfolding push_of
-other_words k x i other = ap (λ o. 10 + depth_in (context_in o)) (object_at-put_other k (active_birth k) i (Ctx (pushed x (active_context k))) other)
+other_words k x i other = ap (λ o. 10 + depth_if (context_in o)) (object_at-put_other k (active_birth k) i (Ctx (pushed x (active_context k))) other)
 
 push_words : (k : Kept) (x : Ref) → Runs k → (page : List ℕ) → IsApart page → page_words (push_of k x) page ≤ page_words k page + 1
 unfolding page_words

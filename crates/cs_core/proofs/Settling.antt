@@ -8,7 +8,7 @@ use Rattle.cs_model.specs.Ref.{Ref, Small, Char, same_ref}
 use Rattle.cs_model.specs.Ref as ref
 use Rattle.cs_model.specs.Obj.{Obj, Context, Ptr, Raw, Method, Ctx, context_in, popped, pushed, stored, with_pc}
 use Rattle.cs_model.specs.State.{Kept, Rest, is_read_only, put, object_at, object_of, special_at}
-use Rattle.cs_model.specs.Read.{active_birth, active_context, blank, depth_of, from_top, literals_of, receiver_of, size_of, stack_of}
+use Rattle.cs_model.specs.Read.{active_birth, active_context, blank_context, depth_of, from_top, literals_of, receiver_of, size_of, stack_of}
 use Rattle.cs_model.specs.Operation.{add_of, next_ref, drop_of, edit_active, edit_found, nil_of, pop_of, push_of, set_pc_of, set_stack_of, store_of, with_slot, with_next}
 use Rattle.cs_model.specs.Context.{context_get, is_context_ref}
 use Rattle.cs_model.specs.Number.{boolean}
@@ -18,7 +18,7 @@ use Rattle.cs_model.specs.Exec.{attempt_to_assign, push_all, refuse_store, store
 use Rattle.cs_model.specs.Built.{is_built_op}
 use Rattle.cs_model.proofs.Editing.{active_context-put}
 use Rattle.cs_model.proofs.Objects.{object_at-put_other, object_at-put_same, rest-put}
-use Rattle.cs_acts.specs.Layout.{depth_in}
+use Rattle.cs_acts.specs.Layout.{depth_if}
 use Rattle.cs_acts.specs.Names.{Store}
 use Rattle.cs_acts.specs.Ready.{IsSound}
 use Rattle.cs_core.proofs.Chaining.{sender_in}
@@ -30,7 +30,7 @@ pub record Stays (k t : Kept) : Type 0 where
   pub rest : with_next 0 t.rest ≡ with_next 0 k.rest
   pub next : k.rest.next ≤ t.rest.next
   pub sender : (i : ℕ) → sender_in (object_at t i) ≡ sender_in (object_at k i)
-  pub depth : (i : ℕ) → (i ≡ active_birth k → ⊥) → depth_in (context_in (object_at t i)) ≡ depth_in (context_in (object_at k i))
+  pub depth : (i : ℕ) → (i ≡ active_birth k → ⊥) → depth_if (context_in (object_at t i)) ≡ depth_if (context_in (object_at k i))
 
 -- a context is active
 abbrev pub Runs : Kept → Type 0
@@ -55,10 +55,10 @@ stays_on k t u a b = record {
 }
 
 -- what has a sender is a context
-context_there : (k : Kept) (i : ℕ) (x : Ref) → sender_in (object_at k i) ≡ Some x → context_in (object_at k i) ≡ Some (unwrap_or (context_in (object_at k i)) blank)
+context_there : (k : Kept) (i : ℕ) (x : Ref) → sender_in (object_at k i) ≡ Some x → context_in (object_at k i) ≡ Some (unwrap_or (context_in (object_at k i)) blank_context)
 context_there k i x h = go (context_in (object_at k i)) h
   where
-    go : (o : Option Context) → option_map (λ (c : Context). c.sender) o ≡ Some x → o ≡ Some (unwrap_or o blank)
+    go : (o : Option Context) → option_map (λ (c : Context). c.sender) o ≡ Some x → o ≡ Some (unwrap_or o blank_context)
     go None e = absurd (cc)
     go (Some c) e = refl
 
@@ -98,7 +98,7 @@ edit_stays k f runs same = record {
         ∙ sym (ap (λ n. sender_in (object_at k n)) e.1 ∙ ap (option_map (λ (c : Context). c.sender)) runs)
     | inr e ↦ ap sender_in (object_at-put_other k (active_birth k) i (Ctx (f (active_context k))) e.1)
   ];
-  depth = λ i h. ap (λ o. depth_in (context_in o)) (object_at-put_other k (active_birth k) i (Ctx (f (active_context k))) h);
+  depth = λ i h. ap (λ o. depth_if (context_in o)) (object_at-put_other k (active_birth k) i (Ctx (f (active_context k))) h);
 }
 
 pub push_stays : (k : Kept) (x : Ref) → Runs k → Stays k (push_of k x)
@@ -130,7 +130,7 @@ found_stays k i j v (Some o) e = record {
   rest = ap (with_next 0) (rest-put k j (with_slot i v o));
   next = next_put k j (with_slot i v o);
   sender = λ n. ap (option_map (λ (c : Context). c.sender)) (same n);
-  depth = λ n h. ap depth_in (same n);
+  depth = λ n h. ap depth_if (same n);
 }
   where
     same : (n : ℕ) → context_in (object_at (edit_found (with_slot i v) j (Some o) k) n) ≡ context_in (object_at k n)
@@ -153,7 +153,7 @@ add_stays k o none free = record {
   rest = refl;
   next = omega arith;
   sender = λ i. ap (option_map (λ (c : Context). c.sender)) (same i);
-  depth = λ i h. ap depth_in (same i);
+  depth = λ i h. ap depth_if (same i);
 }
   where
     same : (i : ℕ) → context_in (object_at (put k k.rest.next o) i) ≡ context_in (object_at k i)

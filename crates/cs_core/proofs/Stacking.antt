@@ -10,7 +10,7 @@ use Rattle.cs_model.specs.Ref as ref
 use Rattle.cs_model.specs.Obj.{Context, Ctx, context_in, dead, popped}
 use Rattle.cs_model.specs.State.{Kept, Rest, object_at}
 use Rattle.cs_model.specs.Keeps.{Keeps}
-use Rattle.cs_model.specs.Read.{IsRunning, active_birth, active_context, blank, depth_of, stack_of}
+use Rattle.cs_model.specs.Read.{IsRunning, active_birth, active_context, blank_context, depth_of, stack_of}
 use Rattle.cs_model.specs.Operation.{cut_to_of, dead_object, drop_of, edit_found, enter_of, enter_with, kill_all, kill_of, method_context, resume_of}
 use Rattle.cs_model.specs.Return.{context_birth, sender_birth}
 use Rattle.cs_model.proofs.Objects.{object_at-put_other, object_at-put_same}
@@ -21,7 +21,7 @@ use Rattle.cs_model.proofs.Searching.{sender_birth_same}
 use Rattle.cs_model.specs.End.{made_context}
 use Rattle.cs_model.specs.Send.{enter_out}
 use Rattle.cs_model.specs.Step.{arguments_of}
-use Rattle.cs_acts.specs.Layout.{IsApart, IsCalled, IsFresh, IsLaid, IsLaidOut, IsPage, LaidBy, Layout, depth_in, entered, first_page, frame_words, is_frame, is_on, last_frame, left, page_words, touched}
+use Rattle.cs_acts.specs.Layout.{IsApart, IsCalled, IsFresh, IsLaid, IsLaidOut, IsPage, LaidBy, Layout, depth_if, entered, first_page, frame_words, is_frame, is_on, last_frame, left, page_words, touched}
 use Rattle.cs_acts.specs.Names.{Store}
 use Rattle.cs_core.specs.Stacked.{IsStack, IsStacked}
 use Rattle.cs_core.specs.Stepped.{Lays}
@@ -55,7 +55,7 @@ running_has v active r h =
 module _ (k t v : Kept) (keeps : Keeps v t) (stay : ContextsStay k t) where
   pub stack_on : (active : ℕ) (is : List ℕ) (pages : List (List ℕ)) → v.rest.active ≡ Some active → Has v active → IsCalled k (active ∷ is ++ concat pages) → IsApart (active ∷ is ++ concat pages)
       → ((i : ℕ) → is_on i (active ∷ is ++ concat pages) ≡ true → sender_in (object_at t i) ≡ sender_in (object_at k i))
-      → ((i : ℕ) → is_on i (concat pages) ≡ true → depth_in (context_in (object_at t i)) ≡ depth_in (context_in (object_at k i)))
+      → ((i : ℕ) → is_on i (concat pages) ≡ true → depth_if (context_in (object_at t i)) ≡ depth_if (context_in (object_at k i)))
       → AllByRecursion (λ page. 3900 < page_words k page) pages → IsStack v ((active ∷ is) ∷ pages)
   stack_on active is pages known has called apart senders depths filled =
       let chain : HasChain v (active ∷ is ++ concat pages) = chain_kept v t keeps (active ∷ is ++ concat pages) has (called_stays k t stay (active ∷ is ++ concat pages) senders called) in
@@ -153,12 +153,12 @@ module _ (k v : Kept) (args : ℕ) (new : Context → Context) (keeps : Keeps v 
   -- the caller's frame has at most 57 values fewer, and every other one as many as before
   caller_words : (active_birth k ≡ k.rest.next → ⊥) → args < 57 → frame_words k (active_birth k) ≤ frame_words (enter_with k args new) (active_birth k) + 57
   caller_words other few =
-      let new : frame_words (enter_with k args new) (active_birth k) ≡ 10 + length (popped (args + 1) (active_context k)).stack = ap (λ o. 10 + depth_in (context_in o)) (old_there other) in
-      let old : frame_words k (active_birth k) ≡ 10 + depth_of k = ap (λ o. 10 + depth_in (context_in o)) found in
+      let new : frame_words (enter_with k args new) (active_birth k) ≡ 10 + length (popped (args + 1) (active_context k)).stack = ap (λ o. 10 + depth_if (context_in o)) (old_there other) in
+      let old : frame_words k (active_birth k) ≡ 10 + depth_of k = ap (λ o. 10 + depth_if (context_in o)) found in
       omega (arith, few, new, old, length-take (depth_of k - (args + 1)) (stack_of k))
 
   other_words : (i : ℕ) → (i ≡ k.rest.next → ⊥) → (i ≡ active_birth k → ⊥) → frame_words (enter_with k args new) i ≡ frame_words k i
-  other_words i new old = ap (λ n. 10 + n) (ap (λ o. depth_in (context_in o)) (others_there i new) ∙ dropped.depth i old)
+  other_words i new old = ap (λ n. 10 + n) (ap (λ o. depth_if (context_in o)) (others_there i new) ∙ dropped.depth i old)
 
   page_there : (is : List ℕ) → (active_birth k ≡ k.rest.next → ⊥) → ((i : ℕ) → is_on i is ≡ true → frame_words (enter_with k args new) i ≡ frame_words k i) → args < 57
       → 4096 < page_words k (active_birth k ∷ is) + 66 → 3900 < page_words (enter_with k args new) (active_birth k ∷ is)
@@ -269,7 +269,7 @@ module _ (k v : Kept) (target : ℕ) (x : Ref) (keeps : Keeps v (cut_to_of k (ac
   unfolding resume_of active_context killed
   target_runs = go (context_in (object_at killed target)) (ap (λ o. is_some (context_in o)) (others_stay target other) ∙ target_there)
     where
-      go : (o : Option Context) → is_some o ≡ true → o ≡ Some (unwrap_or o blank)
+      go : (o : Option Context) → is_some o ≡ true → o ≡ Some (unwrap_or o blank_context)
       go None h = absurd (false≢true h)
       go (Some c) h = refl
 
@@ -284,9 +284,9 @@ module _ (k v : Kept) (target : ℕ) (x : Ref) (keeps : Keeps v (cut_to_of k (ac
   cut_sender : (i : ℕ) → (i ≡ active_birth k → ⊥) → sender_in (object_at (cut_to_of k (active_birth k ∷ []) target x) i) ≡ sender_in (object_at k i)
   cut_sender i apart = cut_stays.sender i ∙ ap sender_in (others_stay i apart)
 
-  cut_depth : (i : ℕ) → (i ≡ active_birth k → ⊥) → (i ≡ target → ⊥) → depth_in (context_in (object_at (cut_to_of k (active_birth k ∷ []) target x) i)) ≡ depth_in (context_in (object_at k i))
+  cut_depth : (i : ℕ) → (i ≡ active_birth k → ⊥) → (i ≡ target → ⊥) → depth_if (context_in (object_at (cut_to_of k (active_birth k ∷ []) target x) i)) ≡ depth_if (context_in (object_at k i))
   unfolding resume_of killed
-  cut_depth i apart from = cut_stays.depth i from ∙ ap (λ o. depth_in (context_in o)) (others_stay i apart)
+  cut_depth i apart from = cut_stays.depth i from ∙ ap (λ o. depth_if (context_in o)) (others_stay i apart)
 
   cut_contexts : ContextsStay k (cut_to_of k (active_birth k ∷ []) target x)
   cut_contexts i h = stay_by_senders killed (cut_to_of k (active_birth k ∷ []) target x) cut_stays.sender i

@@ -24,7 +24,7 @@ use Rattle.cs_acts.specs.declared.act.Full.{Full as Why}
 use Rattle.cs_acts.specs.Layout.{Layout}
 use Rattle.cs_acts.specs.Names.{Store}
 use Rattle.cs_acts.specs.Ready.{IsReady}
-use Rattle.cs_send.specs.Sent.{Enters, Refuses}
+use Rattle.cs_send.specs.Sent.{Enters, RefusesSend}
 use Rattle.cs_core.specs.Stepped.{CausedByFault, DoneIn, EndsBy, Fails, IsOver, Lays, lost, TurnGives, run_at, state_at, trying}
 use Rattle.cs_core.specs.declared.step.StepEnd.{StepEnd}
 use Rattle.cs_core.specs.declared.step.StepEnd.TheVariants.{Active, Idle, Stopped as Stop, Full, WriteFault}
@@ -71,7 +71,7 @@ enters_behind k v x args number l n told old s e running count f h by =
           run = ap (λ (p : Result). p.run) is ∙ ap (λ o. run_at o steps) (sym (append-nil output));
         }
 
-pub full_behind : (k v : Kept) (x : Ref) (args number : ℕ) (l n : Option Layout) (told : Option (List ℕ)) (s : Store) (why : Why) → arguments_of k x ≡ args → Fails k x number → Refuses s l k (enter_out k x args true) why
+pub full_behind : (k v : Kept) (x : Ref) (args number : ℕ) (l n : Option Layout) (told : Option (List ℕ)) (s : Store) (why : Why) → arguments_of k x ≡ args → Fails k x number → RefusesSend s l k (enter_out k x args true) why
     → TurnGives (trying k x number) k l told told s v n (Full why)
 full_behind k v x args number l n told s why count f h =
     (refl, λ output steps. refused s l k (trying k x number output steps) (enter_out k x args true) why f.built (ap (λ (p : Result). p.out) (failed k x number args output steps count (f.end (run_at output steps)))) (omega arith) h)

@@ -28,7 +28,7 @@ use Rattle.cs_model.proofs.Objects.{object_at-put_other, object_at-put_same, res
 use Rattle.cs_acts.specs.declared.act.Full.{Full as Why}
 use Rattle.cs_acts.specs.declared.prim.PrimEnd.{PrimEnd}
 use Rattle.cs_acts.specs.declared.prim.PrimEnd.TheVariants as prims
-use Rattle.cs_acts.specs.Layout.{IsApart, Layout, depth_in, frame_words, is_on, page_words}
+use Rattle.cs_acts.specs.Layout.{IsApart, Layout, depth_if, frame_words, is_on, page_words}
 use Rattle.cs_acts.specs.Names.{Store}
 use Rattle.cs_acts.specs.Primed.{PrimGives, PrimLaid}
 use Rattle.cs_unwind.specs.Primitive.{entered_from, unwinds}
@@ -67,7 +67,7 @@ module _ (k : Kept) (values : List Ref) where
 
   other_frame : (i : ℕ) → (i ≡ active_birth k → ⊥) → frame_words (spread_of k 1 values) i ≡ frame_words k i
   unfolding spread
-  other_frame i other = ap (λ o. 10 + depth_in (context_in o)) (object_at-put_other k (active_birth k) i (Ctx (spread values (active_context k))) other)
+  other_frame i other = ap (λ o. 10 + depth_if (context_in o)) (object_at-put_other k (active_birth k) i (Ctx (spread values (active_context k))) other)
 
   spread_words : IsRunning k → length values < 57 → (page : List ℕ) → IsApart page → page_words (spread_of k 1 values) page ≤ page_words k page + 56
   unfolding page_words
@@ -75,8 +75,8 @@ module _ (k : Kept) (values : List Ref) where
   spread_words running few (i ∷ is) a = elim (eqb_tells i (active_birth k)) [
     | inl e ↦
         let rest : page_words (spread_of k 1 values) is ≡ page_words k is = page_same (spread_of k 1 values) k is (λ j on. other_frame j (λ q. apart_from i j is a.0 on (q ∙ sym e.1))) in
-        let new : frame_words (spread_of k 1 values) i ≡ 10 + length (spread values (active_context k)).stack = ap (frame_words (spread_of k 1 values)) e.1 ∙ ap (λ o. 10 + depth_in (context_in o)) spread_same in
-        let old : frame_words k i ≡ 10 + depth_of k = ap (frame_words k) e.1 ∙ ap (λ o. 10 + depth_in (context_in o)) running.found in
+        let new : frame_words (spread_of k 1 values) i ≡ 10 + length (spread values (active_context k)).stack = ap (frame_words (spread_of k 1 values)) e.1 ∙ ap (λ o. 10 + depth_if (context_in o)) spread_same in
+        let old : frame_words k i ≡ 10 + depth_of k = ap (frame_words k) e.1 ∙ ap (λ o. 10 + depth_if (context_in o)) running.found in
         omega (arith, rest, new, old, spread_depth few)
     | inr e ↦ let first = other_frame i e.1 in omega (arith, first, spread_words running few is a.1)
   ]

@@ -8,9 +8,9 @@ use Rattle.cs_core.specs.declared.primitive.Primitive.{Primitive}
 use Rattle.cs_core.specs.declared.primitive.Primitive.TheVariants.{Add, Write, Unwind, ReadContext}
 
 -- this is the number of a primitive that is called with so many arguments, or that of one that isn't built
-abbrev pub HasNumber : Kept → ℕ → Option Primitive → ℕ → Type 0
-HasNumber k args None number = is_built_number k args (Some number) ≡ false
-HasNumber k args (Some Add) number = number ≡ 1
-HasNumber k args (Some Write) number = number ≡ 900
-HasNumber k args (Some Unwind) number = unwinds number ≡ true
-HasNumber k args (Some ReadContext) number = reads_context k number args ≡ true
+abbrev pub HasBuiltNumber : Kept → ℕ → Option Primitive → ℕ → Type 0
+HasBuiltNumber k args None number = is_built_number k args (Some number) ≡ false
+HasBuiltNumber k args (Some Add) number = number ≡ 1
+HasBuiltNumber k args (Some Write) number = number ≡ 900
+HasBuiltNumber k args (Some Unwind) number = unwinds number ≡ true
+HasBuiltNumber k args (Some ReadContext) number = reads_context k number args ≡ true

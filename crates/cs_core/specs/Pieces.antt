@@ -1,9 +1,10 @@
 -- What the output of one primitive is: one byte, or the bytes of a byte object.
 use Rattle.std.specs.Prelude.{◌≡◌, ℕ, ◌&&◌, Bool, true, nat_le, nat_lt, List, [], ◌∷◌}
 use Rattle.std.specs.Option.{option_map_or}
+use Rattle.cs_model.specs.Words.{bytes_of_words}
 use Rattle.cs_word.specs.declared.Oop.{Oop}
-use Rattle.cs_heap.specs.Object.{Object, format_of, is_object, object_at}
-use Rattle.cs_classes.specs.Meaning.{bytes_of, used_bytes}
+use Rattle.cs_heap.specs.Object.{Object, format_at, is_object, heap_object}
+use Rattle.cs_classes.specs.Meaning.{used_bytes}
 use Rattle.cs_core.specs.declared.primitive.Piece.{Piece}
 use Rattle.cs_core.specs.declared.primitive.Piece.TheVariants.{Byte, Bytes}
 
@@ -13,15 +14,15 @@ is_byte_format format = nat_le 16 format && nat_lt format 20
 
 -- a word is the address of a byte object
 abbrev pub is_bytes_at : List Object → ℕ → Bool
-is_bytes_at objects word = is_object objects word && is_byte_format (format_of objects word)
+is_bytes_at objects word = is_object objects word && is_byte_format (format_at objects word)
 
 -- the used bytes of the object at an address
 abbrev pub bytes_at : List Object → ℕ → List ℕ
-bytes_at objects address = option_map_or (λ x. used_bytes x.format x.words) (object_at objects address) []
+bytes_at objects address = option_map_or (λ x. used_bytes x.format x.words) (heap_object objects address) []
 
 -- the same with the unused ones at its end
 abbrev pub all_bytes_at : List Object → ℕ → List ℕ
-all_bytes_at objects address = option_map_or (λ x. bytes_of x.words) (object_at objects address) []
+all_bytes_at objects address = option_map_or (λ x. bytes_of_words x.words) (heap_object objects address) []
 
 -- the bytes that a piece is
 abbrev pub bytes_of_piece : List Object → Piece → List ℕ

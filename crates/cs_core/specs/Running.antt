@@ -17,7 +17,7 @@ use Rattle.cs_acts.specs.Layout.{Layout}
 use Rattle.cs_acts.specs.Names.{Store}
 use Rattle.cs_acts.specs.Ready.{IsSound}
 use Rattle.cs_heap.specs.Object.{used}
-use Rattle.cs_model.specs.Demand.{words_in}
+use Rattle.cs_model.specs.Demand.{words_held}
 use Rattle.cs_core.specs.declared.run.Ending.{Ending}
 use Rattle.cs_core.specs.declared.run.Ending.TheVariants.{Steps, Idle, Stopped}
 use Rattle.cs_core.specs.declared.run.Place.{Place}
@@ -71,7 +71,7 @@ pub record IsHeavy (k : Kept) (s : Store) (l : Option Layout) (done : ℕ) : Typ
   pub next : IsNext (state_of k done)
   pub out : Out
   pub needs : Needs (next_turn (run_of k done).state) Heap out
-  pub words : s.memory.limit < words_in out.state
+  pub words : s.memory.limit < words_held out.state
   pub room : IfSome l (λ laid. s.memory.limit < used s.memory.objects + out.count.objects + 26304 * laid.most)
 
 -- the next bytecode is built and enters a method or block, and the contexts that await a return are many for the pages that there may be
@@ -117,6 +117,6 @@ BreaksIn k old new n (Full why) = Unit {0}
 BreaksIn k old new n WriteFault = RunBreaks k old new n
 
 -- a fault of the sink has been counted where that is why
-abbrev pub CausedByFault : ℕ → ℕ → RunError → Type 0
-CausedByFault old new (Full why) = Unit {0}
-CausedByFault old new WriteFault = Rose old new
+abbrev pub RunCausedByFault : ℕ → ℕ → RunError → Type 0
+RunCausedByFault old new (Full why) = Unit {0}
+RunCausedByFault old new WriteFault = Rose old new

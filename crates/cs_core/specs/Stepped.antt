@@ -122,9 +122,9 @@ IsOver ends.Snapshot = ⊥
 IsOver (ends.Stopped reason) = ⊥
 
 -- how a bytecode ends in the model for which there is no room: the stack is full for a context that is entered alone
-abbrev pub EndsWithout : Why → End → Type 0
-EndsWithout Heap end = IsOver end
-EndsWithout Stack end = end ≡ ends.Entered
+abbrev pub OverWithout : Why → End → Type 0
+OverWithout Heap end = IsOver end
+OverWithout Stack end = end ≡ ends.Entered
 
 -- it stops where the stack has no room for the object that it made
 abbrev pub IsUnheld : Out → Type 0
@@ -133,7 +133,7 @@ IsUnheld o = (o.end ≡ ends.Stopped why.StackOver) × (0 < o.count.objects)
 -- What a bytecode, or a part of one, needs room for: all that it comes to, where it is built; what it makes before it stops; or a return
 -- that doesn't arrive, up to the message that tells of it.
 pub data Needs (t : Turn) (full : Why) : Out → Type 0 where
-  whole : t.built ≡ true → EndsWithout full t.result.out.end → Needs t full t.result.out
+  whole : t.built ≡ true → OverWithout full t.result.out.end → Needs t full t.result.out
   unheld : t.built ≡ true → full ≡ Heap → IsUnheld t.result.out → Needs t full t.result.out
   untold : (o : Out) → t.told ≡ Some o → Asks o.end → full ≡ Heap → Needs t full o
 

@@ -1,6 +1,7 @@
 //! The primitives that no crate of their own has yet: 1, the sum of two SmallIntegers, and 900, which writes bytes.
 ghost use Rattle.std.specs.Prelude.{◌≡◌, ◌<◌, ◌≤◌, ◌+◌, ◌*◌, ◌-◌, [], ◌∷◌, true, IfSome, OnErr, OnOk, Some, drop};
 ghost use Rattle.std.specs.Prelude.{option_and_then, option_map, take};
+ghost use Rattle.cs_model.specs.Words.{unused_bytes};
 ghost use Rattle.arrayvec.specs.ArrayVec.{array_vec_len};
 ghost use Rattle.cs_model.specs.Exec.{small_operands};
 ghost use Rattle.cs_model.specs.Number.{number_result};
@@ -8,12 +9,12 @@ ghost use Rattle.cs_model.specs.PrimRun.{bytes_to_write, small_byte};
 ghost use Rattle.cs_model.specs.Read.{depth_of};
 ghost use Rattle.cs_acts.specs.Names.{IsNamed, NamesOption, name_of};
 ghost use Rattle.cs_acts.specs.Ready.{IsReady, IsSound};
-ghost use Rattle.cs_classes.specs.Meaning.{count_of, unused_bytes};
-ghost use Rattle.cs_heap.specs.Object.{format_of, slot_count_of};
+ghost use Rattle.cs_classes.specs.Meaning.{count_of};
+ghost use Rattle.cs_heap.specs.Object.{format_at, slot_count_of};
 ghost use Rattle.cs_prim_ctx.specs.Numbers.{reads_context};
 ghost use Rattle.cs_shelf.specs.Outside.{Appends, AppendsPart, Rose};
 ghost use Rattle.cs_core.specs.Pieces.{IsPieceOf, all_bytes_at, bytes_at, bytes_of_piece, is_bytes_at, is_piece};
-ghost use Rattle.cs_core.specs.Numbers.{HasNumber};
+ghost use Rattle.cs_core.specs.Numbers.{HasBuiltNumber};
 
 use arrayvec::ArrayVec;
 use cs_acts::World;
@@ -46,7 +47,7 @@ impl Primitive {
     pub fn from_number<W: World>(w: &W, number: u32, args: u32) -> Option<Primitive>
         requires ready { IsReady (W.stored w.now) (W.view w.now) }
         requires there { args < depth_of (W.view w.now) }
-        ensures { HasNumber (W.view w.now) args result number }
+        ensures { HasBuiltNumber (W.view w.now) args result number }
     {
         match number {
             1 => Some(Primitive::Add),
@@ -150,7 +151,7 @@ pub fn write<K: Sink>(heap: &Heap, piece: Piece, out: &mut K) -> Result<(), Fail
 fn byte_count(heap: &Heap, object: Oop) -> u32
     requires { is_bytes_at heap.now.objects object.0 ≡ true }
     ensures value { result ≡ 4 * slot_count_of heap.now.objects object.0 - unused_bytes
-        (format_of heap.now.objects object.0) }
+        (format_at heap.now.objects object.0) }
     ensures most { result ≤ 268435456 }
 {
     4 * heap.slot_count(object) - (u32::from(heap.format(object)) - 16)

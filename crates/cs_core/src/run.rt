@@ -2,12 +2,12 @@
 ghost use Rattle.std.specs.Prelude.{◌≡◌, ◌≤◌, false, IfErr, IfOk};
 ghost use Rattle.cs_model.specs.Due.{is_idle};
 ghost use Rattle.cs_model.specs.Read.{IsRunning};
-ghost use Rattle.cs_model.specs.Ref.{birth_of};
+ghost use Rattle.cs_model.specs.Ref.{named_object};
 ghost use Rattle.cs_model.specs.Report.{no_place, place_of};
 ghost use Rattle.cs_acts.specs.Layout.{IsFresh, IsLaidOut};
 ghost use Rattle.cs_acts.specs.Names.{IsNamed, name_of};
 ghost use Rattle.cs_acts.specs.Ready.{IsSound};
-ghost use Rattle.cs_core.specs.Running.{BreaksIn, CausedByFault, RunFails, RunGives, RunLeads, ending_at_rest};
+ghost use Rattle.cs_core.specs.Running.{BreaksIn, RunCausedByFault, RunFails, RunGives, RunLeads, ending_at_rest};
 ghost use Rattle.cs_core.specs.Running.{ending_of, place_by};
 
 use crate::step::{BIRTH_LIMIT, StepEnd, step};
@@ -73,7 +73,7 @@ const NOWHERE: Place = Place {
 fn birth_of<W: World>(w: &W, o: Oop) -> Option<u64>
     requires sound { IsSound (W.stored w.now) (W.view w.now) }
     requires named { IsNamed (W.stored w.now) o }
-    ensures { result ≡ birth_of (name_of (W.stored w.now) o) }
+    ensures { result ≡ named_object (name_of (W.stored w.now) o) }
 {
     match o.kind() {
         Kind::Object(_) => Some(w.heap().birth(o)),
@@ -136,7 +136,7 @@ pub fn run<W: World, K: Sink>(
     ensures breaks { IfErr result (λ e. BreaksIn (W.view w.old) (K.taken out.old) (K.taken out.new) n e) }
     ensures limit { (W.stored w.new).memory.limit ≡ (W.stored w.old).memory.limit }
     ensures never_falls { K.fault_count out.old ≤ K.fault_count out.new }
-    ensures cause { IfErr result (λ e. CausedByFault (K.fault_count out.old) (K.fault_count out.new) e) }
+    ensures cause { IfErr result (λ e. RunCausedByFault (K.fault_count out.old) (K.fault_count out.new) e) }
 {
     if is_idle(w) {
         return Ok(at_rest(w, 0, n));

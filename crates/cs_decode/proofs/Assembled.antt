@@ -7,7 +7,7 @@ use Rattle.std.proofs.lemmas.Bool.{cases_eq}
 use Rattle.cs_model.specs.declared.instruction.Instr.{Instr}
 use Rattle.cs_model.specs.declared.instruction.Op.{Op}
 use Rattle.cs_model.specs.declared.instruction.Op.TheVariants.{PushRcvr, PushTemp, PushLit, PushLitVar, PopRcvr, PopTemp, PopLitVar, StoreRcvr, StoreTemp, StoreLitVar, PushSelf, PushTrue, PushFalse, PushNil, PushInt, ReturnSelf, ReturnTrue, ReturnFalse, ReturnNil, ReturnTop, BlockReturn, Send, SendSuper, Pop, Dup, ThisContext, NewArray, PopArray, Prim, PushVec, StoreVec, PopVec, Closure, Jump, JumpTrue, JumpFalse, Special, Common}
-use Rattle.cs_model.specs.Decode.{len_of, variable, extended_push, extended_store, extended_pop, double_extended, array, jump, send, op_of, decode_at}
+use Rattle.cs_model.specs.Decode.{len_of, variable, extended_push, extended_store, extended_pop, double_extended, array, jump, send_op, op_of, decode_at}
 use Rattle.cs_model.specs.Assemble.{has_form, fits_within, is_within, variable_bytes, send_bytes, super_bytes, with_number, jump_bytes, jump_false_bytes, plain_code, bytes_of, assembled, IsInstr}
 use Rattle.cs_decode.proofs.Table.{len_of-one, len_of-short_jump, len_of-long_jump, len_of-send, op_of-variable, op_of-jump, op_of-send}
 
@@ -185,7 +185,7 @@ StoreLitVar-assembles len n form =
 send_byte : (lit args : ℕ) → lit < 16 → args < 3 → Assembles (send_bytes 1 lit args) (Send lit args) 1
 send_byte lit args lit_below args_below =
     let code = 208 + 16 * args + lit in
-    let row : send code ≡ Send lit args = grind arith in
+    let row : send_op code ≡ Send lit args = grind arith in
     one_byte code (Send lit args) (omega arith) (len_of-send code (omega arith)) (op_of-send code 0 0 0 (omega arith) ∙ ap Some row)
 
 send_two_bytes : (lit args : ℕ) → lit < 32 → args < 8 → Assembles (131 ∷ (32 * args + lit) ∷ []) (Send lit args) 2
@@ -356,12 +356,12 @@ closure_bytes copied args size copied_below args_below size_below =
 
 special_byte : (i : ℕ) → i < 16 → Assembles ((176 + i) ∷ []) (Special i) 1
 special_byte i below =
-    let row : send (176 + i) ≡ Special i = grind arith in
+    let row : send_op (176 + i) ≡ Special i = grind arith in
     one_byte (176 + i) (Special i) (omega arith) (len_of-send (176 + i) (omega arith)) (op_of-send (176 + i) 0 0 0 (omega arith) ∙ ap Some row)
 
 common_byte : (i : ℕ) → i < 16 → Assembles ((192 + i) ∷ []) (Common i) 1
 common_byte i below =
-    let row : send (192 + i) ≡ Common i = grind arith in
+    let row : send_op (192 + i) ≡ Common i = grind arith in
     one_byte (192 + i) (Common i) (omega arith) (len_of-send (192 + i) (omega arith)) (op_of-send (192 + i) 0 0 0 (omega arith) ∙ ap Some row)
 
 three_below : (a b c i j k : ℕ) → (nat_lt a i && (nat_lt b j && nat_lt c k)) ≡ true → (a < i) × (b < j) × (c < k)

@@ -7,7 +7,7 @@ use Rattle.std.proofs.lemmas.Bool.{cases_lt}
 use Rattle.cs_model.specs.declared.instruction.Instr.{Instr}
 use Rattle.cs_model.specs.declared.instruction.Op.{Op}
 use Rattle.cs_model.specs.declared.instruction.Op.TheVariants.{Send, SendSuper, Prim, Closure}
-use Rattle.cs_model.specs.Decode.{len_of, variable, constant, return_of, extended_push, extended_store, extended_pop, double_extended, array, extended, jump, send, op_of, decode_at}
+use Rattle.cs_model.specs.Decode.{len_of, variable, constant, return_of, extended_push, extended_store, extended_pop, double_extended, array, extended, jump, send_op, op_of, decode_at}
 use Rattle.cs_model.specs.Assemble.{has_form, IsInstr}
 use Rattle.cs_decode.proofs.Table.{len_of-one, len_of-short_jump, len_of-long_jump, len_of-send}
 
@@ -46,7 +46,7 @@ short_jump-has_form code b above below = grind (arith, ints)
 long_jump-has_form : (code b : ℕ) → 160 ≤ code → code < 176 → b < 256 → has_form 2 (jump code b) ≡ true
 long_jump-has_form code b above below b_below = grind (arith, ints)
 
-send-has_form : (code : ℕ) → 176 ≤ code → code < 256 → has_form 1 (send code) ≡ true
+send-has_form : (code : ℕ) → 176 ≤ code → code < 256 → has_form 1 (send_op code) ≡ true
 send-has_form code above below = grind (arith, common_steps)
 
 -- a number from k on is k, or from k + 1 on
@@ -131,7 +131,7 @@ op_of-has_form code b c d below b_below c_below d_below =
     (λ low. extended-has_form code b c d from_128 low b_below c_below d_below)
     (λ from_144. below-has_form len code 176 _ _
     (λ low. jump_row code b from_144 low b_below)
-    (λ from_176. same-has_form 1 len (send code) (len_of-send code from_176) (send-has_form code from_176 below)))))))
+    (λ from_176. same-has_form 1 len (send_op code) (len_of-send code from_176) (send-has_form code from_176 below)))))))
 
 -- bytes are below 256, and behind the end there is 0
 slice_index-byte : (bytes : List ℕ) (i : ℕ) → All (λ b. b < 256) bytes → slice_index bytes i < 256

@@ -1,6 +1,6 @@
 -- The rows of the table of bytecodes, for a first byte that isn't a numeral.
 use Rattle.std.proofs.Common.{◌≡◌, ℕ, ◌<◌, ◌≤◌, true, false, Some, nat_lt, arith}
-use Rattle.cs_model.specs.Decode.{len_of, variable, jump, send, op_of}
+use Rattle.cs_model.specs.Decode.{len_of, variable, jump, send_op, op_of}
 
 pub len_of-one : (code : ℕ) → code < 128 → len_of code ≡ 1
 len_of-one code below = grind arith
@@ -27,7 +27,7 @@ op_of-jump code b c d above below =
     let to_176 : nat_lt code 176 ≡ true = grind arith in
     rw (to_112, to_120, to_126, to_128, to_144, to_176)
 
-pub op_of-send : (code b c d : ℕ) → 176 ≤ code → op_of code b c d ≡ Some (send code)
+pub op_of-send : (code b c d : ℕ) → 176 ≤ code → op_of code b c d ≡ Some (send_op code)
 op_of-send code b c d above =
     let to_112 : nat_lt code 112 ≡ false = grind arith in
     let to_120 : nat_lt code 120 ≡ false = grind arith in

@@ -4,7 +4,7 @@ ghost use Rattle.std.specs.Prelude.{◌≡◌, ◌+◌, ◌*◌, ◌/◌, ◌<�
 ghost use Rattle.arrayvec.specs.ArrayVec.{array_vec_len};
 ghost use Rattle.cs_model.specs.Decode.{decode_at};
 ghost use Rattle.cs_model.specs.Assemble.{IsInstr, has_form, send_has_form, super_has_form, jump_has_form};
-ghost use Rattle.cs_model.specs.Assemble.{jump_false_has_form, assembled, bytes_of, name_of, plain_code};
+ghost use Rattle.cs_model.specs.Assemble.{jump_false_has_form, assembled, bytes_of, op_name, plain_code};
 ghost use Rattle.cs_model.specs.Assemble.{variable_bytes, send_bytes, super_bytes, with_number, jump_bytes};
 ghost use Rattle.cs_model.specs.Assemble.{jump_false_bytes};
 
@@ -173,7 +173,7 @@ fn plain_code(op: Op) -> u8
 
 /// The assembler's word for an instruction.
 pub fn name(i: &Instr) -> &'static str
-    ensures { result.now ≡ name_of i.now.op }
+    ensures { result.now ≡ op_name i.now.op }
 {
     i.op.name()
 }

@@ -2,7 +2,7 @@
 
 ghost use Rattle.std.specs.Prelude.{◌≡◌, ◌<◌, ◌≤◌, Some, None, IfOk, OnErr, slice_index};
 ghost use Rattle.cs_model.specs.Decode.{len_of, variable, constant, return_of, extended_push, extended_store};
-ghost use Rattle.cs_model.specs.Decode.{extended_pop, double_extended, array, extended, jump, send, op_of, decode_at};
+ghost use Rattle.cs_model.specs.Decode.{extended_pop, double_extended, array, extended, jump, send_op, op_of, decode_at};
 ghost use Rattle.cs_model.specs.Assemble.{IsInstr};
 
 use cs_model::{Instr, Op};
@@ -228,7 +228,7 @@ fn jump(code: u8, b: u8) -> Op
 /// A special selector, or a send of one of the first 16 literals.
 fn send(code: u8) -> Op
     requires { 176 ≤ code }
-    ensures { result ≡ send code }
+    ensures { result ≡ send_op code }
 {
     match code {
         176..=191 => Op::Special(code - 176),

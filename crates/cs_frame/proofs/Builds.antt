@@ -6,9 +6,9 @@ use Rattle.std.proofs.lemmas.List.{length-set}
 use Rattle.cs_frame.specs.declared.Head.{Head}
 use Rattle.cs_frame.specs.declared.Begin.{Begin}
 use Rattle.cs_frame.specs.declared.NewFrame.{NewFrame}
-use Rattle.cs_frame.specs.Frame.{Frame, nil, cut}
-use Rattle.cs_frame.specs.Page.{used, top, frames_of, on_page, fresh, called, CanCall, HoldsValues}
-use Rattle.cs_frame.specs.Layout.{words_from, frame_at, frames_down, below, joined, NoLink, IsWhole, Stands, IsPage, IsLaid, pages_of}
+use Rattle.cs_frame.specs.Frame.{Frame, nil, call_cut}
+use Rattle.cs_frame.specs.Page.{frames_used, top, frames_of, on_page, fresh, called, HasArguments, HoldsValues}
+use Rattle.cs_frame.specs.Layout.{words_from, frame_at, frames_down, below, joined, NoLink, IsWholeFrame, Stands, IsPageOfWords, AreFramesLaid, pages_of}
 use Rattle.cs_frame.specs.Written.{SameOutside, AllAre, HasOverhead, half_word}
 use Rattle.cs_frame.proofs.Words.{Same, words_same, words_append, words_take, words_drop, words_moved, words_const, length-words, frame_parts, overhead_same, whole_to}
 use Rattle.cs_frame.proofs.Stacks.{base_below, used_is, top_changed}
@@ -72,7 +72,7 @@ plain_at v k x e plain q = plain (ap (λ (n : ℕ). n % 8) (sym e) ∙ q)
 
 -- no word of the new frame but its first is a link
 pub built_whole : (v w : List ℕ) (sp : ℕ) (b : Begin) (new : NewFrame) → Built v w sp b new → HoldsValues new → b.sender % 8 ≢ 4
-    → NoLink w (sp - new.args) (sp - new.args + new.args) → IsWhole v b.frame (end_with b new)
+    → NoLink w (sp - new.args) (sp - new.args + new.args) → IsWholeFrame v b.frame (end_with b new)
 built_whole v w sp b new x plain sender args =
     let h = x.overhead in
     record {
@@ -111,7 +111,7 @@ built_whole v w sp b new x plain sender args =
         (plain_at v (b.frame + 10 + j) _ (x.moved j (omega arith)) (args (sp - new.args + j) (omega arith) (omega arith)))
 
 -- the page's frames with the new one
-pub build_top : (n : ℕ) (v w : List ℕ) (base fp sp : ℕ) (b : Begin) (new : NewFrame) → Stands n w base fp sp → CanCall new.args (frames_down n w base fp sp)
+pub build_top : (n : ℕ) (v w : List ℕ) (base fp sp : ℕ) (b : Begin) (new : NewFrame) → Stands n w base fp sp → HasArguments new.args (frames_down n w base fp sp)
     → Begins n base fp sp b new → Built v w sp b new → HoldsValues new
     → (frames_down (suc n) v base b.frame (end_with b new) ≡ called new (frames_down n w base fp sp)) × Stands (suc n) v base b.frame (end_with b new)
 build_top zero v w base fp sp b new st can be x plain =
@@ -136,14 +136,14 @@ build_top (suc n) v w base fp sp b new st can be x plain =
     let kept_is : b.frame - (fp + 10) ≡ kept = omega arith in
     let same : Same v w base b.frame = λ k a c. x.below_it k c in
     let values : NoLink w (fp + 1) sp = st.0.values in
-    let cut_whole : IsWhole v fp b.frame = whole_to v w fp sp b.frame (omega arith) (λ k a c. x.below_it k (omega arith))
+    let cut_whole : IsWholeFrame v fp b.frame = whole_to v w fp sp b.frame (omega arith) (λ k a c. x.below_it k (omega arith))
     (λ k a c q. values k (omega arith) (omega arith) (ap (λ (y : ℕ). y % 8) (sym (x.below_it k c)) ∙ q)) st.0 in
     let cut' = top_changed n v w base fp sp b.frame st (λ k a c. x.below_it k (omega arith)) cut_whole in
     let down : get_or v b.frame 0 / 8 ≡ fp = ap (λ (y : ℕ). y / 8) x.overhead.link_is ∙ ((let e : (b.caller * 8 + 4) / 8 ≡ b.caller = omega arith in e) ∙ f.1) in
     let F : ℕ → List Frame = λ l. frames_down (suc n) v base l b.frame in
     let S : ℕ → Type 0 = λ l. Stands (suc n) v base l b.frame in
     let W : ℕ → List ℕ = λ j. words_from w (fp + 10) j in
-    let caller = cut new.args (frame_at w base fp sp) in
+    let caller = call_cut new.args (frame_at w base fp sp) in
     let rest = frames_down n w base (below w fp) fp in
     let stack : words_from v (fp + 10) (b.frame - (fp + 10)) ≡ take (length (W d) - (new.args + 1)) (W d) =
     words_same v w (fp + 10) (b.frame - (fp + 10)) (λ k a c. x.below_it k (omega arith))
@@ -157,17 +157,17 @@ build_top (suc n) v w base fp sp b new st can be x plain =
     ∙ (sym (words_drop w (fp + 10) (d - new.args) d (omega arith)) ∙ ap (λ (j : ℕ). drop (j - new.args) (W d)) (sym len))) in
     let u = used_is n w base (below w fp) fp st.1 in
     let l2 = ap length (sym stack) ∙ length-words v (fp + 10) (b.frame - (fp + 10)) in
-    let at : b.frame - base ≡ used (caller ∷ rest) = omega arith in
+    let at : b.frame - base ≡ frames_used (caller ∷ rest) = omega arith in
     let given = drop (length (W d) - new.args) (W d) in
-    let new_top : frame_at v base b.frame (end_with b new) ≡ fresh new (used (caller ∷ rest)) nil given =
+    let new_top : frame_at v base b.frame (end_with b new) ≡ fresh new (frames_used (caller ∷ rest)) nil given =
     built_frame v w base sp b new x
     ∙ (ap (λ (a : ℕ). fresh new a b.sender (words_from w (sp - new.args) new.args)) at
-    ∙ (ap (λ (s : ℕ). fresh new (used (caller ∷ rest)) s (words_from w (sp - new.args) new.args)) f.2
-    ∙ ap (λ (ys : List ℕ). fresh new (used (caller ∷ rest)) nil ys) args)) in
+    ∙ (ap (λ (s : ℕ). fresh new (frames_used (caller ∷ rest)) s (words_from w (sp - new.args) new.args)) f.2
+    ∙ ap (λ (ys : List ℕ). fresh new (frames_used (caller ∷ rest)) nil ys) args)) in
     let sender : b.sender % 8 ≢ 4 = λ q. (let s = f.2 in omega arith) in
     let whole = built_whole v w sp b new x plain sender (λ k a c. values k (omega arith) (omega arith)) in (
       ap (λ (g : Frame). g ∷ frames_down (suc n) v base (below v b.frame) b.frame) new_top
-          ∙ ap (λ (fs : List Frame). fresh new (used (caller ∷ rest)) nil given ∷ fs)
+          ∙ ap (λ (fs : List Frame). fresh new (frames_used (caller ∷ rest)) nil given ∷ fs)
           (ap F down ∙ (cut'.0 ∙ ap (λ (g : Frame). g ∷ rest) old)),
       (whole, subst S (sym down) cut'.1),
     )
@@ -184,15 +184,15 @@ pub record Room (w : List ℕ) (p : ℕ) (h : Head) (b : Begin) (new : NewFrame)
   pub few : h.count ≤ 410
 
 pub room_for : {w : List ℕ} {hs : List Head} {p : ℕ} {h : Head} {fs : List Frame} {b : Begin} {new : NewFrame} → Opened w hs p h fs
-    → used fs + 66 ≤ 4096 → new.args + new.fill ≤ 56 → CanCall new.args fs → Begins h.count (p * 4096) h.frame h.end b new → Room w p h b new
+    → frames_used fs + 66 ≤ 4096 → new.args + new.fill ≤ 56 → HasArguments new.args fs → Begins h.count (p * 4096) h.frame h.end b new → Room w p h b new
 room_for {w} {p = p} {h = h} {b = b} {new = new} o room size can be =
     let u = used_words o in
-    let can' : CanCall new.args (frames_down h.count w (p * 4096) h.frame h.end) = subst (λ (gs : List Frame). CanCall new.args gs) o.is can in
+    let can' : HasArguments new.args (frames_down h.count w (p * 4096) h.frame h.end) = subst (λ (gs : List Frame). HasArguments new.args gs) o.is can in
     let low = o.low in let high = o.high in
     let c = numbers h.count h.frame h.end o.page.stands can' (omega arith) be.lowest be.later in
     record { args_in = c.0; taken = λ q. (let t = c.6 q in omega arith); begin_low = c.1; begin_high = c.2; caller_in = c.3; end_in = omega (arith, c.4); end_over = c.5; few = omega arith }
   where
-    numbers : (n fp sp : ℕ) → Stands n w (p * 4096) fp sp → CanCall new.args (frames_down n w (p * 4096) fp sp) → p * 4096 ≤ sp
+    numbers : (n fp sp : ℕ) → Stands n w (p * 4096) fp sp → HasArguments new.args (frames_down n w (p * 4096) fp sp) → p * 4096 ≤ sp
         → (n ≡ 0 → (b.frame ≡ p * 4096) × (b.caller ≡ p * 4096) × (b.sender ≡ new.receiver.0))
         → (0 < n → (b.frame + (new.args + 1) ≡ sp) × (b.caller ≡ fp) × (b.sender ≡ 65536))
         → (new.args ≤ sp) × (p * 4096 ≤ b.frame) × (b.frame ≤ sp) × (b.caller ≤ sp) × (end_with b new ≤ sp + 66) × (sp ≤ end_with b new) × (0 < n → new.args + 1 ≤ sp)
@@ -205,23 +205,23 @@ room_for {w} {p = p} {h = h} {b = b} {new = new} o room size can be =
         let l = length-words w (fp + 10) (sp - (fp + 10)) in
         (omega arith, omega arith, omega arith, omega arith, omega arith, omega arith, (λ q. omega arith))
 
-pub build_done : {v w : List ℕ} {hs : List Head} {ps : List (List Frame)} {h : Head} {b : Begin} {new : NewFrame} → IsLaid w hs → pages_of w 0 hs ≡ ps
-    → (p : ℕ) → p < length ps → h ≡ get_or hs p h → used (frames_of ps p) + 66 ≤ 4096 → new.args + new.fill ≤ 56 → CanCall new.args (frames_of ps p) → HoldsValues new
+pub build_done : {v w : List ℕ} {hs : List Head} {ps : List (List Frame)} {h : Head} {b : Begin} {new : NewFrame} → AreFramesLaid w hs → pages_of w 0 hs ≡ ps
+    → (p : ℕ) → p < length ps → h ≡ get_or hs p h → frames_used (frames_of ps p) + 66 ≤ 4096 → new.args + new.fill ≤ 56 → HasArguments new.args (frames_of ps p) → HoldsValues new
     → Begins h.count (p * 4096) h.frame h.end b new → Built v w h.end b new
     → let h' : Head = record { frame = b.frame; end = end_with b new; count = h.count + 1 } in
-    IsLaid v (set hs p h') × (pages_of v 0 (set hs p h') ≡ on_page ps p (called new))
+    AreFramesLaid v (set hs p h') × (pages_of v 0 (set hs p h') ≡ on_page ps p (called new))
 build_done {v} {w} {hs} {ps} {h} {b} {new} laid e p lt eh room size can plain be x =
     let o = opened laid e p lt eh in
     let r = room_for o room size can be in
     let base = p * 4096 in
     let h' : Head = record { frame = b.frame; end = end_with b new; count = h.count + 1 } in
-    let can' : CanCall new.args (frames_down h.count w base h.frame h.end) = subst (λ (gs : List Frame). CanCall new.args gs) o.is can in
+    let can' : HasArguments new.args (frames_down h.count w base h.frame h.end) = subst (λ (gs : List Frame). HasArguments new.args gs) o.is can in
     let t = build_top h.count v w base h.frame h.end b new o.page.stands can' be x plain in
     let one : suc h.count ≡ h.count + 1 = omega arith in
     let S : ℕ → Type 0 = λ n. (frames_down n v base b.frame (end_with b new) ≡ called new (frames_down h.count w base h.frame h.end)) × Stands n v base b.frame (end_with b new) in
     let t' = subst S one t in
     let lo = r.begin_low in let hi = r.end_in in let up = r.end_over in
-    let pg : IsPage v base h' = record {
+    let pg : IsPageOfWords v base h' = record {
       stands = t'.1;
       within = hi;
       free = λ k a c q. o.page.free k (omega arith) c (ap (λ (y : ℕ). y % 8) (sym (x.above_it k a)) ∙ q);
@@ -263,7 +263,7 @@ built_by {w} {w1} {w2} {w3} sp {b} {new} len copied copy_below copy_above over_o
     }
 
 -- the new frame is the last of its page
-pub built_top : {v : List ℕ} {p : ℕ} (hs : List Head) (h : Head) → IsLaid v (set hs p h) → p < length hs → 0 < h.count
+pub built_top : {v : List ℕ} {p : ℕ} (hs : List Head) (h : Head) → AreFramesLaid v (set hs p h) → p < length hs → 0 < h.count
     → (0 < length (frames_of (pages_of v 0 (set hs p h)) p)) × (h.frame - p * 4096 ≡ (top (frames_of (pages_of v 0 (set hs p h)) p)).at)
 built_top {v} {p} hs h laid lt some =
     let qs = pages_of v 0 (set hs p h) in
@@ -273,11 +273,11 @@ built_top {v} {p} hs h laid lt some =
     (omega arith, (top_place o (λ z. omega arith)).0)
 
 -- receiver and arguments stand on the page where it has a frame
-pub callable : {w : List ℕ} {hs : List Head} {p : ℕ} {h : Head} {fs : List Frame} → Opened w hs p h fs → (args : ℕ) → CanCall args fs → 0 < h.count → args + 1 ≤ h.end
+pub callable : {w : List ℕ} {hs : List Head} {p : ℕ} {h : Head} {fs : List Frame} → Opened w hs p h fs → (args : ℕ) → HasArguments args fs → 0 < h.count → args + 1 ≤ h.end
 callable {w} {p = p} {h = h} o args can some =
-    deep h.count h.frame h.end o.page.stands (subst (λ (gs : List Frame). CanCall args gs) o.is can) some
+    deep h.count h.frame h.end o.page.stands (subst (λ (gs : List Frame). HasArguments args gs) o.is can) some
   where
-    deep : (n fp sp : ℕ) → Stands n w (p * 4096) fp sp → CanCall args (frames_down n w (p * 4096) fp sp) → 0 < n → args + 1 ≤ sp
+    deep : (n fp sp : ℕ) → Stands n w (p * 4096) fp sp → HasArguments args (frames_down n w (p * 4096) fp sp) → 0 < n → args + 1 ≤ sp
     deep zero fp sp st can some = absurd (omega arith)
     deep (suc n) fp sp st can some =
         let over = st.0.overhead in let l = length-words w (fp + 10) (sp - (fp + 10)) in omega arith

@@ -6,9 +6,9 @@ use Rattle.cs_frame.specs.declared.Head.{Head}
 use Rattle.cs_frame.specs.declared.Part.{Part}
 use Rattle.cs_frame.specs.declared.Part.TheVariants as part
 use Rattle.cs_frame.specs.declared.FrameRef.{FrameRef}
-use Rattle.cs_frame.specs.Frame.{Frame, IsPc, pushed, popped, with_slot}
-use Rattle.cs_frame.specs.Page.{used, IsStacked, top, on_top, rest_of, nth, frames_of, on_page, index_in, IsFrame, frame, on_frame, IsBase, caller_of}
-use Rattle.cs_frame.specs.Layout.{words_from, frame_at, frames_down, below, IsWhole, IsPage, IsLaid, pages_of, offset_of, part_of, with_part, CanHold}
+use Rattle.cs_frame.specs.Frame.{Frame, IsPc, value_pushed, top_popped, with_value}
+use Rattle.cs_frame.specs.Page.{frames_used, AreStacked, top, on_top, rest_of, nth, frames_of, on_page, index_in, IsFrame, frame, on_frame, IsBase, caller_of}
+use Rattle.cs_frame.specs.Layout.{words_from, frame_at, frames_down, below, IsWholeFrame, IsPageOfWords, AreFramesLaid, pages_of, offset_of, part_of, with_part, CanHold}
 use Rattle.cs_frame.proofs.Words.{words_same, words_at, length-words, words_set, frame_parts, overhead_same}
 use Rattle.cs_frame.proofs.Stacks.{begin_nth, begin-suc, length-frames, nth-frames, lies, used_is, stacked}
 use Rattle.cs_frame.proofs.PageLaws.{page_in}
@@ -23,17 +23,17 @@ off_page w b i x le lt k (inr a) = get_or-set_other w i k x 0 (omega arith)
 pub some_frame : {w : List ℕ} {hs : List Head} {p : ℕ} {h : Head} {fs : List Frame} → Opened w hs p h fs → length fs ≡ h.count
 some_frame {w} {p = p} {h = h} o = ap length o.is ∙ length-frames h.count w (p * 4096) h.frame h.end
 
-pub used_words : {w : List ℕ} {hs : List Head} {p : ℕ} {h : Head} {fs : List Frame} → Opened w hs p h fs → p * 4096 + used fs ≡ h.end
+pub used_words : {w : List ℕ} {hs : List Head} {p : ℕ} {h : Head} {fs : List Frame} → Opened w hs p h fs → p * 4096 + frames_used fs ≡ h.end
 used_words {w} {p = p} {h = h} o =
-    let e = ap used o.is in let u = used_is h.count w (p * 4096) h.frame h.end o.page.stands in omega arith
+    let e = ap frames_used o.is in let u = used_is h.count w (p * 4096) h.frame h.end o.page.stands in omega arith
 
-pub stacked_page : {w : List ℕ} {hs : List Head} {p : ℕ} {h : Head} {fs : List Frame} → Opened w hs p h fs → IsStacked fs
-stacked_page {w} {p = p} {h = h} o = subst IsStacked (sym o.is) (stacked h.count w (p * 4096) h.frame h.end o.page.stands)
+pub stacked_page : {w : List ℕ} {hs : List Head} {p : ℕ} {h : Head} {fs : List Frame} → Opened w hs p h fs → AreStacked fs
+stacked_page {w} {p = p} {h = h} o = subst AreStacked (sym o.is) (stacked h.count w (p * 4096) h.frame h.end o.page.stands)
 
-pub push_done : {w v : List ℕ} {hs : List Head} {ps : List (List Frame)} {h : Head} → IsLaid w hs → pages_of w 0 hs ≡ ps → (p x : ℕ)
-    → 0 < length (frames_of ps p) → h ≡ get_or hs p h → used (frames_of ps p) < 4096 → x % 8 ≢ 4 → v ≡ set w h.end x
+pub push_done : {w v : List ℕ} {hs : List Head} {ps : List (List Frame)} {h : Head} → AreFramesLaid w hs → pages_of w 0 hs ≡ ps → (p x : ℕ)
+    → 0 < length (frames_of ps p) → h ≡ get_or hs p h → frames_used (frames_of ps p) < 4096 → x % 8 ≢ 4 → v ≡ set w h.end x
     → let h' : Head = record { frame = h.frame; end = h.end + 1; count = h.count } in
-    IsLaid v (set hs p h') × (pages_of v 0 (set hs p h') ≡ on_page ps p (on_top (pushed x)))
+    AreFramesLaid v (set hs p h') × (pages_of v 0 (set hs p h') ≡ on_page ps p (on_top (value_pushed x)))
 push_done {w} {v} {hs} {ps} {h} laid e p x some eh room plain ev =
     let o = opened laid e p (page_in ps p some) eh in
     let b = p * 4096 in
@@ -41,12 +41,12 @@ push_done {w} {v} {hs} {ps} {h} laid e p x some eh room plain ev =
     let u = used_words o in let n = some_frame o in
     let low = o.low in let fits = o.fits in
     let t = pushed_top h.count w b h.frame h.end (b + 4096) x o.page.stands (omega arith) (omega arith) plain o.page.free in
-    let pg : IsPage (set w h.end x) b h' = record { stands = t.1; within = omega arith; free = t.2 } in
+    let pg : IsPageOfWords (set w h.end x) b h' = record { stands = t.1; within = omega arith; free = t.2 } in
     let c = closed h' laid e o.page_in (length-set w h.end x) (off_page w b h.end x (omega arith) (omega arith)) pg in
-    let G : List ℕ → Type 0 = λ us. IsLaid us (set hs p h') × (pages_of us 0 (set hs p h') ≡ on_page ps p (on_top (pushed x))) in
-    subst G (sym ev) (c.0, c.1 ∙ ap (λ (fs : List Frame). set ps p fs) (t.0 ∙ ap (on_top (pushed x)) (sym o.is)))
+    let G : List ℕ → Type 0 = λ us. AreFramesLaid us (set hs p h') × (pages_of us 0 (set hs p h') ≡ on_page ps p (on_top (value_pushed x))) in
+    subst G (sym ev) (c.0, c.1 ∙ ap (λ (fs : List Frame). set ps p fs) (t.0 ∙ ap (on_top (value_pushed x)) (sym o.is)))
 
-pub pop_bounds : {w : List ℕ} {hs : List Head} {ps : List (List Frame)} {h : Head} → IsLaid w hs → pages_of w 0 hs ≡ ps → (p : ℕ)
+pub pop_bounds : {w : List ℕ} {hs : List Head} {ps : List (List Frame)} {h : Head} → AreFramesLaid w hs → pages_of w 0 hs ≡ ps → (p : ℕ)
     → 0 < length (frames_of ps p) → h ≡ get_or hs p h → 0 < length (top (frames_of ps p)).stack
     → Opened w hs p h (frames_of ps p) × Pops h.count w (p * 4096) h.frame h.end (p * 4096 + 4096)
 pop_bounds {w} {hs} {ps} {h} laid e p some eh value =
@@ -55,19 +55,19 @@ pop_bounds {w} {hs} {ps} {h} laid e p some eh value =
     subst (λ (fs : List Frame). 0 < length (top fs).stack) o.is value in
     (o, pops h.count w (p * 4096) h.frame h.end (p * 4096 + 4096) o.page.stands value' o.page.free)
 
-pub pop_done : {w : List ℕ} {hs : List Head} {ps : List (List Frame)} {h : Head} → IsLaid w hs → pages_of w 0 hs ≡ ps → (p : ℕ)
+pub pop_done : {w : List ℕ} {hs : List Head} {ps : List (List Frame)} {h : Head} → AreFramesLaid w hs → pages_of w 0 hs ≡ ps → (p : ℕ)
     → 0 < length (frames_of ps p) → h ≡ get_or hs p h → 0 < length (top (frames_of ps p)).stack
     → let h' : Head = record { frame = h.frame; end = h.end - 1; count = h.count } in
-    IsLaid w (set hs p h') × (pages_of w 0 (set hs p h') ≡ on_page ps p (on_top popped))
+    AreFramesLaid w (set hs p h') × (pages_of w 0 (set hs p h') ≡ on_page ps p (on_top top_popped))
 pop_done {w} {hs} {ps} {h} laid e p some eh value =
     let q = pop_bounds laid e p some eh value in let o = q.0 in let t = q.1 in
     let h' : Head = record { frame = h.frame; end = h.end - 1; count = h.count } in
     let high = o.high in
-    let pg : IsPage w (p * 4096) h' = record { stands = t.stands; within = omega arith; free = t.free } in
+    let pg : IsPageOfWords w (p * 4096) h' = record { stands = t.stands; within = omega arith; free = t.free } in
     let c = closed h' laid e o.page_in refl (λ k a. refl) pg in
-    (c.0, c.1 ∙ ap (λ (fs : List Frame). set ps p fs) (t.frames ∙ ap (on_top popped) (sym o.is)))
+    (c.0, c.1 ∙ ap (λ (fs : List Frame). set ps p fs) (t.frames ∙ ap (on_top top_popped) (sym o.is)))
 
-pub pop_value : {w : List ℕ} {hs : List Head} {ps : List (List Frame)} {h : Head} {x : ℕ} → IsLaid w hs → pages_of w 0 hs ≡ ps → (p : ℕ)
+pub pop_value : {w : List ℕ} {hs : List Head} {ps : List (List Frame)} {h : Head} {x : ℕ} → AreFramesLaid w hs → pages_of w 0 hs ≡ ps → (p : ℕ)
     → 0 < length (frames_of ps p) → h ≡ get_or hs p h → 0 < length (top (frames_of ps p)).stack → x ≡ get_or w (h.end - 1) 0
     → let h' : Head = record { frame = h.frame; end = h.end - 1; count = h.count } in
     (top (frames_of ps p)).stack ≡ (top (frames_of (pages_of w 0 (set hs p h')) p)).stack ++ x ∷ []
@@ -77,12 +77,12 @@ pop_value {w} {hs} {ps} {h} {x} laid e p some eh value ex =
     let d = pop_done laid e p some eh value in
     let S : List Frame → List ℕ = λ fs. (top fs).stack in
     let now : frames_of (pages_of w 0 (set hs p h')) p ≡ frames_down h.count w (p * 4096) h.frame (h.end - 1) =
-    ap (λ (qs : List (List Frame)). frames_of qs p) d.1 ∙ (get_or-set_same ps p (on_top popped (frames_of ps p)) [] (page_in ps p some)
-    ∙ (ap (on_top popped) o.is ∙ sym t.frames)) in
+    ap (λ (qs : List (List Frame)). frames_of qs p) d.1 ∙ (get_or-set_same ps p (on_top top_popped (frames_of ps p)) [] (page_in ps p some)
+    ∙ (ap (on_top top_popped) o.is ∙ sym t.frames)) in
     ap S o.is ∙ (t.value ∙ (ap (λ (ys : List ℕ). ys ++ get_or w (h.end - 1) 0 ∷ []) (ap S (sym now))
     ∙ ap (λ (y : ℕ). S (frames_of (pages_of w 0 (set hs p h')) p) ++ y ∷ []) (sym ex)))
 
-pub drop_bounds : {w : List ℕ} {hs : List Head} {ps : List (List Frame)} {h : Head} → IsLaid w hs → pages_of w 0 hs ≡ ps → (p : ℕ)
+pub drop_bounds : {w : List ℕ} {hs : List Head} {ps : List (List Frame)} {h : Head} → AreFramesLaid w hs → pages_of w 0 hs ≡ ps → (p : ℕ)
     → 0 < length (frames_of ps p) → h ≡ get_or hs p h
     → Opened w hs p h (frames_of ps p) × Drops h.count w (p * 4096) h.frame h.end (p * 4096 + 4096)
 drop_bounds {w} {hs} {ps} {h} laid e p some eh =
@@ -91,19 +91,19 @@ drop_bounds {w} {hs} {ps} {h} laid e p some eh =
     let high = o.high in let fits = o.fits in
     (o, drops h.count w (p * 4096) h.frame h.end (p * 4096 + 4096) o.page.stands some' (omega arith) o.page.free)
 
-pub drop_done : {w v : List ℕ} {hs : List Head} {ps : List (List Frame)} {h : Head} {link : ℕ} → IsLaid w hs → pages_of w 0 hs ≡ ps → (p : ℕ)
+pub drop_done : {w v : List ℕ} {hs : List Head} {ps : List (List Frame)} {h : Head} {link : ℕ} → AreFramesLaid w hs → pages_of w 0 hs ≡ ps → (p : ℕ)
     → 0 < length (frames_of ps p) → h ≡ get_or hs p h → link ≡ get_or w h.frame 0 → v ≡ set w h.frame 0
     → let h' : Head = record { frame = link / 8; end = h.frame; count = h.count - 1 } in
-    IsLaid v (set hs p h') × (pages_of v 0 (set hs p h') ≡ on_page ps p rest_of)
+    AreFramesLaid v (set hs p h') × (pages_of v 0 (set hs p h') ≡ on_page ps p rest_of)
 drop_done {w} {v} {hs} {ps} {h} {link} laid e p some eh el ev =
     let q = drop_bounds laid e p some eh in let o = q.0 in let t = q.1 in
     let b = p * 4096 in
     let a = t.begin in let c = t.end in let high = o.high in
     let h' : Head = record { frame = below w h.frame; end = h.frame; count = h.count - 1 } in
-    let pg : IsPage (set w h.frame 0) b h' = record { stands = t.stands; within = omega arith; free = t.free } in
+    let pg : IsPageOfWords (set w h.frame 0) b h' = record { stands = t.stands; within = omega arith; free = t.free } in
     let r = closed h' laid e o.page_in (length-set w h.frame 0) (off_page w b h.frame 0 (omega arith) (omega arith)) pg in
     let G : List ℕ → ℕ → Type 0 = λ us l. let g : Head = record { frame = l / 8; end = h.frame; count = h.count - 1 } in
-    IsLaid us (set hs p g) × (pages_of us 0 (set hs p g) ≡ on_page ps p rest_of) in
+    AreFramesLaid us (set hs p g) × (pages_of us 0 (set hs p g) ≡ on_page ps p rest_of) in
     subst (λ (us : List ℕ). G us link) (sym ev) (subst (λ (l : ℕ). G (set w h.frame 0) l) (sym el)
     (r.0, r.1 ∙ ap (λ (fs : List Frame). set ps p fs) (t.frames ∙ ap rest_of (sym o.is))))
 
@@ -137,8 +137,8 @@ depth_is {w} {ps = ps} {r = r} f =
     ap (λ (g : Frame). length g.stack) f.is ∙ length-words w (a + 10) (f.end - (a + 10))
 
 -- a write of the k-th word of a frame, not its link
-pub whole_set : (w : List ℕ) (fp sp k x : ℕ) → IsWhole w fp sp → 0 < k → fp + k < sp → fp + k < length w → x % 8 ≢ 4 → (k ≡ 2 → IsPc x)
-    → IsWhole (set w (fp + k) x) fp sp
+pub whole_set : (w : List ℕ) (fp sp k x : ℕ) → IsWholeFrame w fp sp → 0 < k → fp + k < sp → fp + k < length w → x % 8 ≢ 4 → (k ≡ 2 → IsPc x)
+    → IsWholeFrame (set w (fp + k) x) fp sp
 whole_set w fp sp k x h pos lt len plain pc =
     record {
       overhead = h.overhead;
@@ -153,23 +153,23 @@ whole_set w fp sp k x h pos lt len plain pc =
       ];
     }
 
-set_done : (g : Frame → Frame) {w v : List ℕ} {hs : List Head} {ps : List (List Frame)} {r : FrameRef} (k x : ℕ) → IsLaid w hs → pages_of w 0 hs ≡ ps
+set_done : (g : Frame → Frame) {w v : List ℕ} {hs : List Head} {ps : List (List Frame)} {r : FrameRef} (k x : ℕ) → AreFramesLaid w hs → pages_of w 0 hs ≡ ps
     → (f : Found w hs ps r) → 0 < k → (r.page * 4096 + r.at) + k < f.end → x % 8 ≢ 4 → (k ≡ 2 → IsPc x) → v ≡ set w ((r.page * 4096 + r.at) + k) x
     → (let a = r.page * 4096 + r.at in frame_at (set w (a + k) x) (r.page * 4096) a f.end ≡ g (frame_at w (r.page * 4096) a f.end))
-    → IsLaid v hs × (pages_of v 0 hs ≡ on_frame ps r g)
+    → AreFramesLaid v hs × (pages_of v 0 hs ≡ on_frame ps r g)
 set_done g {w} {v} {hs} {ps} {r} k x laid e f pos lt plain pc ev here =
     let a = r.page * 4096 + r.at in let high = f.high in let fits = f.fits in
     let d = inner_done g {v = set w (a + k) x} laid e f (length-set w (a + k) x) (away f.end lt)
     (whole_set w a f.end k x f.whole pos lt (omega arith) plain pc) here in
-    subst (λ (us : List ℕ). IsLaid us hs × (pages_of us 0 hs ≡ on_frame ps r g)) (sym ev) d
+    subst (λ (us : List ℕ). AreFramesLaid us hs × (pages_of us 0 hs ≡ on_frame ps r g)) (sym ev) d
   where
     away : (end : ℕ) → (r.page * 4096 + r.at) + k < end → (j : ℕ) → (j ≤ r.page * 4096 + r.at) ⊎ (end ≤ j) → get_or (set w ((r.page * 4096 + r.at) + k) x) j 0 ≡ get_or w j 0
     away end lt j (inl c) = get_or-set_other w ((r.page * 4096 + r.at) + k) j x 0 (omega arith)
     away end lt j (inr c) = get_or-set_other w ((r.page * 4096 + r.at) + k) j x 0 (omega arith)
 
-pub set_slot_done : {w v : List ℕ} {hs : List Head} {ps : List (List Frame)} → IsLaid w hs → pages_of w 0 hs ≡ ps → (r : FrameRef) (i x : ℕ)
+pub set_slot_done : {w v : List ℕ} {hs : List Head} {ps : List (List Frame)} → AreFramesLaid w hs → pages_of w 0 hs ≡ ps → (r : FrameRef) (i x : ℕ)
     → IsFrame ps r → i < length (frame ps r).stack → x % 8 ≢ 4 → v ≡ set w ((r.page * 4096 + r.at) + (10 + i)) x
-    → IsLaid v hs × (pages_of v 0 hs ≡ on_frame ps r (with_slot i x))
+    → AreFramesLaid v hs × (pages_of v 0 hs ≡ on_frame ps r (with_value i x))
 set_slot_done {w} {v} {hs} {ps} laid e r i x is li plain ev =
     let f = found laid e r is in
     let a = r.page * 4096 + r.at in let n = f.end - (a + 10) in
@@ -178,7 +178,7 @@ set_slot_done {w} {v} {hs} {ps} laid e r i x is li plain ev =
     let ws : words_from (set w (a + (10 + i)) x) (a + 10) n ≡ set (words_from w (a + 10) n) i x =
     subst (λ (j : ℕ). words_from (set w j x) (a + 10) n ≡ set (words_from w (a + 10) n) i x) k
     (words_set w (a + 10) n i x (omega arith) (omega arith)) in
-    set_done (with_slot i x) (10 + i) x laid e f (omega arith) (omega arith) plain (λ z. absurd (omega arith)) ev
+    set_done (with_value i x) (10 + i) x laid e f (omega arith) (omega arith) plain (λ z. absurd (omega arith)) ev
     (overhead_same (set w (a + (10 + i)) x) w (r.page * 4096) a f.end f.end (λ j l m. get_or-set_other w (a + (10 + i)) j x 0 (omega arith))
     ∙ ap (λ (ys : List ℕ). record (frame_at w (r.page * 4096) a f.end) { stack = ys }) ws)
 
@@ -200,7 +200,7 @@ part_word part.Closure w base fp sp = refl
 part_word part.Context w base fp sp = refl
 part_word part.Receiver w base fp sp = refl
 
-pub part_held : (q : Part) (w : List ℕ) (fp sp : ℕ) → IsWhole w fp sp → CanHold q (get_or w (fp + offset_of q) 0)
+pub part_held : (q : Part) (w : List ℕ) (fp sp : ℕ) → IsWholeFrame w fp sp → CanHold q (get_or w (fp + offset_of q) 0)
 part_held part.Caller w fp sp h = let le = h.overhead in h.values (fp + 1) (omega arith) (omega arith)
 part_held part.SavedPc w fp sp h = h.pc
 part_held part.Method w fp sp h = let le = h.overhead in h.values (fp + 3) (omega arith) (omega arith)
@@ -251,9 +251,9 @@ part_set q w base fp sp x fits = by_part q (λ k j ne. get_or-set_other w (fp + 
     by_part part.Receiver o s st = frame_parts (set w (fp + 8) x) base fp sp _ _ _ _ _ _ _ _ _ (o 8 (fp + 1) (omega arith)) (o 8 (fp + 2) (omega arith)) (o 8 (fp + 3) (omega arith))
         (o 8 (fp + 4) (omega arith)) (o 8 (fp + 5) (omega arith)) (o 8 (fp + 6) (omega arith)) (o 8 (fp + 7) (omega arith)) (s 8 (omega arith)) st
 
-pub set_part_done : {w v : List ℕ} {hs : List Head} {ps : List (List Frame)} → IsLaid w hs → pages_of w 0 hs ≡ ps → (r : FrameRef) (q : Part) (x : ℕ)
+pub set_part_done : {w v : List ℕ} {hs : List Head} {ps : List (List Frame)} → AreFramesLaid w hs → pages_of w 0 hs ≡ ps → (r : FrameRef) (q : Part) (x : ℕ)
     → IsFrame ps r → CanHold q x → v ≡ set w ((r.page * 4096 + r.at) + offset_of q) x
-    → IsLaid v hs × (pages_of v 0 hs ≡ on_frame ps r (with_part q x))
+    → AreFramesLaid v hs × (pages_of v 0 hs ≡ on_frame ps r (with_part q x))
 set_part_done {w} {v} {hs} {ps} laid e r q x is held ev =
     let f = found laid e r is in
     let a = r.page * 4096 + r.at in

@@ -3,7 +3,7 @@ use Rattle.std.proofs.Common.{◌≡◌, ℕ, zero, suc, ◌+◌, ◌*◌, ◌�
 use Rattle.std.proofs.lemmas.List.{length-replicate}
 use Rattle.cs_frame.specs.declared.Head.{Head}
 use Rattle.cs_frame.specs.Frame.{Frame}
-use Rattle.cs_frame.specs.Layout.{ArePages, IsLaid, pages_of}
+use Rattle.cs_frame.specs.Layout.{ArePages, AreFramesLaid, pages_of}
 use Rattle.cs_frame.specs.Written.{empty_heads}
 
 abbrev pub empty_head : ℕ → Head
@@ -39,9 +39,9 @@ none_yet w b (suc n) z =
     )
 
 pub laid_new : (w : List ℕ) (hs : List Head) (n : ℕ) → n ≤ 64 → w ≡ replicate (n * 4096) 0 → hs ≡ empty_heads 0 n
-    → IsLaid w hs × (pages_of w 0 hs ≡ replicate n [])
+    → AreFramesLaid w hs × (pages_of w 0 hs ≡ replicate n [])
 laid_new w hs n le ew eh =
     let r = none_yet w 0 n (λ k. ap (λ (us : List ℕ). get_or us k 0) ew ∙ zero-at (n * 4096) k) in
-    let G : List Head → Type 0 = λ gs. IsLaid w gs × (pages_of w 0 gs ≡ replicate n []) in
+    let G : List Head → Type 0 = λ gs. AreFramesLaid w gs × (pages_of w 0 gs ≡ replicate n []) in
     let lw = ap length ew in let lr = length-replicate {A = ℕ} (n * 4096) 0 in let lh = length-heads 0 n in
     subst G (sym eh) (record { few = omega arith; len = omega arith; pages = r.1 }, r.0)

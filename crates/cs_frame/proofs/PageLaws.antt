@@ -6,8 +6,8 @@ use Rattle.std.proofs.lemmas.List.{length-set, length-replicate, length-take, se
 use Rattle.std.proofs.Math.Seq.{drop-nil, split_at}
 use Rattle.cs_frame.specs.declared.FrameRef.{FrameRef}
 use Rattle.cs_frame.specs.declared.NewFrame.{NewFrame}
-use Rattle.cs_frame.specs.Frame.{Frame, pushed, popped, with_stack, cut, nil}
-use Rattle.cs_frame.specs.Page.{used, IsStacked, top, on_top, rest_of, nth, on_nth, index_of, frames_of, on_page, index_in, IsFrame, frame, on_frame, IsTop, called, CanCall}
+use Rattle.cs_frame.specs.Frame.{Frame, value_pushed, top_popped, with_values, call_cut, nil}
+use Rattle.cs_frame.specs.Page.{frames_used, AreStacked, top, on_top, rest_of, nth, on_nth, frame_index, frames_of, on_page, index_in, IsFrame, frame, on_frame, IsTop, called, HasArguments}
 
 -- Pages.
 
@@ -84,16 +84,16 @@ on_nth-on_nth (suc k) g h (f ∷ fs) = ap (λ (gs : List Frame). f ∷ gs) (on_n
 abbrev pub KeepsPlace : (Frame → Frame) → Type 0
 KeepsPlace g = (f : Frame) → (g f).at ≡ f.at
 
-pub index_of-on_nth : (k : ℕ) (g : Frame → Frame) (fs : List Frame) (at : ℕ) → KeepsPlace g → index_of (on_nth k g fs) at ≡ index_of fs at
+pub index_of-on_nth : (k : ℕ) (g : Frame → Frame) (fs : List Frame) (at : ℕ) → KeepsPlace g → frame_index (on_nth k g fs) at ≡ frame_index fs at
 index_of-on_nth k g [] at keeps = refl
-index_of-on_nth zero g (f ∷ fs) at keeps = ap (λ (n : ℕ). cond (eqb n at) 0 (suc (index_of fs at))) (keeps f)
+index_of-on_nth zero g (f ∷ fs) at keeps = ap (λ (n : ℕ). cond (eqb n at) 0 (suc (frame_index fs at))) (keeps f)
 index_of-on_nth (suc k) g (f ∷ fs) at keeps = ap (λ (n : ℕ). cond (eqb f.at at) 0 (suc n)) (index_of-on_nth k g fs at keeps)
 
-pub index_of-on_top : (g : Frame → Frame) (fs : List Frame) (at : ℕ) → KeepsPlace g → index_of (on_top g fs) at ≡ index_of fs at
-index_of-on_top g fs at keeps = ap (λ (gs : List Frame). index_of gs at) (on_top-on_nth g fs) ∙ index_of-on_nth 0 g fs at keeps
+pub index_of-on_top : (g : Frame → Frame) (fs : List Frame) (at : ℕ) → KeepsPlace g → frame_index (on_top g fs) at ≡ frame_index fs at
+index_of-on_top g fs at keeps = ap (λ (gs : List Frame). frame_index gs at) (on_top-on_nth g fs) ∙ index_of-on_nth 0 g fs at keeps
 
 -- the frame that is found at a place begins there
-pub at-nth_index : (fs : List Frame) (at : ℕ) → index_of fs at < length fs → (nth fs (index_of fs at)).at ≡ at
+pub at-nth_index : (fs : List Frame) (at : ℕ) → frame_index fs at < length fs → (nth fs (frame_index fs at)).at ≡ at
 at-nth_index [] at lt = absurd (omega arith)
 at-nth_index (f ∷ fs) at lt = elim (cases_Bool (eqb f.at at)) [
   | inl t ↦ rw t (eqb-true f.at at t)
@@ -104,10 +104,10 @@ at-nth_index (f ∷ fs) at lt = elim (cases_Bool (eqb f.at at)) [
 pub IsTop-is_frame : (ps : List (List Frame)) (r : FrameRef) → IsTop ps r → (index_in ps r ≡ 0) × IsFrame ps r
 IsTop-is_frame ps r is = first (frames_of ps r.page) is.0 is.1
   where
-    first : (fs : List Frame) → 0 < length fs → r.at ≡ (top fs).at → (index_of fs r.at ≡ 0) × (index_of fs r.at < length fs)
+    first : (fs : List Frame) → 0 < length fs → r.at ≡ (top fs).at → (frame_index fs r.at ≡ 0) × (frame_index fs r.at < length fs)
     first [] lt e = absurd (omega arith)
     first (f ∷ fs) lt e =
-        let here : index_of (f ∷ fs) r.at ≡ 0 = ap (λ b. cond b 0 (suc (index_of fs r.at))) (eq-eqb f.at r.at (sym e)) in
+        let here : frame_index (f ∷ fs) r.at ≡ 0 = ap (λ b. cond b 0 (suc (frame_index fs r.at))) (eq-eqb f.at r.at (sym e)) in
         (here, omega arith)
 
 -- and it stays the last one while it and the frames below change
@@ -127,10 +127,10 @@ page-IsFrame ps r is = page_in ps r.page (omega arith)
 
 pub index_in-on_frame : (ps : List (List Frame)) (r q : FrameRef) (g : Frame → Frame) → KeepsPlace g → IsFrame ps r → index_in (on_frame ps r g) q ≡ index_in ps q
 index_in-on_frame ps r q g keeps is = elim (cases_eq q.page r.page) [
-  | inl e ↦ ap (λ (p : ℕ). index_of (frames_of (on_frame ps r g) p) q.at) e
-      ∙ (ap (λ (fs : List Frame). index_of fs q.at) (frames_of-on_page ps r.page (on_nth (index_in ps r) g) (page-IsFrame ps r is))
-      ∙ (index_of-on_nth (index_in ps r) g (frames_of ps r.page) q.at keeps ∙ ap (λ (p : ℕ). index_of (frames_of ps p) q.at) (sym e)))
-  | inr ne ↦ ap (λ (fs : List Frame). index_of fs q.at) (frames_of-on_page_other ps r.page q.page (on_nth (index_in ps r) g) ne)
+  | inl e ↦ ap (λ (p : ℕ). frame_index (frames_of (on_frame ps r g) p) q.at) e
+      ∙ (ap (λ (fs : List Frame). frame_index fs q.at) (frames_of-on_page ps r.page (on_nth (index_in ps r) g) (page-IsFrame ps r is))
+      ∙ (index_of-on_nth (index_in ps r) g (frames_of ps r.page) q.at keeps ∙ ap (λ (p : ℕ). frame_index (frames_of ps p) q.at) (sym e)))
+  | inr ne ↦ ap (λ (fs : List Frame). frame_index fs q.at) (frames_of-on_page_other ps r.page q.page (on_nth (index_in ps r) g) ne)
 ]
 
 pub frame-on_frame : (ps : List (List Frame)) (r : FrameRef) (g : Frame → Frame) → KeepsPlace g → IsFrame ps r → frame (on_frame ps r g) r ≡ g (frame ps r)
@@ -172,18 +172,18 @@ IsFrame-on_frame ps r q g keeps is iq =
 
 -- The stack of the last frame.
 
-pub popped-pushed : (v : ℕ) (f : Frame) → popped (pushed v f) ≡ f
+pub popped-pushed : (v : ℕ) (f : Frame) → top_popped (value_pushed v f) ≡ f
 popped-pushed v f =
     let n : length f.stack ≡ length (f.stack ++ v ∷ []) - 1 = omega (arith, length-append f.stack (v ∷ [])) in
-    ap (λ (xs : List ℕ). with_stack xs f) (take_at f.stack (v ∷ []) _ n)
+    ap (λ (xs : List ℕ). with_values xs f) (take_at f.stack (v ∷ []) _ n)
 
 -- a push and then a pop give the page back
-pub popped-pushed_page : (ps : List (List Frame)) (p : ℕ) (v : ℕ) → p < length ps → on_page (on_page ps p (on_top (pushed v))) p (on_top popped) ≡ ps
+pub popped-pushed_page : (ps : List (List Frame)) (p : ℕ) (v : ℕ) → p < length ps → on_page (on_page ps p (on_top (value_pushed v))) p (on_top top_popped) ≡ ps
 popped-pushed_page ps p v lt =
-    on_page-on_page ps p (on_top (pushed v)) (on_top popped) lt
-    ∙ on_page-same ps p (λ fs. on_top popped (on_top (pushed v) fs)) (back (frames_of ps p))
+    on_page-on_page ps p (on_top (value_pushed v)) (on_top top_popped) lt
+    ∙ on_page-same ps p (λ fs. on_top top_popped (on_top (value_pushed v) fs)) (back (frames_of ps p))
   where
-    back : (fs : List Frame) → on_top popped (on_top (pushed v) fs) ≡ fs
+    back : (fs : List Frame) → on_top top_popped (on_top (value_pushed v) fs) ≡ fs
     back [] = refl
     back (f ∷ fs) = ap (λ (g : Frame). g ∷ fs) (popped-pushed v f)
 
@@ -202,7 +202,7 @@ length-called new [] = refl
 length-called new (f ∷ fs) = refl
 
 -- of the frames below, the caller alone is changed
-pub rest_of-called : (new : NewFrame) (fs : List Frame) → rest_of (called new fs) ≡ on_top (cut new.args) fs
+pub rest_of-called : (new : NewFrame) (fs : List Frame) → rest_of (called new fs) ≡ on_top (call_cut new.args) fs
 rest_of-called new [] = refl
 rest_of-called new (f ∷ fs) = refl
 
@@ -210,7 +210,7 @@ pub stack-called : (new : NewFrame) (fs : List Frame) → (top (called new fs)).
 stack-called new [] = ap (λ (xs : List ℕ). xs ++ replicate new.fill nil) (sym (drop-nil {A = ℕ} (0 - new.args)))
 stack-called new (f ∷ fs) = refl
 
-pub length-stack_called : (new : NewFrame) (fs : List Frame) → CanCall new.args fs → length (top (called new fs)).stack ≡ new.args + new.fill
+pub length-stack_called : (new : NewFrame) (fs : List Frame) → HasArguments new.args fs → length (top (called new fs)).stack ≡ new.args + new.fill
 length-stack_called new [] can = omega (arith, length-replicate new.fill nil)
 length-stack_called new (f ∷ fs) can =
     omega (
@@ -223,73 +223,73 @@ length-stack_called new (f ∷ fs) can =
 -- The words that are used.
 
 pub used-on_nth : (k : ℕ) (g : Frame → Frame) (fs : List Frame) → k < length fs
-    → used (on_nth k g fs) + length (nth fs k).stack ≡ used fs + length (g (nth fs k)).stack
+    → frames_used (on_nth k g fs) + length (nth fs k).stack ≡ frames_used fs + length (g (nth fs k)).stack
 used-on_nth k g [] lt = absurd (omega arith)
 used-on_nth zero g (f ∷ fs) lt = omega arith
 used-on_nth (suc k) g (f ∷ fs) lt = let r = used-on_nth k g fs (omega arith) in omega arith
 
-pub used-pushed : (v : ℕ) (fs : List Frame) → 0 < length fs → used (on_top (pushed v) fs) ≡ used fs + 1
+pub used-pushed : (v : ℕ) (fs : List Frame) → 0 < length fs → frames_used (on_top (value_pushed v) fs) ≡ frames_used fs + 1
 used-pushed v [] lt = absurd (omega arith)
 used-pushed v (f ∷ fs) lt = omega (arith, length-append f.stack (v ∷ []))
 
-pub used-popped : (fs : List Frame) → 0 < length (top fs).stack → used (on_top popped fs) + 1 ≡ used fs
+pub used-popped : (fs : List Frame) → 0 < length (top fs).stack → frames_used (on_top top_popped fs) + 1 ≡ frames_used fs
 used-popped [] lt = absurd (omega arith)
 used-popped (f ∷ fs) lt = omega (arith, length-take (length f.stack - 1) f.stack)
 
-pub used-rest_of : (fs : List Frame) → 0 < length fs → used (rest_of fs) + (10 + length (top fs).stack) ≡ used fs
+pub used-rest_of : (fs : List Frame) → 0 < length fs → frames_used (rest_of fs) + (10 + length (top fs).stack) ≡ frames_used fs
 used-rest_of [] lt = absurd (omega arith)
 used-rest_of (f ∷ fs) lt = refl
 
 -- the receiver's word is freed, and the arguments take as many words as before
-pub used-called : (new : NewFrame) (fs : List Frame) → 0 < length fs → CanCall new.args fs → used (called new fs) ≡ used fs + 9 + new.fill
+pub used-called : (new : NewFrame) (fs : List Frame) → 0 < length fs → HasArguments new.args fs → frames_used (called new fs) ≡ frames_used fs + 9 + new.fill
 used-called new [] lt can = absurd (omega arith)
 used-called new (f ∷ fs) lt can =
     omega (arith, length-stack_called new (f ∷ fs) can, length-take (length f.stack - (new.args + 1)) f.stack)
 
-pub used-called_base : (new : NewFrame) → used (called new []) ≡ 10 + new.fill
+pub used-called_base : (new : NewFrame) → frames_used (called new []) ≡ 10 + new.fill
 used-called_base new = omega (arith, length-replicate new.fill nil)
 
 -- Frames that lie on each other.
 
-pub end-nth : (fs : List Frame) (k : ℕ) → IsStacked fs → k < length fs → (nth fs k).at + (10 + length (nth fs k).stack) ≤ used fs
+pub end-nth : (fs : List Frame) (k : ℕ) → AreStacked fs → k < length fs → (nth fs k).at + (10 + length (nth fs k).stack) ≤ frames_used fs
 end-nth [] k st lt = absurd (omega arith)
 end-nth (f ∷ fs) zero st lt = omega (arith, st.0)
 end-nth (f ∷ fs) (suc k) st lt = let r = end-nth fs k st.1 (omega arith) in omega arith
 
 -- no two frames begin at one place
-pub index_of-nth : (fs : List Frame) (k : ℕ) → IsStacked fs → k < length fs → index_of fs (nth fs k).at ≡ k
+pub index_of-nth : (fs : List Frame) (k : ℕ) → AreStacked fs → k < length fs → frame_index fs (nth fs k).at ≡ k
 index_of-nth [] k st lt = absurd (omega arith)
-index_of-nth (f ∷ fs) zero st lt = ap (λ b. cond b 0 (suc (index_of fs f.at))) (eq-eqb f.at f.at refl)
+index_of-nth (f ∷ fs) zero st lt = ap (λ b. cond b 0 (suc (frame_index fs f.at))) (eq-eqb f.at f.at refl)
 index_of-nth (f ∷ fs) (suc k) st lt =
     let r = end-nth fs k st.1 (omega arith) in let at = st.0 in
-    ap (λ b. cond b 0 (suc (index_of fs (nth fs k).at))) (ne_eqb f.at (nth fs k).at (omega arith)) ∙ ap suc (index_of-nth fs k st.1 (omega arith))
+    ap (λ b. cond b 0 (suc (frame_index fs (nth fs k).at))) (ne_eqb f.at (nth fs k).at (omega arith)) ∙ ap suc (index_of-nth fs k st.1 (omega arith))
 
 -- the base frame begins its page
-pub at-base : (fs : List Frame) (k : ℕ) → IsStacked fs → suc k ≡ length fs → (nth fs k).at ≡ 0
+pub at-base : (fs : List Frame) (k : ℕ) → AreStacked fs → suc k ≡ length fs → (nth fs k).at ≡ 0
 at-base [] k st e = absurd (omega arith)
 at-base (f ∷ []) zero st e = st.0
 at-base (f ∷ g ∷ fs) zero st e = absurd (omega arith)
 at-base (f ∷ fs) (suc k) st e = at-base fs k st.1 (omega arith)
 
-pub stacked-on_top : (g : Frame → Frame) (fs : List Frame) → KeepsPlace g → IsStacked fs → IsStacked (on_top g fs)
+pub stacked-on_top : (g : Frame → Frame) (fs : List Frame) → KeepsPlace g → AreStacked fs → AreStacked (on_top g fs)
 stacked-on_top g [] keeps st = st
 stacked-on_top g (f ∷ fs) keeps st = (keeps f ∙ st.0, st.1)
 
-pub stacked-on_nth : (k : ℕ) (g : Frame → Frame) (fs : List Frame) → KeepsPlace g → length (g (nth fs k)).stack ≡ length (nth fs k).stack → IsStacked fs
-    → IsStacked (on_nth k g fs)
+pub stacked-on_nth : (k : ℕ) (g : Frame → Frame) (fs : List Frame) → KeepsPlace g → length (g (nth fs k)).stack ≡ length (nth fs k).stack → AreStacked fs
+    → AreStacked (on_nth k g fs)
 stacked-on_nth k g [] keeps len st = st
 stacked-on_nth zero g (f ∷ fs) keeps len st = (keeps f ∙ st.0, st.1)
 stacked-on_nth (suc k) g (f ∷ fs) keeps len st = (st.0 ∙ sym (size k fs len), stacked-on_nth k g fs keeps len st.1)
   where
-    size : (k : ℕ) (fs : List Frame) → length (g (nth fs k)).stack ≡ length (nth fs k).stack → used (on_nth k g fs) ≡ used fs
+    size : (k : ℕ) (fs : List Frame) → length (g (nth fs k)).stack ≡ length (nth fs k).stack → frames_used (on_nth k g fs) ≡ frames_used fs
     size k [] len = refl
     size zero (f ∷ fs) len = omega arith
     size (suc k) (f ∷ fs) len = let r = size k fs len in omega arith
 
-pub stacked-rest_of : (fs : List Frame) → IsStacked fs → IsStacked (rest_of fs)
+pub stacked-rest_of : (fs : List Frame) → AreStacked fs → AreStacked (rest_of fs)
 stacked-rest_of [] st = st
 stacked-rest_of (f ∷ fs) st = st.1
 
-pub stacked-called : (new : NewFrame) (fs : List Frame) → IsStacked fs → IsStacked (called new fs)
+pub stacked-called : (new : NewFrame) (fs : List Frame) → AreStacked fs → AreStacked (called new fs)
 stacked-called new [] st = (refl, tt)
 stacked-called new (f ∷ fs) st = (refl, st)

@@ -1,8 +1,8 @@
 -- The frames of one page, counted from the last one.
 use Rattle.std.proofs.Common.{◌≡◌, ℕ, zero, suc, ◌+◌, ◌-◌, ◌*◌, ◌/◌, ◌<◌, ◌≤◌, ◌⊎◌, List, ◌∷◌, length, get_or, refl, sym, ◌∙◌, ap, subst, inl, inr, arith}
 use Rattle.cs_frame.specs.Frame.{Frame}
-use Rattle.cs_frame.specs.Page.{used, IsStacked, nth, on_nth}
-use Rattle.cs_frame.specs.Layout.{frame_at, frames_down, below, IsWhole, Stands}
+use Rattle.cs_frame.specs.Page.{frames_used, AreStacked, nth, on_nth}
+use Rattle.cs_frame.specs.Layout.{frame_at, frames_down, below, IsWholeFrame, Stands}
 use Rattle.cs_frame.proofs.Words.{Same, length-words, frame_same, whole_same}
 
 -- where the frame with k frames above it begins, and where its stack ends
@@ -39,7 +39,7 @@ base_below (suc n) w base fp sp st = let r = base_below n w base (below w fp) fp
 
 -- the frame with k above it is whole, and lies between base and sp
 pub record Lies (n k : ℕ) (w : List ℕ) (base fp sp : ℕ) : Type 0 where
-  pub whole : IsWhole w (begin_nth k w fp) (end_nth k w fp sp)
+  pub whole : IsWholeFrame w (begin_nth k w fp) (end_nth k w fp sp)
   pub over : base + 10 * (n - suc k) ≤ begin_nth k w fp
   pub under : end_nth k w fp sp ≤ sp
   pub base_is : suc k ≡ n → begin_nth k w fp ≡ base
@@ -58,13 +58,13 @@ lies (suc n) (suc k) w base fp sp st lt =
     let a = r.over in let b = r.under in let c = st.0.overhead in
     record { whole = r.whole; over = omega arith; under = omega arith; base_is = λ e. r.base_is (omega arith) }
 
-pub used_is : (n : ℕ) (w : List ℕ) (base fp sp : ℕ) → Stands n w base fp sp → base + used (frames_down n w base fp sp) ≡ sp
+pub used_is : (n : ℕ) (w : List ℕ) (base fp sp : ℕ) → Stands n w base fp sp → base + frames_used (frames_down n w base fp sp) ≡ sp
 used_is zero w base fp sp st = omega (arith, st)
 used_is (suc n) w base fp sp st =
     let r = used_is n w base (below w fp) fp st.1 in let le = st.0.overhead in
     omega (arith, length-words w (fp + 10) (sp - (fp + 10)))
 
-pub stacked : (n : ℕ) (w : List ℕ) (base fp sp : ℕ) → Stands n w base fp sp → IsStacked (frames_down n w base fp sp)
+pub stacked : (n : ℕ) (w : List ℕ) (base fp sp : ℕ) → Stands n w base fp sp → AreStacked (frames_down n w base fp sp)
 stacked zero w base fp sp st = tt
 stacked (suc n) w base fp sp st =
     (let r = used_is n w base (below w fp) fp st.1 in omega arith, stacked n w base (below w fp) fp st.1)
@@ -84,7 +84,7 @@ frames_same (suc n) v w base fp sp st s =
     )
 
 -- the last frame may change above its link, and the others stay
-pub top_changed : (n : ℕ) (v w : List ℕ) (base fp sp sp' : ℕ) → Stands (suc n) w base fp sp → Same v w base (fp + 1) → IsWhole v fp sp'
+pub top_changed : (n : ℕ) (v w : List ℕ) (base fp sp sp' : ℕ) → Stands (suc n) w base fp sp → Same v w base (fp + 1) → IsWholeFrame v fp sp'
     → (frames_down (suc n) v base fp sp' ≡ frame_at v base fp sp' ∷ frames_down n w base (below w fp) fp) × Stands (suc n) v base fp sp'
 top_changed n v w base fp sp sp' st s whole =
     let low = base_below n w base (below w fp) fp st.1 in
@@ -97,7 +97,7 @@ top_changed n v w base fp sp sp' st s whole =
 -- a change inside the frame with k above it, not of its link
 pub nth_changed : (g : Frame → Frame) (n k : ℕ) (v w : List ℕ) (base fp sp : ℕ) → Stands n w base fp sp → k < n
     → ((j : ℕ) → (j ≤ begin_nth k w fp) ⊎ (end_nth k w fp sp ≤ j) → get_or v j 0 ≡ get_or w j 0)
-    → IsWhole v (begin_nth k w fp) (end_nth k w fp sp)
+    → IsWholeFrame v (begin_nth k w fp) (end_nth k w fp sp)
     → frame_at v base (begin_nth k w fp) (end_nth k w fp sp) ≡ g (frame_at w base (begin_nth k w fp) (end_nth k w fp sp))
     → (frames_down n v base fp sp ≡ on_nth k g (frames_down n w base fp sp)) × Stands n v base fp sp
 nth_changed g zero k v w base fp sp st lt s whole here = absurd (omega arith)

@@ -1,7 +1,7 @@
 -- Runs of words, and one frame read from them.
 use Rattle.std.proofs.Common.{◌≡◌, ℕ, zero, suc, ◌+◌, ◌-◌, ◌%◌, ◌<◌, ◌≤◌, ◌⊎◌, List, [], ◌∷◌, ◌++◌, length, get_or, set, take, drop, replicate, refl, sym, ◌∙◌, ap, subst, inl, inr, arith, get_or-set_other, get_or-set_same, add-zero}
 use Rattle.cs_frame.specs.Frame.{IsPc}
-use Rattle.cs_frame.specs.Layout.{words_from, frame_at, joined, NoLink, IsWhole}
+use Rattle.cs_frame.specs.Layout.{words_from, frame_at, joined, NoLink, IsWholeFrame}
 use Rattle.cs_frame.specs.Written.{AllAre}
 
 -- the two agree on the words from i up to j
@@ -121,7 +121,7 @@ no_link_same v w i j s n k a b e = n k a b (ap (λ (x : ℕ). x % 8) (sym (s k a
 pub pc_same : (v w : List ℕ) (k : ℕ) → get_or v k 0 ≡ get_or w k 0 → IsPc (get_or w k 0) → IsPc (get_or v k 0)
 pc_same v w k e p = subst (λ (n : ℕ). IsPc n) (sym e) p
 
-pub whole_same : (v w : List ℕ) (fp sp : ℕ) → Same v w fp sp → IsWhole w fp sp → IsWhole v fp sp
+pub whole_same : (v w : List ℕ) (fp sp : ℕ) → Same v w fp sp → IsWholeFrame w fp sp → IsWholeFrame v fp sp
 whole_same v w fp sp s h =
     let le = h.overhead in
     record {
@@ -132,7 +132,7 @@ whole_same v w fp sp s h =
     }
 
 -- the same frame with another end, above which all words up to there are no links
-pub whole_to : (v w : List ℕ) (fp sp sp' : ℕ) → fp + 10 ≤ sp' → Same v w fp (fp + 10) → NoLink v (fp + 10) sp' → IsWhole w fp sp → IsWhole v fp sp'
+pub whole_to : (v w : List ℕ) (fp sp sp' : ℕ) → fp + 10 ≤ sp' → Same v w fp (fp + 10) → NoLink v (fp + 10) sp' → IsWholeFrame w fp sp → IsWholeFrame v fp sp'
 whole_to v w fp sp sp' le s n h =
     let le0 = h.overhead in
     record {

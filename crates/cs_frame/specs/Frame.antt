@@ -33,8 +33,8 @@ pub record Frame : Type 0 where
   pub stack : List ℕ
 
 -- what a read gives where there is no frame
-abbrev pub blank : Frame
-blank = record { at = 0; caller = nil; saved_pc = nil; method = nil; closure = nil; context = nil; birth = 0; receiver = nil; stack = [] }
+abbrev pub blank_frame : Frame
+blank_frame = record { at = 0; caller = nil; saved_pc = nil; method = nil; closure = nil; context = nil; birth = 0; receiver = nil; stack = [] }
 
 -- the frame with one part changed
 
@@ -56,18 +56,18 @@ with_context v f = record f { context = v }
 abbrev pub with_receiver : ℕ → Frame → Frame
 with_receiver v f = record f { receiver = v }
 
-abbrev pub with_stack : List ℕ → Frame → Frame
-with_stack xs f = record f { stack = xs }
+abbrev pub with_values : List ℕ → Frame → Frame
+with_values xs f = record f { stack = xs }
 
-abbrev pub with_slot : ℕ → ℕ → Frame → Frame
-with_slot i v f = with_stack (slice_set f.stack i v) f
+abbrev pub with_value : ℕ → ℕ → Frame → Frame
+with_value i v f = with_values (slice_set f.stack i v) f
 
-abbrev pub pushed : ℕ → Frame → Frame
-pushed v f = with_stack (f.stack ++ v ∷ []) f
+abbrev pub value_pushed : ℕ → Frame → Frame
+value_pushed v f = with_values (f.stack ++ v ∷ []) f
 
-abbrev pub popped : Frame → Frame
-popped f = with_stack (take (length f.stack - 1) f.stack) f
+abbrev pub top_popped : Frame → Frame
+top_popped f = with_values (take (length f.stack - 1) f.stack) f
 
 -- a caller, once receiver and arguments have left its stack
-abbrev pub cut : ℕ → Frame → Frame
-cut args f = with_stack (take (length f.stack - (args + 1)) f.stack) f
+abbrev pub call_cut : ℕ → Frame → Frame
+call_cut args f = with_values (take (length f.stack - (args + 1)) f.stack) f

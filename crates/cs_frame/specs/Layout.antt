@@ -42,7 +42,7 @@ abbrev pub NoLink : List ℕ → ℕ → ℕ → Type 0
 NoLink w i j = (k : ℕ) → i ≤ k → k < j → slice_index w k % 8 ≢ 4
 
 -- the words from fp up to sp are a frame's: the first is the saved frame pointer, a link, and no other is one
-pub record IsWhole (w : List ℕ) (fp sp : ℕ) : Type 0 where
+pub record IsWholeFrame (w : List ℕ) (fp sp : ℕ) : Type 0 where
   pub overhead : fp + 10 ≤ sp
   pub link : IsLink (slice_index w fp)
   pub values : NoLink w (fp + 1) sp
@@ -51,26 +51,26 @@ pub record IsWhole (w : List ℕ) (fp sp : ℕ) : Type 0 where
 -- the frames lie on each other without a gap, the base frame at base
 abbrev pub Stands : ℕ → List ℕ → ℕ → ℕ → ℕ → Type 0
 Stands zero w base fp sp = sp ≡ base
-Stands (suc n) w base fp sp = IsWhole w fp sp × Stands n w base (below w fp) fp
+Stands (suc n) w base fp sp = IsWholeFrame w fp sp × Stands n w base (below w fp) fp
 
 -- the page that begins at base has the head h: no word above its frames is a link
-pub record IsPage (w : List ℕ) (base : ℕ) (h : Head) : Type 0 where
+pub record IsPageOfWords (w : List ℕ) (base : ℕ) (h : PageEnd) : Type 0 where
   pub stands : Stands h.count w base h.frame h.end
   pub within : h.end ≤ base + 4096
   pub free : NoLink w h.end (base + 4096)
 
-abbrev pub ArePages : List ℕ → ℕ → List Head → Type 0
+abbrev pub ArePages : List ℕ → ℕ → List PageEnd → Type 0
 ArePages w base [] = Unit {0}
-ArePages w base (h ∷ hs) = IsPage w base h × ArePages w (base + 4096) hs
+ArePages w base (h ∷ hs) = IsPageOfWords w base h × ArePages w (base + 4096) hs
 
 -- the zone is 1 to 64 pages
-pub record IsLaid (w : List ℕ) (hs : List Head) : Type 0 where
+pub record AreFramesLaid (w : List ℕ) (hs : List PageEnd) : Type 0 where
   pub few : length hs ≤ 64
   pub len : length w ≡ length hs * 4096
   pub pages : ArePages w 0 hs
 
 -- what the words mean
-abbrev pub pages_of : List ℕ → ℕ → List Head → List (List Frame)
+abbrev pub pages_of : List ℕ → ℕ → List PageEnd → List (List Frame)
 pages_of w base [] = []
 pages_of w base (h ∷ hs) = frames_down h.count w base h.frame h.end ∷ pages_of w (base + 4096) hs
 

@@ -3,20 +3,20 @@
 use Rattle.std.specs.Prelude.{◌≡◌, ℕ, zero, suc, ◌+◌, ◌-◌, ◌<◌, ◌≤◌, ◌==◌, if◌then◌else◌, List, [], ◌∷◌, ◌++◌, length, drop, replicate, slice_index_or, slice_set}
 use Rattle.cs_frame.specs.declared.FrameRef.{FrameRef}
 use Rattle.cs_frame.specs.declared.NewFrame.{NewFrame}
-use Rattle.cs_frame.specs.Frame.{Frame, nil, blank, cut, IsValue}
+use Rattle.cs_frame.specs.Frame.{Frame, nil, blank_frame, call_cut, IsValue}
 
 -- the words that the frames of a page take: 10 for each frame and one for each value
-abbrev pub used : List Frame → ℕ
-used [] = 0
-used (f ∷ fs) = used fs + (10 + length f.stack)
+abbrev pub frames_used : List Frame → ℕ
+frames_used [] = 0
+frames_used (f ∷ fs) = frames_used fs + (10 + length f.stack)
 
 -- each frame begins where the frames below it end
-abbrev pub IsStacked : List Frame → Type 0
-IsStacked [] = Unit {0}
-IsStacked (f ∷ fs) = (f.at ≡ used fs) × IsStacked fs
+abbrev pub AreStacked : List Frame → Type 0
+AreStacked [] = Unit {0}
+AreStacked (f ∷ fs) = (f.at ≡ frames_used fs) × AreStacked fs
 
 abbrev pub top : List Frame → Frame
-top [] = blank
+top [] = blank_frame
 top (f ∷ fs) = f
 
 abbrev pub on_top : (Frame → Frame) → List Frame → List Frame
@@ -30,7 +30,7 @@ rest_of (f ∷ fs) = fs
 
 -- the frame that has k frames above it
 abbrev pub nth : List Frame → ℕ → Frame
-nth [] k = blank
+nth [] k = blank_frame
 nth (f ∷ fs) zero = f
 nth (f ∷ fs) (suc k) = nth fs k
 
@@ -40,9 +40,9 @@ on_nth zero g (f ∷ fs) = g f ∷ fs
 on_nth (suc k) g (f ∷ fs) = f ∷ on_nth k g fs
 
 -- how many frames stand above the one that begins at `at`
-abbrev pub index_of : List Frame → ℕ → ℕ
-index_of [] at = 0
-index_of (f ∷ fs) at = if f.at == at then 0 else suc (index_of fs at)
+abbrev pub frame_index : List Frame → ℕ → ℕ
+frame_index [] at = 0
+frame_index (f ∷ fs) at = if f.at == at then 0 else suc (frame_index fs at)
 
 -- the frames of page p
 abbrev pub frames_of : List (List Frame) → ℕ → List Frame
@@ -52,11 +52,11 @@ abbrev pub on_page : List (List Frame) → ℕ → (List Frame → List Frame) �
 on_page ps p h = slice_set ps p (h (frames_of ps p))
 
 -- the reference to a frame of page p
-abbrev pub ref_of : ℕ → Frame → FrameRef
-ref_of p f = record { page = p; at = f.at }
+abbrev pub frame_ref : ℕ → Frame → FrameRef
+frame_ref p f = record { page = p; at = f.at }
 
 abbrev pub index_in : List (List Frame) → FrameRef → ℕ
-index_in ps r = index_of (frames_of ps r.page) r.at
+index_in ps r = frame_index (frames_of ps r.page) r.at
 
 -- a frame begins there
 abbrev pub IsFrame : List (List Frame) → FrameRef → Type 0
@@ -100,13 +100,13 @@ fresh new at caller arguments = record {
 abbrev pub called : NewFrame → List Frame → List Frame
 called new [] = fresh new 0 new.receiver.0 [] ∷ []
 called new (f ∷ fs) =
-    let caller = cut new.args f in
-    fresh new (used (caller ∷ fs)) nil (drop (length f.stack - new.args) f.stack) ∷ caller ∷ fs
+    let caller = call_cut new.args f in
+    fresh new (frames_used (caller ∷ fs)) nil (drop (length f.stack - new.args) f.stack) ∷ caller ∷ fs
 
 -- the last frame holds receiver and arguments; an empty page can give none
-abbrev pub CanCall : ℕ → List Frame → Type 0
-CanCall args [] = args ≡ 0
-CanCall args (f ∷ fs) = args + 1 ≤ length f.stack
+abbrev pub HasArguments : ℕ → List Frame → Type 0
+HasArguments args [] = args ≡ 0
+HasArguments args (f ∷ fs) = args + 1 ≤ length f.stack
 
 -- what a new frame is given to hold is no link
 pub record HoldsValues (new : NewFrame) : Type 0 where

@@ -14,11 +14,11 @@
 
 ghost use Rattle.std.specs.Prelude.{◌≡◌, ℕ, zero, ◌+◌, ◌*◌, ◌/◌, ◌^◌, ◌<◌, ◌≤◌, ◌↔◌, List, [], ◌∷◌, ◌++◌};
 ghost use Rattle.std.specs.Prelude.{IfOk, IsNone, IfSome, replicate, length, slice_index};
-ghost use Rattle.cs_frame.specs.Frame.{Frame, IsValue, IsPc, pushed, popped, with_slot};
+ghost use Rattle.cs_frame.specs.Frame.{Frame, IsValue, IsPc, value_pushed, top_popped, with_value};
 ghost use Rattle.cs_frame.specs.Frame.{with_caller, with_saved_pc, with_method, with_closure, with_context};
 ghost use Rattle.cs_frame.specs.Frame.{with_receiver};
-ghost use Rattle.cs_frame.specs.Page.{used, IsStacked, top, on_top, rest_of, frames_of, on_page, ref_of};
-ghost use Rattle.cs_frame.specs.Page.{IsFrame, frame, caller_of, on_frame, IsTop, IsBase, called, CanCall, HoldsValues};
+ghost use Rattle.cs_frame.specs.Page.{frames_used, AreStacked, top, on_top, rest_of, frames_of, on_page, frame_ref};
+ghost use Rattle.cs_frame.specs.Page.{IsFrame, frame, caller_of, on_frame, IsTop, IsBase, called, HasArguments, HoldsValues};
 ghost use Rattle.cs_frame.specs.Layout.{part_of, with_part, CanHold, offset_of};
 ghost use Rattle.cs_frame.specs.Written.{empty_heads, SameOutside, AllAre, HasOverhead, half_word};
 
@@ -126,13 +126,13 @@ pub struct Frames {
 impl Model for Frames {
     ghost use Rattle.std.specs.Prelude.{List};
     ghost use Rattle.cs_frame.specs.Frame.{Frame};
-    ghost use Rattle.cs_frame.specs.Layout.{pages_of, IsLaid};
+    ghost use Rattle.cs_frame.specs.Layout.{pages_of, AreFramesLaid};
 
     ghost Value = { List (List Frame) };
 
     ghost view = { λ f. pages_of f.zone 0 f.heads.items };
 
-    ghost invariant = { λ f. IsLaid f.zone f.heads.items };
+    ghost invariant = { λ f. AreFramesLaid f.zone f.heads.items };
 }
 
 impl Frames {
@@ -157,8 +157,8 @@ impl Frames {
     /// value.
     pub fn room(&self, page: u32) -> u32
         requires page { page < length self.now }
-        ensures room { result + used (frames_of self.now page) ≡ 4096 }
-        ensures stacked { IsStacked (frames_of self.now page) }
+        ensures room { result + frames_used (frames_of self.now page) ≡ 4096 }
+        ensures stacked { AreStacked (frames_of self.now page) }
     {
         let head = self.heads[page as usize];
         page * PAGE_WORDS + PAGE_WORDS - head.end
@@ -168,9 +168,9 @@ impl Frames {
     pub fn top(&self, page: u32) -> Option<FrameRef>
         requires page { page < length self.now }
         ensures none { IsNone result ↔ (frames_of self.now page ≡ []) }
-        ensures frame { IfSome result (λ f. f ≡ ref_of page (top (frames_of self.now page))) }
+        ensures frame { IfSome result (λ f. f ≡ frame_ref page (top (frames_of self.now page))) }
         ensures last { IfSome result (IsTop self.now) }
-        ensures stacked { IsStacked (frames_of self.now page) }
+        ensures stacked { AreStacked (frames_of self.now page) }
     {
         let head = self.heads[page as usize];
         if head.count == 0 {
@@ -189,13 +189,13 @@ impl Frames {
     /// where the receiver stood. The saved pc and the context are nil.
     pub fn build(&mut self, page: u32, new: NewFrame) -> FrameRef
         requires page { page < length self.old }
-        requires room { used (frames_of self.old page) + 66 ≤ 4096 }
+        requires room { frames_used (frames_of self.old page) + 66 ≤ 4096 }
         requires size { new.args + new.fill ≤ 56 }
         requires birth { new.birth < 2 ^ 62 }
-        requires caller { CanCall new.args (frames_of self.old page) }
+        requires caller { HasArguments new.args (frames_of self.old page) }
         requires values { HoldsValues new }
         ensures made { self.new ≡ on_page self.old page (called new) }
-        ensures frame { result ≡ ref_of page (top (frames_of self.new page)) }
+        ensures frame { result ≡ frame_ref page (top (frames_of self.new page)) }
         ensures top { IsTop self.new result }
     {
         let head = self.heads[page as usize];
@@ -235,9 +235,9 @@ impl Frames {
     /// Puts a value on the stack of the last frame of a page.
     pub fn push(&mut self, f: FrameRef, v: Oop)
         requires top { IsTop self.old f }
-        requires room { used (frames_of self.old f.page) < 4096 }
+        requires room { frames_used (frames_of self.old f.page) < 4096 }
         requires value { IsValue v.0 }
-        ensures pushed { self.new ≡ on_page self.old f.page (on_top (pushed v.0)) }
+        ensures pushed { self.new ≡ on_page self.old f.page (on_top (value_pushed v.0)) }
     {
         let page = f.page as usize;
         let head = self.heads[page];
@@ -256,7 +256,7 @@ impl Frames {
         requires value { 0 < length (top (frames_of self.old f.page)).stack }
         ensures value { (top (frames_of self.old f.page)).stack
             ≡ (top (frames_of self.new f.page)).stack ++ result.0 ∷ [] }
-        ensures popped { self.new ≡ on_page self.old f.page (on_top popped) }
+        ensures popped { self.new ≡ on_page self.old f.page (on_top top_popped) }
     {
         let page = f.page as usize;
         let head = self.heads[page];
@@ -299,7 +299,7 @@ impl Frames {
         requires frame { IsFrame self.old f }
         requires index { i < length (frame self.old f).stack }
         requires value { IsValue v.0 }
-        ensures slot { self.new ≡ on_frame self.old f (with_slot i v.0) }
+        ensures slot { self.new ≡ on_frame self.old f (with_value i v.0) }
     {
         self.zone.set(place(f, OVERHEAD + i), v.0);
     }
@@ -308,7 +308,7 @@ impl Frames {
     pub fn caller(&self, f: FrameRef) -> Option<FrameRef>
         requires frame { IsFrame self.now f }
         ensures none { IsNone result ↔ IsBase self.now f }
-        ensures caller { IfSome result (λ g. g ≡ ref_of f.page (caller_of self.now f)) }
+        ensures caller { IfSome result (λ g. g ≡ frame_ref f.page (caller_of self.now f)) }
     {
         if f.at == 0 {
             None

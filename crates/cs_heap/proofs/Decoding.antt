@@ -7,7 +7,7 @@ use Rattle.std.specs.Prelude.{flat_map}
 use Rattle.std.specs.List.{AllByRecursion}
 use Rattle.cs_heap.specs.Format.{format_allows}
 use Rattle.cs_heap.specs.Object.{Object, size, units, units_before}
-use Rattle.cs_heap.specs.Layout.{IsStorable, births_of, first_count, first_object, header, header_in, object_in, objects_in, overflow, padding, row, words_of}
+use Rattle.cs_heap.specs.Layout.{IsStorable, unit_births, first_count, first_object, header, unit_header, object_read, objects_read, overflow, padding, row, object_words}
 use Rattle.cs_heap.proofs.OneObject.{births_of_is, count_in_row, high_in_row, length-marked, length-overflow, length-words_of, low_in_row, mark_in_row, value_marked, words_of_is}
 use Rattle.cs_word.specs.Header.{bit, flag_bits, header_bits, header_flags, header_of}
 use Rattle.cs_word.specs.declared.header.Header.{Header}
@@ -65,38 +65,38 @@ header_back x ok =
 -- ---- one object in front of others
 
 -- the words of the object itself, in front of others
-pub in_front : (x : Object) (rest : List ℕ) (j : ℕ) → j < size (length x.words) → get_or (words_of x ++ rest) j 0 ≡ get_or (row (stored_header x) x.words) j 0
+pub in_front : (x : Object) (rest : List ℕ) (j : ℕ) → j < size (length x.words) → get_or (object_words x ++ rest) j 0 ≡ get_or (row (stored_header x) x.words) j 0
 in_front x rest j h =
-    get_or_append_left (words_of x) rest 0 j (omega (arith, length-words_of x))
+    get_or_append_left (object_words x) rest 0 j (omega (arith, length-words_of x))
     ∙ ap (λ (zs : List ℕ). get_or zs j 0) (words_of_is x)
 
-pub header_in_front : (x : Object) (rest : List ℕ) → IsStorable x → header_in (words_of x ++ rest) (2 * units_before (length x.words)) ≡ header x
+pub header_in_front : (x : Object) (rest : List ℕ) → IsStorable x → unit_header (object_words x ++ rest) (2 * units_before (length x.words)) ≡ header x
 header_in_front x rest ok =
     ap₂ (λ (low : ℕ) (high : ℕ). header_of (low + high * 2 ^ 32))
     (in_front x rest (2 * units_before (length x.words)) (omega arith) ∙ low_in_row (stored_header x) x.words)
     (in_front x rest (2 * units_before (length x.words) + 1) (omega arith) ∙ high_in_row (stored_header x) x.words)
     ∙ ap header_of (bits_back (stored_header x)) ∙ header_back x ok
 
-pub first_count_is : (x : Object) (rest : List ℕ) → IsStorable x → first_count (words_of x ++ rest) ≡ length x.words
+pub first_count_is : (x : Object) (rest : List ℕ) → IsStorable x → first_count (object_words x ++ rest) ≡ length x.words
 first_count_is x rest ok = go (leb 255 (length x.words)) refl
   where
     ws : List ℕ
-    ws = words_of x ++ rest
+    ws = object_words x ++ rest
 
     long : 255 ≤ length x.words → first_count ws ≡ length x.words
     long h =
         let mark : get_or ws 1 0 ≡ 255 * 2 ^ 24 = in_front x rest 1 (omega arith) ∙ mark_in_row (stored_header x) x.words h in
         let count : get_or ws 0 0 ≡ length x.words = in_front x rest 0 (omega arith) ∙ count_in_row (stored_header x) x.words h in
         let small : get_or ws 0 0 < 2 ^ 32 = omega (arith, count, ok.count) in
-        let top : (header_in ws 0).slots ≡ 255 = omega (arith, mark, small) in
+        let top : (unit_header ws 0).slots ≡ 255 = omega (arith, mark, small) in
         rw top count
 
     short : length x.words < 255 → first_count ws ≡ length x.words
     short h =
         let other : leb 255 (length x.words) ≡ false = grind (arith, nat_tests) in
         let place : 2 * units_before (length x.words) ≡ 0 = rw other refl in
-        let read : header_in ws 0 ≡ header x = ap (header_in ws) (sym place) ∙ header_in_front x rest ok in
-        let slots : (header_in ws 0).slots ≡ length x.words = ap (λ (h : Header). h.slots) read ∙ omega (arith, h) in
+        let read : unit_header ws 0 ≡ header x = ap (unit_header ws) (sym place) ∙ header_in_front x rest ok in
+        let slots : (unit_header ws 0).slots ≡ length x.words = ap (λ (h : Header). h.slots) read ∙ omega (arith, h) in
         let differs : eqb (length x.words) 255 ≡ false = grind (arith, nat_tests) in
         rw (slots, differs) refl
 
@@ -108,11 +108,11 @@ first_count_is x rest ok = go (leb 255 (length x.words)) refl
 drop_front : (front rest : List ℕ) (n : ℕ) → length front ≡ n → drop n (front ++ rest) ≡ rest
 drop_front front rest n e = ap (λ (m : ℕ). drop m (front ++ rest)) (sym e) ∙ drop-append_seam front rest
 
-slots_in_front : (x : Object) (rest : List ℕ) → take (length x.words) (drop (2 * units_before (length x.words) + 2) (words_of x ++ rest)) ≡ x.words
+slots_in_front : (x : Object) (rest : List ℕ) → take (length x.words) (drop (2 * units_before (length x.words) + 2) (object_words x ++ rest)) ≡ x.words
 slots_in_front x rest =
     let n = length x.words in
     let front : List ℕ = overflow n ++ stored_header x % 2 ^ 32 ∷ stored_header x / 2 ^ 32 ∷ [] in
-    let split : words_of x ++ rest ≡ front ++ (x.words ++ (padding n ++ rest)) = ap (λ (zs : List ℕ). zs ++ rest) (words_of_is x) ∙ regroup (overflow n) (stored_header x % 2 ^ 32) (stored_header x / 2 ^ 32) x.words (padding n) rest in
+    let split : object_words x ++ rest ≡ front ++ (x.words ++ (padding n ++ rest)) = ap (λ (zs : List ℕ). zs ++ rest) (words_of_is x) ∙ regroup (overflow n) (stored_header x % 2 ^ 32) (stored_header x / 2 ^ 32) x.words (padding n) rest in
     ap (λ (zs : List ℕ). take n (drop (2 * units_before n + 2) zs)) split
     ∙ ap (take n) (drop_front front (x.words ++ (padding n ++ rest)) (2 * units_before n + 2)
     (omega (arith, length-append (overflow n) (stored_header x % 2 ^ 32 ∷ stored_header x / 2 ^ 32 ∷ []), length-overflow n)))
@@ -121,45 +121,45 @@ slots_in_front x rest =
     regroup : (a : List ℕ) (lo hi : ℕ) (b c d : List ℕ) → ((a ++ lo ∷ hi ∷ b) ++ c) ++ d ≡ (a ++ lo ∷ hi ∷ []) ++ (b ++ (c ++ d))
     regroup a lo hi b c d = simp append_assoc
 
-birth_in_front : (x : Object) (rest : List ℕ) → get_or (births_of x ++ rest) (units_before (length x.words)) 0 ≡ x.birth
+birth_in_front : (x : Object) (rest : List ℕ) → get_or (unit_births x ++ rest) (units_before (length x.words)) 0 ≡ x.birth
 birth_in_front x rest =
-    get_or_append_left (births_of x) rest 0 (units_before (length x.words)) (omega (arith, ap length (births_of_is x), length-marked x.birth (length x.words)))
+    get_or_append_left (unit_births x) rest 0 (units_before (length x.words)) (omega (arith, ap length (births_of_is x), length-marked x.birth (length x.words)))
     ∙ ap (λ (zs : List ℕ). get_or zs (units_before (length x.words)) 0) (births_of_is x) ∙ value_marked x.birth (length x.words)
 
-pub first_object_is : (x : Object) (rest others : List ℕ) → IsStorable x → first_object (length x.words) (words_of x ++ rest) (births_of x ++ others) ≡ x
+pub first_object_is : (x : Object) (rest others : List ℕ) → IsStorable x → first_object (length x.words) (object_words x ++ rest) (unit_births x ++ others) ≡ x
 first_object_is x rest others ok =
-    ap₂ (λ (h : Header) (p : ℕ × List ℕ). object_in h p.0 p.1) (header_in_front x rest ok)
+    ap₂ (λ (h : Header) (p : ℕ × List ℕ). object_read h p.0 p.1) (header_in_front x rest ok)
     (ap₂ (λ (birth : ℕ) (words : List ℕ). let p : ℕ × List ℕ = (birth, words) in p) (birth_in_front x others) (slots_in_front x rest))
 
 -- ---- all objects
 
 next_step : (most : ℕ) (ws bs : List ℕ) → 0 < length ws
-    → objects_in (suc most) ws bs ≡ first_object (first_count ws) ws bs ∷ objects_in most (drop (2 * units (first_count ws)) ws) (drop (units (first_count ws)) bs)
-unfolding objects_in
+    → objects_read (suc most) ws bs ≡ first_object (first_count ws) ws bs ∷ objects_read most (drop (2 * units (first_count ws)) ws) (drop (units (first_count ws)) bs)
+unfolding objects_read
 next_step most [] bs h = absurd (omega (arith, h))
 next_step most (w ∷ ws) bs h = refl
 
-none_left : (most : ℕ) (bs : List ℕ) → objects_in most [] bs ≡ []
-unfolding objects_in
+none_left : (most : ℕ) (bs : List ℕ) → objects_read most [] bs ≡ []
+unfolding objects_read
 none_left zero bs = refl
 none_left (suc most) bs = refl
 
-pub objects_back : (most : ℕ) (xs : List Object) → length xs ≤ most → AllByRecursion IsStorable xs → objects_in most (flat_map words_of xs) (flat_map births_of xs) ≡ xs
+pub objects_back : (most : ℕ) (xs : List Object) → length xs ≤ most → AllByRecursion IsStorable xs → objects_read most (flat_map object_words xs) (flat_map unit_births xs) ≡ xs
 objects_back most [] h ok = none_left most []
 objects_back zero (x ∷ xs) h ok = absurd (omega (arith, h))
 objects_back (suc most) (x ∷ xs) h ok =
-    let rest : List ℕ = flat_map words_of xs in
-    let others : List ℕ = flat_map births_of xs in
+    let rest : List ℕ = flat_map object_words xs in
+    let others : List ℕ = flat_map unit_births xs in
     let n = length x.words in
-    next_step most (words_of x ++ rest) (births_of x ++ others) (omega (arith, length-append (words_of x) rest, length-words_of x))
-    ∙ ap (λ (k : ℕ). first_object k (words_of x ++ rest) (births_of x ++ others) ∷ objects_in most (drop (2 * units k) (words_of x ++ rest)) (drop (units k) (births_of x ++ others))) (first_count_is x rest ok.0)
-    ∙ ap₂ (λ (y : Object) (p : List ℕ × List ℕ). y ∷ objects_in most p.0 p.1) (first_object_is x rest others ok.0)
+    next_step most (object_words x ++ rest) (unit_births x ++ others) (omega (arith, length-append (object_words x) rest, length-words_of x))
+    ∙ ap (λ (k : ℕ). first_object k (object_words x ++ rest) (unit_births x ++ others) ∷ objects_read most (drop (2 * units k) (object_words x ++ rest)) (drop (units k) (unit_births x ++ others))) (first_count_is x rest ok.0)
+    ∙ ap₂ (λ (y : Object) (p : List ℕ × List ℕ). y ∷ objects_read most p.0 p.1) (first_object_is x rest others ok.0)
     (ap₂ (λ (a : List ℕ) (b : List ℕ). let p : List ℕ × List ℕ = (a, b) in p)
-    (drop_front (words_of x) rest (2 * units n) (length-words_of x))
-    (drop_front (births_of x) others (units n) (ap length (births_of_is x) ∙ length-marked x.birth n)))
+    (drop_front (object_words x) rest (2 * units n) (length-words_of x))
+    (drop_front (unit_births x) others (units n) (ap length (births_of_is x) ∙ length-marked x.birth n)))
     ∙ ap (λ (ys : List Object). x ∷ ys) (objects_back most xs (omega (arith, h)) ok.1)
 
 -- there are fewer objects than words
-pub enough_words : (xs : List Object) → length xs ≤ length (flat_map words_of xs)
+pub enough_words : (xs : List Object) → length xs ≤ length (flat_map object_words xs)
 enough_words [] = omega arith
-enough_words (x ∷ xs) = omega (arith, enough_words xs, length-append (words_of x) (flat_map words_of xs), length-words_of x)
+enough_words (x ∷ xs) = omega (arith, enough_words xs, length-append (object_words x) (flat_map object_words xs), length-words_of x)

@@ -4,8 +4,8 @@ use Rattle.std.proofs.lemmas.List.{get_or-append-add, get_or-append_right, get_o
 use Rattle.std.proofs.lemmas.Grind.{flat_map-append}
 use Rattle.std.proofs.lemmas.Bool.Decides.{nat_tests}
 use Rattle.std.specs.Prelude.{flat_map}
-use Rattle.cs_heap.specs.Object.{Object, address_of, base, body_units, header_address, index_of, units, units_before, used}
-use Rattle.cs_heap.specs.Layout.{IsLaid, address_from, headers_in, marked, marks_of, unit_in}
+use Rattle.cs_heap.specs.Object.{Object, address_of, base, body_units, header_address, object_place, units, units_before, used}
+use Rattle.cs_heap.specs.Layout.{AreObjectsLaid, address_from, headers_in, marked, marks_of, unit_in}
 use Rattle.cs_heap.specs.declared.Heap.TheInside.{Inside}
 use Rattle.cs_heap.proofs.OneObject.{length-marked, marks_of_is}
 use Rattle.cs_heap.proofs.Places.{Split, address_past, address_split, found_is, split_here, split_next, used-append}
@@ -55,7 +55,7 @@ marked_split (x ∷ xs) at u h =
         get_or_append_left (marks_of x) all 0 u (omega (arith, within, long_marks x)) ∙ ap (λ (zs : List ℕ). get_or zs u 0) (marks_of_is x) in
         (0, split_here x xs at (at + 8 * u) (ap (λ (v : ℕ). at + 8 * v) (marked_at (length x.words) u (λ z. h (here ∙ z)))))
 
-pub marked_found : (h : Inside) (xs : List Object) → IsLaid h xs → (u : ℕ) → get_or h.marks.items u 0 ≢ 0 → is_some (index_of xs (base + 8 * u)) ≡ true
+pub marked_found : (h : Inside) (xs : List Object) → AreObjectsLaid h xs → (u : ℕ) → get_or h.marks.items u 0 ≢ 0 → is_some (object_place xs (base + 8 * u)) ≡ true
 marked_found h xs laid u m =
     let s = marked_split xs base u (λ z. m (none (get_or h.marks.items u 0) (sym (headers_in-at h.marks.items u) ∙ ap (λ (zs : List ℕ). get_or zs u 0) laid.marks ∙ z))) in
     ap is_some (found_is xs (base + 8 * u) s.0 s.1).index_is
@@ -64,7 +64,7 @@ marked_found h xs laid u m =
     none n e = omega (arith, e)
 
 -- the object behind those before, if there is one
-pub walk : (h : Inside) (before after : List Object) → IsLaid h (before ++ after) → (u : ℕ) → 2 * u ≡ used before → address_from h.marks.items u ≡ address_of (before ++ after) (length before)
+pub walk : (h : Inside) (before after : List Object) → AreObjectsLaid h (before ++ after) → (u : ℕ) → 2 * u ≡ used before → address_from h.marks.items u ≡ address_of (before ++ after) (length before)
 walk h before [] laid u e =
     let last : length h.marks.items ≤ u = omega (arith, length-marks h (before ++ []) laid, used-append before [], e) in
     let test : leb (length h.marks.items) u ≡ true = grind (arith, nat_tests) in

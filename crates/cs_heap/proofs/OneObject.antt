@@ -4,7 +4,7 @@ use Rattle.std.proofs.Math.ListN.{set}
 use Rattle.std.proofs.lemmas.List.{length-replicate, length-set, get_or_append_left, set-append_left}
 use Rattle.std.proofs.lemmas.Bool.Decides.{nat_tests}
 use Rattle.cs_heap.specs.Object.{Object, body_units, size, units, units_before}
-use Rattle.cs_heap.specs.Layout.{births_of, header, marked, marks_of, overflow, padding, row, words_of}
+use Rattle.cs_heap.specs.Layout.{unit_births, header, marked, marks_of, overflow, padding, row, object_words}
 use Rattle.cs_word.specs.Header.{header_bits}
 
 pub length-copies : {X : Type 0} (n : ℕ) (x : X) → length (replicate n x) ≡ n
@@ -25,11 +25,11 @@ pub length-row : (bits : ℕ) (ws : List ℕ) → length (row bits ws) ≡ size 
 length-row bits ws = let n = length ws in
     omega (arith, length-append (overflow n ++ bits % 2 ^ 32 ∷ bits / 2 ^ 32 ∷ ws) (padding n), length-append (overflow n) (bits % 2 ^ 32 ∷ bits / 2 ^ 32 ∷ ws), length-overflow n, length-copies {X = ℕ} (2 * body_units n - n) 0, fits_body n)
 
-pub words_of_is : (x : Object) → words_of x ≡ row (header_bits (header x)) x.words
-unfolding words_of
+pub words_of_is : (x : Object) → object_words x ≡ row (header_bits (header x)) x.words
+unfolding object_words
 words_of_is x = refl
 
-pub length-words_of : (x : Object) → length (words_of x) ≡ size (length x.words)
+pub length-words_of : (x : Object) → length (object_words x) ≡ size (length x.words)
 length-words_of x = ap length (words_of_is x) ∙ length-row (header_bits (header x)) x.words
 
 -- ---- reading
@@ -107,8 +107,8 @@ pub length-marked : (v n : ℕ) → length (marked 0 v n) ≡ units n
 length-marked v n =
     omega (arith, length-append (replicate (units_before n) 0) (v ∷ replicate (body_units n) 0), length-copies {X = ℕ} (units_before n) 0, length-copies {X = ℕ} (body_units n) 0)
 
-pub births_of_is : (x : Object) → births_of x ≡ marked 0 x.birth (length x.words)
-unfolding births_of
+pub births_of_is : (x : Object) → unit_births x ≡ marked 0 x.birth (length x.words)
+unfolding unit_births
 births_of_is x = refl
 
 pub marks_of_is : (x : Object) → marks_of x ≡ marked 0 1 (length x.words)

@@ -4,7 +4,7 @@ use Rattle.std.proofs.lemmas.List.Sums.{sum_by-cons}
 use Rattle.std.proofs.lemmas.Bool.Decides.{nat_tests}
 use Rattle.std.specs.Prelude.{slice_get}
 use Rattle.std.specs.Option.{option_map_or}
-use Rattle.cs_heap.specs.Object.{Object, address_among, address_of, at_index, base, header_address, index_among, index_of, next_of, object_at, size, slot_counts, units, used, with_object}
+use Rattle.cs_heap.specs.Object.{Object, address_among, address_of, at_index, base, header_address, index_among, object_place, next_of, heap_object, size, slot_counts, units, used, with_object}
 
 -- The objects fall into those before, object x, which is the k-th and has the address, and those behind it. The first
 -- word of the first one is at `at`.
@@ -111,18 +111,18 @@ address_past (x ∷ xs) at (suc k) h = address_past xs (at + 8 * units (length x
 -- the object of this index has this address, and it has this index
 pub record Found (xs : List Object) (address k : ℕ) : Type 0 where
   pub split : Split xs base address k
-  pub index_is : index_of xs address ≡ Some k
+  pub index_is : object_place xs address ≡ Some k
   pub address_is : address_of xs k ≡ Some address
 
 pub found_is : (xs : List Object) (address k : ℕ) → Split xs base address k → Found xs address k
 found_is xs address k s = record {
   split = s;
-  index_is = ap (λ (ys : List Object). index_of ys address) s.list ∙ index_split s.before s.after s.x base address s.place ∙ ap Some s.count;
+  index_is = ap (λ (ys : List Object). object_place ys address) s.list ∙ index_split s.before s.after s.x base address s.place ∙ ap Some s.count;
   address_is = ap (address_of xs) (sym s.count) ∙ ap (λ (ys : List Object). address_of ys (length s.before)) s.list
       ∙ address_split s.before s.after s.x base ∙ ap Some (sym s.place);
 }
 
-pub found_by_address : (xs : List Object) (address k : ℕ) → index_of xs address ≡ Some k → Found xs address k
+pub found_by_address : (xs : List Object) (address k : ℕ) → object_place xs address ≡ Some k → Found xs address k
 found_by_address xs address k h = found_is xs address k (split_by_address xs base address k h)
 
 pub found_by_index : (xs : List Object) (address k : ℕ) → address_of xs k ≡ Some address → Found xs address k
@@ -139,7 +139,7 @@ unfolding at_index
 at_index-middle [] after x f = refl
 at_index-middle (y ∷ ys) after x f = ap (λ (zs : List Object). y ∷ zs) (at_index-middle ys after x f)
 
-pub object_at-found : (xs : List Object) (address k : ℕ) → (f : Found xs address k) → object_at xs address ≡ Some f.split.x
+pub object_at-found : (xs : List Object) (address k : ℕ) → (f : Found xs address k) → heap_object xs address ≡ Some f.split.x
 object_at-found xs address k f =
     ap (option_and_then (slice_get xs)) f.index_is
     ∙ ap (slice_get xs) (sym f.split.count) ∙ ap (λ (ys : List Object). slice_get ys (length f.split.before)) f.split.list
@@ -155,20 +155,20 @@ pub next_of-found : (xs : List Object) (address k : ℕ) → Found xs address k 
 next_of-found xs address k f = ap (option_and_then (λ (j : ℕ). address_of xs (j + 1))) f.index_is
 
 -- whatever tells something of an object at an address finds one there
-pub has_index : (xs : List Object) (address : ℕ) → is_some (index_of xs address) ≡ true → (k : ℕ) × Found xs address k
-has_index xs address h = go (index_of xs address) refl h
+pub has_index : (xs : List Object) (address : ℕ) → is_some (object_place xs address) ≡ true → (k : ℕ) × Found xs address k
+has_index xs address h = go (object_place xs address) refl h
   where
-    go : (o : Option ℕ) → index_of xs address ≡ o → is_some o ≡ true → (k : ℕ) × Found xs address k
+    go : (o : Option ℕ) → object_place xs address ≡ o → is_some o ≡ true → (k : ℕ) × Found xs address k
     go None e h = absurd (cc)
     go (Some k) e h = (k, found_by_address xs address k e)
 
-pub has_number : (xs : List Object) (address i : ℕ) (g : Object → ℕ) → i < option_map_or g (object_at xs address) 0 → (k : ℕ) × Found xs address k
-has_number xs address i g h = go (index_of xs address) refl h
+pub has_number : (xs : List Object) (address i : ℕ) (g : Object → ℕ) → i < option_map_or g (heap_object xs address) 0 → (k : ℕ) × Found xs address k
+has_number xs address i g h = go (object_place xs address) refl h
   where
-    go : (o : Option ℕ) → index_of xs address ≡ o → i < option_map_or g (option_and_then (slice_get xs) o) 0 → (k : ℕ) × Found xs address k
+    go : (o : Option ℕ) → object_place xs address ≡ o → i < option_map_or g (option_and_then (slice_get xs) o) 0 → (k : ℕ) × Found xs address k
     go None e h = absurd (omega (arith, h))
     go (Some k) e h = (k, found_by_address xs address k e)
 
 -- an object's address is not below the first
-pub object_above : (xs : List Object) (address : ℕ) → is_some (index_of xs address) ≡ true → base ≤ address
+pub object_above : (xs : List Object) (address : ℕ) → is_some (object_place xs address) ≡ true → base ≤ address
 object_above xs address h = let f = has_index xs address h in omega (arith, f.1.split.place)

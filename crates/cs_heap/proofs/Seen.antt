@@ -9,9 +9,9 @@ use Rattle.std.specs.FinSet.{FinSet, insert}
 use Rattle.std.specs.Ordering.{nat_cmp}
 use Rattle.std.specs.Option.{option_map_or}
 use Rattle.cs_heap.specs.Format.{format_allows}
-use Rattle.cs_heap.specs.Object.{Memory, Object, base, field_of, header_seen, index_of, new_object, new_slot, object_at, size, set_word, slot_count_of, with_object, with_slot}
+use Rattle.cs_heap.specs.Object.{Memory, Object, base, part_at, header_seen, object_place, new_object, new_slot, heap_object, size, set_word, slot_count_of, with_object, slot_set}
 use Rattle.cs_heap.specs.Writes.{fixed_stored, hash_stored, watch_begun}
-use Rattle.cs_heap.specs.Layout.{IsHeap, IsLaid, IsStorable, births_of, header, headers_in, marks_of, memory, objects, row, watched_in, words_of}
+use Rattle.cs_heap.specs.Layout.{IsHeap, AreObjectsLaid, IsStorable, unit_births, header, headers_in, marks_of, memory, objects, row, watched_in, object_words}
 use Rattle.cs_heap.specs.declared.Heap.TheInside.{Inside}
 use Rattle.cs_heap.proofs.OneObject.{length-copies, length-row, marks_of_is, words_of_is}
 use Rattle.cs_heap.proofs.Decoding.{shape_below, stored_header}
@@ -27,7 +27,7 @@ pub record IsSeen (h : Inside) (xs : List Object) (address : ℕ) : Type 0 where
   pub found : Found xs address index
   pub known_there : IsKnown h xs address index found
 
-pub seen : (h : Inside) (m : Memory) → IsHeap h → memory h ≡ m → (address : ℕ) → is_some (index_of m.objects address) ≡ true → IsSeen h m.objects address
+pub seen : (h : Inside) (m : Memory) → IsHeap h → memory h ≡ m → (address : ℕ) → is_some (object_place m.objects address) ≡ true → IsSeen h m.objects address
 seen h m ok is address h' = let f = has_index m.objects address h' in
     record { index = f.0; found = f.1; known_there = known h m.objects (laid_seen h m ok is) address f.0 f.1 }
 
@@ -37,7 +37,7 @@ seen_slot h m ok is address i less = let f = has_number m.objects address i (λ 
     record { index = f.0; found = f.1; known_there = known h m.objects (laid_seen h m ok is) address f.0 f.1 }
 
 -- what has a slot is an object
-pub has_slot : (xs : List Object) (address i : ℕ) → i < slot_count_of xs address → is_some (index_of xs address) ≡ true
+pub has_slot : (xs : List Object) (address i : ℕ) → i < slot_count_of xs address → is_some (object_place xs address) ≡ true
 has_slot xs address i less = let f = has_number xs address i (λ (x : Object). length x.words) less in ap is_some f.1.index_is
 
 module _ (h : Inside) (xs : List Object) (address : ℕ) (s : IsSeen h xs address) where
@@ -47,10 +47,10 @@ module _ (h : Inside) (xs : List Object) (address : ℕ) (s : IsSeen h xs addres
   pub there_is : IsThere h (unit_of address) the_object
   there_is = s.known_there.there
 
-  pub object_is : object_at xs address ≡ Option.Some the_object
+  pub object_is : heap_object xs address ≡ Option.Some the_object
   object_is = object_at-found xs address s.index s.found
 
-  pub field_is : (g : Object → ℕ) → field_of g xs address ≡ g the_object
+  pub field_is : (g : Object → ℕ) → part_at g xs address ≡ g the_object
   field_is g = ap (λ (o : Option Object). option_map_or g o 0) object_is
 
   pub header_is : header_seen xs address ≡ header the_object
@@ -100,7 +100,7 @@ dirty_seen h m is = ap (λ (n : Memory). n.dirty) is
 abbrev made : ℕ → List Object → FinSet nat_cmp → Bool → Memory
 made limit objects watched dirty = record { limit = limit; objects = objects; watched = watched; dirty = dirty }
 
-pub now : (h new : Inside) (m : Memory) (ys : List Object) (w : FinSet nat_cmp) (d : Bool) → IsHeap h → memory h ≡ m → IsLaid new ys → length new.words.items ≤ h.limit → IsRoomy h new
+pub now : (h new : Inside) (m : Memory) (ys : List Object) (w : FinSet nat_cmp) (d : Bool) → IsHeap h → memory h ≡ m → AreObjectsLaid new ys → length new.words.items ≤ h.limit → IsRoomy h new
     → watched_in base new.marks.items ≡ w → new.dirty ≡ d → IsNow new (made m.limit ys w d)
 now h new m ys w d ok is laid within roomy watched dirty = record {
   sound = record {
@@ -120,7 +120,7 @@ now h new m ys w d ok is laid within roomy watched dirty = record {
 -- a slot was stored
 pub word_stored : (h new : Inside) (m : Memory) (address place i v : ℕ) (d : Bool) → IsHeap h → memory h ≡ m → i < slot_count_of m.objects address
     → place ≡ 2 * unit_of address + 2 + i → new.words.items ≡ set h.words.items place v → new.births.items ≡ h.births.items → new.marks.items ≡ h.marks.items
-    → IsRoomy h new → new.dirty ≡ d → IsNow new (record m { objects = with_slot m.objects address i v; dirty = d })
+    → IsRoomy h new → new.dirty ≡ d → IsNow new (record m { objects = slot_set m.objects address i v; dirty = d })
 word_stored h new m address place i v d ok is less at words births marks roomy dirty =
     let s = seen_slot h m ok is address i less in
     let k = s.known_there in
@@ -134,7 +134,7 @@ word_stored h new m address place i v d ok is less at words births marks roomy d
       hash = k.there.storable.hash;
       count = omega (arith, long, k.there.storable.count);
     } in
-    now h new m (with_slot m.objects address i v) m.watched d ok is
+    now h new m (slot_set m.objects address i v) m.watched d ok is
     (changed h new m.objects address s.index (set_word i v) s.found (laid_seen h m ok is)
     (words ∙ ap (λ (n : ℕ). set h.words.items n v) at ∙ write_slot h s.found.split.before s.found.split.after x k.parts (unit_of address) i v k.place within)
     births (ap headers_in marks) refl long stored)
@@ -142,7 +142,7 @@ word_stored h new m address place i v d ok is less at words births marks roomy d
     (ap (watched_in base) marks ∙ watched_seen h m is) dirty
 
 -- the header of an object was stored
-pub header_stored : (h new : Inside) (m : Memory) (address u bits : ℕ) (f : Object → Object) → IsHeap h → memory h ≡ m → (known_object : is_some (index_of m.objects address) ≡ true)
+pub header_stored : (h new : Inside) (m : Memory) (address u bits : ℕ) (f : Object → Object) → IsHeap h → memory h ≡ m → (known_object : is_some (object_place m.objects address) ≡ true)
     → u ≡ unit_of address
     → ((x : Object) → IsStorable x → header_seen m.objects address ≡ header x → (bits ≡ stored_header (f x)) × IsStorable (f x) × ((f x).words ≡ x.words) × ((f x).birth ≡ x.birth))
     → new.words.items ≡ set (set h.words.items (2 * u) (bits % 2 ^ 32)) (2 * u + 1) (bits / 2 ^ 32) → new.births.items ≡ h.births.items → new.marks.items ≡ h.marks.items
@@ -161,7 +161,7 @@ header_stored h new m address u bits f ok is known_object at made_is words birth
     (ap (watched_in base) marks ∙ watched_seen h m is) (dirty ∙ dirty_seen h m is)
 
 -- it has another hash
-pub hash_is_stored : (h new : Inside) (m : Memory) (address u hash bits : ℕ) → IsHeap h → memory h ≡ m → is_some (index_of m.objects address) ≡ true → hash < 2 ^ 22
+pub hash_is_stored : (h new : Inside) (m : Memory) (address u hash bits : ℕ) → IsHeap h → memory h ≡ m → is_some (object_place m.objects address) ≡ true → hash < 2 ^ 22
     → u ≡ unit_of address → bits ≡ header_bits (record (header_seen m.objects address) { hash = hash })
     → new.words.items ≡ set (set h.words.items (2 * u) (bits % 2 ^ 32)) (2 * u + 1) (bits / 2 ^ 32) → new.births.items ≡ h.births.items → new.marks.items ≡ h.marks.items
     → IsRoomy h new → new.dirty ≡ h.dirty → IsNow new (hash_stored m address hash)
@@ -174,7 +174,7 @@ hash_is_stored h new m address u hash bits ok is known_object below at bits_are 
     ))
 
 -- it is read-only, or no longer so
-pub fixed_is_stored : (h new : Inside) (m : Memory) (address u : ℕ) (on : Bool) (flags : Flags) (bits : ℕ) → IsHeap h → memory h ≡ m → is_some (index_of m.objects address) ≡ true
+pub fixed_is_stored : (h new : Inside) (m : Memory) (address u : ℕ) (on : Bool) (flags : Flags) (bits : ℕ) → IsHeap h → memory h ≡ m → is_some (object_place m.objects address) ≡ true
     → u ≡ unit_of address → flags ≡ with_immutable on (header_seen m.objects address).flags → bits ≡ header_bits (record (header_seen m.objects address) { flags = flags })
     → new.words.items ≡ set (set h.words.items (2 * u) (bits % 2 ^ 32)) (2 * u + 1) (bits / 2 ^ 32) → new.births.items ≡ h.births.items → new.marks.items ≡ h.marks.items
     → IsRoomy h new → new.dirty ≡ h.dirty → IsNow new (fixed_stored m address on)
@@ -192,7 +192,7 @@ fixed_is_stored h new m address u on flags bits ok is known_object at flags_are 
     five false n h = omega (arith, h)
 
 -- a unit was marked as that of a watched object
-pub watch_is_begun : (h new : Inside) (m : Memory) (address u : ℕ) → IsHeap h → memory h ≡ m → is_some (index_of m.objects address) ≡ true → u ≡ unit_of address
+pub watch_is_begun : (h new : Inside) (m : Memory) (address u : ℕ) → IsHeap h → memory h ≡ m → is_some (object_place m.objects address) ≡ true → u ≡ unit_of address
     → new.words.items ≡ h.words.items → new.births.items ≡ h.births.items → new.marks.items ≡ set h.marks.items u 2
     → IsRoomy h new → new.dirty ≡ h.dirty → IsNow new (watch_begun m address)
 watch_is_begun h new m address u ok is known_object at words births marks roomy dirty =
@@ -218,14 +218,14 @@ watch_is_begun h new m address u ok is known_object at words births marks roomy 
 
 -- an object was added
 pub object_is_added : (h new : Inside) (m : Memory) (y : Object) → IsHeap h → memory h ≡ m → IsStorable y
-    → new.words.items ≡ h.words.items ++ words_of y → new.births.items ≡ h.births.items ++ births_of y → new.marks.items ≡ h.marks.items ++ marks_of y → new.dirty ≡ h.dirty
+    → new.words.items ≡ h.words.items ++ object_words y → new.births.items ≡ h.births.items ++ unit_births y → new.marks.items ≡ h.marks.items ++ marks_of y → new.dirty ≡ h.dirty
     → length new.words.items ≤ h.limit → IsRoomy h new → IsNow new (record m { objects = m.objects ++ y ∷ [] })
 object_is_added h new m y ok is stored words births marks dirty within roomy =
     let laid = laid_seen h m ok is in
     let n = length y.words in
     now h new m (m.objects ++ y ∷ []) m.watched m.dirty ok is (record {
-      words = words ∙ ap (λ (zs : List ℕ). zs ++ words_of y) laid.words ∙ pushed words_of m.objects y;
-      births = births ∙ ap (λ (zs : List ℕ). zs ++ births_of y) laid.births ∙ pushed births_of m.objects y;
+      words = words ∙ ap (λ (zs : List ℕ). zs ++ object_words y) laid.words ∙ pushed object_words m.objects y;
+      births = births ∙ ap (λ (zs : List ℕ). zs ++ unit_births y) laid.births ∙ pushed unit_births m.objects y;
       marks = ap headers_in marks ∙ map-append (λ n. min n 1) h.marks.items (marks_of y)
           ∙ ap₂ (λ (a : List ℕ) (b : List ℕ). a ++ b) laid.marks (ap headers_in (marks_of_is y) ∙ headers_in-marked n ∙ sym (marks_of_is y)) ∙ pushed marks_of m.objects y;
       storable = all-push m.objects y laid.storable stored;
@@ -249,7 +249,7 @@ length-new_row class format slots flags count value =
     ∙ ap size (length-copies slots value)
 
 pub new_words : (class format slots birth : ℕ) (flags : Flags) (count value : ℕ) → flags.0 ≡ 0 → count ≡ min slots 255 → value ≡ new_slot format
-    → new_row class format slots flags count value ≡ words_of (new_object class format slots birth)
+    → new_row class format slots flags count value ≡ object_words (new_object class format slots birth)
 new_words class format slots birth flags count value none count_is value_is =
     ap (new_row class format slots flags count) value_is
     ∙ ap₂ (λ (f : ℕ) (n : ℕ). new_row class format slots (record { 0 = f }) n (new_slot format)) none

@@ -7,7 +7,7 @@ use Rattle.std.proofs.lemmas.Bool.Decides.{nat_tests}
 use Rattle.std.specs.Prelude.{flat_map}
 use Rattle.std.specs.List.{AllByRecursion}
 use Rattle.cs_heap.specs.Object.{Memory, Object, base, body_units, set_word, size, units, units_before, used, with_object}
-use Rattle.cs_heap.specs.Layout.{IsHeap, IsLaid, IsStorable, births_of, count_in, header, header_in, headers_in, marked, marks_of, memory, objects, objects_in, row, words_of}
+use Rattle.cs_heap.specs.Layout.{IsHeap, AreObjectsLaid, IsStorable, unit_births, count_in, header, unit_header, headers_in, marked, marks_of, memory, objects, objects_read, row, object_words}
 use Rattle.cs_heap.specs.declared.Heap.TheInside.{Inside}
 use Rattle.cs_heap.proofs.OneObject.{births_of_is, count_in_row, fits_body, high_in_row, length-marked, length-words_of, low_in_row, marks_of_is, row-set_header, row-set_slot, slot_in_row, value_marked, words_of_is}
 use Rattle.cs_heap.proofs.Decoding.{bits_back, enough_words, header_back, in_front, objects_back, stored_header}
@@ -18,19 +18,19 @@ use Rattle.cs_word.specs.declared.header.Header.{Header}
 
 -- ---- lengths
 
-pub length-all_words : (xs : List Object) → length (flat_map words_of xs) ≡ used xs
+pub length-all_words : (xs : List Object) → length (flat_map object_words xs) ≡ used xs
 length-all_words [] = refl
-length-all_words (x ∷ xs) = omega (arith, length-append (words_of x) (flat_map words_of xs), length-words_of x, used-cons x xs, length-all_words xs)
+length-all_words (x ∷ xs) = omega (arith, length-append (object_words x) (flat_map object_words xs), length-words_of x, used-cons x xs, length-all_words xs)
 
-pub length-all_births : (xs : List Object) → 2 * length (flat_map births_of xs) ≡ used xs
+pub length-all_births : (xs : List Object) → 2 * length (flat_map unit_births xs) ≡ used xs
 length-all_births [] = refl
-length-all_births (x ∷ xs) = omega (arith, length-append (births_of x) (flat_map births_of xs), ap length (births_of_is x), length-marked x.birth (length x.words), used-cons x xs, length-all_births xs)
+length-all_births (x ∷ xs) = omega (arith, length-append (unit_births x) (flat_map unit_births xs), ap length (births_of_is x), length-marked x.birth (length x.words), used-cons x xs, length-all_births xs)
 
 pub length-all_marks : (xs : List Object) → 2 * length (flat_map marks_of xs) ≡ used xs
 length-all_marks [] = refl
 length-all_marks (x ∷ xs) = omega (arith, length-append (marks_of x) (flat_map marks_of xs), ap length (marks_of_is x), length-marked 1 (length x.words), used-cons x xs, length-all_marks xs)
 
-pub length-marks : (h : Inside) (xs : List Object) → IsLaid h xs → 2 * length h.marks.items ≡ used xs
+pub length-marks : (h : Inside) (xs : List Object) → AreObjectsLaid h xs → 2 * length h.marks.items ≡ used xs
 length-marks h xs laid = omega (arith, length-headers_in h.marks.items, ap length laid.marks, length-all_marks xs)
 
 -- ---- one object among others
@@ -66,7 +66,7 @@ unit_of address = (address - base) / 8
 -- what the heap holds at an object, whose header is in unit u
 pub record IsThere (h : Inside) (u : ℕ) (x : Object) : Type 0 where
   pub storable : IsStorable x
-  pub header_is : header_in h.words.items (2 * u) ≡ header x
+  pub header_is : unit_header h.words.items (2 * u) ≡ header x
   pub before : 255 ≤ length x.words → 0 < u
   pub count_is : count_in h.words.items u ≡ length x.words
   pub body_within : 2 * (u + 1 + body_units (length x.words)) ≤ length h.words.items
@@ -77,26 +77,26 @@ pub record IsThere (h : Inside) (u : ℕ) (x : Object) : Type 0 where
   pub marks_within : u < length h.marks.items
   pub marks_length : 2 * length h.marks.items ≡ length h.words.items
 
-module _ (h : Inside) (before after : List Object) (x : Object) (laid : IsLaid h (before ++ x ∷ after)) where
-  words_are : h.words.items ≡ flat_map words_of before ++ (words_of x ++ flat_map words_of after)
-  words_are = laid.words ∙ flat_map-append words_of before (x ∷ after)
+module _ (h : Inside) (before after : List Object) (x : Object) (laid : AreObjectsLaid h (before ++ x ∷ after)) where
+  words_are : h.words.items ≡ flat_map object_words before ++ (object_words x ++ flat_map object_words after)
+  words_are = laid.words ∙ flat_map-append object_words before (x ∷ after)
 
-  births_are : h.births.items ≡ flat_map births_of before ++ (births_of x ++ flat_map births_of after)
-  births_are = laid.births ∙ flat_map-append births_of before (x ∷ after)
+  births_are : h.births.items ≡ flat_map unit_births before ++ (unit_births x ++ flat_map unit_births after)
+  births_are = laid.births ∙ flat_map-append unit_births before (x ∷ after)
 
   marks_are : headers_in h.marks.items ≡ flat_map marks_of before ++ (marks_of x ++ flat_map marks_of after)
   marks_are = laid.marks ∙ flat_map-append marks_of before (x ∷ after)
 
   length-words : length h.words.items ≡ used before + size (length x.words) + used after
-  length-words = omega (arith, ap length words_are, length-append (flat_map words_of before) (words_of x ++ flat_map words_of after), length-append (words_of x) (flat_map words_of after), length-all_words before, length-words_of x, length-all_words after)
+  length-words = omega (arith, ap length words_are, length-append (flat_map object_words before) (object_words x ++ flat_map object_words after), length-append (object_words x) (flat_map object_words after), length-all_words before, length-words_of x, length-all_words after)
 
   read_word : (i j : ℕ) → i ≡ used before + j → j < size (length x.words) → get_or h.words.items i 0 ≡ get_or (row (stored_header x) x.words) j 0
   read_word i j e less =
       ap (λ (zs : List ℕ). get_or zs i 0) words_are
-      ∙ get-middle (flat_map words_of before) (words_of x ++ flat_map words_of after) (used before) i j (length-all_words before) e
-      ∙ in_front x (flat_map words_of after) j less
+      ∙ get-middle (flat_map object_words before) (object_words x ++ flat_map object_words after) (used before) i j (length-all_words before) e
+      ∙ in_front x (flat_map object_words after) j less
 
-  read_header : (u : ℕ) → 2 * u ≡ used before + 2 * units_before (length x.words) → header_in h.words.items (2 * u) ≡ header x
+  read_header : (u : ℕ) → 2 * u ≡ used before + 2 * units_before (length x.words) → unit_header h.words.items (2 * u) ≡ header x
   read_header u e =
       ap₂ (λ (low : ℕ) (high : ℕ). header_of (low + high * 2 ^ 32))
       (read_word (2 * u) (2 * units_before (length x.words)) e (omega arith) ∙ low_in_row (stored_header x) x.words)
@@ -106,18 +106,18 @@ module _ (h : Inside) (before after : List Object) (x : Object) (laid : IsLaid h
   read_count : (u : ℕ) → 2 * u ≡ used before + 2 * units_before (length x.words) → count_in h.words.items u ≡ length x.words
   read_count u e = go (leb 255 (length x.words)) refl
     where
-      slots : (header_in h.words.items (2 * u)).slots ≡ min 255 (length x.words)
+      slots : (unit_header h.words.items (2 * u)).slots ≡ min 255 (length x.words)
       slots = ap (λ (a : Header). a.slots) (read_header u e)
 
       go : (b : Bool) → leb 255 (length x.words) ≡ b → count_in h.words.items u ≡ length x.words
       go true is =
           let long : 255 ≤ length x.words = grind (arith, nat_tests) in
-          let top : (header_in h.words.items (2 * u)).slots ≡ 255 = slots ∙ omega (arith, long) in
+          let top : (unit_header h.words.items (2 * u)).slots ≡ 255 = slots ∙ omega (arith, long) in
           let one : units_before (length x.words) ≡ 1 = rw is refl in
           rw top (read_word (2 * u - 2) 0 (omega (arith, e, one)) (omega arith) ∙ count_in_row (stored_header x) x.words long)
       go false is =
           let short : length x.words < 255 = grind (arith, nat_tests) in
-          let count : (header_in h.words.items (2 * u)).slots ≡ length x.words = slots ∙ omega (arith, short) in
+          let count : (unit_header h.words.items (2 * u)).slots ≡ length x.words = slots ∙ omega (arith, short) in
           let other : eqb (length x.words) 255 ≡ false = grind (arith, nat_tests) in
           rw (count, other) refl
 
@@ -140,7 +140,7 @@ module _ (h : Inside) (before after : List Object) (x : Object) (laid : IsLaid h
 
   pub there : (u : ℕ) → 2 * u ≡ used before + 2 * units_before (length x.words) → IsThere h u x
   there u e =
-      let birth = read_marked h.births.items (flat_map births_of before) (births_of x) (flat_map births_of after) u x.birth births_are (length-all_births before) (births_of_is x) e in
+      let birth = read_marked h.births.items (flat_map unit_births before) (unit_births x) (flat_map unit_births after) u x.birth births_are (length-all_births before) (births_of_is x) e in
       let mark = read_marked (headers_in h.marks.items) (flat_map marks_of before) (marks_of x) (flat_map marks_of after) u 1 marks_are (length-all_marks before) (marks_of_is x) e in
       record {
         storable = all-middle before after x laid.storable;
@@ -165,51 +165,51 @@ module _ (h : Inside) (before after : List Object) (x : Object) (laid : IsLaid h
   -- ---- writing
 
   write_word : (i j v : ℕ) → i ≡ used before + j → j < size (length x.words)
-      → set h.words.items i v ≡ flat_map words_of before ++ (set (words_of x) j v ++ flat_map words_of after)
+      → set h.words.items i v ≡ flat_map object_words before ++ (set (object_words x) j v ++ flat_map object_words after)
   write_word i j v e less =
       ap (λ (zs : List ℕ). set zs i v) words_are
-      ∙ set-middle (flat_map words_of before) (words_of x) (flat_map words_of after) (used before) i j v (length-all_words before) e (omega (arith, less, length-words_of x))
+      ∙ set-middle (flat_map object_words before) (object_words x) (flat_map object_words after) (used before) i j v (length-all_words before) e (omega (arith, less, length-words_of x))
 
   pub write_slot : (u i v : ℕ) → 2 * u ≡ used before + 2 * units_before (length x.words) → i < length x.words
-      → set h.words.items (2 * u + 2 + i) v ≡ flat_map words_of (before ++ set_word i v x ∷ after)
+      → set h.words.items (2 * u + 2 + i) v ≡ flat_map object_words (before ++ set_word i v x ∷ after)
   write_slot u i v e less =
       write_word (2 * u + 2 + i) (2 * units_before (length x.words) + 2 + i) v (omega (arith, e)) (omega (arith, less, fits_body (length x.words)))
-      ∙ ap (λ (zs : List ℕ). flat_map words_of before ++ (zs ++ flat_map words_of after))
+      ∙ ap (λ (zs : List ℕ). flat_map object_words before ++ (zs ++ flat_map object_words after))
       (ap (λ (zs : List ℕ). set zs (2 * units_before (length x.words) + 2 + i) v) (words_of_is x)
       ∙ row-set_slot (stored_header x) x.words i v less
       ∙ ap (λ (m : ℕ). row (header_bits (header_with m)) (set x.words i v)) (sym (length-set x.words i v))
       ∙ sym (words_of_is (set_word i v x)))
-      ∙ sym (flat_map-append words_of before (set_word i v x ∷ after))
+      ∙ sym (flat_map-append object_words before (set_word i v x ∷ after))
     where
       header_with : ℕ → Header
       header_with m = record { class = x.class; flags = x.flags; format = x.format; hash = x.hash; slots = min 255 m }
 
   pub write_header : (u : ℕ) (y : Object) → 2 * u ≡ used before + 2 * units_before (length x.words) → y.words ≡ x.words
-      → set (set h.words.items (2 * u) (stored_header y % 2 ^ 32)) (2 * u + 1) (stored_header y / 2 ^ 32) ≡ flat_map words_of (before ++ y ∷ after)
+      → set (set h.words.items (2 * u) (stored_header y % 2 ^ 32)) (2 * u + 1) (stored_header y / 2 ^ 32) ≡ flat_map object_words (before ++ y ∷ after)
   write_header u y e same =
       let j = 2 * units_before (length x.words) in
       let new = stored_header y in
       ap (λ (zs : List ℕ). set zs (2 * u + 1) (new / 2 ^ 32)) (write_word (2 * u) j (new % 2 ^ 32) e (omega arith))
-      ∙ set-middle (flat_map words_of before) (set (words_of x) j (new % 2 ^ 32)) (flat_map words_of after) (used before) (2 * u + 1) (j + 1) (new / 2 ^ 32)
-      (length-all_words before) (omega (arith, e)) (omega (arith, length-set (words_of x) j (new % 2 ^ 32), length-words_of x))
-      ∙ ap (λ (zs : List ℕ). flat_map words_of before ++ (zs ++ flat_map words_of after))
+      ∙ set-middle (flat_map object_words before) (set (object_words x) j (new % 2 ^ 32)) (flat_map object_words after) (used before) (2 * u + 1) (j + 1) (new / 2 ^ 32)
+      (length-all_words before) (omega (arith, e)) (omega (arith, length-set (object_words x) j (new % 2 ^ 32), length-words_of x))
+      ∙ ap (λ (zs : List ℕ). flat_map object_words before ++ (zs ++ flat_map object_words after))
       (ap (λ (zs : List ℕ). set (set zs j (new % 2 ^ 32)) (j + 1) (new / 2 ^ 32)) (words_of_is x)
       ∙ row-set_header (stored_header x) new x.words ∙ ap (row new) (sym same) ∙ sym (words_of_is y))
-      ∙ sym (flat_map-append words_of before (y ∷ after))
+      ∙ sym (flat_map-append object_words before (y ∷ after))
 
 -- ---- the heap as a whole
 
-pub objects_are : (h : Inside) (xs : List Object) → IsLaid h xs → objects h ≡ xs
+pub objects_are : (h : Inside) (xs : List Object) → AreObjectsLaid h xs → objects h ≡ xs
 objects_are h xs laid =
-    ap₂ (objects_in (length h.words.items)) laid.words laid.births
+    ap₂ (objects_read (length h.words.items)) laid.words laid.births
     ∙ objects_back (length h.words.items) xs (omega (arith, enough_words xs, ap length laid.words)) laid.storable
 
-pub laid_now : (h : Inside) (xs : List Object) → IsLaid h xs → IsLaid h (objects h)
-laid_now h xs laid = subst (λ (ys : List Object). IsLaid h ys) (sym (objects_are h xs laid)) laid
+pub laid_now : (h : Inside) (xs : List Object) → AreObjectsLaid h xs → AreObjectsLaid h (objects h)
+laid_now h xs laid = subst (λ (ys : List Object). AreObjectsLaid h ys) (sym (objects_are h xs laid)) laid
 
 -- the objects that a caller sees stand in the heap
-pub laid_seen : (h : Inside) (m : Memory) → IsHeap h → memory h ≡ m → IsLaid h m.objects
-laid_seen h m ok is = subst (λ (ys : List Object). IsLaid h ys) (ap (λ (n : Memory). n.objects) is) ok.laid
+pub laid_seen : (h : Inside) (m : Memory) → IsHeap h → memory h ≡ m → AreObjectsLaid h m.objects
+laid_seen h m ok is = subst (λ (ys : List Object). AreObjectsLaid h ys) (ap (λ (n : Memory). n.objects) is) ok.laid
 
 pub limit_seen : (h : Inside) (m : Memory) → memory h ≡ m → h.limit ≡ m.limit
 limit_seen h m is = ap (λ (n : Memory). n.limit) is
@@ -219,15 +219,15 @@ pub record IsKnown (h : Inside) (xs : List Object) (address k : ℕ) (f : Found 
   pub above : base ≤ address
   pub aligned : address ≡ base + 8 * unit_of address
   pub place : 2 * unit_of address ≡ used f.split.before + 2 * units_before (length f.split.x.words)
-  pub parts : IsLaid h (f.split.before ++ f.split.x ∷ f.split.after)
+  pub parts : AreObjectsLaid h (f.split.before ++ f.split.x ∷ f.split.after)
   pub there : IsThere h (unit_of address) f.split.x
 
-pub known : (h : Inside) (xs : List Object) → IsLaid h xs → (address k : ℕ) → (f : Found xs address k) → IsKnown h xs address k f
+pub known : (h : Inside) (xs : List Object) → AreObjectsLaid h xs → (address k : ℕ) → (f : Found xs address k) → IsKnown h xs address k f
 known h xs laid address k f =
     let even = length-all_marks f.split.before in
     let aligned : address ≡ base + 8 * unit_of address = omega (arith, f.split.place, even) in
     let place : 2 * unit_of address ≡ used f.split.before + 2 * units_before (length f.split.x.words) = omega (arith, f.split.place, even) in
-    let parts : IsLaid h (f.split.before ++ f.split.x ∷ f.split.after) = subst (λ (ys : List Object). IsLaid h ys) f.split.list laid in
+    let parts : AreObjectsLaid h (f.split.before ++ f.split.x ∷ f.split.after) = subst (λ (ys : List Object). AreObjectsLaid h ys) f.split.list laid in
     record {
       above = omega (arith, f.split.place);
       aligned = aligned;
@@ -237,16 +237,16 @@ known h xs laid address k f =
     }
 
 -- one object changed in its words alone
-pub changed : (h new : Inside) (xs : List Object) (address k : ℕ) (g : Object → Object) → (f : Found xs address k) → IsLaid h xs
-    → new.words.items ≡ flat_map words_of (f.split.before ++ g f.split.x ∷ f.split.after) → new.births.items ≡ h.births.items → headers_in new.marks.items ≡ headers_in h.marks.items
+pub changed : (h new : Inside) (xs : List Object) (address k : ℕ) (g : Object → Object) → (f : Found xs address k) → AreObjectsLaid h xs
+    → new.words.items ≡ flat_map object_words (f.split.before ++ g f.split.x ∷ f.split.after) → new.births.items ≡ h.births.items → headers_in new.marks.items ≡ headers_in h.marks.items
     → (g f.split.x).birth ≡ f.split.x.birth → length (g f.split.x).words ≡ length f.split.x.words → IsStorable (g f.split.x)
-    → IsLaid new (with_object xs address g)
+    → AreObjectsLaid new (with_object xs address g)
 changed h new xs address k g f laid words births marks birth count storable =
-    subst (λ (ys : List Object). IsLaid new ys) (sym (with_object-found xs address k g f)) (record {
+    subst (λ (ys : List Object). AreObjectsLaid new ys) (sym (with_object-found xs address k g f)) (record {
       words = words;
-      births = births ∙ laid.births ∙ ap (flat_map births_of) s.list ∙ flat_map-append births_of s.before (s.x ∷ s.after)
-          ∙ ap (λ (zs : List ℕ). flat_map births_of s.before ++ (zs ++ flat_map births_of s.after)) (births_of_is s.x ∙ ap₂ (λ (b : ℕ) (n : ℕ). marked 0 b n) (sym birth) (sym count) ∙ sym (births_of_is (g s.x)))
-          ∙ sym (flat_map-append births_of s.before (g s.x ∷ s.after));
+      births = births ∙ laid.births ∙ ap (flat_map unit_births) s.list ∙ flat_map-append unit_births s.before (s.x ∷ s.after)
+          ∙ ap (λ (zs : List ℕ). flat_map unit_births s.before ++ (zs ++ flat_map unit_births s.after)) (births_of_is s.x ∙ ap₂ (λ (b : ℕ) (n : ℕ). marked 0 b n) (sym birth) (sym count) ∙ sym (births_of_is (g s.x)))
+          ∙ sym (flat_map-append unit_births s.before (g s.x ∷ s.after));
       marks = marks ∙ laid.marks ∙ ap (flat_map marks_of) s.list ∙ flat_map-append marks_of s.before (s.x ∷ s.after)
           ∙ ap (λ (zs : List ℕ). flat_map marks_of s.before ++ (zs ++ flat_map marks_of s.after)) (marks_of_is s.x ∙ ap (marked 0 1) (sym count) ∙ sym (marks_of_is (g s.x)))
           ∙ sym (flat_map-append marks_of s.before (g s.x ∷ s.after));

@@ -3,7 +3,7 @@ use Rattle.std.proofs.Common.{◌≡◌, ℕ, Bool, true, false, List, refl, ap,
 use Rattle.std.proofs.lemmas.Bool.Decides.{nat_tests}
 use Rattle.std.specs.Cmp.{nat_cmp_total, unsigned_tied}
 use Rattle.std.specs.FinSet.{contains-insert}
-use Rattle.cs_heap.specs.Object.{Memory, Object, is_watched, with_slot}
+use Rattle.cs_heap.specs.Object.{Memory, Object, is_watched, slot_set}
 use Rattle.cs_heap.specs.Writes.{slot_stored, slots_stored, watch_begun}
 
 or_false : (b : Bool) → (b || false) ≡ b
@@ -26,8 +26,8 @@ slots_stored-counted m a xs h = ap (λ d. let n : Memory = record m { objects = 
 pub slots_stored-unwatched : (m : Memory) (a : ℕ) (xs : List Object) → is_watched m a ≡ false → slots_stored m a xs ≡ record m { objects = xs }
 slots_stored-unwatched m a xs h = ap (λ d. let n : Memory = record m { objects = xs; dirty = d } in n) (ap (λ w. m.dirty || w) h ∙ or_false m.dirty)
 
-pub slot_stored-unwatched : (m : Memory) (a i v : ℕ) → is_watched m a ≡ false → slot_stored m a i v ≡ record m { objects = with_slot m.objects a i v }
-slot_stored-unwatched m a i v h = slots_stored-unwatched m a (with_slot m.objects a i v) h
+pub slot_stored-unwatched : (m : Memory) (a i v : ℕ) → is_watched m a ≡ false → slot_stored m a i v ≡ record m { objects = slot_set m.objects a i v }
+slot_stored-unwatched m a i v h = slots_stored-unwatched m a (slot_set m.objects a i v) h
 
 -- the object is watched then, and the others are as they were
 pub is_watched-watch_begun : (m : Memory) (a b : ℕ) → is_watched (watch_begun m a) b ≡ (eqb b a || is_watched m b)

@@ -1,5 +1,6 @@
 -- The formats of objects, as 32-bit Spur numbers them, and what each asks of the number of slots.
 use Rattle.std.specs.Prelude.{ℕ, ◌-◌, ◌%◌, ◌==◌, ◌&&◌, ◌||◌, Bool, if◌then◌else◌, nat_le, nat_lt}
+use Rattle.cs_model.specs.Words.{unused_units}
 
 -- 0 no fields; 1 named, 2 indexed, 3 named and indexed fields; 4 weak; 5 ephemeron
 abbrev pub is_pointers : ℕ → Bool
@@ -10,16 +11,12 @@ abbrev pub is_raw : ℕ → Bool
 is_raw format = format == 9 || format == 10 || format == 12 || format == 13 || nat_le 16 format && nat_lt format 20
 
 -- 24 to 27 compiled methods
-abbrev pub is_method : ℕ → Bool
-is_method format = nat_le 24 format && nat_lt format 28
-
--- how many units at the end of the last slot are unused: units of 16 bits in 12 and 13, else bytes
-abbrev pub unused_units : ℕ → ℕ
-unused_units format = if nat_le 24 format then format - 24 else (if nat_le 16 format then format - 16 else format - 12)
+abbrev pub is_code : ℕ → Bool
+is_code format = nat_le 24 format && nat_lt format 28
 
 -- an object of this format may have so many slots: none without fields, pairs for units of 64 bits, and at least
 -- one where units are unused
 abbrev pub format_allows : ℕ → ℕ → Bool
-format_allows format slots = (is_pointers format || is_raw format || is_method format)
+format_allows format slots = (is_pointers format || is_raw format || is_code format)
     && (if format == 0 then slots == 0 else
     (if format == 9 then slots % 2 == 0 else unused_units format == 0 || nat_lt 0 slots))

@@ -35,15 +35,15 @@ padding slots = replicate (2 * body_units slots - slots) 0
 abbrev pub row : ℕ → List ℕ → List ℕ
 row bits words = overflow (length words) ++ bits % 2 ^ 32 ∷ bits / 2 ^ 32 ∷ words ++ padding (length words)
 
-unfoldable pub words_of : Object → List ℕ
-words_of x = row (header_bits (header x)) x.words
+unfoldable pub object_words : Object → List ℕ
+object_words x = row (header_bits (header x)) x.words
 
 -- the units of an object of so many slots, with a value at its header
 abbrev pub marked : {X : Type 0} → X → X → ℕ → List X
 marked blank value slots = replicate (units_before slots) blank ++ value ∷ replicate (body_units slots) blank
 
-unfoldable pub births_of : Object → List ℕ
-births_of x = marked 0 x.birth (length x.words)
+unfoldable pub unit_births : Object → List ℕ
+unit_births x = marked 0 x.birth (length x.words)
 
 unfoldable pub marks_of : Object → List ℕ
 marks_of x = marked 0 1 (length x.words)
@@ -51,8 +51,8 @@ marks_of x = marked 0 1 (length x.words)
 -- ---- from words to objects
 
 -- the header in words i and i + 1
-abbrev pub header_in : List ℕ → ℕ → Header
-header_in words i = header_of (slice_index words i + slice_index words (i + 1) * 2 ^ 32)
+abbrev pub unit_header : List ℕ → ℕ → Header
+unit_header words i = header_of (slice_index words i + slice_index words (i + 1) * 2 ^ 32)
 
 -- the words with this header in a unit
 abbrev pub with_header : List ℕ → ℕ → Header → List ℕ
@@ -61,11 +61,11 @@ with_header words unit header =
 
 -- the slot count of the object whose first word is the first of these
 abbrev pub first_count : List ℕ → ℕ
-first_count words = let count = (header_in words 0).slots in if count == 255 then slice_index words 0 else count
+first_count words = let count = (unit_header words 0).slots in if count == 255 then slice_index words 0 else count
 
 -- the slot count of the object whose header is in a unit
 abbrev pub count_in : List ℕ → ℕ → ℕ
-count_in words unit = let count = (header_in words (2 * unit)).slots in
+count_in words unit = let count = (unit_header words (2 * unit)).slots in
     if count == 255 then slice_index words (2 * unit - 2) else count
 
 -- the unit that begins at an address
@@ -77,8 +77,8 @@ abbrev pub address_from : List ℕ → ℕ → Option ℕ
 address_from marks unit = if nat_le (length marks) unit then None
     else (if slice_index marks unit == 0 then Some (base + 8 * (unit + 1)) else Some (base + 8 * unit))
 
-abbrev pub object_in : Header → ℕ → List ℕ → Object
-object_in header birth words = record {
+abbrev pub object_read : Header → ℕ → List ℕ → Object
+object_read header birth words = record {
   class = header.class;
   flags = header.flags;
   format = header.format;
@@ -90,17 +90,17 @@ object_in header birth words = record {
 -- the object of so many slots whose first word is the first of these
 abbrev pub first_object : ℕ → List ℕ → List ℕ → Object
 first_object slots words births = let before = units_before slots in
-    object_in (header_in words (2 * before)) (slice_index births before) (take slots (drop (2 * before + 2) words))
+    object_read (unit_header words (2 * before)) (slice_index births before) (take slots (drop (2 * before + 2) words))
 
 -- the objects that stand in these words, at most `most`
-unfoldable pub objects_in : ℕ → List ℕ → List ℕ → List Object
-objects_in zero words births = []
-objects_in (suc most) [] births = []
-objects_in (suc most) (w ∷ ws) births = let slots = first_count (w ∷ ws) in
-    first_object slots (w ∷ ws) births ∷ objects_in most (drop (2 * units slots) (w ∷ ws)) (drop (units slots) births)
+unfoldable pub objects_read : ℕ → List ℕ → List ℕ → List Object
+objects_read zero words births = []
+objects_read (suc most) [] births = []
+objects_read (suc most) (w ∷ ws) births = let slots = first_count (w ∷ ws) in
+    first_object slots (w ∷ ws) births ∷ objects_read most (drop (2 * units slots) (w ∷ ws)) (drop (units slots) births)
 
 abbrev pub objects : Inside → List Object
-objects h = objects_in (length h.words.items) h.words.items h.births.items
+objects h = objects_read (length h.words.items) h.words.items h.births.items
 
 -- A unit's mark is 0 where it is no header, 1 where it is one, and 2 where it is that of a watched object. Here for each
 -- unit whether it is a header, 1 or 0.
@@ -132,15 +132,15 @@ pub record IsStorable (x : Object) : Type 0 where
   pub count : length x.words < 2 ^ 32
 
 -- these objects stand in the heap, and nothing else
-pub record IsLaid (h : Inside) (xs : List Object) : Type 0 where
-  pub words : h.words.items ≡ flat_map words_of xs
-  pub births : h.births.items ≡ flat_map births_of xs
+pub record AreObjectsLaid (h : Inside) (xs : List Object) : Type 0 where
+  pub words : h.words.items ≡ flat_map object_words xs
+  pub births : h.births.items ≡ flat_map unit_births xs
   pub marks : headers_in h.marks.items ≡ flat_map marks_of xs
   pub storable : AllByRecursion IsStorable xs
 
 -- the objects are within the limit, for which there is room
 pub record IsHeap (h : Inside) : Type 0 where
-  pub laid : IsLaid h (objects h)
+  pub laid : AreObjectsLaid h (objects h)
   pub within : length h.words.items ≤ h.limit
   pub least : 4096 ≤ h.limit
   pub most : h.limit ≤ 67108864

@@ -8,6 +8,7 @@ use Rattle.cs_heap.specs.Format.{is_pointers}
 use Rattle.cs_word.specs.Header.{flag_bits, with_immutable}
 use Rattle.cs_word.specs.declared.header.Flags.{Flags}
 use Rattle.cs_word.specs.declared.header.Header.{Header}
+use Rattle.cs_model.specs.Words.{byte_in}
 
 -- An object: the index of its class, its header flags, its format and identity hash, its birth, and its slots as words.
 pub record Object : Type 0 where
@@ -73,8 +74,8 @@ address_among (n ∷ ns) at zero = Some (header_address at n)
 address_among (n ∷ ns) at (suc k) = address_among ns (at + 8 * units n) k
 
 -- which object has this address, counted from 0
-abbrev pub index_of : List Object → ℕ → Option ℕ
-index_of objects address = index_among (slot_counts objects) base address
+abbrev pub object_place : List Object → ℕ → Option ℕ
+object_place objects address = index_among (slot_counts objects) base address
 
 -- the address of the k-th object, counted from 0
 abbrev pub address_of : List Object → ℕ → Option ℕ
@@ -87,44 +88,44 @@ next_address objects slots = header_address (base + 4 * used objects) slots
 -- ---- reading
 
 abbrev pub is_object : List Object → ℕ → Bool
-is_object objects address = is_some (index_of objects address)
+is_object objects address = is_some (object_place objects address)
 
-abbrev pub object_at : List Object → ℕ → Option Object
-object_at objects address = option_and_then (slice_get objects) (index_of objects address)
+abbrev pub heap_object : List Object → ℕ → Option Object
+heap_object objects address = option_and_then (slice_get objects) (object_place objects address)
+
+-- the words of the slots of the object at an address
+abbrev pub words_at : List Object → ℕ → List ℕ
+words_at objects address = option_map_or (λ x. x.words) (heap_object objects address) []
 
 -- a number that is read from the object at an address, and 0 where there is none
-abbrev pub field_of : (Object → ℕ) → List Object → ℕ → ℕ
-field_of f objects address = option_map_or f (object_at objects address) 0
+abbrev pub part_at : (Object → ℕ) → List Object → ℕ → ℕ
+part_at f objects address = option_map_or f (heap_object objects address) 0
 
-abbrev pub class_of : List Object → ℕ → ℕ
-class_of = field_of (λ x. x.class)
+abbrev pub class_at : List Object → ℕ → ℕ
+class_at = part_at (λ x. x.class)
 
-abbrev pub format_of : List Object → ℕ → ℕ
-format_of = field_of (λ x. x.format)
+abbrev pub format_at : List Object → ℕ → ℕ
+format_at = part_at (λ x. x.format)
 
-abbrev pub hash_of : List Object → ℕ → ℕ
-hash_of = field_of (λ x. x.hash)
+abbrev pub hash_at : List Object → ℕ → ℕ
+hash_at = part_at (λ x. x.hash)
 
-abbrev pub birth_of : List Object → ℕ → ℕ
-birth_of = field_of (λ x. x.birth)
+abbrev pub birth_at : List Object → ℕ → ℕ
+birth_at = part_at (λ x. x.birth)
 
 -- the header's flags as a number
 abbrev pub flags_of : List Object → ℕ → ℕ
-flags_of = field_of (λ x. flag_bits x.flags)
+flags_of = part_at (λ x. flag_bits x.flags)
 
 -- whether the object at an address is read-only, as its header says by isImmutable
 abbrev pub is_immutable_at : List Object → ℕ → Bool
 is_immutable_at objects address = flags_of objects address % 2 == 1
 
 abbrev pub slot_count_of : List Object → ℕ → ℕ
-slot_count_of = field_of (λ x. length x.words)
+slot_count_of = part_at (λ x. length x.words)
 
 abbrev pub slot_of : List Object → ℕ → ℕ → ℕ
-slot_of objects address i = field_of (λ x. slice_index x.words i) objects address
-
--- byte j of a word, counted from the lowest
-abbrev pub byte_in : ℕ → ℕ → ℕ
-byte_in word j = word / 256 ^ j % 256
+slot_of objects address i = part_at (λ x. slice_index x.words i) objects address
 
 -- byte i of an object: four in each word, the lowest first
 abbrev pub byte_of : List Object → ℕ → ℕ → ℕ
@@ -137,16 +138,16 @@ is_watched m address = contains m.watched address
 -- the header of the object at an address: its count of slots is 255 where there are as many or more
 abbrev pub header_seen : List Object → ℕ → Header
 header_seen objects address = record {
-  class = class_of objects address;
+  class = class_at objects address;
   flags = record { 0 = flags_of objects address };
-  format = format_of objects address;
-  hash = hash_of objects address;
+  format = format_at objects address;
+  hash = hash_at objects address;
   slots = min 255 (slot_count_of objects address);
 }
 
 -- the address of the object right behind that at an address
 abbrev pub next_of : List Object → ℕ → Option ℕ
-next_of objects address = option_and_then (λ k. address_of objects (k + 1)) (index_of objects address)
+next_of objects address = option_and_then (λ k. address_of objects (k + 1)) (object_place objects address)
 
 -- ---- writing
 
@@ -175,24 +176,24 @@ at_index (suc k) f (x ∷ xs) = x ∷ at_index k f xs
 
 -- the objects with that at an address changed
 abbrev pub with_object : List Object → ℕ → (Object → Object) → List Object
-with_object objects address f = option_map_or (λ k. at_index k f objects) (index_of objects address) objects
+with_object objects address f = option_map_or (λ k. at_index k f objects) (object_place objects address) objects
 
 abbrev pub set_word : ℕ → ℕ → Object → Object
 set_word i v x = record x { words = slice_set x.words i v }
 
-abbrev pub with_slot : List Object → ℕ → ℕ → ℕ → List Object
-with_slot objects address i v = with_object objects address (set_word i v)
+abbrev pub slot_set : List Object → ℕ → ℕ → ℕ → List Object
+slot_set objects address i v = with_object objects address (set_word i v)
 
 -- a word with its byte j replaced
 abbrev pub with_byte_in : ℕ → ℕ → ℕ → ℕ
 with_byte_in word j byte = word - byte_in word j * 256 ^ j + byte * 256 ^ j
 
-abbrev pub with_byte : List Object → ℕ → ℕ → ℕ → List Object
-with_byte objects address i byte =
-    with_slot objects address (i / 4) (with_byte_in (slot_of objects address (i / 4)) (i % 4) byte)
+abbrev pub byte_set : List Object → ℕ → ℕ → ℕ → List Object
+byte_set objects address i byte =
+    slot_set objects address (i / 4) (with_byte_in (slot_of objects address (i / 4)) (i % 4) byte)
 
-abbrev pub with_hash : List Object → ℕ → ℕ → List Object
-with_hash objects address hash = with_object objects address (λ x. record x { hash = hash })
+abbrev pub hash_set : List Object → ℕ → ℕ → List Object
+hash_set objects address hash = with_object objects address (λ x. record x { hash = hash })
 
-abbrev pub with_fixed : List Object → ℕ → Bool → List Object
-with_fixed objects address on = with_object objects address (λ x. record x { flags = with_immutable on x.flags })
+abbrev pub fixed_set : List Object → ℕ → Bool → List Object
+fixed_set objects address on = with_object objects address (λ x. record x { flags = with_immutable on x.flags })

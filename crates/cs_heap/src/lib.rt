@@ -17,7 +17,7 @@ ghost use Rattle.std.specs.Prelude.{false, option_map};
 ghost use Rattle.std.specs.FinSet.{empty};
 ghost use Rattle.cs_word.specs.Header.{IsWritable};
 ghost use Rattle.cs_heap.specs.Format.{format_allows};
-ghost use Rattle.cs_heap.specs.Object.{address_of, birth_of, byte_of, class_of, format_of, hash_of, header_seen};
+ghost use Rattle.cs_heap.specs.Object.{address_of, birth_at, byte_of, class_at, format_at, hash_at, header_seen};
 ghost use Rattle.cs_heap.specs.Object.{is_immutable_at, is_watched};
 ghost use Rattle.cs_heap.specs.Object.{is_object, next_address, next_of, size as size_of, slot_count_of, slot_of, used};
 ghost use Rattle.cs_heap.specs.Writes.{byte_stored, cleaned, fixed_stored, hash_stored, object_added, slot_stored};
@@ -206,7 +206,7 @@ impl Heap {
     /// The index of the object's class in the class table.
     pub fn class_index(&self, o: Oop) -> u32
         requires { IsTrue (is_object self.now.objects o.0) }
-        ensures value { result ≡ class_of self.now.objects o.0 }
+        ensures value { result ≡ class_at self.now.objects o.0 }
         ensures below { result < 2 ^ 22 }
     {
         self.header(o).class
@@ -215,7 +215,7 @@ impl Heap {
     /// The object's format.
     pub fn format(&self, o: Oop) -> u8
         requires { IsTrue (is_object self.now.objects o.0) }
-        ensures value { result ≡ format_of self.now.objects o.0 }
+        ensures value { result ≡ format_at self.now.objects o.0 }
         ensures shape { IsTrue (format_allows result (slot_count_of self.now.objects o.0)) }
     {
         self.header(o).format
@@ -233,7 +233,7 @@ impl Heap {
     /// The object's identity hash, 0 where it has none yet.
     pub fn hash(&self, o: Oop) -> u32
         requires { IsTrue (is_object self.now.objects o.0) }
-        ensures value { result ≡ hash_of self.now.objects o.0 }
+        ensures value { result ≡ hash_at self.now.objects o.0 }
         ensures below { result < 2 ^ 22 }
     {
         self.header(o).hash
@@ -242,7 +242,7 @@ impl Heap {
     /// The object's birth.
     pub fn birth(&self, o: Oop) -> u64
         requires { IsTrue (is_object self.now.objects o.0) }
-        ensures { result ≡ birth_of self.now.objects o.0 }
+        ensures { result ≡ birth_at self.now.objects o.0 }
     {
         self.births[rows::unit_of(o)]
     }

@@ -4,10 +4,11 @@
 
 ghost use Rattle.std.specs.Prelude.{◌≡◌, ℕ, ◌+◌, ◌*◌, ◌-◌, ◌/◌, ◌%◌, ◌<◌, ◌≤◌, ◌^◌, ◌++◌, option_map, length};
 ghost use Rattle.std.specs.Prelude.{replicate, vec_len, vec_capacity};
+ghost use Rattle.cs_model.specs.Words.{byte_in as byte_of_word};
 ghost use Rattle.cs_word.specs.Header.{header_bits, IsWritable};
-ghost use Rattle.cs_heap.specs.Object.{body_units as body_units_of, byte_in as byte_of_word, new_slot as new_slot_of};
+ghost use Rattle.cs_heap.specs.Object.{body_units as body_units_of, new_slot as new_slot_of};
 ghost use Rattle.cs_heap.specs.Object.{size, units, units_before as units_before_of, with_byte_in as word_with_byte};
-ghost use Rattle.cs_heap.specs.Layout.{address_from, count_in, header_in, marked, overflow, row, unit_in, with_header};
+ghost use Rattle.cs_heap.specs.Layout.{address_from, count_in, unit_header, marked, overflow, row, unit_in, with_header};
 
 use crate::BASE;
 use cs_word::{Header, Oop};
@@ -71,7 +72,7 @@ pub(crate) fn slot_place(o: Oop, i: u32) -> usize
 /// The header in a unit.
 pub(crate) fn header_at(words: &[u32], unit: usize) -> Header
     requires { 2 * unit + 1 < length words.now }
-    ensures { result ≡ header_in words.now (2 * unit) }
+    ensures { result ≡ unit_header words.now (2 * unit) }
 {
     let low = words[2 * unit];
     let high = words[2 * unit + 1];
@@ -103,7 +104,7 @@ pub(crate) fn set_header(words: &mut Vec<u32>, unit: usize, header: Header)
 /// The slot count of the object whose header is in a unit.
 pub(crate) fn slot_count_at(words: &[u32], unit: usize) -> u32
     requires within { 2 * unit + 1 < length words.now }
-    requires before { (header_in words.now (2 * unit)).slots ≡ 255 → 0 < unit }
+    requires before { (unit_header words.now (2 * unit)).slots ≡ 255 → 0 < unit }
     ensures { result ≡ count_in words.now unit }
 {
     let slots = header_at(words, unit).slots;

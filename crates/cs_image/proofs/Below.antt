@@ -2,7 +2,7 @@
 use Rattle.std.proofs.Common.{◌≡◌, ℕ, zero, suc, ◌+◌, ◌<◌, ◌&&◌, inl, inr, Bool, true, false, refl, ap, sym, ◌∙◌, arith, add-one}
 use Rattle.std.proofs.lemmas.Bool.Decides.{eqb_tells}
 use Rattle.std.specs.FinMap.{insert}
-use Rattle.cs_model.specs.ImageFile.{File, is_nil}
+use Rattle.cs_model.specs.ImageFile.{File, is_nil_word}
 use Rattle.cs_model.specs.ImageFault.{all_below, entry_in, table_size}
 use Rattle.cs_image.specs.Loading.{address_named, classes_at}
 
@@ -24,8 +24,8 @@ all_below_fails (suc n) k p h e = elim (eqb_tells k n) as (λ _. (all_below n p 
     no_right true = refl
     no_right false = refl
 
-pub classes_at-filled : (f : File) (n : ℕ) → is_nil f (entry_in f n) ≡ false → classes_at f (n + 1) ≡ insert (classes_at f n) n (address_named f (entry_in f n))
+pub classes_at-filled : (f : File) (n : ℕ) → is_nil_word f (entry_in f n) ≡ false → classes_at f (n + 1) ≡ insert (classes_at f n) n (address_named f (entry_in f n))
 classes_at-filled f n h = rw (add-one, h) refl
 
-pub classes_at-empty : (f : File) (n : ℕ) → is_nil f (entry_in f n) ≡ true → classes_at f (n + 1) ≡ classes_at f n
+pub classes_at-empty : (f : File) (n : ℕ) → is_nil_word f (entry_in f n) ≡ true → classes_at f (n + 1) ≡ classes_at f n
 classes_at-empty f n h = rw (add-one, h) refl

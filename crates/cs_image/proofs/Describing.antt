@@ -6,14 +6,14 @@ use Rattle.std.specs.Cmp.{nat_cmp_total}
 use Rattle.std.proofs.lemmas.List.{drop-take, drop_more, get_or-take, take-take}
 use Rattle.std.proofs.Math.ListN.{drop_of_length-le}
 use Rattle.cs_model.specs.Obj.{Obj}
-use Rattle.cs_model.specs.ImageFile.{FileObject, File, file_of, visible, births_in, next_birth_in, header_in, number_at, special_address, u32_at, last_hash_in, is_nil}
+use Rattle.cs_model.specs.ImageFile.{FileObject, File, file_of, visible, births_in, next_birth_in, file_header, number_at, special_address, u32_at, last_hash_in, is_nil_word}
 use Rattle.cs_model.specs.ImageFault.{entry_in, table_size}
-use Rattle.cs_model.specs.Image.{birth_in, object_in, classes_in, described, fault_of, image_of, rest_in, state_unless}
+use Rattle.cs_model.specs.Image.{birth_in, object_in, classes_in, described, image_fault, image_of, rest_in, state_unless}
 use Rattle.cs_model.specs.ImageFault.{ImageFault}
 use Rattle.cs_model.specs.Profile.{is_page_count}
 use Rattle.cs_model.specs.State.{Kept}
-use Rattle.cs_heap.specs.Object.{Object, birth_of}
-use Rattle.cs_classes.specs.Meaning.{classes_of, header_of, kept_of, obj_of, ref_of, objects_of}
+use Rattle.cs_heap.specs.Object.{Object, birth_at}
+use Rattle.cs_classes.specs.Meaning.{classes_of, kept_header, kept_of, obj_of, ref_of, objects_of}
 use Rattle.cs_classes.specs.Sound.{IsImageHeader}
 use Rattle.cs_classes.specs.declared.Roots.{Roots}
 use Rattle.cs_classes.proofs.Wholes.{classes_of-insert, get-classes_of}
@@ -47,14 +47,14 @@ objects_same births f long fine = ap (λ (es : List (ℕ × Obj)). from_entries 
 -- ---- classes
 
 classes_none : (os : List Object) → classes_of os empty ≡ empty
-classes_none os = same_map nat_cmp_total nat_cmp-IsAntisymmetric _ _ (λ q. get-classes_of os empty q ∙ ap (option_map (birth_of os)) (get-empty nat_cmp q) ∙ sym (get-empty nat_cmp q))
+classes_none os = same_map nat_cmp_total nat_cmp-IsAntisymmetric _ _ (λ q. get-classes_of os empty q ∙ ap (option_map (birth_at os)) (get-empty nat_cmp q) ∙ sym (get-empty nat_cmp q))
 
-pub classes_same : (births : List ℕ) (f : File) (n : ℕ) → ((i : ℕ) → i < n → is_nil f (entry_in f i) ≡ false → Stands births f (entry_in f i))
+pub classes_same : (births : List ℕ) (f : File) (n : ℕ) → ((i : ℕ) → i < n → is_nil_word f (entry_in f i) ≡ false → Stands births f (entry_in f i))
     → classes_of (memory_of births f) (classes_at f n) ≡ classes_in f births n
 classes_same births f zero stands = classes_none (memory_of births f)
-classes_same births f (suc n) stands = go (is_nil f (entry_in f n)) refl (classes_same births f n (λ i h e. stands i (omega (arith, h)) e))
+classes_same births f (suc n) stands = go (is_nil_word f (entry_in f n)) refl (classes_same births f n (λ i h e. stands i (omega (arith, h)) e))
   where
-    go : (b : Bool) → is_nil f (entry_in f n) ≡ b → classes_of (memory_of births f) (classes_at f n) ≡ classes_in f births n
+    go : (b : Bool) → is_nil_word f (entry_in f n) ≡ b → classes_of (memory_of births f) (classes_at f n) ≡ classes_in f births n
         → classes_of (memory_of births f) (classes_at f (suc n)) ≡ classes_in f births (suc n)
     go true e before =
         let here : classes_at f (suc n) ≡ classes_at f n = rw e refl in
@@ -70,8 +70,8 @@ classes_same births f (suc n) stands = go (is_nil f (entry_in f n)) refl (classe
 
 -- ---- the whole
 
-header_same : (bytes : List ℕ) → header_of (take 64 bytes) ≡ header_in bytes
-unfolding header_of
+header_same : (bytes : List ℕ) → kept_header (take 64 bytes) ≡ file_header bytes
+unfolding kept_header
 header_same bytes = λ i. take_8 i ++ replicate 16 0 ++ drop_24 i
   where
     take_8 : take 8 (take 64 bytes) ≡ take 8 bytes
@@ -119,14 +119,14 @@ kept_same births bytes roots r s =
       rest = rest_in bytes f bs;
     }) r.births_are
   where
-    special_same : (f : File) (word a : ℕ) → a ≡ address_named f word → Stands births f word → birth_of (memory_of births f) a ≡ birth_in f births word
-    special_same f word a e st = ap (birth_of (memory_of births f)) e ∙ birth_of-named births f word st
+    special_same : (f : File) (word a : ℕ) → a ≡ address_named f word → Stands births f word → birth_at (memory_of births f) a ≡ birth_in f births word
+    special_same f word a e st = ap (birth_at (memory_of births f)) e ∙ birth_of-named births f word st
 
-    header_at : (bytes header : List ℕ) → header ≡ take 64 bytes → header_of header ≡ header_in bytes
-    header_at bytes header e = ap header_of e ∙ header_same bytes
+    header_at : (bytes header : List ℕ) → header ≡ take 64 bytes → kept_header header ≡ file_header bytes
+    header_at bytes header e = ap kept_header e ∙ header_same bytes
 
 -- what a file without faults describes
-pub image_is : (bytes : List ℕ) (limit : ℕ) (k : Kept) → fault_of bytes limit ≡ None → k ≡ described bytes → image_of bytes limit ≡ Ok k
+pub image_is : (bytes : List ℕ) (limit : ℕ) (k : Kept) → image_fault bytes limit ≡ None → k ≡ described bytes → image_of bytes limit ≡ Ok k
 unfolding image_of
 image_is bytes limit k none same = ap (λ (f : Option ImageFault). state_unless f (described bytes)) none ∙ ap Ok (sym same)
 
@@ -191,7 +191,7 @@ built_births births bytes file objects table roots b =
     ∙ ap (births_in bytes) (sym (ap length b.objects_are ∙ length-loaded_from births file 0 (visible file)))
 
 pub built_is : (births : List ℕ) (bytes : List ℕ) (limit : ℕ) (file : File) (objects : List Object) (table : FinMap nat_cmp ℕ) (roots : Roots) → file ≡ file_of bytes
-    → IsBuilt births bytes file objects table roots → fault_of bytes limit ≡ None → IsSoundFile (file_of bytes) (special_address bytes)
+    → IsBuilt births bytes file objects table roots → image_fault bytes limit ≡ None → IsSoundFile (file_of bytes) (special_address bytes)
     → image_of bytes limit ≡ Ok (kept_of objects table roots None)
 built_is births bytes limit file objects table roots same b whole s =
     let o : objects ≡ memory_of births (file_of bytes) = b.objects_are ∙ ap (λ (f : File). loaded_from f births 0 (visible f)) same in

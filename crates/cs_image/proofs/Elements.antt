@@ -9,7 +9,7 @@ use Rattle.cs_model.specs.Words.{obj_by, plain, context_by, ref_by, natural_in_w
 use Rattle.cs_model.specs.ImageFile.{FileObject, File}
 use Rattle.cs_model.specs.ImageFault.{is_lost}
 use Rattle.cs_heap.specs.Object.{Object}
-use Rattle.cs_classes.specs.Meaning.{head_of, ref_of, count_of, bytes_of, obj_of, context_of, method_of, used_bytes, depth_in, code_in, literals_in, header_in}
+use Rattle.cs_classes.specs.Meaning.{head_of, ref_of, count_of, obj_of, context_of, method_meaning, used_bytes, depth_in, code_in, literal_words, method_header}
 use Rattle.cs_classes.proofs.Sorts.{obj_of-bytes, obj_of-method, obj_of-pointers}
 use Rattle.cs_image.specs.Loading.{translated, loaded}
 use Rattle.cs_image.proofs.Wording.{memory_of, meant, ref_translated, count_same, count_translated, loaded_words, length-loaded_words, get_loaded, words_pointers, words_raw, method_head, method_literals, IsMethodOf, word_stays}
@@ -34,8 +34,8 @@ pub refs_same : (births : List ℕ) (f : File) (ws : List ℕ) → NoneLost f ws
 refs_same births f [] h = refl
 refs_same births f (w ∷ ws) h = λ i. ref_translated births f w (h 0 (omega arith)) i ∷ refs_same births f ws (none_lost_tail f w ws h) i
 
-bytes_same : (ws : List ℕ) → bytes_of ws ≡ bytes_of_words ws
-unfolding bytes_of bytes_of_words
+bytes_same : (ws : List ℕ) → bytes_of_words ws ≡ bytes_of_words ws
+unfolding bytes_of_words bytes_of_words
 bytes_same [] = refl
 bytes_same (w ∷ ws) = ap (λ (bs : List ℕ). w / 256 ^ 0 % 256 ∷ w / 256 ^ 1 % 256 ∷ w / 256 ^ 2 % 256 ∷ w / 256 ^ 3 % 256 ∷ bs) (bytes_same ws)
 
@@ -121,22 +121,22 @@ method_code f format words m = ext_get_or 0 (drop (1 + n) (loaded_words f format
     stays true false h = rw m.pointers refl
     stays false d h = rw m.pointers refl
 
-pub header_loaded : (f : File) (j : ℕ) (o : FileObject) → is_pointer_format o.format ≡ false → 0 < length o.words → header_in (loaded_words f o.format o.words) ≡ header_in_words o.words
+pub header_loaded : (f : File) (j : ℕ) (o : FileObject) → is_pointer_format o.format ≡ false → 0 < length o.words → method_header (loaded_words f o.format o.words) ≡ header_in_words o.words
 header_loaded f j o p h = ap (λ (n : Option ℕ). unwrap_or n 0) (ap count_of (method_head f o.format o.words p h) ∙ count_same (get_or o.words 0 0))
 
 method_same : (births : List ℕ) (f : File) (j : ℕ) (o : FileObject) → (o.class == context_class) ≡ false → IsMethodOf f o.format o.words → plain_format o.format ≡ o.format → NoneLost f (literals_in_words o.words)
-    → method_of (ref_of (memory_of births f)) (loaded f j o)
+    → method_meaning (ref_of (memory_of births f)) (loaded f j o)
     ≡ Method (head_in o) (header_in_words o.words) (map (ref_by (meant births f)) (literals_in_words o.words)) (bytecodes_in_words o.format o.words)
-unfolding method_of
+unfolding method_meaning
 method_same births f j o other m same fine = λ i. Method (head_other f j o other same i) (header i) (literals i) (code i)
   where
     ws : List ℕ
     ws = loaded_words f o.format o.words
 
-    header : header_in ws ≡ header_in_words o.words
+    header : method_header ws ≡ header_in_words o.words
     header = ap (λ (n : Option ℕ). unwrap_or n 0) (ap count_of (method_head f o.format o.words m.pointers (omega (arith, m.fits))) ∙ count_same (get_or o.words 0 0))
 
-    literals : map (ref_of (memory_of births f)) (literals_in ws) ≡ map (ref_by (meant births f)) (literals_in_words o.words)
+    literals : map (ref_of (memory_of births f)) (literal_words ws) ≡ map (ref_by (meant births f)) (literals_in_words o.words)
     literals = ap (λ n. map (ref_of (memory_of births f)) (take (literal_count n) (drop 1 ws))) header
         ∙ ap (map (ref_of (memory_of births f))) (method_literals f o.format o.words m) ∙ refs_same births f (literals_in_words o.words) fine
 
@@ -145,7 +145,7 @@ method_same births f j o other m same fine = λ i. Method (head_other f j o othe
 
     code : used_bytes (plain_format o.format) (code_in ws) ≡ bytecodes_in_words o.format o.words
     code = ap (λ n. used_bytes n (code_in ws)) same ∙ ap (used_bytes o.format) words_code
-        ∙ ap (λ n. take (4 * n - unused_bytes o.format) (bytes_of (drop (1 + literal_count (header_in_words o.words)) o.words))) (length-drop (1 + literal_count (header_in_words o.words)) o.words)
+        ∙ ap (λ n. take (4 * n - unused_bytes o.format) (bytes_of_words (drop (1 + literal_count (header_in_words o.words)) o.words))) (length-drop (1 + literal_count (header_in_words o.words)) o.words)
         ∙ ap (take (4 * (length o.words - (1 + literal_count (header_in_words o.words))) - unused_bytes o.format)) (bytes_same (drop (1 + literal_count (header_in_words o.words)) o.words))
 
 -- ---- all four sorts
@@ -170,7 +170,7 @@ plain_others format h =
     rw (a, b) refl
 
 pub object_same : (births : List ℕ) (f : File) (j : ℕ) (o : FileObject) → IsFine f o → obj_of (ref_of (memory_of births f)) (loaded f j o) ≡ obj_by (meant births f) (head_in o) o.words
-unfolding obj_of obj_by method_of
+unfolding obj_of obj_by method_meaning
 object_same births f j o fine = go (o.class == context_class) (is_pointer_format o.format) (is_method_format o.format) refl refl refl
   where
     raw_bytes : (a b : ℕ) (xs ys : List ℕ) → a ≡ b → xs ≡ ys → used_bytes a xs ≡ bytes_in_words b ys

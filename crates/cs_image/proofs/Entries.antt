@@ -5,7 +5,7 @@ use Rattle.std.specs.Ordering.{nat_cmp}
 use Rattle.std.proofs.lemmas.Bool.Decides.{eqb_tells}
 use Rattle.cs_model.specs.Obj.{context_class}
 use Rattle.cs_model.specs.Context.{closure_class}
-use Rattle.cs_model.specs.ImageFile.{File, file_of, is_nil, special_address}
+use Rattle.cs_model.specs.ImageFile.{File, file_of, is_nil_word, special_address}
 use Rattle.cs_model.specs.ImageFault.{entry_in, has_entry, table_size}
 use Rattle.cs_image.specs.Loading.{address_named, classes_at}
 use Rattle.cs_image.proofs.Soundness.{IsSoundFile, Table, and_true, table_parts}
@@ -18,7 +18,7 @@ get_apart : (m : FinMap nat_cmp ℕ) (i j a : ℕ) → (j ≡ i → ⊥) → get
 get_apart m i j a apart = grind (gets, rules)
 
 -- what holds of the entries below n holds with one more
-with_next : (f : File) (n i : ℕ) → (b : Bool) → is_nil f (entry_in f n) ≡ b → (i ≡ n → ⊥) → is_some (get (classes_at f n) i) ≡ true → is_some (get (classes_at f (suc n)) i) ≡ true
+with_next : (f : File) (n i : ℕ) → (b : Bool) → is_nil_word f (entry_in f n) ≡ b → (i ≡ n → ⊥) → is_some (get (classes_at f n) i) ≡ true → is_some (get (classes_at f (suc n)) i) ≡ true
 with_next f n i true nil apart before =
     let here : classes_at f (suc n) ≡ classes_at f n = rw nil refl in
     ap (λ (m : FinMap nat_cmp ℕ). is_some (get m i)) here ∙ before
@@ -26,17 +26,17 @@ with_next f n i false some apart before =
     let here : classes_at f (suc n) ≡ insert (classes_at f n) n (address_named f (entry_in f n)) = rw some refl in
     ap (λ (m : FinMap nat_cmp ℕ). is_some (get m i)) here ∙ ap is_some (get_apart (classes_at f n) n i (address_named f (entry_in f n)) apart) ∙ before
 
-last_there : (f : File) (n i : ℕ) → i ≡ n → is_nil f (entry_in f i) ≡ false → is_some (get (classes_at f (suc n)) i) ≡ true
+last_there : (f : File) (n i : ℕ) → i ≡ n → is_nil_word f (entry_in f i) ≡ false → is_some (get (classes_at f (suc n)) i) ≡ true
 last_there f n i s e =
-    let here : classes_at f (suc n) ≡ insert (classes_at f n) n (address_named f (entry_in f n)) = rw (ap (λ (j : ℕ). is_nil f (entry_in f j)) (sym s) ∙ e) refl in
+    let here : classes_at f (suc n) ≡ insert (classes_at f n) n (address_named f (entry_in f n)) = rw (ap (λ (j : ℕ). is_nil_word f (entry_in f j)) (sym s) ∙ e) refl in
     ap (λ (m : FinMap nat_cmp ℕ). is_some (get m i)) here ∙ ap (λ (j : ℕ). is_some (get (insert (classes_at f n) n (address_named f (entry_in f n))) j)) s
     ∙ get_here (classes_at f n) n (address_named f (entry_in f n))
 
-pub entry_there : (f : File) (n i : ℕ) → i < n → is_nil f (entry_in f i) ≡ false → is_some (get (classes_at f n) i) ≡ true
+pub entry_there : (f : File) (n i : ℕ) → i < n → is_nil_word f (entry_in f i) ≡ false → is_some (get (classes_at f n) i) ≡ true
 entry_there f zero i lt e = absurd (omega (arith, lt))
 entry_there f (suc n) i lt e = elim (eqb_tells i n) [
   | inl s ↦ last_there f n i s.1 e
-  | inr s ↦ with_next f n i (is_nil f (entry_in f n)) refl s.1 (entry_there f n i (omega (arith, lt, s.1)) e)
+  | inr s ↦ with_next f n i (is_nil_word f (entry_in f n)) refl s.1 (entry_there f n i (omega (arith, lt, s.1)) e)
 ]
 
 filled : (b : Bool) → not b ≡ true → b ≡ false

@@ -4,9 +4,9 @@ use Rattle.std.proofs.lemmas.Bool.Decides.{nat_tests}
 use Rattle.std.specs.Option.{option_or}
 use Rattle.cs_model.specs.ImageFault.{ImageFault}
 use Rattle.cs_model.specs.ImageFault as fault
-use Rattle.cs_model.specs.ImageFault.{is_too_long, is_short, is_bad_format, is_bad_header_size, is_bad_profile, is_bad_length, bad_object, is_over, is_bad_table, bad_ref, bad_class, bad_context, is_bad_roots, is_bad_births}
+use Rattle.cs_model.specs.ImageFault.{is_long_file, is_short, is_bad_format, is_bad_header_size, is_bad_profile, is_bad_length, bad_object, is_over, is_bad_table, bad_ref, bad_class, bad_context, is_bad_roots, is_bad_births}
 use Rattle.cs_model.specs.ImageFile.{heap_size, old_base, has_births, birth_count, words_in, cut_of, file_of, special_address, visible}
-use Rattle.cs_model.specs.Image.{at_word, when, first_of, fault_of}
+use Rattle.cs_model.specs.Image.{at_word, when, first_of, image_fault}
 use Rattle.cs_classes.specs.Sound.{IsImageHeader}
 use Rattle.cs_image.specs.declared.error.ImageError.{ImageError}
 use Rattle.cs_image.specs.declared.error.ImageError.TheVariants as error
@@ -19,14 +19,14 @@ first_of-append (None ∷ xs) ys = first_of-append xs ys
 first_of-append (Some f ∷ xs) ys = refl
 
 -- the faults of a file by the parts of the loader
-pub fault_of-parts : (bytes : List ℕ) (limit : ℕ) → fault_of bytes limit ≡ option_or (header_fault bytes)
+pub fault_of-parts : (bytes : List ℕ) (limit : ℕ) → image_fault bytes limit ≡ option_or (header_fault bytes)
     (option_or (at_word fault.BadObject (bad_object (cut_of (words_in bytes))))
     (option_or (when (is_over (file_of bytes) limit) fault.OverLimit)
     (option_or (objects_fault (file_of bytes) (special_address bytes))
     (option_or (when (is_bad_births bytes (length (visible (file_of bytes)))) fault.BadBirths) None))))
-unfolding fault_of
+unfolding image_fault
 fault_of-parts bytes limit =
-    first_of-append (when (is_too_long bytes) fault.TooLong ∷ when (is_short bytes) fault.Short ∷ when (is_bad_format bytes) fault.BadFormat
+    first_of-append (when (is_long_file bytes) fault.TooLong ∷ when (is_short bytes) fault.Short ∷ when (is_bad_format bytes) fault.BadFormat
     ∷ when (is_bad_header_size bytes) fault.BadHeaderSize ∷ when (is_bad_profile bytes) fault.BadProfile ∷ when (is_bad_length bytes) fault.BadLength ∷ [])
     (at_word fault.BadObject (bad_object (cut_of (words_in bytes))) ∷ when (is_over (file_of bytes) limit) fault.OverLimit ∷ objects ++ births)
     ∙ ap (λ (r : Option ImageFault). option_or (header_fault bytes) (option_or (at_word fault.BadObject (bad_object (cut_of (words_in bytes))))
@@ -84,7 +84,7 @@ pub record IsHeader (bytes : List ℕ) : Type 0 where
 
 pub header_is : (bytes : List ℕ) → header_fault bytes ≡ None → IsHeader bytes
 header_is bytes e =
-    let a = or_none (when (is_too_long bytes) fault.TooLong) _ e in
+    let a = or_none (when (is_long_file bytes) fault.TooLong) _ e in
     let b = or_none (when (is_short bytes) fault.Short) _ a.1 in
     let c = or_none (when (is_bad_format bytes) fault.BadFormat) _ b.1 in
     let d = or_none (when (is_bad_header_size bytes) fault.BadHeaderSize) _ c.1 in
@@ -101,7 +101,7 @@ header_is bytes e =
         profile = when_none (is_bad_profile bytes) fault.BadProfile f.0;
       };
       long = let s = when_none (is_short bytes) fault.Short b.0 in grind (arith, nat_tests, s);
-      short = let s = when_none (is_too_long bytes) fault.TooLong a.0 in grind (arith, nat_tests, s);
+      short = let s = when_none (is_long_file bytes) fault.TooLong a.0 in grind (arith, nat_tests, s);
       base = let s = z.1 in grind (arith, nat_tests, s);
       whole = let s = w.1 in grind (arith, nat_tests, s);
       fits = let s = y.1 in grind (arith, nat_tests, s);
@@ -133,7 +133,7 @@ told_as {X} {Y} P Q whole first later e x r parts told is same =
     let S : Result Y ImageError → Type 0 = λ s. Tells whole Q s in
     subst S (ap Err (sym same) ∙ sym is) (subst R (sym parts) (told_here P Q first later e told))
 
-pub after_header : (bytes : List ℕ) (limit : ℕ) → header_fault bytes ≡ None → fault_of bytes limit ≡
+pub after_header : (bytes : List ℕ) (limit : ℕ) → header_fault bytes ≡ None → image_fault bytes limit ≡
     option_or (at_word fault.BadObject (bad_object (cut_of (words_in bytes))))
     (option_or (when (is_over (file_of bytes) limit) fault.OverLimit)
     (option_or (objects_fault (file_of bytes) (special_address bytes))
@@ -144,7 +144,7 @@ after_header bytes limit h = fault_of-parts bytes limit ∙ ap (λ (r : Option I
     (option_or (objects_fault (file_of bytes) (special_address bytes))
     (option_or (when (is_bad_births bytes (length (visible (file_of bytes)))) fault.BadBirths) None))))) h
 
-pub after_objects : (bytes : List ℕ) (limit : ℕ) → header_fault bytes ≡ None → at_word fault.BadObject (bad_object (cut_of (words_in bytes))) ≡ None → fault_of bytes limit ≡
+pub after_objects : (bytes : List ℕ) (limit : ℕ) → header_fault bytes ≡ None → at_word fault.BadObject (bad_object (cut_of (words_in bytes))) ≡ None → image_fault bytes limit ≡
     option_or (when (is_over (file_of bytes) limit) fault.OverLimit)
     (option_or (objects_fault (file_of bytes) (special_address bytes))
     (option_or (when (is_bad_births bytes (length (visible (file_of bytes)))) fault.BadBirths) None))
@@ -154,7 +154,7 @@ after_objects bytes limit h o = after_header bytes limit h ∙ ap (λ (r : Optio
     (option_or (when (is_bad_births bytes (length (visible (file_of bytes)))) fault.BadBirths) None)))) o
 
 pub after_room : (bytes : List ℕ) (limit : ℕ) → header_fault bytes ≡ None → at_word fault.BadObject (bad_object (cut_of (words_in bytes))) ≡ None
-    → when (is_over (file_of bytes) limit) fault.OverLimit ≡ None → fault_of bytes limit ≡
+    → when (is_over (file_of bytes) limit) fault.OverLimit ≡ None → image_fault bytes limit ≡
     option_or (objects_fault (file_of bytes) (special_address bytes))
     (option_or (when (is_bad_births bytes (length (visible (file_of bytes)))) fault.BadBirths) None)
 after_room bytes limit h o m = after_objects bytes limit h o ∙ ap (λ (r : Option ImageFault). option_or r
@@ -163,13 +163,13 @@ after_room bytes limit h o m = after_objects bytes limit h o ∙ ap (λ (r : Opt
 
 pub after_all : (bytes : List ℕ) (limit : ℕ) → header_fault bytes ≡ None → at_word fault.BadObject (bad_object (cut_of (words_in bytes))) ≡ None
     → when (is_over (file_of bytes) limit) fault.OverLimit ≡ None → objects_fault (file_of bytes) (special_address bytes) ≡ None
-    → fault_of bytes limit ≡ option_or (when (is_bad_births bytes (length (visible (file_of bytes)))) fault.BadBirths) None
+    → image_fault bytes limit ≡ option_or (when (is_bad_births bytes (length (visible (file_of bytes)))) fault.BadBirths) None
 after_all bytes limit h o m w = after_room bytes limit h o m
     ∙ ap (λ (r : Option ImageFault). option_or r (option_or (when (is_bad_births bytes (length (visible (file_of bytes)))) fault.BadBirths) None)) w
 
 pub no_fault : (bytes : List ℕ) (limit : ℕ) → header_fault bytes ≡ None → at_word fault.BadObject (bad_object (cut_of (words_in bytes))) ≡ None
     → when (is_over (file_of bytes) limit) fault.OverLimit ≡ None → objects_fault (file_of bytes) (special_address bytes) ≡ None
-    → when (is_bad_births bytes (length (visible (file_of bytes)))) fault.BadBirths ≡ None → fault_of bytes limit ≡ None
+    → when (is_bad_births bytes (length (visible (file_of bytes)))) fault.BadBirths ≡ None → image_fault bytes limit ≡ None
 no_fault bytes limit h o m w b = after_all bytes limit h o m w ∙ ap (λ (r : Option ImageFault). option_or r None) b
 
 pub births_fine : (bytes : List ℕ) (n : ℕ) → when (is_bad_births bytes n) fault.BadBirths ≡ None → is_bad_births bytes n ≡ false

@@ -2,9 +2,9 @@
 use Rattle.std.proofs.Common.{◌≡◌, ℕ, ◌%◌, ◌/◌, Bool, true, false, refl, None}
 use Rattle.std.specs.Prelude.{◌==◌, if◌then◌else◌}
 use Rattle.cs_word.specs.declared.Kind.TheVariants as kind
-use Rattle.cs_word.specs.Word.{natural_by_kind, natural_of_word, small_value}
+use Rattle.cs_word.specs.Word.{natural_by_kind, natural_of_word}
 use Rattle.cs_model.specs.Ref.{natural_of}
-use Rattle.cs_model.specs.Words.{natural_in_word}
+use Rattle.cs_model.specs.Words.{natural_in_word, small_value}
 
 pub word_natural : (word : ℕ) → natural_of_word word ≡ natural_in_word word
 unfolding natural_of_word

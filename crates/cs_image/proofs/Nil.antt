@@ -3,7 +3,7 @@ use Rattle.std.proofs.Common.{◌≡◌, ℕ, Bool, true, false, refl, sym, ap, 
 use Rattle.std.specs.Prelude.{if◌then◌else◌}
 use Rattle.std.proofs.lemmas.Bool.Decides.{eqb_tells}
 use Rattle.cs_model.specs.declared.event.Event.{Event}
-use Rattle.cs_model.specs.Ref.{Ref, Small, Char, birth_of}
+use Rattle.cs_model.specs.Ref.{Ref, Small, Char, named_object}
 use Rattle.cs_model.specs.Ref as ref
 use Rattle.cs_model.specs.Obj.{Ctx, Method, Obj, Ptr, Raw, is_context_at, slots_in}
 use Rattle.cs_model.specs.State.{IsValid, Kept, active_process, is_nil, object_at, put}
@@ -65,7 +65,7 @@ nil_before k bare = go (active_process k) bare
 
     go : (o : Option Ref) → slots_in (object_at (open_if k o) (open_if k o).rest.nil) ≡ Some [] → is_context_at (object_at k k.rest.nil) ≡ false
     go None h = plain (object_at k k.rest.nil) h
-    go (Some p) h = by_nil p (is_nil k p) (option_and_then (λ x. birth_of x) (context_kept k p)) h
+    go (Some p) h = by_nil p (is_nil k p) (option_and_then (λ x. named_object x) (context_kept k p)) h
 
 -- in a state that opens to a valid one nil is no context
 pub nil_is_plain : (k : Kept) (events : List Event) (snapping : Bool) → IsValid (opened k events snapping) → is_context_at (object_at k k.rest.nil) ≡ false

@@ -7,25 +7,25 @@ use Rattle.std.specs.FinMap.{FinMap, get, get-insert, insert}
 use Rattle.std.proofs.lemmas.Bool.Decides.{nat_tests}
 use Rattle.std.proofs.lemmas.List.{length-map, length-take-le}
 use Rattle.std.proofs.lemmas.Option.{slice_get-get_or, slice_get-map}
-use Rattle.cs_model.specs.Ref.{Ref, birth_of}
+use Rattle.cs_model.specs.Ref.{Ref, named_object}
 use Rattle.cs_model.specs.Ref as ref
 use Rattle.cs_model.specs.Obj.{Obj, Head, Context, Ptr, Method, Ctx, context_class, literal_count, slots_in, context_in, lies_in, lies_between, first_pc, at_least}
 use Rattle.cs_model.specs.State.{Kept, put, object_at, object_of, slots_of, special_at, scheduler_of, active_process, is_nil}
-use Rattle.cs_model.specs.Read.{IsRunning, active_context, method_of, pc_of, blank}
+use Rattle.cs_model.specs.Read.{IsRunning, active_context, method_of, pc_of, blank_context}
 use Rattle.cs_model.specs.Operation.{activate, edit_found, nil_of, resume_of, store_of, with_slot}
 use Rattle.cs_model.specs.Settle.{context_kept, open_at, open_if, open_kept}
 use Rattle.cs_model.specs.Due.{is_idle, is_idle_at}
 use Rattle.cs_model.specs.Words.{obj_by, context_by, ref_by, natural_in_word, is_pointer_format, is_method_format, plain, header_in_words, literals_in_words, bytecode_count, bytecodes_in_words, bytes_of_words}
 use Rattle.cs_model.specs.ImageFile.{FileObject, File, file_of, old_base, special_address, is_visible, visible, nil_in, named, names, address_in}
 use Rattle.cs_model.specs.ImageFile as file
-use Rattle.cs_model.specs.ImageFault.{is_lost, is_process, is_live_context, is_pc_of, is_bad_roots, active_process_in, special_in, fields_of, fields_in}
+use Rattle.cs_model.specs.ImageFault.{is_lost, is_process_word, is_live_context, is_pc_of, is_bad_roots, active_process_in, special_in, fields_of, fields_in}
 use Rattle.cs_model.specs.ImageFault as fault
 use Rattle.cs_model.specs.Image.{birth_in, head_in}
 use Rattle.cs_heap.specs.Object.{Object}
 use Rattle.cs_heap.specs.Object as heap
 use Rattle.cs_heap.proofs.Laws.{object_at-address}
 use Rattle.cs_classes.specs.Meaning.{kept_of, obj_of, objects_of, ref_of}
-use Rattle.cs_classes.specs.Sound.{IsSound}
+use Rattle.cs_classes.specs.Sound.{AreSoundObjects}
 use Rattle.cs_classes.specs.declared.Roots.{Roots}
 use Rattle.cs_classes.proofs.Objects.{get-objects_of}
 use Rattle.cs_classes.proofs.Tables.{ties_other}
@@ -80,8 +80,8 @@ stored_is k r = ap (λ (o : Option Obj). edit_found (with_slot 1 (nil_of k)) r.p
 pub opened_is : (k : Kept) (r : CanOpen k) → is_nil k (ref.Obj r.p) ≡ false → open_kept k ≡ resume_of (store_of k (ref.Obj r.p) 1 (nil_of k)) r.i
 unfolding open_kept
 opened_is k r filled = ap (open_if k) r.active
-    ∙ ap (λ b. cond b k (open_at k (ref.Obj r.p) (option_and_then (λ x. birth_of x) (context_kept k (ref.Obj r.p))))) filled
-    ∙ ap (λ (o : Option Ref). open_at k (ref.Obj r.p) (option_and_then (λ x. birth_of x) o)) r.keeps
+    ∙ ap (λ b. cond b k (open_at k (ref.Obj r.p) (option_and_then (λ x. named_object x) (context_kept k (ref.Obj r.p))))) filled
+    ∙ ap (λ (o : Option Ref). open_at k (ref.Obj r.p) (option_and_then (λ x. named_object x) o)) r.keeps
 
 pub opens : (k : Kept) (r : CanOpen k) → is_nil k (ref.Obj r.p) ≡ false → IsRunning (open_kept k)
 unfolding resume_of put active_context method_of
@@ -105,7 +105,7 @@ opens k r filled = subst IsRunning (sym is) (record {
     found = beside k r.p r.i (stored k r) (Ptr r.head r.slots) (Ctx r.context) r.process r.found (λ e. absurd (cc))
 
     context : active_context after ≡ r.context
-    context = ap (λ (o : Option Obj). unwrap_or (context_in o) blank) found
+    context = ap (λ (o : Option Obj). unwrap_or (context_in o) blank_context) found
 
     live : (active_context after).pc ≡ Some r.pc
     live = ap (λ (c : Context). c.pc) context ∙ r.live
@@ -141,7 +141,7 @@ ref_aligned births f word z = let a = odd word z in let b = two word z in rw (a,
 -- a state with the objects of a file
 pub record HasFile (births : List ℕ) (f : File) (root : ℕ) (k : Kept) : Type 0 where
   pub ground_of : Ground f root
-  pub sound : IsSound (memory_of births f)
+  pub sound : AreSoundObjects (memory_of births f)
   pub objects : k.objects ≡ objects_of (memory_of births f)
   pub special : k.rest.special ≡ birth births f root
   pub nil : k.rest.nil ≡ slice_index births 0
@@ -157,7 +157,7 @@ held births f special k h word x e v =
     let s = stands_named births f word x e v in
     let there : slice_get (visible f) s.j ≡ Some x = sym (ap (option_and_then (slice_get (visible f))) s.number)
     ∙ sym (find-number (λ o. address_in f o == word) (visible f)) ∙ visible_named f word x e v in
-    let here : heap.object_at (memory_of births f) (address_named f word) ≡ Some (loaded f (slice_index births (0 + s.j)) x) =
+    let here : heap.heap_object (memory_of births f) (address_named f word) ≡ Some (loaded f (slice_index births (0 + s.j)) x) =
     object_at-address (memory_of births f) (address_named f word) s.j s.at ∙ slice_get-loaded_from births f 0 (visible f) s.j
     ∙ ap (option_map (λ o. loaded f (slice_index births (0 + s.j)) o)) there in
     record {
@@ -171,7 +171,7 @@ held births f special k h word x e v =
       names = ref_aligned births f word (named_aligned f word x h.ground_of.aligned e);
     }
 
-pub nil_held : (births : List ℕ) (f : File) (special : ℕ) (k : Kept) → HasFile births f special k → (word : ℕ) → file.is_nil f word ≡ true → is_nil k (ref_by (meant births f) word) ≡ true
+pub nil_held : (births : List ℕ) (f : File) (special : ℕ) (k : Kept) → HasFile births f special k → (word : ℕ) → file.is_nil_word f word ≡ true → is_nil k (ref_by (meant births f) word) ≡ true
 nil_held births f special k h word e =
     let is : word ≡ nil_in f = equal word (nil_in f) e in
     let first = h.ground_of.first in
@@ -195,13 +195,13 @@ leb_true a b h = grind (arith, nat_tests, h)
 
 fields_held : (births : List ℕ) (f : File) (special : ℕ) (k : Kept) → HasFile births f special k → (n word : ℕ) (x : FileObject) (ws : List ℕ) → named f word ≡ Some x → fields_of n x ≡ Some ws → Fields births f k n word ws
 unfolding obj_by
-fields_held births f special k h n word x ws e fields = go (is_visible x && is_pointer_format x.format && not (fault.is_context x) && leb n (length x.words)) refl fields
+fields_held births f special k h n word x ws e fields = go (is_visible x && is_pointer_format x.format && not (fault.is_file_context x) && leb n (length x.words)) refl fields
   where
-    go : (b : Bool) → (is_visible x && is_pointer_format x.format && not (fault.is_context x) && leb n (length x.words)) ≡ b → cond b (Some x.words) None ≡ Some ws → Fields births f k n word ws
+    go : (b : Bool) → (is_visible x && is_pointer_format x.format && not (fault.is_file_context x) && leb n (length x.words)) ≡ b → cond b (Some x.words) None ≡ Some ws → Fields births f k n word ws
     go false all fields = absurd (cc)
     go true all fields =
-        let a = and_true (is_visible x && is_pointer_format x.format && not (fault.is_context x)) (leb n (length x.words)) all in
-        let b = and_true (is_visible x && is_pointer_format x.format) (not (fault.is_context x)) a.0 in
+        let a = and_true (is_visible x && is_pointer_format x.format && not (fault.is_file_context x)) (leb n (length x.words)) all in
+        let b = and_true (is_visible x && is_pointer_format x.format) (not (fault.is_file_context x)) a.0 in
         let c = and_true (is_visible x) (is_pointer_format x.format) b.0 in
         let no_context : (x.class == context_class) ≡ false = not_true (x.class == context_class) b.1 in
         let same : x.words ≡ ws = cc in
@@ -360,13 +360,13 @@ method_held births f special k h word pc_word pc number kept e =
 -- ---- the whole
 
 -- a number is odd, and nil's address isn't
-pub not_nil : (f : File) (special : ℕ) → Ground f special → (word pc : ℕ) → natural_in_word word ≡ Some pc → file.is_nil f word ≡ false
-not_nil f special g word pc e = go (file.is_nil f word) refl
+pub not_nil : (f : File) (special : ℕ) → Ground f special → (word pc : ℕ) → natural_in_word word ≡ Some pc → file.is_nil_word f word ≡ false
+not_nil f special g word pc e = go (file.is_nil_word f word) refl
   where
     even : (n : ℕ) → n % 4 ≡ 0 → natural_in_word n ≡ None
     even n z = natural_even n (omega (arith, z))
 
-    go : (b : Bool) → file.is_nil f word ≡ b → file.is_nil f word ≡ false
+    go : (b : Bool) → file.is_nil_word f word ≡ b → file.is_nil_word f word ≡ false
     go false h = h
     go true h =
         let is : word ≡ nil_in f = equal word (nil_in f) h in
@@ -378,9 +378,9 @@ or_second true b h e = absurd (cc)
 or_second false b h e = h
 
 -- a process that isn't nil lets the state open
-can_open : (births : List ℕ) (f : File) (special : ℕ) (k : Kept) → HasFile births f special k → (w : ℕ) → active_process_in f special ≡ Some w → is_process f w ≡ true → file.is_nil f w ≡ false → CanOpen k
+can_open : (births : List ℕ) (f : File) (special : ℕ) (k : Kept) → HasFile births f special k → (w : ℕ) → active_process_in f special ≡ Some w → is_process_word f w ≡ true → file.is_nil_word f w ≡ false → CanOpen k
 can_open births f special k h w active process filled =
-    let r = passes_some (λ (ws : List ℕ). names f is_live_context (get_or ws 1 0)) (fields_in f 4 w) (or_second (file.is_nil f w) _ process filled) in
+    let r = passes_some (λ (ws : List ℕ). names f is_live_context (get_or ws 1 0)) (fields_in f 4 w) (or_second (file.is_nil_word f w) _ process filled) in
     let p = fields_named births f special k h 4 w r.0 r.1 in
     let c = live_held births f special k h (get_or r.0 1 0) r.2 in
     let parts = seven _ _ _ _ _ _ _ (context_at f special c.j c.y h.ground_of.sound c.there c.class) in
@@ -389,7 +389,7 @@ can_open births f special k h w active process filled =
     let long = (fine.context c.class).1 in
     let kept : is_lost f (slot c.y 3) ≡ false = fine.pointers (ap is_pointer_format three) 3 (omega (arith, long)) in
     let m = method_held births f special k h (slot c.y 3) (slot c.y 1) c.pc c.live kept
-    (or_second (file.is_nil f (slot c.y 1)) _ parts.pc (not_nil f special h.ground_of (slot c.y 1) c.pc c.live)) in
+    (or_second (file.is_nil_word f (slot c.y 1)) _ parts.pc (not_nil f special h.ground_of (slot c.y 1) c.pc c.live)) in
     record {
       p = birth births f w;
       head = p.head;
@@ -413,7 +413,7 @@ can_open births f special k h w active process filled =
 pub file_active : (births : List ℕ) (f : File) (special : ℕ) (k : Kept) → HasFile births f special k → IsSome (active_process k)
 unfolding is_bad_roots
 file_active births f special k h =
-    let r = passes_some (is_process f) (active_process_in f special) (not_false _ h.ground_of.sound.roots) in
+    let r = passes_some (is_process_word f) (active_process_in f special) (not_false _ h.ground_of.sound.roots) in
     ap is_some (active_is births f special k h r.0 r.1)
 
 -- the active process, which is not nil, keeps a live context
@@ -425,13 +425,13 @@ pub record CanStart (k : Kept) : Type 0 where
 pub file_can_open : (births : List ℕ) (f : File) (special : ℕ) (k : Kept) → HasFile births f special k → is_idle k ≡ false → CanStart k
 unfolding is_idle is_bad_roots
 file_can_open births f special k h busy =
-    let r = passes_some (is_process f) (active_process_in f special) (not_false _ h.ground_of.sound.roots) in
+    let r = passes_some (is_process_word f) (active_process_in f special) (not_false _ h.ground_of.sound.roots) in
     let active = active_is births f special k h r.0 r.1 in
     let filled : is_nil k (ref_by (meant births f) r.0) ≡ false = sym (ap (is_idle_at k) active) ∙ busy in
-    let c = can_open births f special k h r.0 r.1 r.2 (no_nil r.0 (file.is_nil f r.0) refl filled) in
+    let c = can_open births f special k h r.0 r.1 r.2 (no_nil r.0 (file.is_nil_word f r.0) refl filled) in
     record { can = c; filled = ap (is_idle_at k) (sym c.active) ∙ busy }
   where
-    no_nil : (w : ℕ) (b : Bool) → file.is_nil f w ≡ b → is_nil k (ref_by (meant births f) w) ≡ false → file.is_nil f w ≡ false
+    no_nil : (w : ℕ) (b : Bool) → file.is_nil_word f w ≡ b → is_nil k (ref_by (meant births f) w) ≡ false → file.is_nil_word f w ≡ false
     no_nil w false e n = e
     no_nil w true e n = absurd (cc (sym (nil_held births f special k h w e) ∙ n))
 
@@ -444,7 +444,7 @@ has_file births f special table roots g at next =
       ground_of = g;
       sound = memory_sound births f special roots.next_birth g next;
       objects = refl;
-      special = ap (heap.birth_of (memory_of births f)) at ∙ birth_of-named births f special (special_stands births f special g.sound.roots);
+      special = ap (heap.birth_at (memory_of births f)) at ∙ birth_of-named births f special (special_stands births f special g.sound.roots);
       nil = birth_is_place births f (visible f) 0 (omega (arith, three));
     }
 

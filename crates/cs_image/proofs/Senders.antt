@@ -24,19 +24,19 @@ use Rattle.cs_image.proofs.Wholeness.{context_seen, passes_some}
 use Rattle.cs_image.proofs.Pcs.{context_of_words, from_file}
 
 -- a word that names a context of the file names one of the state
-context_held : (births : List ℕ) (f : File) (special : ℕ) (k : Kept) → HasFile births f special k → (word : ℕ) → names f fault.is_context word ≡ true → is_context_at (object_of k (ref_by (meant births f) word)) ≡ true
+context_held : (births : List ℕ) (f : File) (special : ℕ) (k : Kept) → HasFile births f special k → (word : ℕ) → names f fault.is_file_context word ≡ true → is_context_at (object_of k (ref_by (meant births f) word)) ≡ true
 unfolding obj_by
 context_held births f special k h word e =
-    let r = passes_some fault.is_context (file.named f word) e in
+    let r = passes_some fault.is_file_context (file.named f word) e in
     let x = r.0 in
     let s = held births f special k h word x r.1 (context_seen x r.2) in
     let is : obj_by (meant births f) (head_in x) x.words ≡ Ctx (context_by (meant births f) x.hash x.words) = rw r.2 refl in
     ap (λ (y : Ref). is_context_at (object_of k y)) s.names
     ∙ ap is_context_at (s.at ∙ ap Some is)
 
-sender_held : (births : List ℕ) (f : File) (special : ℕ) (k : Kept) → HasFile births f special k → (word : ℕ) → (file.is_nil f word || names f fault.is_context word) ≡ true
+sender_held : (births : List ℕ) (f : File) (special : ℕ) (k : Kept) → HasFile births f special k → (word : ℕ) → (file.is_nil_word f word || names f fault.is_file_context word) ≡ true
     → (is_nil k (ref_by (meant births f) word) || is_context_at (object_of k (ref_by (meant births f) word))) ≡ true
-sender_held births f special k h word e = go (file.is_nil f word) refl e
+sender_held births f special k h word e = go (file.is_nil_word f word) refl e
   where
     first : (a b : Bool) → a ≡ true → (a || b) ≡ true
     first a b p = ap (λ (c : Bool). c || b) p
@@ -45,7 +45,7 @@ sender_held births f special k h word e = go (file.is_nil f word) refl e
     second true b p = refl
     second false b p = p
 
-    go : (b : Bool) → file.is_nil f word ≡ b → (b || names f fault.is_context word) ≡ true
+    go : (b : Bool) → file.is_nil_word f word ≡ b → (b || names f fault.is_file_context word) ≡ true
         → (is_nil k (ref_by (meant births f) word) || is_context_at (object_of k (ref_by (meant births f) word))) ≡ true
     go true nil e = first _ _ (nil_held births f special k h word nil)
     go false nil e = second _ _ (context_held births f special k h word e)

@@ -7,11 +7,11 @@ use Rattle.cs_model.specs.Obj.{context_class, literal_count, is_header}
 use Rattle.cs_model.specs.Words.{is_pointer_format, is_method_format, has_shape, header_in_words, literals_in_words, natural_in_word, unused_bytes}
 use Rattle.cs_model.specs.ImageFile.{FileObject, File, Cut, is_visible, visible, stands, file_of, cut_of, words_in, special_address}
 use Rattle.std.specs.List.{list_all}
-use Rattle.cs_model.specs.ImageFile.{is_hidden, is_nil, named, names}
-use Rattle.cs_model.specs.ImageFault.{begins_well, has_object, is_oddball, has_known_classes, is_page, page_words, is_sound_entry, entry_in, is_class, all_below, table_size, is_process, active_process_in, special_in, fields_of, fields_in}
+use Rattle.cs_model.specs.ImageFile.{is_hidden, is_nil_word, named, names}
+use Rattle.cs_model.specs.ImageFault.{begins_well, has_object, is_oddball, has_known_classes, is_page, page_addresses, is_sound_entry, entry_in, is_class, all_below, table_size, is_process_word, active_process_in, special_in, fields_of, fields_in}
 use Rattle.cs_image.proofs.Below.{table_size_is}
 use Rattle.cs_image.proofs.Naming.{Stands, stands_named}
-use Rattle.cs_model.specs.ImageFault.{ImageFault, bad_object, is_well_formed, is_method_body, is_bad_table, bad_ref, bad_class, bad_context, is_bad_roots, is_lost, references, has_entry, is_context, is_sound_context}
+use Rattle.cs_model.specs.ImageFault.{ImageFault, bad_object, is_well_formed, is_method_body, is_bad_table, bad_ref, bad_class, bad_context, is_bad_roots, is_lost, references, has_entry, is_file_context, is_sound_context}
 use Rattle.cs_model.specs.ImageFault as fault
 use Rattle.cs_model.specs.Image.{at_word, when}
 use Rattle.cs_image.specs.Answer.{objects_fault}
@@ -171,7 +171,7 @@ formed_at f special j o s e = let r = visible_from f j o e in s.formed r.k o r.t
 pub context_at : (f : File) (special j : ℕ) (o : FileObject) → IsSoundFile f special → slice_get (visible f) j ≡ Some o → (o.class == context_class) ≡ true → is_sound_context f o ≡ true
 unfolding bad_context
 context_at f special j o s e h =
-    let p = find_none_at (λ o. is_context o && not (is_sound_context f o)) (visible f) j o (map_none (λ o. o.place) (find (λ o. is_context o && not (is_sound_context f o)) (visible f)) s.contexts) e in
+    let p = find_none_at (λ o. is_file_context o && not (is_sound_context f o)) (visible f) j o (map_none (λ o. o.place) (find (λ o. is_file_context o && not (is_sound_context f o)) (visible f)) s.contexts) e in
     not_false (is_sound_context f o) (ap (λ b. b && not (is_sound_context f o)) (sym h) ∙ p)
 
 references_at : (f : File) (special j : ℕ) (o : FileObject) → IsSoundFile f special → slice_get (visible f) j ≡ Some o → find (λ e. is_lost f e.1) (references o) ≡ None
@@ -221,9 +221,9 @@ pub record Table (f : File) : Type 0 where
 pub table_parts : (f : File) → is_bad_table f ≡ false → Table f
 unfolding is_bad_table
 table_parts f h =
-    let all = not_false (begins_well f && list_all (is_page f) (page_words f) && has_known_classes f && all_below table_size (is_sound_entry f)) h in
-    let a = and_true (begins_well f && list_all (is_page f) (page_words f) && has_known_classes f) _ all in
-    let b = and_true (begins_well f && list_all (is_page f) (page_words f)) _ a.0 in
+    let all = not_false (begins_well f && list_all (is_page f) (page_addresses f) && has_known_classes f && all_below table_size (is_sound_entry f)) h in
+    let a = and_true (begins_well f && list_all (is_page f) (page_addresses f) && has_known_classes f) _ all in
+    let b = and_true (begins_well f && list_all (is_page f) (page_addresses f)) _ a.0 in
     let c = and_true (begins_well f) _ b.0 in
     record { begins = c.0; known = b.1; entries = a.1 }
 
@@ -283,13 +283,13 @@ or_third true b c h x y = absurd (cc)
 or_third false true c h x y = absurd (cc)
 or_third false false c h x y = h
 
-other_entry : (f : File) (i : ℕ) → Table f → i < table_size → (i == 3) ≡ false → is_nil f (entry_in f i) ≡ false → NamesClass f (entry_in f i)
+other_entry : (f : File) (i : ℕ) → Table f → i < table_size → (i == 3) ≡ false → is_nil_word f (entry_in f i) ≡ false → NamesClass f (entry_in f i)
 other_entry f i t h three filled =
-    names_class f i (entry_in f i) (or_third (i == 3) (is_nil f (entry_in f i)) _ (all_below_at table_size i (is_sound_entry f) t.entries h) three filled)
+    names_class f i (entry_in f i) (or_third (i == 3) (is_nil_word f (entry_in f i)) _ (all_below_at table_size i (is_sound_entry f) t.entries h) three filled)
 
-pub class_at : (f : File) (i : ℕ) → Table f → i < table_size → (i == 3) ≡ false → is_nil f (entry_in f i) ≡ false → ClassAt f i (entry_in f i)
-class_at f i t h three filled =
-    class_named f i (entry_in f i) (or_third (i == 3) (is_nil f (entry_in f i)) _ (all_below_at table_size i (is_sound_entry f) t.entries h) three filled)
+pub class_is_at : (f : File) (i : ℕ) → Table f → i < table_size → (i == 3) ≡ false → is_nil_word f (entry_in f i) ≡ false → ClassAt f i (entry_in f i)
+class_is_at f i t h three filled =
+    class_named f i (entry_in f i) (or_third (i == 3) (is_nil_word f (entry_in f i)) _ (all_below_at table_size i (is_sound_entry f) t.entries h) three filled)
 
 -- what is known of the entries of some indices
 pub record KnownClasses (f : File) : Type 0 where
@@ -316,17 +316,17 @@ known_classes f t =
     equal a b h = grind (arith, nat_tests, h)
 
 -- each entry that is filled names a class
-pub entry_names : (f : File) (i : ℕ) → Table f → i < table_size → is_nil f (entry_in f i) ≡ false → NamesClass f (entry_in f i)
+pub entry_names : (f : File) (i : ℕ) → Table f → i < table_size → is_nil_word f (entry_in f i) ≡ false → NamesClass f (entry_in f i)
 entry_names f i t h filled = elim (eqb_tells i 3) [
   | inl three ↦
       let this : entry_in f i ≡ entry_in f 1 = ap (entry_in f) three.1 ∙ (known_classes f t).same in
       let P : ℕ → Type 0 = NamesClass f in
-      subst P (sym this) (other_entry f 1 t (omega (arith, table_size_is)) refl (ap (is_nil f) (sym this) ∙ filled))
+      subst P (sym this) (other_entry f 1 t (omega (arith, table_size_is)) refl (ap (is_nil_word f) (sym this) ∙ filled))
   | inr other ↦ other_entry f i t h other.0 filled
 ]
 
 -- which stands
-pub entry_stands : (births : List ℕ) (f : File) (i : ℕ) → Table f → i < table_size → is_nil f (entry_in f i) ≡ false → Stands births f (entry_in f i)
+pub entry_stands : (births : List ℕ) (f : File) (i : ℕ) → Table f → i < table_size → is_nil_word f (entry_in f i) ≡ false → Stands births f (entry_in f i)
 entry_stands births f i t h filled = let c = entry_names f i t h filled in stands_named births f (entry_in f i) c.class c.named_is c.visible_is
 
 -- ---- the roots
@@ -335,15 +335,15 @@ pub special_stands : (births : List ℕ) (f : File) (special : ℕ) → is_bad_r
 unfolding is_bad_roots
 special_stands births f special h = go (named f special) refl
   where
-    held : option_map_or (is_process f) (active_process_in f special) false ≡ true
-    held = not_false (option_map_or (is_process f) (active_process_in f special) false) h
+    held : option_map_or (is_process_word f) (active_process_in f special) false ≡ true
+    held = not_false (option_map_or (is_process_word f) (active_process_in f special) false) h
 
     from : Option (List ℕ) → Option ℕ
     from array = option_and_then (λ special. option_and_then (λ link. option_map (λ scheduler. slice_index scheduler 1)
         (fields_in f 2 (slice_index link 1))) (fields_in f 2 (slice_index special 3))) array
 
     dead : special_in f special ≡ None → Stands births f special
-    dead e = let none : option_map_or (is_process f) (from (special_in f special)) false ≡ false = ap (λ (o : Option (List ℕ)). option_map_or (is_process f) (from o) false) e in absurd (cc (sym held ∙ none))
+    dead e = let none : option_map_or (is_process_word f) (from (special_in f special)) false ≡ false = ap (λ (o : Option (List ℕ)). option_map_or (is_process_word f) (from o) false) e in absurd (cc (sym held ∙ none))
 
     hidden : (x : FileObject) → is_visible x ≡ false → (b : Bool) → cond b (fields_of 51 x) None ≡ None
     hidden x v true = rw v refl

@@ -64,12 +64,12 @@ no_context named head words ea = go (is_pointer_format head.format) (is_method_f
 record Entry (os : List Object) (table : FinMap nat_cmp ℕ) (index i : ℕ) : Type 0 where
   a : ℕ
   there : get table index ≡ Some a
-  is : heap.birth_of os a ≡ i
+  is : heap.birth_at os a ≡ i
 
 entry_of : (os : List Object) (table : FinMap nat_cmp ℕ) (index i : ℕ) → get (classes_of os table) index ≡ Some i → Entry os table index i
 entry_of os table index i e = go (get table index) refl (sym (get-classes_of os table index) ∙ e)
   where
-    go : (r : Option ℕ) → get table index ≡ r → option_map (heap.birth_of os) r ≡ Some i → Entry os table index i
+    go : (r : Option ℕ) → get table index ≡ r → option_map (heap.birth_at os) r ≡ Some i → Entry os table index i
     go None er h = absurd (cc)
     go (Some a) er h = record { a = a; there = er; is = cc }
 
@@ -81,7 +81,7 @@ file_table births f special k h classes index i e =
     let word = entry_in f index in
     let c = entry_names f index h.ground_of.table r.below r.filled in
     let x = c.class in
-    let at : birth births f word ≡ i = sym (birth_of-named births f word (stands_named births f word x c.named_is c.visible_is)) ∙ ap (heap.birth_of (memory_of births f)) (sym r.address) ∙ t.is in
+    let at : birth births f word ≡ i = sym (birth_of-named births f word (stands_named births f word x c.named_is c.visible_is)) ∙ ap (heap.birth_at (memory_of births f)) (sym r.address) ∙ t.is in
     let there : object_at k i ≡ Some (obj_by (meant births f) (head_in x) x.words) = ap (object_at k) (sym at) ∙ (held births f special k h word x c.named_is c.visible_is).at in
     record { there = ap is_some there; plain = ap context_in there ∙ no_context (meant births f) (head_in x) x.words c.plain }
 
@@ -90,7 +90,7 @@ file_hidden : (births : List ℕ) (f : File) (special : ℕ) → Ground f specia
 file_hidden births f special g = go (get (classes_at f table_size) 16) refl
   where
     go : (r : Option ℕ) → get (classes_at f table_size) 16 ≡ r → get (classes_of (memory_of births f) (classes_at f table_size)) 16 ≡ None
-    go None e = get-classes_of (memory_of births f) (classes_at f table_size) 16 ∙ ap (option_map (heap.birth_of (memory_of births f))) e
+    go None e = get-classes_of (memory_of births f) (classes_at f table_size) 16 ∙ ap (option_map (heap.birth_at (memory_of births f))) e
     go (Some a) e =
         let wrong : true ≡ false = sym (ap not (from_entry f table_size 16 a e).filled) ∙ (known_classes f g.table).free in
         absurd (cc)

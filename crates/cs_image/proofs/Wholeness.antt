@@ -10,29 +10,29 @@ use Rattle.std.proofs.lemmas.List.{get_or-drop, get_or-map, length-map, length-t
 use Rattle.std.proofs.lemmas.Option.{slice_get_past, slice_get_within}
 use Rattle.cs_model.specs.Obj.{context_class, context_fields, literal_count, is_header}
 use Rattle.cs_model.specs.Words.{is_pointer_format, is_method_format, has_shape, plain_format, natural_in_word, header_in_words, literals_in_words, stackp_in_words, unused_bytes}
-use Rattle.cs_model.specs.ImageFile.{FileObject, File, file_of, old_base, special_address, is_visible, visible, is_nil, nil_in, named, names, address_in}
-use Rattle.cs_model.specs.ImageFault.{entry_in, has_entry, page_words, table_size, bad_class, is_bad_roots, is_pc_of, is_stackp, is_method, is_lost, is_process, active_process_in, special_in, fields_of, fields_in}
+use Rattle.cs_model.specs.ImageFile.{FileObject, File, file_of, old_base, special_address, is_visible, visible, is_nil_word, nil_in, named, names, address_in}
+use Rattle.cs_model.specs.ImageFault.{entry_in, has_entry, page_addresses, table_size, bad_class, is_bad_roots, is_pc_of, is_stackp, is_file_method, is_lost, is_process_word, active_process_in, special_in, fields_of, fields_in}
 use Rattle.cs_model.specs.ImageFault as fault
 use Rattle.cs_model.specs.State.{is_class_index}
 use Rattle.cs_heap.proofs.Laws.{object_at-address}
 use Rattle.cs_classes.proofs.Refs.{is_sender-context, is_sender-nil}
 use Rattle.cs_image.proofs.Entries.{entry_there}
 use Rattle.cs_image.proofs.Finding.{find-number}
-use Rattle.cs_heap.specs.Object.{Object, address_among, address_of, base, class_of, format_of, header_address, is_object, no_flags, object_at, slot_count_of}
+use Rattle.cs_heap.specs.Object.{Object, address_among, address_of, base, class_at, format_at, header_address, is_object, no_flags, heap_object, slot_count_of}
 use Rattle.cs_heap.specs.Format.{format_allows}
 use Rattle.cs_word.specs.Header.{flag_bits, with_immutable}
-use Rattle.cs_classes.specs.Meaning.{count_of, depth_in, header_in}
-use Rattle.cs_classes.specs.Sound.{is_closure_address, is_method_address, is_sender, is_weak, IsImageHeader, IsSound, IsSoundClass, IsSoundHeader, IsSoundTable, IsSpecialArray, is_reference, nil_of, references_in, IsSoundContext, IsSoundMethod, IsSoundObject, IsWhole}
+use Rattle.cs_classes.specs.Meaning.{count_of, depth_in, method_header}
+use Rattle.cs_classes.specs.Sound.{is_closure_address, is_method_address, is_sender, is_weak, IsImageHeader, AreSoundObjects, IsSoundClass, IsSoundHeader, IsSoundTable, IsSpecialArray, is_reference, nil_word, references_in, IsSoundContext, IsSoundMethod, IsSoundObject, IsWhole}
 use Rattle.cs_classes.specs.declared.Roots.{Roots}
 use Rattle.cs_classes.proofs.Tables.{ties_same, ties_other}
-use Rattle.cs_image.specs.Loading.{address_named, classes_at, loaded, loaded_from, number_of, translated}
+use Rattle.cs_image.specs.Loading.{address_named, classes_at, loaded, loaded_from, number_that, translated}
 use Rattle.cs_image.proofs.Below.{table_size_is}
 use Rattle.cs_image.proofs.Numbering.{AreBirths}
 use Rattle.cs_image.proofs.Describing.{IsBuilt, built_roots}
 use Rattle.cs_image.proofs.Naming.{Stands, stands_named, stands_there, slice_get-loaded_from, slot_counts-loaded_from, length-loaded_from}
 use Rattle.cs_image.proofs.Wording.{memory_of, is_reference_translated, count_same, count_translated, loaded_words, length-loaded_words, words_pointers, method_head, method_literals, natural_even}
 use Rattle.cs_image.proofs.Elements.{IsFine, NoneLost, header_loaded, plain_others}
-use Rattle.cs_image.proofs.Soundness.{ClassAt, class_at, known_classes, visible_from, IsSoundFile, Table, table_parts, Firsts, firsts, visible_three, and_true, not_true, not_false, find_none_at, map_none, formed_at, fine_at, context_at, method_body_at, seven, entry_stands, special_stands}
+use Rattle.cs_image.proofs.Soundness.{ClassAt, class_is_at, known_classes, visible_from, IsSoundFile, Table, table_parts, Firsts, firsts, visible_three, and_true, not_true, not_false, find_none_at, map_none, formed_at, fine_at, context_at, method_body_at, seven, entry_stands, special_stands}
 
 -- ---- objects by place
 
@@ -74,7 +74,7 @@ pub nil_stands : (births : List ℕ) (f : File) (s : Firsts f) → Stands births
 nil_stands births f s = stands_named births f (nil_in f) s.nil (nil_named f s) (nil_visible f s)
 
 pub nil_number : (births : List ℕ) (f : File) (s : Firsts f) → (nil_stands births f s).j ≡ 0
-nil_number births f s = first (nil_stands births f s).j (sym (nil_stands births f s).number ∙ ap (number_of (λ o. address_in f o == nil_in f)) (visible_begins f s) ∙ rw p refl)
+nil_number births f s = first (nil_stands births f s).j (sym (nil_stands births f s).number ∙ ap (number_that (λ o. address_in f o == nil_in f)) (visible_begins f s) ∙ rw p refl)
   where
     here : nil_in f ≡ address_in f s.nil
     here = ap (λ (os : List FileObject). option_map_or (address_in f) (slice_get os 0) 0) s.objects
@@ -88,10 +88,10 @@ nil_number births f s = first (nil_stands births f s).j (sym (nil_stands births 
     first : (j : ℕ) → Some j ≡ Some 0 → j ≡ 0
     first j e = cc
 
-pub nil_of-memory : (births : List ℕ) (f : File) (s : Firsts f) → nil_of (memory_of births f) ≡ address_named f (nil_in f)
+pub nil_of-memory : (births : List ℕ) (f : File) (s : Firsts f) → nil_word (memory_of births f) ≡ address_named f (nil_in f)
 nil_of-memory births f s = ap (λ (r : Option ℕ). unwrap_or r 0) (ap (address_of (memory_of births f)) (sym (nil_number births f s)) ∙ (nil_stands births f s).at)
 
-pub nil_of-base : (births : List ℕ) (f : File) (s : Firsts f) → length s.nil.words ≡ 0 → nil_of (memory_of births f) ≡ base
+pub nil_of-base : (births : List ℕ) (f : File) (s : Firsts f) → length s.nil.words ≡ 0 → nil_word (memory_of births f) ≡ base
 unfolding address_among
 nil_of-base births f s none = ap (λ (ns : List ℕ). unwrap_or (address_among ns base 0) 0) (slot_counts-loaded_from births f 0 (visible f) ∙ ap (map (λ o. length o.words)) (visible_begins f s))
     ∙ ap (header_address base) none
@@ -101,7 +101,7 @@ nil_aligned f aligned s =
     let here : nil_in f ≡ f.base + 4 * s.nil.place = ap (λ (os : List FileObject). option_map_or (address_in f) (slice_get os 0) 0) s.objects in
     omega (arith, here, aligned)
 
-pub translated_nil : (births : List ℕ) (f : File) → f.base % 4 ≡ 0 → (s : Firsts f) → translated f (nil_in f) ≡ nil_of (memory_of births f)
+pub translated_nil : (births : List ℕ) (f : File) → f.base % 4 ≡ 0 → (s : Firsts f) → translated f (nil_in f) ≡ nil_word (memory_of births f)
 translated_nil births f aligned s =
     let z : (nil_in f % 4 == 0) ≡ true = zero_test _ (nil_aligned f aligned s) in
     let t : translated f (nil_in f) ≡ address_named f (nil_in f) = rw z refl in
@@ -147,8 +147,8 @@ same_test : (a b : ℕ) → a ≡ b → (a == b) ≡ true
 same_test a b e = grind (arith, nat_tests, e)
 
 -- a field that is nil or a number that isn't negative
-nil_or_count : (births : List ℕ) (f : File) → f.base % 4 ≡ 0 → (s : Firsts f) → (w : ℕ) → (is_nil f w ≡ true) ⊎ (is_some (natural_in_word w) ≡ true)
-    → (translated f w == nil_of (memory_of births f) || is_some (count_of (translated f w))) ≡ true
+nil_or_count : (births : List ℕ) (f : File) → f.base % 4 ≡ 0 → (s : Firsts f) → (w : ℕ) → (is_nil_word f w ≡ true) ⊎ (is_some (natural_in_word w) ≡ true)
+    → (translated f w == nil_word (memory_of births f) || is_some (count_of (translated f w))) ≡ true
 nil_or_count births f aligned s w (inl h) =
     let e : w ≡ nil_in f = equal w (nil_in f) h in
     or_left _ _ (same_test _ _ (ap (translated f) e ∙ translated_nil births f aligned s))
@@ -163,7 +163,7 @@ pc_some f w m h = go (named f m) h
 
     go : (r : Option FileObject) → option_map_or (is_pc_of w) r false ≡ true → is_some (natural_in_word w) ≡ true
     go None h = absurd (cc)
-    go (Some o) h = some_if _ (natural_in_word w) (and_true (is_method o) _ h).1
+    go (Some o) h = some_if _ (natural_in_word w) (and_true (is_file_method o) _ h).1
 
 stackp_some : (size w : ℕ) → is_stackp size w ≡ true → is_some (natural_in_word w) ≡ true
 stackp_some size w h = go (natural_in_word w) h
@@ -246,7 +246,7 @@ seen f word x aligned kept e = go (word % 4 == 0) (names f is_visible word) (sam
 
 -- it stands in memory at its address
 pub at_named : (births : List ℕ) (f : File) (word : ℕ) (x : FileObject) (e : named f word ≡ Some x) (v : is_visible x ≡ true)
-    → object_at (memory_of births f) (address_named f word) ≡ Some (loaded f (slice_index births (0 + (stands_named births f word x e v).j)) x)
+    → heap_object (memory_of births f) (address_named f word) ≡ Some (loaded f (slice_index births (0 + (stands_named births f word x e v).j)) x)
 at_named births f word x e v =
     let s = stands_named births f word x e v in
     let there : slice_get (visible f) s.j ≡ Some x = sym (ap (option_and_then (slice_get (visible f))) s.number)
@@ -257,10 +257,10 @@ at_named births f word x e v =
 there_named : (births : List ℕ) (f : File) (word : ℕ) (x : FileObject) → named f word ≡ Some x → is_visible x ≡ true → is_object (memory_of births f) (address_named f word) ≡ true
 there_named births f word x e v = stands_there births f word (stands_named births f word x e v)
 
-class_in : (births : List ℕ) (f : File) (word : ℕ) (x : FileObject) → named f word ≡ Some x → is_visible x ≡ true → class_of (memory_of births f) (address_named f word) ≡ x.class
+class_in : (births : List ℕ) (f : File) (word : ℕ) (x : FileObject) → named f word ≡ Some x → is_visible x ≡ true → class_at (memory_of births f) (address_named f word) ≡ x.class
 class_in births f word x e v = ap (λ (o : Option Object). option_map_or (λ (y : Object). y.class) o 0) (at_named births f word x e v)
 
-format_in : (births : List ℕ) (f : File) (word : ℕ) (x : FileObject) → named f word ≡ Some x → is_visible x ≡ true → format_of (memory_of births f) (address_named f word) ≡ plain_format x.format
+format_in : (births : List ℕ) (f : File) (word : ℕ) (x : FileObject) → named f word ≡ Some x → is_visible x ≡ true → format_at (memory_of births f) (address_named f word) ≡ plain_format x.format
 format_in births f word x e v = ap (λ (o : Option Object). option_map_or (λ (y : Object). y.format) o 0) (at_named births f word x e v)
 
 slots_in : (births : List ℕ) (f : File) (word : ℕ) (x : FileObject) → named f word ≡ Some x → is_visible x ≡ true → slot_count_of (memory_of births f) (address_named f word) ≡ length x.words
@@ -280,8 +280,8 @@ plain_method format = elim (eqb_tells format 4) [
 
 -- a field that is nil or an address at which something holds
 nil_or_named : (births : List ℕ) (f : File) → f.base % 4 ≡ 0 → (s : Firsts f) (p : FileObject → Bool) (q : ℕ → Bool) (w : ℕ) → is_lost f w ≡ false
-    → (is_nil f w ≡ true) ⊎ (names f p w ≡ true) → ((x : FileObject) → named f w ≡ Some x → is_visible x ≡ true → p x ≡ true → q (address_named f w) ≡ true)
-    → (translated f w == nil_of (memory_of births f) || q (translated f w)) ≡ true
+    → (is_nil_word f w ≡ true) ⊎ (names f p w ≡ true) → ((x : FileObject) → named f w ≡ Some x → is_visible x ≡ true → p x ≡ true → q (address_named f w) ≡ true)
+    → (translated f w == nil_word (memory_of births f) || q (translated f w)) ≡ true
 nil_or_named births f base_is s p q w kept (inl h) holds =
     let e : w ≡ nil_in f = equal w (nil_in f) h in
     or_left _ _ (same_test _ _ (ap (translated f) e ∙ translated_nil births f base_is s))
@@ -289,15 +289,15 @@ nil_or_named births f base_is s p q w kept (inr h) holds =
     let r = passes_some p (named f w) h in
     or_right _ _ (ap q (translated_named f w r.0 base_is r.1) ∙ holds r.0 r.1 (seen f w r.0 base_is kept r.1) r.2)
 
-sender_sound : (births : List ℕ) (f : File) → f.base % 4 ≡ 0 → (s : Firsts f) (w : ℕ) → (is_nil f w ≡ true) ⊎ (names f fault.is_context w ≡ true)
+sender_sound : (births : List ℕ) (f : File) → f.base % 4 ≡ 0 → (s : Firsts f) (w : ℕ) → (is_nil_word f w ≡ true) ⊎ (names f fault.is_file_context w ≡ true)
     → is_sender (memory_of births f) (translated f w) ≡ true
 sender_sound births f base_is s w (inl h) =
     let e : w ≡ nil_in f = equal w (nil_in f) h in
-    let there : is_object (memory_of births f) (nil_of (memory_of births f)) ≡ true =
+    let there : is_object (memory_of births f) (nil_word (memory_of births f)) ≡ true =
     ap (is_object (memory_of births f)) (nil_of-memory births f s) ∙ stands_there births f (nil_in f) (nil_stands births f s) in
     ap (is_sender (memory_of births f)) (ap (translated f) e ∙ translated_nil births f base_is s) ∙ is_sender-nil (memory_of births f) there
 sender_sound births f base_is s w (inr h) =
-    let r = passes_some fault.is_context (named f w) h in
+    let r = passes_some fault.is_file_context (named f w) h in
     let v = context_seen r.0 r.2 in
     ap (is_sender (memory_of births f)) (translated_named f w r.0 base_is r.1)
     ∙ is_sender-context (memory_of births f) (address_named f w) (there_named births f w r.0 r.1 v) (class_in births f w r.0 r.1 v ∙ equal r.0.class 36 r.2)
@@ -317,12 +317,12 @@ record ContextFacts (f : File) (o : FileObject) : Type 0 where
   three : o.format ≡ 3
   long : 6 ≤ length o.words
   slots : (length o.words == 22 || length o.words == 62) ≡ true
-  pc : (is_nil f (get_or o.words 1 0) ≡ true) ⊎ (is_some (natural_in_word (get_or o.words 1 0)) ≡ true)
-  stackp : (is_nil f (get_or o.words 2 0) ≡ true) ⊎ (is_some (natural_in_word (get_or o.words 2 0)) ≡ true)
+  pc : (is_nil_word f (get_or o.words 1 0) ≡ true) ⊎ (is_some (natural_in_word (get_or o.words 1 0)) ≡ true)
+  stackp : (is_nil_word f (get_or o.words 2 0) ≡ true) ⊎ (is_some (natural_in_word (get_or o.words 2 0)) ≡ true)
   depth : stackp_in_words o.words ≤ length o.words - context_fields
-  sender : (is_nil f (get_or o.words 0 0) ≡ true) ⊎ (names f fault.is_context (get_or o.words 0 0) ≡ true)
-  method : (is_nil f (get_or o.words 3 0) ≡ true) ⊎ (names f is_method (get_or o.words 3 0) ≡ true)
-  closure : (is_nil f (get_or o.words 4 0) ≡ true) ⊎ (names f (λ x. x.class == 37) (get_or o.words 4 0) ≡ true)
+  sender : (is_nil_word f (get_or o.words 0 0) ≡ true) ⊎ (names f fault.is_file_context (get_or o.words 0 0) ≡ true)
+  method : (is_nil_word f (get_or o.words 3 0) ≡ true) ⊎ (names f is_file_method (get_or o.words 3 0) ≡ true)
+  closure : (is_nil_word f (get_or o.words 4 0) ≡ true) ⊎ (names f (λ x. x.class == 37) (get_or o.words 4 0) ≡ true)
   kept : NoneLost f o.words
 
 either : {A B C : Type 0} → A ⊎ B → (B → C) → A ⊎ C
@@ -330,7 +330,7 @@ either (inl a) g = inl a
 either (inr b) g = inr (g b)
 
 depth_within : (f : File) (special : ℕ) (o : FileObject) → Ground f special
-    → (is_nil f (get_or o.words 2 0) ≡ true) ⊎ (is_stackp (length o.words - context_fields) (get_or o.words 2 0) ≡ true) → stackp_in_words o.words ≤ length o.words - context_fields
+    → (is_nil_word f (get_or o.words 2 0) ≡ true) ⊎ (is_stackp (length o.words - context_fields) (get_or o.words 2 0) ≡ true) → stackp_in_words o.words ≤ length o.words - context_fields
 depth_within f special o g (inr h) = stackp_within (length o.words - context_fields) (get_or o.words 2 0) h
 depth_within f special o g (inl h) =
     let e : get_or o.words 2 0 ≡ nil_in f = equal (get_or o.words 2 0) (nil_in f) h in
@@ -379,10 +379,10 @@ context_sound births f special j o g c = record {
       let w = c.depth in
       let l = length-loaded_words f o.format o.words in
       omega (arith, d, w, l);
-  method = ap (λ w. w == nil_of (memory_of births f) || is_method_address (memory_of births f) w) (read 3 (omega (arith, c.long)))
-      ∙ nil_or_named births f g.aligned g.first is_method (is_method_address (memory_of births f)) (get_or o.words 3 0) (c.kept 3 (omega (arith, c.long))) c.method
+  method = ap (λ w. w == nil_word (memory_of births f) || is_method_address (memory_of births f) w) (read 3 (omega (arith, c.long)))
+      ∙ nil_or_named births f g.aligned g.first is_file_method (is_method_address (memory_of births f)) (get_or o.words 3 0) (c.kept 3 (omega (arith, c.long))) c.method
       (λ x e v p. both_true _ _ (there_named births f (get_or o.words 3 0) x e v) (ap is_method_format (format_in births f (get_or o.words 3 0) x e v) ∙ plain_method x.format ∙ p));
-  closure = ap (λ w. w == nil_of (memory_of births f) || is_closure_address (memory_of births f) w) (read 4 (omega (arith, c.long)))
+  closure = ap (λ w. w == nil_word (memory_of births f) || is_closure_address (memory_of births f) w) (read 4 (omega (arith, c.long)))
       ∙ nil_or_named births f g.aligned g.first (λ x. x.class == 37) (is_closure_address (memory_of births f)) (get_or o.words 4 0) (c.kept 4 (omega (arith, c.long))) c.closure
       (λ x e v p. both_true _ _ (there_named births f (get_or o.words 4 0) x e v) (ap (λ n. n == 37) (class_in births f (get_or o.words 4 0) x e v) ∙ p));
 }
@@ -393,9 +393,9 @@ context_sound births f special j o g c = record {
     read : (k : ℕ) → k < length o.words → get_or (loaded_words f o.format o.words) k 0 ≡ translated f (get_or o.words k 0)
     read k h = ap (λ (ws : List ℕ). get_or ws k 0) words ∙ get_or-map (translated f) o.words k 0 0 h
 
-    at : (k : ℕ) → k < length o.words → (is_nil f (get_or o.words k 0) ≡ true) ⊎ (is_some (natural_in_word (get_or o.words k 0)) ≡ true)
-        → (get_or (loaded_words f o.format o.words) k 0 == nil_of (memory_of births f) || is_some (count_of (get_or (loaded_words f o.format o.words) k 0))) ≡ true
-    at k h d = ap (λ w. w == nil_of (memory_of births f) || is_some (count_of w)) (read k h) ∙ nil_or_count births f g.aligned g.first (get_or o.words k 0) d
+    at : (k : ℕ) → k < length o.words → (is_nil_word f (get_or o.words k 0) ≡ true) ⊎ (is_some (natural_in_word (get_or o.words k 0)) ≡ true)
+        → (get_or (loaded_words f o.format o.words) k 0 == nil_word (memory_of births f) || is_some (count_of (get_or (loaded_words f o.format o.words) k 0))) ≡ true
+    at k h d = ap (λ w. w == nil_word (memory_of births f) || is_some (count_of w)) (read k h) ∙ nil_or_count births f g.aligned g.first (get_or o.words k 0) d
 
 header_known : (r : Option ℕ) → option_map_or is_header r false ≡ true → r ≡ Some (unwrap_or r 0)
 header_known None h = absurd (cc)
@@ -408,11 +408,11 @@ header_valid (Some n) h = h
 method_from : (f : File) (j : ℕ) (o : FileObject) → is_pointer_format o.format ≡ false → option_map_or is_header (natural_in_word (slice_index o.words 0)) false ≡ true
     → literal_count (header_in_words o.words) + (cond (ltb 0 (unused_bytes o.format)) 1 0) < length o.words → IsSoundMethod (loaded f j o)
 method_from f j o p known fits =
-    let header : header_in (loaded_words f o.format o.words) ≡ header_in_words o.words = header_loaded f j o p (omega (arith, fits)) in
+    let header : method_header (loaded_words f o.format o.words) ≡ header_in_words o.words = header_loaded f j o p (omega (arith, fits)) in
     let l = length-loaded_words f o.format o.words in
     let Q : ℕ → Type 0 = λ h. literal_count h + (cond (ltb 0 (unused_bytes o.format)) 1 0) < length o.words in
-    let R : ℕ → Type 0 = λ n. literal_count (header_in (loaded_words f o.format o.words)) + (cond (ltb 0 (unused_bytes o.format)) 1 0) < n in
-    let S : ℕ → Type 0 = λ u. literal_count (header_in (loaded_words f o.format o.words)) + (cond (ltb 0 (unused_bytes u)) 1 0) < length (loaded_words f o.format o.words) in
+    let R : ℕ → Type 0 = λ n. literal_count (method_header (loaded_words f o.format o.words)) + (cond (ltb 0 (unused_bytes o.format)) 1 0) < n in
+    let S : ℕ → Type 0 = λ u. literal_count (method_header (loaded_words f o.format o.words)) + (cond (ltb 0 (unused_bytes u)) 1 0) < length (loaded_words f o.format o.words) in
     record {
       header = ap count_of (method_head f o.format o.words p (omega (arith, fits))) ∙ count_same (get_or o.words 0 0) ∙ header_known (natural_in_word (get_or o.words 0 0)) known ∙ ap Some (sym header);
       valid = ap is_header header ∙ header_valid (natural_in_word (get_or o.words 0 0)) known;
@@ -505,12 +505,12 @@ object_sound births f special j o g e = record {
 
 -- ---- the class table
 
-get_filled : (f : File) (n i : ℕ) → i < n → is_nil f (entry_in f i) ≡ false → get (classes_at f n) i ≡ Some (address_named f (entry_in f i))
+get_filled : (f : File) (n i : ℕ) → i < n → is_nil_word f (entry_in f i) ≡ false → get (classes_at f n) i ≡ Some (address_named f (entry_in f i))
 get_filled f zero i h e = absurd (omega (arith, h))
-get_filled f (suc n) i h e = go (is_nil f (entry_in f n)) refl (λ (below : i < n). get_filled f n i below e) (eqb_tells i n)
+get_filled f (suc n) i h e = go (is_nil_word f (entry_in f n)) refl (λ (below : i < n). get_filled f n i below e) (eqb_tells i n)
   where
-    go : (b : Bool) → is_nil f (entry_in f n) ≡ b → (i < n → get (classes_at f n) i ≡ Some (address_named f (entry_in f i))) → ((i == n) ≡ true) × (i ≡ n) ⊎ ((i == n) ≡ false) × (i ≢ n) → get (classes_at f (suc n)) i ≡ Some (address_named f (entry_in f i))
-    go true en rest (inl same) = let wrong : true ≡ false = sym en ∙ ap (λ k. is_nil f (entry_in f k)) (sym same.1) ∙ e in absurd (cc)
+    go : (b : Bool) → is_nil_word f (entry_in f n) ≡ b → (i < n → get (classes_at f n) i ≡ Some (address_named f (entry_in f i))) → ((i == n) ≡ true) × (i ≡ n) ⊎ ((i == n) ≡ false) × (i ≢ n) → get (classes_at f (suc n)) i ≡ Some (address_named f (entry_in f i))
+    go true en rest (inl same) = let wrong : true ≡ false = sym en ∙ ap (λ k. is_nil_word f (entry_in f k)) (sym same.1) ∙ e in absurd (cc)
     go true en rest (inr other) = rw en (rest (omega (arith, h, other.1)))
     go false en rest (inl same) = rw en (get-insert nat_cmp_total (classes_at f n) n (address_named f (entry_in f n)) i
         ∙ ap (λ k. cond (eq_by_cmp nat_cmp k n) (Some (address_named f (entry_in f n))) (get (classes_at f n) k)) same.1
@@ -523,7 +523,7 @@ get_filled f (suc n) i h e = go (is_nil f (entry_in f n)) refl (λ (below : i < 
 -- what the table has comes from an entry
 pub record FromEntry (f : File) (n i a : ℕ) : Type 0 where
   pub below : i < n
-  pub filled : is_nil f (entry_in f i) ≡ false
+  pub filled : is_nil_word f (entry_in f i) ≡ false
   pub address : a ≡ address_named f (entry_in f i)
 
 some_same : (a b : ℕ) → Some a ≡ Some b → a ≡ b
@@ -531,12 +531,12 @@ some_same a b e = cc
 
 pub from_entry : (f : File) (n i a : ℕ) → get (classes_at f n) i ≡ Some a → FromEntry f n i a
 from_entry f zero i a h = let none = get-empty {X = ℕ} nat_cmp i in absurd (cc (sym none ∙ h))
-from_entry f (suc n) i a h = go (is_nil f (entry_in f n)) refl (from_entry f n i a) (eqb_tells i n)
+from_entry f (suc n) i a h = go (is_nil_word f (entry_in f n)) refl (from_entry f n i a) (eqb_tells i n)
   where
     later : FromEntry f n i a → FromEntry f (suc n) i a
     later r = record { below = (let b = r.below in omega (arith, b)); filled = r.filled; address = r.address }
 
-    go : (b : Bool) → is_nil f (entry_in f n) ≡ b → (get (classes_at f n) i ≡ Some a → FromEntry f n i a) → ((i == n) ≡ true) × (i ≡ n) ⊎ ((i == n) ≡ false) × (i ≢ n) → FromEntry f (suc n) i a
+    go : (b : Bool) → is_nil_word f (entry_in f n) ≡ b → (get (classes_at f n) i ≡ Some a → FromEntry f n i a) → ((i == n) ≡ true) × (i ≡ n) ⊎ ((i == n) ≡ false) × (i ≢ n) → FromEntry f (suc n) i a
     go true en rest c =
         let here : classes_at f (suc n) ≡ classes_at f n = rw en refl in
         later (rest (ap (λ (m : FinMap nat_cmp ℕ). get m i) (sym here) ∙ h))
@@ -548,7 +548,7 @@ from_entry f (suc n) i a h = go (is_nil f (entry_in f n)) refl (from_entry f n i
         ∙ ap (λ b. cond b (Some (address_named f (entry_in f n))) (get (classes_at f n) n)) (ties_same n) in
         record {
           below = (let s = same.1 in omega (arith, s));
-          filled = ap (λ k. is_nil f (entry_in f k)) same.1 ∙ en;
+          filled = ap (λ k. is_nil_word f (entry_in f k)) same.1 ∙ en;
           address = let it : a ≡ address_named f (entry_in f n) = some_same _ _ (sym h ∙ got) in it ∙ ap (λ k. address_named f (entry_in f k)) (sym same.1);
         }
     go false en rest (inr other) =
@@ -559,7 +559,7 @@ from_entry f (suc n) i a h = go (is_nil f (entry_in f n)) refl (from_entry f n i
         later (rest (sym got ∙ h))
 
 -- an entry that is filled is one of the table
-entry_below : (f : File) (i : ℕ) → is_nil f (entry_in f i) ≡ false → i < table_size
+entry_below : (f : File) (i : ℕ) → is_nil_word f (entry_in f i) ≡ false → i < table_size
 unfolding entry_in
 entry_below f i e = elim (bounded i) [ inl h ↦ h | inr h ↦ absurd (past h) ]
   where
@@ -579,23 +579,23 @@ entry_below f i e = elim (bounded i) [ inl h ↦ h | inr h ↦ absurd (past h) ]
 
     past : 16384 ≤ i → ⊥
     past h =
-        let far : length (page_words f) ≤ i / 1024 = (let l = few (slice_get f.objects 4) in omega (arith, l, h)) in
-        let none : slice_get (page_words f) (i / 1024) ≡ None = slice_get_past (page_words f) (i / 1024) far in
-        let nil : is_nil f (entry_in f i) ≡ true = rw none (itself (nil_in f)) in
+        let far : length (page_addresses f) ≤ i / 1024 = (let l = few (slice_get f.objects 4) in omega (arith, l, h)) in
+        let none : slice_get (page_addresses f) (i / 1024) ≡ None = slice_get_past (page_addresses f) (i / 1024) far in
+        let nil : is_nil_word f (entry_in f i) ≡ true = rw none (itself (nil_in f)) in
         absurd (cc (sym e ∙ nil))
 
-class_filled : (f : File) (special j : ℕ) (o : FileObject) → Ground f special → slice_get (visible f) j ≡ Some o → is_nil f (entry_in f o.class) ≡ false
+class_filled : (f : File) (special j : ℕ) (o : FileObject) → Ground f special → slice_get (visible f) j ≡ Some o → is_nil_word f (entry_in f o.class) ≡ false
 unfolding bad_class
 class_filled f special j o g e =
     let s = g.sound.classes in
     let p = find_none_at (λ o. ltb o.class 4 || not (has_entry f o.class)) (visible f) j o (map_none (λ o. o.place) (find (λ o. ltb o.class 4 || not (has_entry f o.class)) (visible f)) s) e in
-    not_true (is_nil f (entry_in f o.class)) (not_false (not (is_nil f (entry_in f o.class))) (second (ltb o.class 4) (not (not (is_nil f (entry_in f o.class)))) p))
+    not_true (is_nil_word f (entry_in f o.class)) (not_false (not (is_nil_word f (entry_in f o.class))) (second (ltb o.class 4) (not (not (is_nil_word f (entry_in f o.class)))) p))
   where
     second : (a b : Bool) → (a || b) ≡ false → b ≡ false
     second true b h = absurd (cc)
     second false b h = h
 
-no_entry : (f : File) (n i : ℕ) → is_nil f (entry_in f i) ≡ true → get (classes_at f n) i ≡ None
+no_entry : (f : File) (n i : ℕ) → is_nil_word f (entry_in f i) ≡ true → get (classes_at f n) i ≡ None
 no_entry f n i nil = go (get (classes_at f n) i) refl
   where
     go : (r : Option ℕ) → get (classes_at f n) i ≡ r → get (classes_at f n) i ≡ None
@@ -633,22 +633,22 @@ table_sound births f special g =
     let t = g.table in
     let k = known_classes f t in
     let size = table_size_is in
-    let three : is_nil f (entry_in f 3) ≡ false = ap (is_nil f) k.same ∙ not_true (is_nil f (entry_in f 1)) k.integers in
+    let three : is_nil_word f (entry_in f 3) ≡ false = ap (is_nil_word f) k.same ∙ not_true (is_nil_word f (entry_in f 1)) k.integers in
     record {
       within = λ index a e. let r = from_entry f table_size index a e in let b = r.below in omega (arith, b, size);
-      zero = no_entry f table_size 0 (not_false (is_nil f (entry_in f 0)) k.zero);
-      hidden = no_entry f table_size 16 (not_false (is_nil f (entry_in f 16)) k.free);
-      integers = entry_there f table_size 1 (omega (arith, size)) (not_true (is_nil f (entry_in f 1)) k.integers);
-      characters = entry_there f table_size 2 (omega (arith, size)) (not_true (is_nil f (entry_in f 2)) k.characters);
-      contexts = entry_there f table_size 36 (omega (arith, size)) (not_true (is_nil f (entry_in f 36)) k.contexts);
-      closures = entry_there f table_size 37 (omega (arith, size)) (not_true (is_nil f (entry_in f 37)) k.closures);
+      zero = no_entry f table_size 0 (not_false (is_nil_word f (entry_in f 0)) k.zero);
+      hidden = no_entry f table_size 16 (not_false (is_nil_word f (entry_in f 16)) k.free);
+      integers = entry_there f table_size 1 (omega (arith, size)) (not_true (is_nil_word f (entry_in f 1)) k.integers);
+      characters = entry_there f table_size 2 (omega (arith, size)) (not_true (is_nil_word f (entry_in f 2)) k.characters);
+      contexts = entry_there f table_size 36 (omega (arith, size)) (not_true (is_nil_word f (entry_in f 36)) k.contexts);
+      closures = entry_there f table_size 37 (omega (arith, size)) (not_true (is_nil_word f (entry_in f 37)) k.closures);
       second = get_filled f table_size 3 (omega (arith, size)) three ∙ ap (λ w. Some (address_named f w)) k.same
-          ∙ sym (get_filled f table_size 1 (omega (arith, size)) (not_true (is_nil f (entry_in f 1)) k.integers));
+          ∙ sym (get_filled f table_size 1 (omega (arith, size)) (not_true (is_nil_word f (entry_in f 1)) k.integers));
       class = λ index a x e other at.
           let r = from_entry f table_size index a e in
-          let c = class_at f index t r.below (no_test index 3 other) r.filled in
+          let c = class_is_at f index t r.below (no_test index 3 other) r.filled in
           let here = at_named births f (entry_in f index) c.class c.named_is c.visible_is in
-          let same = some_object _ x (sym here ∙ ap (object_at (memory_of births f)) (sym r.address) ∙ at) in
+          let same = some_object _ x (sym here ∙ ap (heap_object (memory_of births f)) (sym r.address) ∙ at) in
           subst (IsSoundClass index) same (class_sound f _ index c);
     }
   where
@@ -659,18 +659,18 @@ table_sound births f special g =
 array_sound : (births : List ℕ) (f : File) (special : ℕ) → is_bad_roots f special ≡ false → IsSpecialArray (memory_of births f) (address_named f special)
 unfolding is_bad_roots
 array_sound births f special h =
-    let r = passes_some (is_process f) (active_process_in f special) (not_false _ h) in
+    let r = passes_some (is_process_word f) (active_process_in f special) (not_false _ h) in
     let a = and_then_some (λ (sp : List ℕ). option_and_then (λ (link : List ℕ). option_map (λ (scheduler : List ℕ). get_or scheduler 1 0) (fields_in f 2 (get_or link 1 0))) (fields_in f 2 (get_or sp 3 0))) (special_in f special) r.0 r.1 in
     let o = and_then_some (λ (x : FileObject). cond (x.format == 2) (fields_of 51 x) None) (named f special) a.0 a.1 in
-    go o.0 o.1 (o.0.format == 2) refl (is_visible o.0 && is_pointer_format o.0.format && not (fault.is_context o.0) && leb 51 (length o.0.words)) refl o.2
+    go o.0 o.1 (o.0.format == 2) refl (is_visible o.0 && is_pointer_format o.0.format && not (fault.is_file_context o.0) && leb 51 (length o.0.words)) refl o.2
   where
     least : (n : ℕ) → leb 51 n ≡ true → 51 ≤ n
     least n h = grind (arith, nat_tests, h)
 
-    go : (x : FileObject) → named f special ≡ Some x → (b : Bool) → (x.format == 2) ≡ b → (d : Bool) → (is_visible x && is_pointer_format x.format && not (fault.is_context x) && leb 51 (length x.words)) ≡ d
+    go : (x : FileObject) → named f special ≡ Some x → (b : Bool) → (x.format == 2) ≡ b → (d : Bool) → (is_visible x && is_pointer_format x.format && not (fault.is_file_context x) && leb 51 (length x.words)) ≡ d
         → {ws : List ℕ} → cond b (cond d (Some x.words) None) None ≡ Some ws → IsSpecialArray (memory_of births f) (address_named f special)
     go x e true eb true ed h =
-        let p = and_true (is_visible x && is_pointer_format x.format && not (fault.is_context x)) (leb 51 (length x.words)) ed in
+        let p = and_true (is_visible x && is_pointer_format x.format && not (fault.is_file_context x)) (leb 51 (length x.words)) ed in
         let q = and_true (is_visible x && is_pointer_format x.format) _ p.0 in
         let v = (and_true (is_visible x) _ q.0).0 in
         let l = slots_in births f special x e v in
@@ -703,7 +703,7 @@ singles_at : (f : File) (s : Firsts f) (k : ℕ) (o : FileObject) → slice_get 
 unfolding visible
 singles_at f s k o e h = s.singles k o (ap (λ (xs : List FileObject). slice_get (filter is_visible xs) k) (sym s.objects) ∙ e) h
 
-pub memory_sound : (births : List ℕ) (f : File) (special next : ℕ) → Ground f special → AreBirths births (length (visible f)) next → IsSound (memory_of births f)
+pub memory_sound : (births : List ℕ) (f : File) (special next : ℕ) → Ground f special → AreBirths births (length (visible f)) next → AreSoundObjects (memory_of births f)
 memory_sound births f special next g known = record {
   apart = apart births f next known;
   each = λ k x e. let a = loaded_at births f k x e in let P : Object → Type 0 = IsSoundObject (memory_of births f) in subst P a.is (object_sound births f special k a.o g a.there);

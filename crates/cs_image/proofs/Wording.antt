@@ -17,7 +17,7 @@ use Rattle.cs_heap.specs.Object.{Object, base, header_address, size}
 use Rattle.cs_classes.specs.Meaning.{ref_of, count_of, count_of_kind}
 use Rattle.cs_classes.specs.Sound.{is_reference}
 use Rattle.cs_classes.proofs.Refs.{ref_of-object, is_reference-object}
-use Rattle.cs_image.specs.Loading.{number_of, addresses_of, address_named, translated, refers, loaded_word, loaded_from}
+use Rattle.cs_image.specs.Loading.{number_that, addresses_of, address_named, translated, refers, loaded_word, loaded_from}
 use Rattle.cs_image.proofs.Naming.{Stands, stands_named, stands_there, birth_of-named}
 
 -- the objects that a file becomes, with these births
@@ -128,7 +128,7 @@ even_addresses (o ∷ os) used k = go (is_visible o) k (even_addresses os)
 
 even_address : (f : File) (word : ℕ) → address_named f word % 2 ≡ 0
 unfolding address_named
-even_address f word = go (number_of (λ o. address_in f o == word) f.objects)
+even_address f word = go (number_that (λ o. address_in f o == word) f.objects)
   where
     go : (r : Option ℕ) → option_map_or (λ k. slice_index (addresses_of f.objects 0) k) r 0 % 2 ≡ 0
     go None = refl

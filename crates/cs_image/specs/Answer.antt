@@ -2,7 +2,7 @@
 use Rattle.std.specs.Prelude.{◌≡◌, ℕ, List, [], ◌∷◌, Option, Some, None, Result, Ok, Err, ⊤}
 use Rattle.cs_model.specs.Image.{at_word, first_of, when}
 use Rattle.cs_model.specs.ImageFile.{File}
-use Rattle.cs_model.specs.ImageFault.{ImageFault, is_too_long, is_short, is_bad_format, is_bad_header_size, is_bad_profile, is_bad_length}
+use Rattle.cs_model.specs.ImageFault.{ImageFault, is_long_file, is_short, is_bad_format, is_bad_header_size, is_bad_profile, is_bad_length}
 use Rattle.cs_model.specs.ImageFault.{is_bad_table, bad_ref, bad_class, bad_context, is_bad_roots}
 use Rattle.cs_model.specs.ImageFault as fault
 use Rattle.cs_image.specs.declared.error.ImageError.{ImageError}
@@ -31,7 +31,7 @@ Tells first P (Err error.NoMemory) = ⊤
 -- the faults of the header, which come first
 abbrev pub header_fault : List ℕ → Option ImageFault
 header_fault bytes = first_of (
-    when (is_too_long bytes) fault.TooLong
+    when (is_long_file bytes) fault.TooLong
     ∷ when (is_short bytes) fault.Short
     ∷ when (is_bad_format bytes) fault.BadFormat
     ∷ when (is_bad_header_size bytes) fault.BadHeaderSize

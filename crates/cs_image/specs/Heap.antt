@@ -8,8 +8,8 @@ use Rattle.cs_image.specs.declared.file.Placed.{Placed}
 use Rattle.cs_image.specs.declared.file.FileHeap.TheInside.{Inside}
 
 -- the object that lies there in these words
-abbrev pub object_of : List ℕ → Placed → FileObject
-object_of heap o = record {
+abbrev pub placed_object : List ℕ → Placed → FileObject
+placed_object heap o = record {
   first = o.first;
   place = o.place;
   class = o.class;
@@ -36,7 +36,7 @@ abbrev pub is_faulty : Option FileObject → Bool
 is_faulty o = option_map_or (λ x. stands x && not (is_well_formed x)) o true
 
 abbrev pub file_in : Inside → File
-file_in h = record { base = h.base; objects = map (object_of h.words.items) h.objects.items }
+file_in h = record { base = h.base; objects = map (placed_object h.words.items) h.objects.items }
 
 -- The objects lie within the heap, their class indices and hashes fit a header, and they are well formed. Their numbers,
 -- counted from 1, stand at their headers' places
@@ -46,7 +46,7 @@ pub record IsIndexed (heap : List ℕ) (objects : List Placed) (starts : List �
   pub within : (k : ℕ) (o : Placed) → slice_get objects k ≡ Some o → o.place + 2 + o.slots ≤ length heap
   pub class : (k : ℕ) (o : Placed) → slice_get objects k ≡ Some o → o.class < 2 ^ 22
   pub hash : (k : ℕ) (o : Placed) → slice_get objects k ≡ Some o → o.hash < 2 ^ 22
-  pub well_formed : (k : ℕ) (o : Placed) → slice_get objects k ≡ Some o → is_well_formed (object_of heap o) ≡ true
+  pub well_formed : (k : ℕ) (o : Placed) → slice_get objects k ≡ Some o → is_well_formed (placed_object heap o) ≡ true
   pub found : (k : ℕ) (o : Placed) → slice_get objects k ≡ Some o → slice_index starts o.place ≡ k + 1
   pub only : (place k : ℕ) → slice_index starts place ≡ k + 1 → option_map (λ o. o.place) (slice_get objects k) ≡ Some place
 

@@ -12,9 +12,9 @@ use Rattle.cs_model.specs.ImageFault.{has_entry, entry_in}
 use Rattle.cs_heap.specs.Object.{Object, base, header_address, no_flags, size}
 
 -- which element passes first
-abbrev pub number_of : {X : Type 0} → (X → Bool) → List X → Option ℕ
-number_of passes [] = None
-number_of passes (x ∷ xs) = if passes x then Some 0 else option_map suc (number_of passes xs)
+abbrev pub number_that : {X : Type 0} → (X → Bool) → List X → Option ℕ
+number_that passes [] = None
+number_that passes (x ∷ xs) = if passes x then Some 0 else option_map suc (number_that passes xs)
 
 -- The addresses in memory of these objects of a file, where so many words are used already. A hidden object has none, and
 -- stands with 0.
@@ -26,7 +26,7 @@ addresses_of (o ∷ objects) used = if is_visible o
 
 -- the address in memory of the object that a word names
 unfoldable pub address_named : File → ℕ → ℕ
-address_named f word = option_map_or (λ k. slice_index (addresses_of f.objects 0) k) (number_of (λ o. address_in f o == word) f.objects) 0
+address_named f word = option_map_or (λ k. slice_index (addresses_of f.objects 0) k) (number_that (λ o. address_in f o == word) f.objects) 0
 
 -- the word of memory for a word of the file that may name an object
 abbrev pub translated : File → ℕ → ℕ
@@ -41,9 +41,9 @@ unfoldable pub loaded_word : File → ℕ → List ℕ → ℕ → ℕ
 loaded_word f format words i = if refers format words i then translated f (slice_index words i) else slice_index words i
 
 -- the first n elements written one by one
-abbrev pub written : ℕ → (ℕ → ℕ) → List ℕ → List ℕ
-written zero value xs = xs
-written (suc i) value xs = slice_set (written i value xs) i (value i)
+abbrev pub values_written : ℕ → (ℕ → ℕ) → List ℕ → List ℕ
+values_written zero value xs = xs
+values_written (suc i) value xs = slice_set (values_written i value xs) i (value i)
 
 -- an object of the file as it stands in memory, with this birth; a context is never read-only
 abbrev pub loaded : File → ℕ → FileObject → Object

@@ -5,7 +5,7 @@ ghost use Rattle.cs_model.specs.Image.{at_word, when};
 ghost use Rattle.cs_model.specs.ImageFault as fault;
 ghost use Rattle.cs_model.specs.ImageFault.{bad_class, bad_context, bad_ref, is_bad_format, is_bad_header_size};
 ghost use Rattle.cs_model.specs.ImageFault.{is_bad_length, is_bad_profile, is_bad_roots, is_bad_table, is_short};
-ghost use Rattle.cs_model.specs.ImageFault.{is_too_long};
+ghost use Rattle.cs_model.specs.ImageFault.{is_long_file};
 ghost use Rattle.cs_image.specs.Answer.{Tells, header_fault, objects_fault};
 
 use crate::context::bad_context_place;
@@ -31,7 +31,7 @@ pub(crate) fn check_header(bytes: &[u8]) -> Result<(), ImageError>
 
 /// A file has at most 536,870,912 bytes.
 fn check_most(bytes: &[u8]) -> Result<(), ImageError>
-    ensures { Tells (when (is_too_long bytes.now) fault.TooLong) (λ _. ⊤) result }
+    ensures { Tells (when (is_long_file bytes.now) fault.TooLong) (λ _. ⊤) result }
 {
     if bytes.len() > 536_870_912 {
         return Err(ImageError::TooLong);

@@ -1,8 +1,8 @@
 //! The contexts of a file.
 
 ghost use Rattle.std.specs.Prelude.{◌≡◌, ◌<◌, ◌≤◌, ◌+◌, ◌-◌, ◌^◌, ◌==◌, ◌||◌, ◌&&◌, not, IfSome, length};
-ghost use Rattle.cs_model.specs.ImageFile.{is_nil, is_visible, names};
-ghost use Rattle.cs_model.specs.ImageFault.{bad_context, is_context, is_method, is_pc_of, is_sound_context, is_stackp};
+ghost use Rattle.cs_model.specs.ImageFile.{is_nil_word, is_visible, names};
+ghost use Rattle.cs_model.specs.ImageFault.{bad_context, is_file_context, is_file_method, is_pc_of, is_sound_context, is_stackp};
 ghost use Rattle.cs_image.specs.Heap.{seen};
 
 use crate::cut::word_at;
@@ -12,7 +12,7 @@ use cs_classes::CONTEXT_CLASS;
 
 /// Whether a sender is nil or a context.
 fn is_sender(file: &FileHeap, word: u32) -> bool
-    ensures { result ≡ (is_nil file.now word || names file.now is_context word) }
+    ensures { result ≡ (is_nil_word file.now word || names file.now is_file_context word) }
 {
     if file.is_nil(word) {
         return true;
@@ -25,7 +25,7 @@ fn is_sender(file: &FileHeap, word: u32) -> bool
 
 /// Whether a pc is nil, or a SmallInteger that lies in the method.
 fn is_pc_or_nil(file: &FileHeap, word: u32, method: u32) -> bool
-    ensures { result ≡ (is_nil file.now word || names file.now (is_pc_of word) method) }
+    ensures { result ≡ (is_nil_word file.now word || names file.now (is_pc_of word) method) }
 {
     if file.is_nil(word) {
         return true;
@@ -49,7 +49,7 @@ fn is_pc_in(o: &FileObject<'_>, word: u32) -> bool
 
 /// Whether a stackp is nil, or a SmallInteger up to the context's size.
 fn is_stackp_or_nil(file: &FileHeap, word: u32, size: usize) -> bool
-    ensures { result ≡ (is_nil file.now word || is_stackp size word) }
+    ensures { result ≡ (is_nil_word file.now word || is_stackp size word) }
 {
     if file.is_nil(word) {
         return true;
@@ -62,7 +62,7 @@ fn is_stackp_or_nil(file: &FileHeap, word: u32, size: usize) -> bool
 
 /// Whether a context's method is nil or a method.
 fn is_method_or_nil(file: &FileHeap, word: u32) -> bool
-    ensures { result ≡ (is_nil file.now word || names file.now is_method word) }
+    ensures { result ≡ (is_nil_word file.now word || names file.now is_file_method word) }
 {
     if file.is_nil(word) {
         return true;
@@ -75,7 +75,7 @@ fn is_method_or_nil(file: &FileHeap, word: u32) -> bool
 
 /// Whether a context's closure is nil or of class index 37.
 fn is_closure_or_nil(file: &FileHeap, word: u32) -> bool
-    ensures { result ≡ (is_nil file.now word || names file.now (λ c. c.class == 37) word) }
+    ensures { result ≡ (is_nil_word file.now word || names file.now (λ c. c.class == 37) word) }
 {
     if file.is_nil(word) {
         return true;
@@ -102,7 +102,7 @@ fn is_sound(file: &FileHeap, o: &FileObject<'_>) -> bool
 
 /// Whether an object has class index 36 and isn't what a context is.
 fn is_bad(file: &FileHeap, o: &FileObject<'_>) -> bool
-    ensures { result ≡ (is_visible (seen o.now) && (is_context (seen o.now)
+    ensures { result ≡ (is_visible (seen o.now) && (is_file_context (seen o.now)
         && not (is_sound_context file.now (seen o.now)))) }
 {
     o.class == CONTEXT_CLASS && !is_sound(file, o)

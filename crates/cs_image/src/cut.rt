@@ -9,7 +9,7 @@ ghost use Rattle.cs_model.specs.ImageFile.{cut_of, stands};
 ghost use Rattle.cs_model.specs.ImageFault.{bad_object};
 ghost use Rattle.cs_model.specs.ImageFault as fault;
 ghost use Rattle.cs_model.specs.Image.{at_word};
-ghost use Rattle.cs_image.specs.Heap.{object_of, is_faulty};
+ghost use Rattle.cs_image.specs.Heap.{placed_object, is_faulty};
 ghost use Rattle.cs_image.specs.Answer.{Tells};
 
 use crate::error::ImageError;
@@ -46,7 +46,7 @@ fn end_at(place: u32, slots: u64) -> u64
 fn object_within(words: &[u32], first: u32, place: u32, slots: u64) -> Option<Placed>
     requires size { length words.now ≤ 2 ^ 27 }
     requires slots { slots < 2 ^ 56 }
-    ensures value { option_map (object_of words.now) result ≡ object_within_of words.now first place slots }
+    ensures value { option_map (placed_object words.now) result ≡ object_within_of words.now first place slots }
     ensures class { IfSome result (λ o. o.class < 2 ^ 22) }
     ensures hash { IfSome result (λ o. o.hash < 2 ^ 22) }
     ensures within { IfSome result (λ o. end_of o.place o.slots ≤ length words.now) }
@@ -70,7 +70,7 @@ fn object_within(words: &[u32], first: u32, place: u32, slots: u64) -> Option<Pl
 /// The slots of an object.
 pub(crate) fn slots_of<'a>(words: &'a [u32], o: &Placed) -> &'a [u32]
     requires { o.now.place + 2 + o.now.slots ≤ length words.now }
-    ensures { result.now ≡ (object_of words.now o.now).words }
+    ensures { result.now ≡ (placed_object words.now o.now).words }
 {
     let from = o.place as usize + 2;
     &words[from..from + o.slots as usize]
@@ -81,7 +81,7 @@ pub(crate) fn slots_of<'a>(words: &'a [u32], o: &Placed) -> &'a [u32]
 fn object_at(words: &[u32], first: u32) -> Option<Placed>
     requires size { length words.now ≤ 2 ^ 27 }
     requires first { first < length words.now }
-    ensures value { option_map (object_of words.now) result ≡ object_from words.now first }
+    ensures value { option_map (placed_object words.now) result ≡ object_from words.now first }
     ensures class { IfSome result (λ o. o.class < 2 ^ 22) }
     ensures hash { IfSome result (λ o. o.hash < 2 ^ 22) }
     ensures within { IfSome result (λ o. end_of o.place o.slots ≤ length words.now) }
@@ -103,7 +103,7 @@ fn object_at(words: &[u32], first: u32) -> Option<Placed>
 fn sound_object_at(words: &[u32], first: u32) -> Option<Placed>
     requires size { length words.now ≤ 2 ^ 27 }
     requires first { first < length words.now }
-    ensures value { IfSome result (λ o. Some (object_of words.now o) ≡ object_from words.now first) }
+    ensures value { IfSome result (λ o. Some (placed_object words.now o) ≡ object_from words.now first) }
     ensures class { IfSome result (λ o. o.class < 2 ^ 22) }
     ensures hash { IfSome result (λ o. o.hash < 2 ^ 22) }
     ensures fault { is_none result ≡ is_faulty (object_from words.now first) }

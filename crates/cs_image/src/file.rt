@@ -2,7 +2,7 @@
 
 ghost use Rattle.std.specs.Prelude.{◌≡◌, ◌<◌, ◌≤◌, ◌+◌, ◌*◌, ◌^◌, ◌==◌, true, IfSome, length, option_map, slice_get};
 ghost use Rattle.std.specs.Prelude.{take, drop};
-ghost use Rattle.cs_model.specs.ImageFile.{address_in, is_nil, named, nil_in};
+ghost use Rattle.cs_model.specs.ImageFile.{address_in, is_nil_word, named, nil_in};
 ghost use Rattle.cs_model.specs.ImageFault.{is_body, unless_nil};
 
 use crate::cut::{slots_of, word_at};
@@ -70,7 +70,7 @@ impl Model for FileHeap {
 
 impl FileHeap {
     ghost use Rattle.cs_image.specs.Heap.{seen};
-    ghost use Rattle.cs_image.specs.Loading.{number_of};
+    ghost use Rattle.cs_image.specs.Loading.{number_that};
 
     /// How many objects there are.
     pub(crate) fn len(&self) -> usize
@@ -114,7 +114,7 @@ impl FileHeap {
 
     /// The number of the object that a word names, counted from 0.
     pub(crate) fn number_named(&self, word: u32) -> Option<usize>
-        ensures { result ≡ number_of (λ o. address_in self.now o == word) self.now.objects }
+        ensures { result ≡ number_that (λ o. address_in self.now o == word) self.now.objects }
     {
         if word < self.base || (word - self.base) % 4 != 0 {
             return None;
@@ -150,7 +150,7 @@ impl FileHeap {
 
     /// Whether a word is the address of nil.
     pub(crate) fn is_nil(&self, word: u32) -> bool
-        ensures { result ≡ is_nil self.now word }
+        ensures { result ≡ is_nil_word self.now word }
     {
         word == self.nil()
     }

@@ -27,7 +27,7 @@ ghost use Rattle.cs_model.specs.ImageFile.{births_in};
 ghost use Rattle.cs_model.specs.ImageFile.{file_of, visible, words_in, cut_of, special_address, last_hash_in};
 ghost use Rattle.cs_model.specs.ImageFault as fault;
 ghost use Rattle.cs_model.specs.ImageFault.{bad_object, is_over, table_size};
-ghost use Rattle.cs_model.specs.Image.{at_word, fault_of, image_of};
+ghost use Rattle.cs_model.specs.Image.{at_word, image_fault, image_of};
 ghost use Rattle.cs_model.specs.Due.{is_idle};
 ghost use Rattle.std.specs.FinMap.{get};
 ghost use Rattle.cs_model.specs.Context.{closure_class};
@@ -115,7 +115,7 @@ fn build(
 pub fn load(alloc: Global, bytes: &[u8], limit_words: u32) -> Result<Loaded, ImageError>
     requires least { 4096 ≤ limit_words }
     requires most { limit_words ≤ 67108864 }
-    ensures fault { Tells (fault_of bytes.now limit_words) (λ _. ⊤) result }
+    ensures fault { Tells (image_fault bytes.now limit_words) (λ _. ⊤) result }
     ensures state { IfOk result (λ l. image_of bytes.now limit_words ≡ Ok
         (kept_of l.heap.objects l.classes l.roots None)) }
     ensures opens { IfOk result (λ l. is_idle (kept_of l.heap.objects l.classes l.roots None) ≡ false

@@ -3,7 +3,7 @@
 ghost use Rattle.std.specs.Prelude.{◌≡◌, ◌<◌, option_map};
 ghost use Rattle.cs_model.specs.ImageFile.{names};
 ghost use Rattle.cs_model.specs.ImageFault.{active_process_in, fields_in, fields_of, is_bad_roots, is_live_context};
-ghost use Rattle.cs_model.specs.ImageFault.{is_process, special_in};
+ghost use Rattle.cs_model.specs.ImageFault.{is_process_word, special_in};
 ghost use Rattle.cs_image.specs.Heap.{seen};
 
 use crate::cut::word_at;
@@ -64,7 +64,7 @@ fn is_live(file: &FileHeap, word: u32) -> bool
 
 /// Whether a word is nil or a process with a live context.
 fn is_process_or_nil(file: &FileHeap, word: u32) -> bool
-    ensures { result ≡ is_process file.now word }
+    ensures { result ≡ is_process_word file.now word }
 {
     if file.is_nil(word) {
         return true;

@@ -5,7 +5,7 @@ ghost use Rattle.std.specs.List.{list_all};
 ghost use Rattle.cs_model.specs.ImageFile.{is_hidden, names};
 ghost use Rattle.cs_model.specs.ImageFault.{begins_well, entry_in, has_entry, has_known_classes, has_object};
 ghost use Rattle.cs_model.specs.ImageFault.{is_bad_table, is_class};
-ghost use Rattle.cs_model.specs.ImageFault.{is_oddball, is_page, is_sound_entry, page_words, table_size, all_below};
+ghost use Rattle.cs_model.specs.ImageFault.{is_oddball, is_page, is_sound_entry, page_addresses, table_size, all_below};
 ghost use Rattle.cs_model.specs.ImageFault.{unless_nil};
 ghost use Rattle.cs_image.specs.Heap.{seen};
 
@@ -49,7 +49,7 @@ fn starts_well(file: &FileHeap) -> bool
 
 /// The pages of the class table, as words.
 fn pages(file: &FileHeap) -> &[u32]
-    ensures { result.now ≡ page_words file.now }
+    ensures { result.now ≡ page_addresses file.now }
 {
     match file.get(4) {
         Some(root) => &root.words[..root.words.len().min(16)],
@@ -72,7 +72,7 @@ fn is_page_or_nil(file: &FileHeap, word: u32) -> bool
 
 /// Whether all pages are as they should be.
 fn are_pages(file: &FileHeap) -> bool
-    ensures { result ≡ list_all (is_page file.now) (page_words file.now) }
+    ensures { result ≡ list_all (is_page file.now) (page_addresses file.now) }
 {
     pages(file).iter().all(|word| is_page_or_nil(file, *word))
 }
@@ -90,7 +90,7 @@ pub(crate) fn entry(file: &FileHeap, index: u32) -> u32
 
 /// A page of the class table by its number.
 fn page(file: &FileHeap, number: u32) -> Option<FileObject<'_>>
-    ensures { option_map seen result ≡ option_and_then (unless_nil file.now) (slice_get (page_words file.now) number) }
+    ensures { option_map seen result ≡ option_and_then (unless_nil file.now) (slice_get (page_addresses file.now) number) }
 {
     let pages = pages(file);
     if (number as usize) < pages.len() {

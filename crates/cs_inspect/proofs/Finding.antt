@@ -7,22 +7,23 @@ use Rattle.std.specs.FinMap.{FinMap}
 use Rattle.std.proofs.lemmas.Bool.{false≢true, leb-false, lt-ltb, ltb-false, ltb-true}
 use Rattle.std.proofs.lemmas.List.{length-map}
 use Rattle.std.proofs.lemmas.Option.{slice_get-get_or, slice_get-map, slice_get_past}
+use Rattle.cs_model.specs.Words.{small_value}
 use Rattle.cs_word.specs.declared.Kind.{Kind}
 use Rattle.cs_word.specs.declared.Kind.TheVariants as kind
-use Rattle.cs_word.specs.Word.{kind_of, small_value}
+use Rattle.cs_word.specs.Word.{kind_of}
 use Rattle.cs_heap.specs.Format.{is_pointers}
-use Rattle.cs_heap.specs.Object.{Object, class_of, format_of, index_of, is_object, object_at, slot_count_of, slot_of}
+use Rattle.cs_heap.specs.Object.{Object, class_at, format_at, object_place, is_object, heap_object, slot_count_of, slot_of}
 use Rattle.cs_model.specs.Obj.{Obj, at_least, slots_in}
 use Rattle.cs_model.specs.Ref.{Ref}
 use Rattle.cs_model.specs.State.{Kept, active_process, object_of, scheduler_of, slots_of, special_at}
 use Rattle.cs_classes.specs.declared.Roots.{Roots}
-use Rattle.cs_classes.specs.Meaning.{is_context, kept_of, meaning_at, obj_of, ref_of, ref_of_kind}
-use Rattle.cs_classes.specs.Sound.{IsSound, IsWhole, is_reference, is_reference_kind}
+use Rattle.cs_classes.specs.Meaning.{is_heap_context, kept_of, meaning_at, obj_of, ref_of, ref_of_kind}
+use Rattle.cs_classes.specs.Sound.{AreSoundObjects, IsWhole, is_reference, is_reference_kind}
 use Rattle.cs_classes.proofs.Objects.{get-objects_of}
 use Rattle.cs_classes.proofs.Refs.{ref_of-object}
 use Rattle.cs_classes.proofs.Sorts.{AContext, AMethod, Bytes, Pointers, Sort, obj_of-bytes, obj_of-context, obj_of-method, obj_of-pointers, references-pointers, sort_of}
 use Rattle.cs_word.specs.declared.Oop.{Oop}
-use Rattle.cs_inspect.specs.Reading.{field_at, has_field_at, ref_option}
+use Rattle.cs_inspect.specs.Reading.{field_seen, has_field_at, ref_option}
 use Rattle.cs_inspect.proofs.Reading.{There, there}
 
 -- the kind of an address is itself
@@ -35,8 +36,8 @@ kind_of_address w a e = go (w % 2 == 1) (w % 4 == 2) (w % 8 == 0) (small_value w
     go false false true z y e = cc
     go false false false z y e = cc
 
-pub no_object : (os : List Object) (a : ℕ) → is_object os a ≡ false → object_at os a ≡ None
-no_object os a h = go (index_of os a) h
+pub no_object : (os : List Object) (a : ℕ) → is_object os a ≡ false → heap_object os a ≡ None
+no_object os a h = go (object_place os a) h
   where
     go : (i : Option ℕ) → is_some i ≡ false → option_and_then (slice_get os) i ≡ None
     go None e = refl
@@ -46,13 +47,13 @@ no_object os a h = go (index_of os a) h
 
 -- a pointer object, which no context is, has the field, and it is a reference
 pub record HasField (os : List Object) (a i : ℕ) : Type 0 where
-  pub value : field_at os a i ≡ Some (ref_of os (slot_of os a i))
+  pub value : field_seen os a i ≡ Some (ref_of os (slot_of os a i))
   pub reference : is_reference os (slot_of os a i) ≡ true
 
-pub has_field : (os : List Object) (a i : ℕ) → IsSound os → is_object os a ≡ true → (class_of os a == 36) ≡ false → is_pointers (format_of os a) ≡ true → i < slot_count_of os a → HasField os a i
+pub has_field : (os : List Object) (a i : ℕ) → AreSoundObjects os → is_object os a ≡ true → (class_at os a == 36) ≡ false → is_pointers (format_at os a) ≡ true → i < slot_count_of os a → HasField os a i
 has_field os a i sound h c p l =
     let t = there os a sound h in
-    let other : is_context t.x ≡ false = ap (λ (n : ℕ). n == 36) (sym t.class) ∙ c in
+    let other : is_heap_context t.x ≡ false = ap (λ (n : ℕ). n == 36) (sym t.class) ∙ c in
     let pointers : is_pointers t.x.format ≡ true = ap is_pointers (sym t.format) ∙ p in
     let less : i < length t.x.words = omega (arith, l, t.count) in
     let all : AllPass (is_reference os) t.x.words = subst (AllPass (is_reference os)) (references-pointers t.x other pointers) t.sound.references in
@@ -65,7 +66,7 @@ has_field os a i sound h c p l =
     }
 
 -- whatever fails the test has none
-pub no_field : (os : List Object) (a i : ℕ) → IsSound os → (is_object os a ≡ true → (class_of os a == 36) ≡ false → is_pointers (format_of os a) ≡ true → i < slot_count_of os a → ⊥) → field_at os a i ≡ None
+pub no_field : (os : List Object) (a i : ℕ) → AreSoundObjects os → (is_object os a ≡ true → (class_at os a == 36) ≡ false → is_pointers (format_at os a) ≡ true → i < slot_count_of os a → ⊥) → field_seen os a i ≡ None
 no_field os a i sound fails = go (is_object os a) refl
   where
     at : (t : There os a) → is_object os a ≡ true → Sort t.x → option_and_then (λ (slots : List Ref). slice_get slots i) (slots_in (Some (obj_of (ref_of os) t.x))) ≡ None
@@ -83,7 +84,7 @@ no_field os a i sound fails = go (is_object os a) refl
     at t h (AMethod o p m) = ap (λ (q : Obj). option_and_then (λ (slots : List Ref). slice_get slots i) (slots_in (Some q))) (obj_of-method (ref_of os) t.x o p m)
     at t h (Bytes o p m) = ap (λ (q : Obj). option_and_then (λ (slots : List Ref). slice_get slots i) (slots_in (Some q))) (obj_of-bytes (ref_of os) t.x o p m)
 
-    go : (b : Bool) → is_object os a ≡ b → field_at os a i ≡ None
+    go : (b : Bool) → is_object os a ≡ b → field_seen os a i ≡ None
     go true h =
         let t = there os a sound h in
         ap (λ (o : Option Object). option_and_then (λ (slots : List Ref). slice_get slots i) (slots_in (option_map (obj_of (ref_of os)) o))) t.at ∙ at t h (sort_of t.x)
@@ -122,28 +123,28 @@ module _ (os : List Object) (table : FinMap nat_cmp ℕ) (roots : Roots) (w : Is
       go true e = refl
       go false e = sym (slice_get_past slots 1 (omega (arith, leb-false 2 (length slots) e)))
 
-  pub link_is : special_at k 3 ≡ field_at os roots.special.0 3
+  pub link_is : special_at k 3 ≡ field_seen os roots.special.0 3
   unfolding special_at
   link_is = ap (λ (o : Option Obj). option_and_then (λ (slots : List Ref). slice_get slots 3) (slots_in o)) (get-objects_of os roots.special.0 w.heap w.special)
 
-  slot_one : (a : ℕ) → is_reference os a ≡ true → option_and_then (λ (slots : List Ref). slice_get slots 1) (slots_of k 2 (ref_of os a)) ≡ field_at os a 1
+  slot_one : (a : ℕ) → is_reference os a ≡ true → option_and_then (λ (slots : List Ref). slice_get slots 1) (slots_of k 2 (ref_of os a)) ≡ field_seen os a 1
   unfolding slots_of
   slot_one a r = second (slots_in (object_of k (ref_of os a))) ∙ ap (λ (o : Option Obj). option_and_then (λ (slots : List Ref). slice_get slots 1) (slots_in o)) (named a r)
 
-  pub no_link : field_at os roots.special.0 3 ≡ None → active_process k ≡ None
+  pub no_link : field_seen os roots.special.0 3 ≡ None → active_process k ≡ None
   unfolding active_process scheduler_of
   no_link e = ap (λ (o : Option Ref). option_and_then (λ s. option_and_then (λ (slots : List Ref). slice_get slots 1) (slots_of k 2 s)) (option_and_then (λ s. option_and_then (λ (slots : List Ref). slice_get slots 1) (slots_of k 2 s)) o)) (link_is ∙ e)
 
-  scheduler_is : (a : ℕ) → field_at os roots.special.0 3 ≡ Some (ref_of os a) → is_reference os a ≡ true → scheduler_of k ≡ field_at os a 1
+  scheduler_is : (a : ℕ) → field_seen os roots.special.0 3 ≡ Some (ref_of os a) → is_reference os a ≡ true → scheduler_of k ≡ field_seen os a 1
   unfolding scheduler_of
   scheduler_is a e r = ap (λ (o : Option Ref). option_and_then (λ s. option_and_then (λ (slots : List Ref). slice_get slots 1) (slots_of k 2 s)) o) (link_is ∙ e) ∙ slot_one a r
 
-  pub no_scheduler : (a : ℕ) → field_at os roots.special.0 3 ≡ Some (ref_of os a) → is_reference os a ≡ true → field_at os a 1 ≡ None → active_process k ≡ None
+  pub no_scheduler : (a : ℕ) → field_seen os roots.special.0 3 ≡ Some (ref_of os a) → is_reference os a ≡ true → field_seen os a 1 ≡ None → active_process k ≡ None
   unfolding active_process
   no_scheduler a e r f = ap (λ (o : Option Ref). option_and_then (λ s. option_and_then (λ (slots : List Ref). slice_get slots 1) (slots_of k 2 s)) o) (scheduler_is a e r ∙ f)
 
-  pub process_is : (a b : ℕ) → field_at os roots.special.0 3 ≡ Some (ref_of os a) → is_reference os a ≡ true → field_at os a 1 ≡ Some (ref_of os b) → is_reference os b ≡ true
-      → active_process k ≡ field_at os b 1
+  pub process_is : (a b : ℕ) → field_seen os roots.special.0 3 ≡ Some (ref_of os a) → is_reference os a ≡ true → field_seen os a 1 ≡ Some (ref_of os b) → is_reference os b ≡ true
+      → active_process k ≡ field_seen os b 1
   unfolding active_process
   process_is a b e r f s = ap (λ (o : Option Ref). option_and_then (λ s. option_and_then (λ (slots : List Ref). slice_get slots 1) (slots_of k 2 s)) o) (scheduler_is a e r ∙ f) ∙ slot_one b s
 
@@ -164,11 +165,11 @@ parts false b c d h = absurd (false≢true h)
 whole : (a b c d : Bool) → a ≡ true → b ≡ false → c ≡ true → d ≡ true → (a && not b && c && d) ≡ true
 whole a b c d e f g h = rw (e, f, g, h) refl
 
-pub field_found : (os : List Object) (a i : ℕ) → IsSound os → has_field_at os a i ≡ true → HasField os a i
+pub field_found : (os : List Object) (a i : ℕ) → AreSoundObjects os → has_field_at os a i ≡ true → HasField os a i
 field_found os a i sound h =
-    let p = parts (is_object os a) (class_of os a == 36) (is_pointers (format_of os a)) (nat_lt i (slot_count_of os a)) h in
+    let p = parts (is_object os a) (class_at os a == 36) (is_pointers (format_at os a)) (nat_lt i (slot_count_of os a)) h in
     has_field os a i sound p.0 p.1 p.2 (ltb-true i (slot_count_of os a) p.3)
 
-pub field_missing : (os : List Object) (a i : ℕ) → IsSound os → has_field_at os a i ≡ false → field_at os a i ≡ None
+pub field_missing : (os : List Object) (a i : ℕ) → AreSoundObjects os → has_field_at os a i ≡ false → field_seen os a i ≡ None
 field_missing os a i sound h =
-    no_field os a i sound (λ o c p l. false≢true (sym h ∙ whole (is_object os a) (class_of os a == 36) (is_pointers (format_of os a)) (nat_lt i (slot_count_of os a)) o c p (lt-ltb i (slot_count_of os a) l)))
+    no_field os a i sound (λ o c p l. false≢true (sym h ∙ whole (is_object os a) (class_at os a == 36) (is_pointers (format_at os a)) (nat_lt i (slot_count_of os a)) o c p (lt-ltb i (slot_count_of os a) l)))

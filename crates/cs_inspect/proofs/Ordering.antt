@@ -14,11 +14,11 @@ use Rattle.std.proofs.lemmas.Bool.{false≢true, ltb-false, ltb-true}
 use Rattle.std.proofs.lemmas.List.{map-append, take_all}
 use Rattle.std.proofs.lemmas.Option.{get_or_from_slice_get}
 use Rattle.cs_word.specs.declared.Oop.{Oop}
-use Rattle.cs_heap.specs.Object.{Object, address_of, birth_of, index_of, is_object, next_of, object_at}
+use Rattle.cs_heap.specs.Object.{Object, address_of, birth_at, object_place, is_object, next_of, heap_object}
 use Rattle.cs_heap.proofs.Laws.{address_of-below, index_of-address, index_of-below, next_of-address, object_at-address}
 use Rattle.cs_model.specs.Obj.{Obj}
 use Rattle.cs_classes.specs.Meaning.{obj_of, objects_of, ref_of}
-use Rattle.cs_classes.specs.Sound.{IsSound}
+use Rattle.cs_classes.specs.Sound.{AreSoundObjects}
 use Rattle.cs_classes.proofs.Heaps.{element_within}
 use Rattle.cs_classes.proofs.Tables.{ties_other}
 use Rattle.cs_inspect.specs.Reading.{IsInOrder, entry_at}
@@ -105,8 +105,8 @@ record Stood (os : List Object) (o : Oop) (k : ℕ) : Type 0 where
   x : Object
   element : slice_get os k ≡ Some x
   below : k < length os
-  index : index_of os o.0 ≡ Some k
-  object : object_at os o.0 ≡ Some x
+  index : object_place os o.0 ≡ Some k
+  object : heap_object os o.0 ≡ Some x
   entry_is : entry_at os o ≡ (x.birth, Some (obj_of (ref_of os) x))
 
 stood : (os : List Object) (o : Oop) (k : ℕ) → Some o.0 ≡ address_of os k → Stood os o k
@@ -114,7 +114,7 @@ stood os o k e =
     let index = index_of-address os o.0 k (sym e) in
     let below = index_of-below os o.0 k index in
     let there = element_within os k below in
-    let object : object_at os o.0 ≡ Some there.0 = object_at-address os o.0 k (sym e) ∙ there.1 in
+    let object : heap_object os o.0 ≡ Some there.0 = object_at-address os o.0 k (sym e) ∙ there.1 in
     record {
       x = there.0;
       element = there.1;
@@ -127,7 +127,7 @@ stood os o k e =
 pub walk_object : (os : List Object) (o : Oop) (es : List (ℕ × Oop)) → Walked os (Some o) es → is_object os o.0 ≡ true
 walk_object os o es w = ap is_some (stood os o w.place w.at).index
 
-pub walk_goes_on : (os : List Object) (o : Oop) (object : Option Oop) (b : ℕ) (es fs : List (ℕ × Oop)) → IsSound os → Walked os (Some o) es → b ≡ birth_of os o.0
+pub walk_goes_on : (os : List Object) (o : Oop) (object : Option Oop) (b : ℕ) (es fs : List (ℕ × Oop)) → AreSoundObjects os → Walked os (Some o) es → b ≡ birth_at os o.0
     → fs ≡ insert_entry nat_cmp es b o → option_map (λ p. p.0) object ≡ next_of os o.0 → Walked os object fs
 walk_goes_on os o object b es fs sound w birth is next =
     let s = stood os o w.place w.at in
@@ -153,7 +153,7 @@ walk_goes_on os o object b es fs sound w birth is next =
 -- how many objects the walk has yet to enter
 abbrev pub left : List Object → Option Oop → ℕ
 left os None = 0
-left os (Some o) = length os - unwrap_or (index_of os o.0) 0
+left os (Some o) = length os - unwrap_or (object_place os o.0) 0
 
 pub walk_falls : (os : List Object) (o : Oop) (object : Option Oop) (es : List (ℕ × Oop)) → Walked os (Some o) es → option_map (λ p. p.0) object ≡ next_of os o.0
     → left os object < left os (Some o)

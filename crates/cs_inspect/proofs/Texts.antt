@@ -4,16 +4,17 @@ use Rattle.std.specs.Prelude.{codes, decimal, flat_map, slice_index, ◌==◌, �
 use Rattle.std.specs.Char.{digit_char}
 use Rattle.std.proofs.Math.Seq.{take-suc}
 use Rattle.std.proofs.lemmas.List.{append-nil, append_assoc, flat_map_more, get_or-drop, length-drop, length-take, map-append}
+use Rattle.cs_model.specs.Words.{bytes_of_words}
 use Rattle.hex.specs.Hex.{encode_lower, encode_with, lower_digits}
 use Rattle.cs_word.specs.declared.Kind.{Kind}
 use Rattle.cs_word.specs.declared.Kind.TheVariants as kind
 use Rattle.cs_word.specs.Word.{kind_of, natural_by_kind, natural_of_word}
-use Rattle.cs_heap.specs.Object.{Object, birth_of, byte_of, class_of, is_object, slot_count_of, slot_of}
+use Rattle.cs_heap.specs.Object.{Object, birth_at, byte_of, class_at, is_object, slot_count_of, slot_of, words_at}
 use Rattle.cs_model.specs.Ref.{Ref}
 use Rattle.cs_model.specs.Print.{byte_text, bytes_text, ref_text, refs_text}
-use Rattle.cs_classes.specs.Meaning.{bytes_of, count_of, count_of_kind, ref_of, ref_of_kind}
-use Rattle.cs_classes.specs.Sound.{is_reference, is_reference_kind, is_sender, is_sender_kind, nil_of}
-use Rattle.cs_inspect.specs.Reading.{is_named, words_at}
+use Rattle.cs_classes.specs.Meaning.{count_of, count_of_kind, ref_of, ref_of_kind}
+use Rattle.cs_classes.specs.Sound.{is_reference, is_reference_kind, is_sender, is_sender_kind, nil_word}
+use Rattle.cs_inspect.specs.Reading.{names_object}
 use Rattle.cs_inspect.proofs.Reading.{byte_is, length-bytes_at, length-words_at, word_is}
 
 -- the last of some writes, where the whole is what stood there before it and its own text
@@ -87,14 +88,14 @@ pub digits_begin : (n : ℕ) (bs old : List ℕ) → old ≡ old ++ flat_map byt
 digits_begin n bs old = sym (ap (λ (us : List ℕ). old ++ flat_map byte_text us) (none_taken n bs) ∙ append-nil old)
 
 pub more_digits : (os : List Object) (a from i : ℕ) (old text new : List ℕ) (b : ℕ) → from ≤ i → i < 4 * slot_count_of os a → b ≡ byte_of os a i
-    → text ≡ old ++ flat_map byte_text (take (i - from) (drop from (bytes_of (words_at os a)))) → new ≡ text ++ byte_text b
-    → new ≡ old ++ flat_map byte_text (take (i + 1 - from) (drop from (bytes_of (words_at os a))))
+    → text ≡ old ++ flat_map byte_text (take (i - from) (drop from (bytes_of_words (words_at os a)))) → new ≡ text ++ byte_text b
+    → new ≡ old ++ flat_map byte_text (take (i + 1 - from) (drop from (bytes_of_words (words_at os a))))
 more_digits os a from i old text new b begun within is before now =
-    let bs : List ℕ = drop from (bytes_of (words_at os a)) in
+    let bs : List ℕ = drop from (bytes_of_words (words_at os a)) in
     let n : ℕ = i - from in
-    let less : n < length bs = omega (arith, begun, within, length-bytes_at os a, length-drop from (bytes_of (words_at os a))) in
+    let less : n < length bs = omega (arith, begun, within, length-bytes_at os a, length-drop from (bytes_of_words (words_at os a))) in
     let at : from + n ≡ i = omega (arith, begun) in
-    let byte : get_or bs n 0 ≡ b = get_or-drop from (bytes_of (words_at os a)) n 0 ∙ ap (λ k. get_or (bytes_of (words_at os a)) k 0) at ∙ byte_is os a i within ∙ sym is in
+    let byte : get_or bs n 0 ≡ b = get_or-drop from (bytes_of_words (words_at os a)) n 0 ∙ ap (λ k. get_or (bytes_of_words (words_at os a)) k 0) at ∙ byte_is os a i within ∙ sym is in
     let next : i + 1 - from ≡ suc n = omega (arith, begun) in
     let taken : take n bs ++ b ∷ [] ≡ take (i + 1 - from) bs = ap (λ v. take n bs ++ v ∷ []) (sym byte) ∙ sym (take-suc bs n 0 less) ∙ sym (ap (λ k. take k bs) next) in
     now ∙ ap (λ t. t ++ byte_text b) before ∙ flat_map_more byte_text old (take n bs) b ∙ ap (λ (us : List ℕ). old ++ flat_map byte_text us) taken
@@ -128,7 +129,7 @@ natural_is w = go (kind_of w)
 
 -- ---- references by their kinds
 
-pub named_object : (os : List Object) (w a : ℕ) → is_named os w ≡ true → kind.Object a ≡ kind_of w → a ≡ w → is_object os w ≡ true
+pub named_object : (os : List Object) (w a : ℕ) → names_object os w ≡ true → kind.Object a ≡ kind_of w → a ≡ w → is_object os w ≡ true
 unfolding is_reference is_sender
 named_object os w a h e is = both (is_reference_kind os (kind_of w)) (is_sender_kind os (kind_of w)) (ap (is_reference_kind os) (sym e)) (ap (is_sender_kind os) (sym e)) h
   where
@@ -139,9 +140,9 @@ named_object os w a h e is = both (is_reference_kind os (kind_of w)) (is_sender_
     first true y g = refl
     first false y g = g
 
-    both : (p q : Bool) → p ≡ is_object os a → q ≡ (is_object os a && (a == nil_of os || class_of os a == 36)) → (p || q) ≡ true → is_object os w ≡ true
+    both : (p q : Bool) → p ≡ is_object os a → q ≡ (is_object os a && (a == nil_word os || class_at os a == 36)) → (p || q) ≡ true → is_object os w ≡ true
     both true q i j g = there (sym i)
-    both false q i j g = there (first (is_object os a) (a == nil_of os || class_of os a == 36) (sym j ∙ g))
+    both false q i j g = there (first (is_object os a) (a == nil_word os || class_at os a == 36) (sym j ∙ g))
 
-pub birth_text : (os : List Object) (w a b : ℕ) → b ≡ birth_of os w → kind.Object a ≡ kind_of w → a ≡ w → codes "@" ++ decimal b ≡ ref_text (ref_of_kind os (kind_of w))
-birth_text os w a b e k is = ap (λ (n : ℕ). codes "@" ++ decimal n) (e ∙ ap (birth_of os) (sym is)) ∙ ap (λ (p : Kind). ref_text (ref_of_kind os p)) k
+pub birth_text : (os : List Object) (w a b : ℕ) → b ≡ birth_at os w → kind.Object a ≡ kind_of w → a ≡ w → codes "@" ++ decimal b ≡ ref_text (ref_of_kind os (kind_of w))
+birth_text os w a b e k is = ap (λ (n : ℕ). codes "@" ++ decimal n) (e ∙ ap (birth_at os) (sym is)) ∙ ap (λ (p : Kind). ref_text (ref_of_kind os p)) k

@@ -10,8 +10,8 @@ ghost use Rattle.std.specs.Option.{option_map_or};
 ghost use Rattle.cs_model.specs.Print.{head_line, print_of, ref_text};
 ghost use Rattle.cs_model.specs.State.{active_process as active_process_of};
 ghost use Rattle.cs_classes.specs.Meaning.{kept_of};
-ghost use Rattle.cs_classes.specs.Sound.{IsSound, IsWhole, is_reference};
-ghost use Rattle.cs_inspect.specs.Reading.{field_at, has_field_at, ref_option};
+ghost use Rattle.cs_classes.specs.Sound.{AreSoundObjects, IsWhole, is_reference};
+ghost use Rattle.cs_inspect.specs.Reading.{field_seen, has_field_at, ref_option};
 
 use cs_heap::Heap;
 use cs_image::Loaded;
@@ -33,8 +33,8 @@ fn has_field(heap: &Heap, word: Oop, i: u32) -> bool
 
 /// That slot; None where there is none.
 fn field(heap: &Heap, word: Oop, i: u32) -> Option<Oop>
-    requires { IsSound heap.now.objects }
-    ensures value { ref_option heap.now.objects result ≡ field_at heap.now.objects word.0 i }
+    requires { AreSoundObjects heap.now.objects }
+    ensures value { ref_option heap.now.objects result ≡ field_seen heap.now.objects word.0 i }
     ensures reference { IfSome result (λ o. is_reference heap.now.objects o.0 ≡ true) }
 {
     if has_field(heap, word, i) {

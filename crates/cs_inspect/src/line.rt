@@ -1,13 +1,13 @@
 //! The line of an object: its birth, its kind, what its header says, and what it holds.
 
 ghost use Rattle.std.specs.Prelude.{◌≡◌, ◌++◌, ◌<◌, ◌==◌, ℕ, false, true, OnOk, codes, decimal};
-ghost use Rattle.cs_heap.specs.Format.{is_method, is_pointers, is_raw};
-ghost use Rattle.cs_heap.specs.Object.{class_of, format_of, hash_of, is_object, slot_count_of, slot_of};
+ghost use Rattle.cs_model.specs.Words.{unused_bytes as unused_bytes_of};
+ghost use Rattle.cs_heap.specs.Format.{is_code, is_pointers, is_raw};
+ghost use Rattle.cs_heap.specs.Object.{class_at, format_at, hash_at, is_object, slot_count_of, slot_of};
 ghost use Rattle.cs_model.specs.Print.{context_text, object_text};
-ghost use Rattle.cs_classes.specs.Meaning.{unused_bytes as unused_bytes_of};
-ghost use Rattle.cs_classes.specs.Sound.{IsSound};
-ghost use Rattle.cs_inspect.specs.Reading.{context_at, is_named, method_at, pointers_at, raw_at};
-ghost use Rattle.cs_inspect.specs.Texts.{activation_text, line_at, object_text_at, place_text, slot_text};
+ghost use Rattle.cs_classes.specs.Sound.{AreSoundObjects};
+ghost use Rattle.cs_inspect.specs.Reading.{context_seen, names_object, method_at, pointers_at, raw_at};
+ghost use Rattle.cs_inspect.specs.Texts.{activation_text, line_at, object_text_at, activation_text, slot_text};
 
 use crate::text::{
     push_bytes, push_field, push_number, push_pc, push_reference, push_references, push_text,
@@ -42,7 +42,7 @@ pub(crate) const CONTEXT_FIELDS: u32 = 6;
 
 /// Appends the line of an object.
 pub(crate) fn push_line(text: &mut Vec<u8>, heap: &Heap, o: Oop) -> Result<(), AllocError>
-    requires sound { IsSound heap.now.objects }
+    requires sound { AreSoundObjects heap.now.objects }
     requires object { is_object heap.now.objects o.0 ≡ true }
     ensures { OnOk result (text.new.items ≡ text.old.items ++ line_at heap.now.objects o) }
 {
@@ -53,7 +53,7 @@ pub(crate) fn push_line(text: &mut Vec<u8>, heap: &Heap, o: Oop) -> Result<(), A
 
 /// Appends what an object is.
 fn push_object(text: &mut Vec<u8>, heap: &Heap, o: Oop) -> Result<(), AllocError>
-    requires sound { IsSound heap.now.objects }
+    requires sound { AreSoundObjects heap.now.objects }
     requires object { is_object heap.now.objects o.0 ≡ true }
     ensures { OnOk result (text.new.items ≡ text.old.items ++ object_text_at heap.now.objects o.0) }
 {
@@ -72,9 +72,9 @@ fn push_object(text: &mut Vec<u8>, heap: &Heap, o: Oop) -> Result<(), AllocError
 fn push_head(text: &mut Vec<u8>, heap: &Heap, o: Oop, kind: &str) -> Result<(), AllocError>
     requires { is_object heap.now.objects o.0 ≡ true }
     ensures { OnOk result (text.new.items ≡ text.old.items ++ (kind.now
-        ++ codes " class=" ++ decimal (class_of heap.now.objects o.0)
-        ++ codes " format=" ++ decimal (format_of heap.now.objects o.0)
-        ++ codes " hash=" ++ decimal (hash_of heap.now.objects o.0) ++ codes ":")) }
+        ++ codes " class=" ++ decimal (class_at heap.now.objects o.0)
+        ++ codes " format=" ++ decimal (format_at heap.now.objects o.0)
+        ++ codes " hash=" ++ decimal (hash_at heap.now.objects o.0) ++ codes ":")) }
 {
     push_text(text, kind)?;
     push_field(text, " class=", heap.class_index(o))?;
@@ -85,10 +85,10 @@ fn push_head(text: &mut Vec<u8>, heap: &Heap, o: Oop, kind: &str) -> Result<(), 
 
 /// Appends what a pointer object is.
 fn push_pointers(text: &mut Vec<u8>, heap: &Heap, o: Oop) -> Result<(), AllocError>
-    requires sound { IsSound heap.now.objects }
+    requires sound { AreSoundObjects heap.now.objects }
     requires object { is_object heap.now.objects o.0 ≡ true }
-    requires other { (class_of heap.now.objects o.0 == 36) ≡ false }
-    requires format { is_pointers (format_of heap.now.objects o.0) ≡ true }
+    requires other { (class_at heap.now.objects o.0 == 36) ≡ false }
+    requires format { is_pointers (format_at heap.now.objects o.0) ≡ true }
     ensures { OnOk result (text.new.items ≡ text.old.items ++ object_text (pointers_at heap.now.objects o.0)) }
 {
     push_head(text, heap, o, " ptr")?;
@@ -109,11 +109,11 @@ fn unused_bytes(format: u8) -> u32
 
 /// Appends what an object of bytes or units is.
 fn push_raw(text: &mut Vec<u8>, heap: &Heap, o: Oop) -> Result<(), AllocError>
-    requires sound { IsSound heap.now.objects }
+    requires sound { AreSoundObjects heap.now.objects }
     requires object { is_object heap.now.objects o.0 ≡ true }
-    requires other { (class_of heap.now.objects o.0 == 36) ≡ false }
-    requires pointers { is_pointers (format_of heap.now.objects o.0) ≡ false }
-    requires method { is_method (format_of heap.now.objects o.0) ≡ false }
+    requires other { (class_at heap.now.objects o.0 == 36) ≡ false }
+    requires pointers { is_pointers (format_at heap.now.objects o.0) ≡ false }
+    requires method { is_code (format_at heap.now.objects o.0) ≡ false }
     ensures { OnOk result (text.new.items ≡ text.old.items ++ object_text (raw_at heap.now.objects o.0)) }
 {
     push_head(text, heap, o, " raw")?;
@@ -123,9 +123,9 @@ fn push_raw(text: &mut Vec<u8>, heap: &Heap, o: Oop) -> Result<(), AllocError>
 
 /// Appends what a method is.
 fn push_method(text: &mut Vec<u8>, heap: &Heap, o: Oop) -> Result<(), AllocError>
-    requires sound { IsSound heap.now.objects }
+    requires sound { AreSoundObjects heap.now.objects }
     requires object { is_object heap.now.objects o.0 ≡ true }
-    requires method { is_method (format_of heap.now.objects o.0) ≡ true }
+    requires method { is_code (format_at heap.now.objects o.0) ≡ true }
     ensures { OnOk result (text.new.items ≡ text.old.items ++ object_text (method_at heap.now.objects o.0)) }
 {
     let Some(header) = MethodHeader::read(heap.slot(o, 0)) else {
@@ -148,8 +148,8 @@ fn push_method_head(
 ) -> Result<(), AllocError>
     requires { is_object heap.now.objects o.0 ≡ true }
     ensures { OnOk result (text.new.items ≡ text.old.items
-        ++ (codes " method class=" ++ decimal (class_of heap.now.objects o.0)
-        ++ codes " hash=" ++ decimal (hash_of heap.now.objects o.0) ++ codes " header=" ++ decimal header.0 ++ codes ":")) }
+        ++ (codes " method class=" ++ decimal (class_at heap.now.objects o.0)
+        ++ codes " hash=" ++ decimal (hash_at heap.now.objects o.0) ++ codes " header=" ++ decimal header.0 ++ codes ":")) }
 {
     push_field(text, " method class=", heap.class_index(o))?;
     push_field(text, " hash=", heap.hash(o))?;
@@ -166,7 +166,7 @@ fn push_slot(
     slot: u32,
 ) -> Result<(), AllocError>
     requires within { slot < slot_count_of heap.now.objects o.0 }
-    requires named { is_named heap.now.objects (slot_of heap.now.objects o.0 slot) ≡ true }
+    requires named { names_object heap.now.objects (slot_of heap.now.objects o.0 slot) ≡ true }
     ensures { OnOk result (text.new.items ≡ text.old.items ++ slot_text heap.now.objects o.0 name.now slot) }
 {
     push_text(text, name)?;
@@ -175,10 +175,10 @@ fn push_slot(
 
 /// Appends sender and pc of a context.
 fn push_place(text: &mut Vec<u8>, heap: &Heap, o: Oop) -> Result<(), AllocError>
-    requires sound { IsSound heap.now.objects }
+    requires sound { AreSoundObjects heap.now.objects }
     requires object { is_object heap.now.objects o.0 ≡ true }
-    requires context { (class_of heap.now.objects o.0 == 36) ≡ true }
-    ensures { OnOk result (text.new.items ≡ text.old.items ++ place_text heap.now.objects o.0) }
+    requires context { (class_at heap.now.objects o.0 == 36) ≡ true }
+    ensures { OnOk result (text.new.items ≡ text.old.items ++ activation_text heap.now.objects o.0) }
 {
     push_slot(text, heap, o, " sender=", SENDER)?;
     push_text(text, " pc=")?;
@@ -187,9 +187,9 @@ fn push_place(text: &mut Vec<u8>, heap: &Heap, o: Oop) -> Result<(), AllocError>
 
 /// Appends method, closure and receiver of a context.
 fn push_activation(text: &mut Vec<u8>, heap: &Heap, o: Oop) -> Result<(), AllocError>
-    requires sound { IsSound heap.now.objects }
+    requires sound { AreSoundObjects heap.now.objects }
     requires object { is_object heap.now.objects o.0 ≡ true }
-    requires context { (class_of heap.now.objects o.0 == 36) ≡ true }
+    requires context { (class_at heap.now.objects o.0 == 36) ≡ true }
     ensures { OnOk result (text.new.items ≡ text.old.items ++ activation_text heap.now.objects o.0) }
 {
     push_slot(text, heap, o, " method=", METHOD)?;
@@ -200,10 +200,10 @@ fn push_activation(text: &mut Vec<u8>, heap: &Heap, o: Oop) -> Result<(), AllocE
 
 /// Appends what a context is. Nothing is beyond the top of its stack, which a stackp of nil makes empty.
 fn push_context(text: &mut Vec<u8>, heap: &Heap, o: Oop) -> Result<(), AllocError>
-    requires sound { IsSound heap.now.objects }
+    requires sound { AreSoundObjects heap.now.objects }
     requires object { is_object heap.now.objects o.0 ≡ true }
-    requires context { (class_of heap.now.objects o.0 == 36) ≡ true }
-    ensures { OnOk result (text.new.items ≡ text.old.items ++ context_text (context_at heap.now.objects o.0)) }
+    requires context { (class_at heap.now.objects o.0 == 36) ≡ true }
+    ensures { OnOk result (text.new.items ≡ text.old.items ++ context_text (context_seen heap.now.objects o.0)) }
 {
     push_field(text, " context hash=", heap.hash(o))?;
     push_field(text, " size=", heap.slot_count(o) - CONTEXT_FIELDS)?;

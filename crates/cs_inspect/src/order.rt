@@ -2,7 +2,7 @@
 
 ghost use Rattle.std.specs.Prelude.{IfOk};
 ghost use Rattle.std.specs.BTreeMap.{values};
-ghost use Rattle.cs_classes.specs.Sound.{IsSound};
+ghost use Rattle.cs_classes.specs.Sound.{AreSoundObjects};
 ghost use Rattle.cs_inspect.specs.Reading.{IsInOrder};
 
 use cs_heap::Heap;
@@ -12,7 +12,7 @@ use std::collections::BTreeMap;
 
 /// The objects of a heap by their births.
 fn by_birth(alloc: Global, heap: &Heap) -> Result<BTreeMap<u64, Oop>, AllocError>
-    requires { IsSound heap.now.objects }
+    requires { AreSoundObjects heap.now.objects }
     ensures { IfOk result (λ births. IsInOrder heap.now.objects (values births)) }
 {
     let mut births = BTreeMap::new(alloc);
@@ -26,7 +26,7 @@ fn by_birth(alloc: Global, heap: &Heap) -> Result<BTreeMap<u64, Oop>, AllocError
 
 /// The objects of a heap in the order of their births.
 pub(crate) fn in_order(alloc: Global, heap: &Heap) -> Result<Vec<Oop>, AllocError>
-    requires { IsSound heap.now.objects }
+    requires { AreSoundObjects heap.now.objects }
     ensures { IfOk result (λ order. IsInOrder heap.now.objects order.items) }
 {
     let births = by_birth(alloc, heap)?;

@@ -2,11 +2,12 @@
 
 ghost use Rattle.std.specs.Prelude.{◌≡◌, ℕ, ◌-◌, ◌*◌, ◌<◌, ◌≤◌, ◌++◌, true, OnOk};
 ghost use Rattle.std.specs.Prelude.{drop, flat_map, map, take};
-ghost use Rattle.cs_heap.specs.Object.{slot_count_of, slot_of};
+ghost use Rattle.cs_model.specs.Words.{bytes_of_words};
+ghost use Rattle.cs_heap.specs.Object.{slot_count_of, slot_of, words_at};
 ghost use Rattle.cs_model.specs.Print.{byte_text, bytes_text, pc_text, ref_text, refs_text};
-ghost use Rattle.cs_classes.specs.Meaning.{bytes_of, count_of, ref_of};
+ghost use Rattle.cs_classes.specs.Meaning.{count_of, ref_of};
 ghost use Rattle.cs_classes.specs.Sound.{is_reference};
-ghost use Rattle.cs_inspect.specs.Reading.{is_named, words_at};
+ghost use Rattle.cs_inspect.specs.Reading.{names_object};
 
 use cs_heap::Heap;
 use cs_word::{Kind, Oop};
@@ -49,7 +50,7 @@ pub(crate) fn push_field<I: Integer>(
 /// Appends what a word refers to: a decimal number, a dollar sign and the code of a Character, or an at sign and the
 /// birth of an object. A link, which no image has, is read as 0.
 pub(crate) fn push_reference(text: &mut Vec<u8>, heap: &Heap, word: Oop) -> Result<(), AllocError>
-    requires { is_named heap.now.objects word.0 ≡ true }
+    requires { names_object heap.now.objects word.0 ≡ true }
     ensures { OnOk result (text.new.items ≡ text.old.items ++ ref_text (ref_of heap.now.objects word.0)) }
 {
     match word.kind() {
@@ -104,7 +105,7 @@ fn push_digits(
     requires begun { from ≤ end }
     requires within { end ≤ 4 * slot_count_of heap.now.objects o.0 }
     ensures { OnOk result (text.new.items ≡ text.old.items
-        ++ flat_map byte_text (take (end - from) (drop from (bytes_of (words_at heap.now.objects o.0))))) }
+        ++ flat_map byte_text (take (end - from) (drop from (bytes_of_words (words_at heap.now.objects o.0))))) }
 {
     for i in from..end {
         push_byte(text, heap.byte(o, i))?;
@@ -123,7 +124,7 @@ pub(crate) fn push_bytes(
     requires begun { from ≤ end }
     requires within { end ≤ 4 * slot_count_of heap.now.objects o.0 }
     ensures { OnOk result (text.new.items ≡ text.old.items
-        ++ bytes_text (take (end - from) (drop from (bytes_of (words_at heap.now.objects o.0))))) }
+        ++ bytes_text (take (end - from) (drop from (bytes_of_words (words_at heap.now.objects o.0))))) }
 {
     if from == end {
         return Ok(());

@@ -5,5 +5,4 @@ pub mod Turns
 pub mod Telling
 pub mod Agreeing
 pub mod Parts
-pub mod NumberLemmas
 pub mod Reading

@@ -4,7 +4,7 @@ use Rattle.std.proofs.lemmas.Slice.Eq.{bytes_eq-Decides}
 use Rattle.std.specs.List.{list_any, before_first, after_first}
 use Rattle.std.specs.Str.{bytes_eq}
 use Rattle.clap.specs.Walk.{Text, first_of}
-use Rattle.cs_model.specs.CommandLine.{Part, Positional, Given, Mode, Free, Waiting, Behind, stats_word, given, has_repeats, is_option, is_plain, equals, at_end, mode_after, parts_in, name_in, parts_from, positional_in}
+use Rattle.cs_model.specs.CommandLine.{Part, Positional, Given, Mode, Free, Waiting, Behind, stats_word, given_value, has_repeated_names, is_option, is_plain, equals, at_end, mode_after, parts_in, name_in, parts_from, positional_in}
 use Rattle.cs_line.proofs.Rules.{no}
 use Rattle.cs_line.proofs.Uses.{Uses, has, rows_by}
 use Rattle.cs_line.proofs.Walking.{Seen, both, clashes, fits, none, one, uses}
@@ -76,16 +76,16 @@ meets_first (x ∷ seen) u us = ap (λ t. (bytes_eq x.0 u.0 || list_any (bytes_e
     ∙ ap (λ t. bytes_eq x.0 u.0 || t) (or_swap (list_any (bytes_eq x.0) (ids us)) (has u.0 seen) (meets seen us))
     ∙ sym (or_assoc (bytes_eq x.0 u.0) (has u.0 seen) (list_any (bytes_eq x.0) (ids us) || meets seen us))
 
-clashes_by : (us seen : Uses) → clashes seen us ≡ (meets seen us || has_repeats (ids us))
+clashes_by : (us seen : Uses) → clashes seen us ≡ (meets seen us || has_repeated_names (ids us))
 clashes_by [] seen = sym (ap (λ t. t || false) (meets_none seen))
 clashes_by (u ∷ us) seen =
     let later = list_any (bytes_eq u.0) (ids us) in
-    ap (λ t. has u.0 seen || t) (clashes_by us (seen ++ u ∷ []) ∙ ap (λ t. t || has_repeats (ids us)) (meets_more seen u us)
-    ∙ or_assoc later (meets seen us) (has_repeats (ids us)) ∙ or_swap later (meets seen us) (has_repeats (ids us)))
-    ∙ sym (or_assoc (has u.0 seen) (meets seen us) (later || has_repeats (ids us)))
-    ∙ sym (ap (λ t. t || (later || has_repeats (ids us))) (meets_first seen u us))
+    ap (λ t. has u.0 seen || t) (clashes_by us (seen ++ u ∷ []) ∙ ap (λ t. t || has_repeated_names (ids us)) (meets_more seen u us)
+    ∙ or_assoc later (meets seen us) (has_repeated_names (ids us)) ∙ or_swap later (meets seen us) (has_repeated_names (ids us)))
+    ∙ sym (or_assoc (has u.0 seen) (meets seen us) (later || has_repeated_names (ids us)))
+    ∙ sym (ap (λ t. t || (later || has_repeated_names (ids us))) (meets_first seen u us))
 
-pub clashes_are : (us : Uses) → clashes [] us ≡ has_repeats (ids us)
+pub clashes_are : (us : Uses) → clashes [] us ≡ has_repeated_names (ids us)
 unfolding meets
 clashes_are us = clashes_by us []
 
@@ -120,12 +120,12 @@ first_alone [] k = refl
 first_alone (Given name value ∷ parts) k = ap (λ t. t || list_any (bytes_eq (codes "COMMAND")) (ids (uses one parts))) (place_not (codes "COMMAND") name refl (k.0)) ∙ first_alone parts (k.1)
 first_alone (Positional word ∷ parts) k = late_alone parts k
 
-repeats_names : (s : Seen) (parts : List Part) → Known parts → fits s parts ≡ true → has_repeats (ids (uses s parts)) ≡ has_repeats (filter_map name_in parts)
+repeats_names : (s : Seen) (parts : List Part) → Known parts → fits s parts ≡ true → has_repeated_names (ids (uses s parts)) ≡ has_repeated_names (filter_map name_in parts)
 repeats_names s [] k fit = refl
 repeats_names s (Given name value ∷ parts) k fit =
-    ap (λ t. t || has_repeats (ids (uses s parts))) (any_names s name parts (k.0) fit) ∙ ap (λ t. list_any (bytes_eq name) (filter_map name_in parts) || t) (repeats_names s parts (k.1) fit)
-repeats_names none (Positional word ∷ parts) k fit = ap (λ t. t || has_repeats (ids (uses one parts))) (first_alone parts k) ∙ repeats_names one parts k fit
-repeats_names one (Positional word ∷ parts) k fit = ap (λ t. t || has_repeats (ids (uses both parts))) (second_alone parts k) ∙ repeats_names both parts k fit
+    ap (λ t. t || has_repeated_names (ids (uses s parts))) (any_names s name parts (k.0) fit) ∙ ap (λ t. list_any (bytes_eq name) (filter_map name_in parts) || t) (repeats_names s parts (k.1) fit)
+repeats_names none (Positional word ∷ parts) k fit = ap (λ t. t || has_repeated_names (ids (uses one parts))) (first_alone parts k) ∙ repeats_names one parts k fit
+repeats_names one (Positional word ∷ parts) k fit = ap (λ t. t || has_repeated_names (ids (uses both parts))) (second_alone parts k) ∙ repeats_names both parts k fit
 repeats_names both (Positional word ∷ parts) k fit = absurd (no (sym fit))
 
 -- ---- two words by place
@@ -178,7 +178,7 @@ both_placed (Positional word ∷ parts) k = one_placed parts k ∙ two_more (fil
 -- the specification of the command accepts what the line has: no name twice, and two words
 pub accepts_is : (parts : List Part) → Known parts
     → ((fits none parts && not (clashes [] (uses none parts))) && (has (codes "COMMAND") (uses none parts) && has (codes "FILE") (uses none parts)))
-    ≡ (not (has_repeats (filter_map name_in parts)) && is_pair (filter_map positional_in parts))
+    ≡ (not (has_repeated_names (filter_map name_in parts)) && is_pair (filter_map positional_in parts))
 accepts_is parts k = go (fits none parts) refl (both_placed parts k) where
   shuffle : (a b c : Bool) → ((true && a) && (b && c)) ≡ (a && (true && (b && c)))
   shuffle a b c = refl
@@ -186,10 +186,10 @@ accepts_is parts k = go (fits none parts) refl (both_placed parts k) where
   go : (t : Bool) → fits none parts ≡ t
       → (fits none parts && (has (codes "COMMAND") (uses none parts) && has (codes "FILE") (uses none parts))) ≡ is_pair (filter_map positional_in parts)
       → ((fits none parts && not (clashes [] (uses none parts))) && (has (codes "COMMAND") (uses none parts) && has (codes "FILE") (uses none parts)))
-      ≡ (not (has_repeats (filter_map name_in parts)) && is_pair (filter_map positional_in parts))
+      ≡ (not (has_repeated_names (filter_map name_in parts)) && is_pair (filter_map positional_in parts))
   go false e pair =
       let not_pair : is_pair (filter_map positional_in parts) ≡ false = sym pair ∙ ap (λ t. t && (has (codes "COMMAND") (uses none parts) && has (codes "FILE") (uses none parts))) e in
-      rw (e, not_pair) (sym (and_no (not (has_repeats (filter_map name_in parts)))))
+      rw (e, not_pair) (sym (and_no (not (has_repeated_names (filter_map name_in parts)))))
     where
       and_no : (a : Bool) → (a && false) ≡ false
       and_no true = refl
@@ -198,15 +198,15 @@ accepts_is parts k = go (fits none parts) refl (both_placed parts k) where
       let names = clashes_are (uses none parts) ∙ repeats_names none parts k e in
       ap (λ t. (t && not (clashes [] (uses none parts))) && (has (codes "COMMAND") (uses none parts) && has (codes "FILE") (uses none parts))) e
       ∙ ap (λ t. not t && (has (codes "COMMAND") (uses none parts) && has (codes "FILE") (uses none parts))) names
-      ∙ ap (λ t. not (has_repeats (filter_map name_in parts)) && t) (sym (ap (λ t. t && (has (codes "COMMAND") (uses none parts) && has (codes "FILE") (uses none parts))) e) ∙ pair)
+      ∙ ap (λ t. not (has_repeated_names (filter_map name_in parts)) && t) (sym (ap (λ t. t && (has (codes "COMMAND") (uses none parts) && has (codes "FILE") (uses none parts))) e) ∙ pair)
 
 -- ---- what stands for an id
 
 pub value_of : (id : Text) (s : Seen) (parts : List Part) → bytes_eq (codes "COMMAND") id ≡ false → bytes_eq (codes "FILE") id ≡ false → bytes_eq id stats_word ≡ false → fits s parts ≡ true
-    → first_of id (rows_by (uses s parts)) ≡ given parts id
+    → first_of id (rows_by (uses s parts)) ≡ given_value parts id
 value_of id s [] a b c fit = refl
 value_of id s (Given name value ∷ parts) a b c fit = go (bytes_eq name id) refl (value_of id s parts a b c fit) where
-  go : (t : Bool) → bytes_eq name id ≡ t → first_of id (rows_by (uses s parts)) ≡ given parts id → first_of id (rows_by (uses s (Given name value ∷ parts))) ≡ given (Given name value ∷ parts) id
+  go : (t : Bool) → bytes_eq name id ≡ t → first_of id (rows_by (uses s parts)) ≡ given_value parts id → first_of id (rows_by (uses s (Given name value ∷ parts))) ≡ given_value (Given name value ∷ parts) id
   go true e k =
       let other : bytes_eq name stats_word ≡ false = ap (λ x. bytes_eq x stats_word) ((bytes_eq-Decides name id).0 e) ∙ c in
       rw (e, other) refl
@@ -215,22 +215,22 @@ value_of id none (Positional word ∷ parts) a b c fit = rw a (value_of id one p
 value_of id one (Positional word ∷ parts) a b c fit = rw b (value_of id both parts a b c fit)
 value_of id both (Positional word ∷ parts) a b c fit = absurd (no (sym fit))
 
-pub flag_of : (s : Seen) (parts : List Part) → fits s parts ≡ true → first_of stats_word (rows_by (uses s parts)) ≡ option_map (λ v. codes "true") (given parts stats_word)
+pub flag_of : (s : Seen) (parts : List Part) → fits s parts ≡ true → first_of stats_word (rows_by (uses s parts)) ≡ option_map (λ v. codes "true") (given_value parts stats_word)
 flag_of s [] fit = refl
 flag_of s (Given name value ∷ parts) fit = go (bytes_eq name stats_word) refl (flag_of s parts fit) where
-  go : (t : Bool) → bytes_eq name stats_word ≡ t → first_of stats_word (rows_by (uses s parts)) ≡ option_map (λ v. codes "true") (given parts stats_word)
-      → first_of stats_word (rows_by (uses s (Given name value ∷ parts))) ≡ option_map (λ v. codes "true") (given (Given name value ∷ parts) stats_word)
+  go : (t : Bool) → bytes_eq name stats_word ≡ t → first_of stats_word (rows_by (uses s parts)) ≡ option_map (λ v. codes "true") (given_value parts stats_word)
+      → first_of stats_word (rows_by (uses s (Given name value ∷ parts))) ≡ option_map (λ v. codes "true") (given_value (Given name value ∷ parts) stats_word)
   go true e k = rw e refl
   go false e k = rw e k
 flag_of none (Positional word ∷ parts) fit = flag_of one parts fit
 flag_of one (Positional word ∷ parts) fit = flag_of both parts fit
 flag_of both (Positional word ∷ parts) fit = absurd (no (sym fit))
 
-pub flag_has : (s : Seen) (parts : List Part) → fits s parts ≡ true → has stats_word (uses s parts) ≡ is_some (given parts stats_word)
+pub flag_has : (s : Seen) (parts : List Part) → fits s parts ≡ true → has stats_word (uses s parts) ≡ is_some (given_value parts stats_word)
 flag_has s [] fit = refl
 flag_has s (Given name value ∷ parts) fit = go (bytes_eq name stats_word) refl (flag_has s parts fit) where
-  go : (t : Bool) → bytes_eq name stats_word ≡ t → has stats_word (uses s parts) ≡ is_some (given parts stats_word)
-      → has stats_word (uses s (Given name value ∷ parts)) ≡ is_some (given (Given name value ∷ parts) stats_word)
+  go : (t : Bool) → bytes_eq name stats_word ≡ t → has stats_word (uses s parts) ≡ is_some (given_value parts stats_word)
+      → has stats_word (uses s (Given name value ∷ parts)) ≡ is_some (given_value (Given name value ∷ parts) stats_word)
   go true e k = rw e refl
   go false e k = rw e k
 flag_has none (Positional word ∷ parts) fit = flag_has one parts fit

@@ -10,7 +10,8 @@ use Rattle.clap.specs.Matches.{first_value}
 use Rattle.clap.proofs.WalkLemmas.{first_value-rows}
 use Rattle.clap.specs.declared.error.kind.ErrorKind.{ErrorKind}
 use Rattle.clap.specs.declared.parser.matches.Found.{Found}
-use Rattle.cs_model.specs.CommandLine.{Options, Part, Free, command_line_of, given, has_repeats, line_in, line_of, line_with, name_in, options_in, parts_from, positional_in, possible, stats_word}
+use Rattle.cs_model.specs.CommandLine.{Options, Part, Free, command_line_of, given_value, has_repeated_names, line_in, line_with, name_in, options_in, parts_from, positional_in, stats_word}
+use Rattle.cs_line.specs.Possible.{line_of, possible}
 use Rattle.cs_line.specs.LineApp.{line_app}
 use Rattle.cs_line.specs.Told.{IsTold}
 use Rattle.cs_line.proofs.Agreeing.{accepts, fault_is, find_with_flag, flag_row, matches_by, with_flag}
@@ -50,8 +51,8 @@ none_with (a ∷ b ∷ []) (Some x) h = absurd (no h)
 none_with (a ∷ b ∷ c ∷ more) (Some x) h = refl
 
 line_none : (parts : List Part) → Known parts → accepts (Some parts) ≡ false → line_in parts ≡ None
-line_none parts k refused = go (has_repeats (filter_map name_in parts)) refl where
-  go : (t : Bool) → has_repeats (filter_map name_in parts) ≡ t → line_in parts ≡ None
+line_none parts k refused = go (has_repeated_names (filter_map name_in parts)) refl where
+  go : (t : Bool) → has_repeated_names (filter_map name_in parts) ≡ t → line_in parts ≡ None
   go true e = rw e refl
   go false e =
       let pair : is_pair (filter_map positional_in parts) ≡ false = sym (ap (λ t. not t && is_pair (filter_map positional_in parts)) e) ∙ sym (accepts_is parts k) ∙ refused in
@@ -91,12 +92,12 @@ find_last [] h = refl
 find_last (r ∷ rows) h = rw (or_left (bytes_eq r.id stats_word) (has_row stats_word rows) h) (find_last rows (or_right (bytes_eq r.id stats_word) (has_row stats_word rows) h))
 
 flag_text : (parts : List Part) → fits none parts ≡ true
-    → first_of stats_word (with_flag (rows_by (uses none parts))) ≡ Some (if is_some (given parts stats_word) then codes "true" else codes "false")
-flag_text parts fit = go (given parts stats_word) refl where
-  there : has_row stats_word (rows_by (uses none parts)) ≡ is_some (given parts stats_word)
+    → first_of stats_word (with_flag (rows_by (uses none parts))) ≡ Some (if is_some (given_value parts stats_word) then codes "true" else codes "false")
+flag_text parts fit = go (given_value parts stats_word) refl where
+  there : has_row stats_word (rows_by (uses none parts)) ≡ is_some (given_value parts stats_word)
   there = has_row-by stats_word (uses none parts) ∙ flag_has none parts fit
 
-  go : (o : Option Text) → given parts stats_word ≡ o → first_of stats_word (with_flag (rows_by (uses none parts))) ≡ Some (if is_some (given parts stats_word) then codes "true" else codes "false")
+  go : (o : Option Text) → given_value parts stats_word ≡ o → first_of stats_word (with_flag (rows_by (uses none parts))) ≡ Some (if is_some (given_value parts stats_word) then codes "true" else codes "false")
   go (Some v) e =
       let has_it : has_row stats_word (rows_by (uses none parts)) ≡ true = there ∙ ap is_some e in
       rw has_it (flag_of none parts fit ∙ ap (option_map (λ x. codes "true")) e ∙ sym (ap (λ o. Some (if is_some o then codes "true" else codes "false")) e))
@@ -108,14 +109,14 @@ told_parts : (f : Found) (parts : List Part) → Known parts → accepts (Some p
 told_parts f parts k accepted rows =
     let says = sym (accepts_is parts k) ∙ accepted in
     let fit = left_true (fits none parts) (not (clashes [] (uses none parts))) (left_true _ (has (codes "COMMAND") (uses none parts) && has (codes "FILE") (uses none parts)) accepted) in
-    let pair = pair_of (filter_map positional_in parts) (right_true (not (has_repeats (filter_map name_in parts))) _ says) in
+    let pair = pair_of (filter_map positional_in parts) (right_true (not (has_repeated_names (filter_map name_in parts))) _ says) in
     let at : (id : Text) → bytes_eq stats_word id ≡ false → first_value f id ≡ first_of id (rows_by (uses none parts)) =
     λ id other. first_value-rows f id ∙ ap (first_of id) rows ∙ ap (λ o. option_and_then (λ r. slice_get r.values 0) o) (find_with_flag id (rows_by (uses none parts)) other) in
     record {
       command = pair.0;
       file = pair.1;
       words = pair.2;
-      once = not_true (has_repeats (filter_map name_in parts)) (left_true _ (is_pair (filter_map positional_in parts)) says);
+      once = not_true (has_repeated_names (filter_map name_in parts)) (left_true _ (is_pair (filter_map positional_in parts)) says);
       first = at (codes "COMMAND") refl ∙ command_word parts k ∙ ap (λ ws. slice_get ws 0) (pair.2);
       second = at (codes "FILE") refl ∙ second_word parts k ∙ ap (λ ws. slice_get ws 1) (pair.2);
       events = at (codes "--events") refl ∙ value_of (codes "--events") none parts refl refl refl fit;

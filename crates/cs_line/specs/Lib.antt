@@ -1,3 +1,4 @@
 pub mod LineApp
 pub mod Told
 pub mod Meaning
+pub mod Possible

@@ -1,14 +1,14 @@
 //! The numbers of a command line.
 
 ghost use Rattle.std.specs.Prelude.{◌≡◌, ◌≤◌, option_and_then};
-ghost use Rattle.cs_model.specs.Line.{at_most, number_in};
+ghost use Rattle.cs_model.specs.Line.{at_most, decimal_number};
 ghost use Rattle.cs_model.specs.Text.{number_between};
 
 /// The greatest number that a line may have.
 pub(crate) const MOST: u64 = 1_000_000_000_000;
 
 /// The number that a word gives in decimal digits without leading zeros, where it is from `lowest` to `highest`.
-#[tactic(auto, using(crate::proofs::NumberLemmas::between))]
+#[tactic(auto, using(cs_model::proofs::Digits::between))]
 pub(crate) fn number_from(text: &str, lowest: u64, highest: u64) -> Option<u64>
     requires { highest ≤ MOST }
     ensures { result ≡ number_between lowest highest text.now }
@@ -18,10 +18,10 @@ pub(crate) fn number_from(text: &str, lowest: u64, highest: u64) -> Option<u64>
 }
 
 /// The number that a word gives in decimal digits without leading zeros, where it is at most so much.
-#[tactic(auto, using(crate::proofs::NumberLemmas::numbers))]
+#[tactic(auto, using(cs_model::proofs::Digits::numbers))]
 fn number_within(text: &str, highest: u64) -> Option<u64>
     requires { highest ≤ MOST }
-    ensures { result ≡ option_and_then (at_most highest) (number_in text.now) }
+    ensures { result ≡ option_and_then (at_most highest) (decimal_number text.now) }
 {
     let bytes = text.as_bytes();
     if bytes.is_empty() || (bytes[0] == b'0' && bytes.len() > 1) {

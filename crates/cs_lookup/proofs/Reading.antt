@@ -6,23 +6,24 @@ use Rattle.std.specs.Option.{option_map_or}
 use Rattle.std.specs.FinMap.{get}
 use Rattle.std.proofs.lemmas.Bool.{false≢true, le-leb, leb-true}
 use Rattle.std.proofs.lemmas.List.{length-map}
+use Rattle.cs_model.specs.Words.{small_value}
 use Rattle.cs_word.specs.declared.Kind.{Kind}
 use Rattle.cs_word.specs.declared.Kind.TheVariants as kind
-use Rattle.cs_word.specs.Word.{kind_of, small_value}
-use Rattle.cs_heap.specs.Format.{is_method, is_pointers}
-use Rattle.cs_heap.specs.Object.{Object, birth_of, class_of, format_of, is_object, object_at, slot_count_of, slot_of}
+use Rattle.cs_word.specs.Word.{kind_of}
+use Rattle.cs_heap.specs.Format.{is_code, is_pointers}
+use Rattle.cs_heap.specs.Object.{Object, birth_at, class_at, format_at, is_object, heap_object, slot_count_of, slot_of}
 use Rattle.cs_model.specs.Ref.{Ref}
 use Rattle.cs_model.specs.Obj.{Obj, at_least, slots_in}
 use Rattle.cs_model.specs.Obj as model
 use Rattle.cs_model.specs.State.{Kept, object_of, slots_of}
-use Rattle.cs_classes.specs.Meaning.{is_context, meaning_at, obj_of, ref_of, ref_of_kind}
-use Rattle.cs_classes.specs.Sound.{IsSound, IsSoundObject, is_method_address, is_reference, is_reference_kind}
+use Rattle.cs_classes.specs.Meaning.{is_heap_context, meaning_at, obj_of, ref_of, ref_of_kind}
+use Rattle.cs_classes.specs.Sound.{AreSoundObjects, IsSoundObject, is_method_address, is_reference, is_reference_kind, has_slots}
 use Rattle.cs_classes.proofs.Heaps.{is_object-object_at, object_there}
 use Rattle.cs_classes.proofs.Objects.{get-objects_of}
 use Rattle.cs_classes.proofs.Refs.{ref_of-object}
 use Rattle.cs_classes.proofs.Sorts.{AContext, AMethod, Bytes, Pointers, Sort, obj_of-bytes, obj_of-context, obj_of-method, obj_of-pointers, not_pointers, references-pointers, sort_of}
 use Rattle.cs_classes.proofs.Sounds.{sound_at}
-use Rattle.cs_lookup.specs.Found.{HasObjects, has_slots}
+use Rattle.cs_lookup.specs.Found.{HasObjects}
 
 -- the kind of an address is itself
 kind_of_address : (w a : ℕ) → kind_of w ≡ kind.Object a → w ≡ a
@@ -36,8 +37,8 @@ kind_of_address w a e = go (w % 2 == 1) (w % 4 == 2) (w % 8 == 0) (small_value w
 
 -- ---- what a word refers to
 
-pub object_of-object : (os : List Object) (k : Kept) (w : ℕ) → IsSound os → HasObjects os k → is_object os w ≡ true → object_of k (ref_of os w) ≡ meaning_at os w
-object_of-object os k w sound has h = ap (object_of k) (ref_of-object os w h) ∙ ap (λ objects. get objects (birth_of os w)) has ∙ get-objects_of os w sound h
+pub object_of-object : (os : List Object) (k : Kept) (w : ℕ) → AreSoundObjects os → HasObjects os k → is_object os w ≡ true → object_of k (ref_of os w) ≡ meaning_at os w
+object_of-object os k w sound has h = ap (object_of k) (ref_of-object os w h) ∙ ap (λ objects. get objects (birth_at os w)) has ∙ get-objects_of os w sound h
 
 pub object_of-other : (os : List Object) (k : Kept) (w : ℕ) → is_reference os w ≡ true → is_object os w ≡ false → object_of k (ref_of os w) ≡ None
 unfolding ref_of is_reference
@@ -51,13 +52,13 @@ object_of-other os k w r h = go (kind_of w) refl r
 
 -- ---- slots
 
-has_slots-at : (os : List Object) (n w : ℕ) (x : Object) → object_at os w ≡ Some x → has_slots os n w ≡ (not (is_context x) && is_pointers x.format && nat_le n (length x.words))
+has_slots-at : (os : List Object) (n w : ℕ) (x : Object) → heap_object os w ≡ Some x → has_slots os n w ≡ (not (is_heap_context x) && is_pointers x.format && nat_le n (length x.words))
 has_slots-at os n w x h =
-    ap (λ (b : Bool). b && not (class_of os w == 36) && is_pointers (format_of os w) && nat_le n (slot_count_of os w)) (is_object-object_at os w x h)
+    ap (λ (b : Bool). b && not (class_at os w == 36) && is_pointers (format_at os w) && nat_le n (slot_count_of os w)) (is_object-object_at os w x h)
     ∙ ap (λ (o : Option Object). not (option_map_or (λ (y : Object). y.class) o 0 == 36) && is_pointers (option_map_or (λ (y : Object). y.format) o 0) && nat_le n (option_map_or (λ (y : Object). length y.words) o 0)) h
 
 abbrev pub words_at : List Object → ℕ → List ℕ
-words_at os w = option_map_or (λ x. x.words) (object_at os w) []
+words_at os w = option_map_or (λ x. x.words) (heap_object os w) []
 
 -- what the words of a pointer object refer to
 abbrev pub refs_at : List Object → ℕ → List Ref
@@ -75,18 +76,18 @@ pub record HasWords (os : List Object) (n w : ℕ) : Type 0 where
 record IsThere (os : List Object) (n w : ℕ) : Type 0 where
   known : is_object os w ≡ true
   object : Object
-  there : object_at os w ≡ Some object
-  other : is_context object ≡ false
+  there : heap_object os w ≡ Some object
+  other : is_heap_context object ≡ false
   pointers : is_pointers object.format ≡ true
   enough : n ≤ length object.words
   words : words_at os w ≡ object.words
 
 is_there : (os : List Object) (n w : ℕ) → has_slots os n w ≡ true → IsThere os n w
 is_there os n w h =
-    let known : is_object os w ≡ true = first (is_object os w) (not (class_of os w == 36)) (is_pointers (format_of os w)) (nat_le n (slot_count_of os w)) h in
+    let known : is_object os w ≡ true = first (is_object os w) (not (class_at os w == 36)) (is_pointers (format_at os w)) (nat_le n (slot_count_of os w)) h in
     let there = object_there os w known in
     let x : Object = there.0 in
-    let tests = parts (is_context x) (is_pointers x.format) (nat_le n (length x.words)) (sym (has_slots-at os n w x there.1) ∙ h) in
+    let tests = parts (is_heap_context x) (is_pointers x.format) (nat_le n (length x.words)) (sym (has_slots-at os n w x there.1) ∙ h) in
     record {
       known = known;
       object = x;
@@ -107,7 +108,7 @@ is_there os n w h =
     parts false true false h = absurd (false≢true h)
     parts false false c h = absurd (false≢true h)
 
-pub has_words : (os : List Object) (n w : ℕ) → IsSound os → has_slots os n w ≡ true → HasWords os n w
+pub has_words : (os : List Object) (n w : ℕ) → AreSoundObjects os → has_slots os n w ≡ true → HasWords os n w
 has_words os n w sound h =
     let t = is_there os n w h in
     let x : Object = t.object in
@@ -122,27 +123,27 @@ has_words os n w sound h =
       reference = λ i l. subst (λ (v : ℕ). is_reference os v ≡ true) (sym (slot i)) (references i 0 l);
     }
 
-pub slots_in-words : (os : List Object) (k : Kept) (n w : ℕ) → IsSound os → HasObjects os k → has_slots os n w ≡ true → slots_in (object_of k (ref_of os w)) ≡ Some (refs_at os w)
+pub slots_in-words : (os : List Object) (k : Kept) (n w : ℕ) → AreSoundObjects os → HasObjects os k → has_slots os n w ≡ true → slots_in (object_of k (ref_of os w)) ≡ Some (refs_at os w)
 slots_in-words os k n w sound has h =
     let t = is_there os n w h in
     ap slots_in (object_of-object os k w sound has t.known ∙ ap (option_map (obj_of (ref_of os))) t.there ∙ ap Some (obj_of-pointers (ref_of os) t.object t.other t.pointers))
     ∙ sym (ap (λ (ws : List ℕ). Some (map (ref_of os) ws)) t.words)
 
-pub slots_of-words : (os : List Object) (k : Kept) (n w : ℕ) → IsSound os → HasObjects os k → has_slots os n w ≡ true → slots_of k n (ref_of os w) ≡ Some (refs_at os w)
+pub slots_of-words : (os : List Object) (k : Kept) (n w : ℕ) → AreSoundObjects os → HasObjects os k → has_slots os n w ≡ true → slots_of k n (ref_of os w) ≡ Some (refs_at os w)
 unfolding slots_of
 slots_of-words os k n w sound has h =
     let enough = le-leb n (length (refs_at os w)) (omega (arith, (has_words os n w sound h).enough, length-map (words_at os w) (ref_of os))) in
     ap (at_least n) (slots_in-words os k n w sound has h) ∙ rw enough refl
 
 -- anything else has no such slots
-pub slots_of-none : (os : List Object) (k : Kept) (n w : ℕ) → IsSound os → HasObjects os k → is_reference os w ≡ true → has_slots os n w ≡ false → slots_of k n (ref_of os w) ≡ None
+pub slots_of-none : (os : List Object) (k : Kept) (n w : ℕ) → AreSoundObjects os → HasObjects os k → is_reference os w ≡ true → has_slots os n w ≡ false → slots_of k n (ref_of os w) ≡ None
 unfolding slots_of
 slots_of-none os k n w sound has r h = go (is_object os w) refl
   where
-    at : (x : Object) → object_at os w ≡ Some x → Sort x → at_least n (slots_in (Some (obj_of (ref_of os) x))) ≡ None
+    at : (x : Object) → heap_object os w ≡ Some x → Sort x → at_least n (slots_in (Some (obj_of (ref_of os) x))) ≡ None
     at x e (AContext c) = ap (λ (o : Obj). at_least n (slots_in (Some o))) (obj_of-context (ref_of os) x c)
     at x e (Pointers o p) =
-        let few : nat_le n (length (map (ref_of os) x.words)) ≡ false = ap (nat_le n) (length-map x.words (ref_of os)) ∙ last (is_context x) (is_pointers x.format) (nat_le n (length x.words)) o p (sym (has_slots-at os n w x e) ∙ h) in
+        let few : nat_le n (length (map (ref_of os) x.words)) ≡ false = ap (nat_le n) (length-map x.words (ref_of os)) ∙ last (is_heap_context x) (is_pointers x.format) (nat_le n (length x.words)) o p (sym (has_slots-at os n w x e) ∙ h) in
         ap (λ (q : Obj). at_least n (slots_in (Some q))) (obj_of-pointers (ref_of os) x o p) ∙ rw few refl
       where
         last : (a b c : Bool) → a ≡ false → b ≡ true → (not a && b && c) ≡ false → c ≡ false
@@ -160,26 +161,26 @@ slots_of-none os k n w sound has r h = go (is_object os w) refl
 
 -- ---- methods
 
-pub is_method-at : (os : List Object) (k : Kept) (w : ℕ) → IsSound os → HasObjects os k → is_reference os w ≡ true → model.is_method (object_of k (ref_of os w)) ≡ is_method_address os w
+pub is_method-at : (os : List Object) (k : Kept) (w : ℕ) → AreSoundObjects os → HasObjects os k → is_reference os w ≡ true → model.is_method (object_of k (ref_of os w)) ≡ is_method_address os w
 is_method-at os k w sound has r = go (is_object os w) refl
   where
-    format : (x : Object) → object_at os w ≡ Some x → format_of os w ≡ x.format
+    format : (x : Object) → heap_object os w ≡ Some x → format_at os w ≡ x.format
     format x e = ap (λ (o : Option Object). option_map_or (λ (y : Object). y.format) o 0) e
 
-    at : (x : Object) → IsSoundObject os x → Sort x → model.is_method (Some (obj_of (ref_of os) x)) ≡ is_method x.format
-    at x s (AContext c) = ap (λ (o : Obj). model.is_method (Some o)) (obj_of-context (ref_of os) x c) ∙ sym (ap is_method (s.context c).format)
-    at x s (Pointers o p) = ap (λ (q : Obj). model.is_method (Some q)) (obj_of-pointers (ref_of os) x o p) ∙ sym (no_method (is_method x.format) refl)
+    at : (x : Object) → IsSoundObject os x → Sort x → model.is_method (Some (obj_of (ref_of os) x)) ≡ is_code x.format
+    at x s (AContext c) = ap (λ (o : Obj). model.is_method (Some o)) (obj_of-context (ref_of os) x c) ∙ sym (ap is_code (s.context c).format)
+    at x s (Pointers o p) = ap (λ (q : Obj). model.is_method (Some q)) (obj_of-pointers (ref_of os) x o p) ∙ sym (no_method (is_code x.format) refl)
       where
-        no_method : (b : Bool) → is_method x.format ≡ b → is_method x.format ≡ false
+        no_method : (b : Bool) → is_code x.format ≡ b → is_code x.format ≡ false
         no_method true e = absurd (false≢true (sym (not_pointers x.format e) ∙ p))
         no_method false e = e
     at x s (AMethod o p m) = ap (λ (q : Obj). model.is_method (Some q)) (obj_of-method (ref_of os) x o p m) ∙ sym m
     at x s (Bytes o p m) = ap (λ (q : Obj). model.is_method (Some q)) (obj_of-bytes (ref_of os) x o p m) ∙ sym m
 
-    go : (b : Bool) → is_object os w ≡ b → model.is_method (object_of k (ref_of os w)) ≡ (is_object os w && is_method (format_of os w))
+    go : (b : Bool) → is_object os w ≡ b → model.is_method (object_of k (ref_of os w)) ≡ (is_object os w && is_code (format_at os w))
     go true e =
         let there = object_there os w e in
         ap model.is_method (object_of-object os k w sound has e ∙ ap (option_map (obj_of (ref_of os))) there.1)
         ∙ at there.0 (sound_at os w there.0 sound there.1) (sort_of there.0)
-        ∙ sym (ap is_method (format there.0 there.1)) ∙ sym (ap (λ (b : Bool). b && is_method (format_of os w)) e)
-    go false e = ap model.is_method (object_of-other os k w r e) ∙ sym (ap (λ (b : Bool). b && is_method (format_of os w)) e)
+        ∙ sym (ap is_code (format there.0 there.1)) ∙ sym (ap (λ (b : Bool). b && is_code (format_at os w)) e)
+    go false e = ap model.is_method (object_of-other os k w r e) ∙ sym (ap (λ (b : Bool). b && is_code (format_at os w)) e)

@@ -2,7 +2,7 @@
 use Rattle.std.specs.Prelude.{◌≡◌, ℕ, ◌==◌, ◌&&◌, not, Bool, true, nat_le, List, Option, option_map}
 use Rattle.cs_word.specs.declared.Oop.{Oop}
 use Rattle.cs_heap.specs.Format.{is_pointers}
-use Rattle.cs_heap.specs.Object.{Object, class_of, format_of, is_object, slot_count_of}
+use Rattle.cs_heap.specs.Object.{Object, class_at, format_at, is_object, slot_count_of}
 use Rattle.cs_model.specs.Lookup.{Sought}
 use Rattle.cs_model.specs.Lookup as sought
 use Rattle.cs_model.specs.Obj.{context_class}
@@ -16,11 +16,6 @@ use Rattle.cs_lookup.specs.declared.Found.TheVariants.{Method, Missing, Loop}
 -- a state has the objects of a heap, whatever else it keeps
 abbrev pub HasObjects : List Object → Kept → Type 0
 HasObjects objects k = k.objects ≡ objects_of objects
-
--- a word is the address of a pointer object, which no context is, with at least n slots
-abbrev pub has_slots : List Object → ℕ → ℕ → Bool
-has_slots objects n word = is_object objects word && not (class_of objects word == context_class)
-    && is_pointers (format_of objects word) && nat_le n (slot_count_of objects word)
 
 abbrev pub refs_option : List Object → Option Oop → Option Ref
 refs_option objects = option_map (λ o. ref_of objects o.0)

@@ -11,8 +11,8 @@ ghost use Rattle.cs_model.specs.Lookup.{find_in_dictionary, if_method, list_or_e
 ghost use Rattle.cs_model.specs.Obj.{slots_in};
 ghost use Rattle.cs_model.specs.State.{Kept, object_of};
 ghost use Rattle.cs_classes.specs.Meaning.{ref_of};
-ghost use Rattle.cs_classes.specs.Sound.{IsSound, is_method_address, is_reference};
-ghost use Rattle.cs_lookup.specs.Found.{FindsMethod, HasObjects, has_slots as has_slots_at, refs_option};
+ghost use Rattle.cs_classes.specs.Sound.{AreSoundObjects, is_method_address, is_reference, has_slots as has_slots_at};
+ghost use Rattle.cs_lookup.specs.Found.{FindsMethod, HasObjects, refs_option};
 ghost use Rattle.cs_lookup.specs.Found.{sought_of};
 
 use cs_classes::CONTEXT_CLASS;
@@ -40,7 +40,7 @@ pub enum Found {
 /// behind it. What isn't a pointer object with as many slots as are needed, contexts included, is no dictionary, no
 /// array of values and no class: an empty one, and the end of the superclasses.
 pub fn find(heap: &Heap, class: Oop, selector: Oop) -> Found
-    requires sound { IsSound heap.now.objects }
+    requires sound { AreSoundObjects heap.now.objects }
     requires class { is_reference heap.now.objects class.0 ≡ true }
     requires selector { is_reference heap.now.objects selector.0 ≡ true }
     ensures lookup { (k : Kept) → HasObjects heap.now.objects k → sought_of heap.now.objects result ≡
@@ -66,7 +66,7 @@ pub fn find(heap: &Heap, class: Oop, selector: Oop) -> Found
 
 /// The first method for the selector in a dictionary.
 fn method_in(heap: &Heap, dictionary: Oop, selector: Oop) -> Option<Oop>
-    requires sound { IsSound heap.now.objects }
+    requires sound { AreSoundObjects heap.now.objects }
     requires dictionary { is_reference heap.now.objects dictionary.0 ≡ true }
     requires selector { is_reference heap.now.objects selector.0 ≡ true }
     ensures found { (k : Kept) → HasObjects heap.now.objects k → refs_option heap.now.objects result ≡
@@ -90,7 +90,7 @@ fn method_in(heap: &Heap, dictionary: Oop, selector: Oop) -> Option<Oop>
 
 /// The value at a position of an array of values, where it is a method.
 fn method_at(heap: &Heap, values: Oop, position: u32) -> Option<Oop>
-    requires sound { IsSound heap.now.objects }
+    requires sound { AreSoundObjects heap.now.objects }
     requires values { is_reference heap.now.objects values.0 ≡ true }
     requires position { position + 1 < 2 ^ 32 }
     ensures value { (k : Kept) → HasObjects heap.now.objects k → refs_option heap.now.objects result ≡

@@ -3,14 +3,14 @@ use Rattle.std.proofs.Common.{◌≡◌, ◌≢◌, ◌⊎◌, inl, inr, ℕ, ze
 use Rattle.std.specs.Prelude.{◌==◌, ◌/◌, ◌%◌, ◌^◌, if◌then◌else◌, slice_index}
 use Rattle.std.proofs.lemmas.Bool.{cases_eq, eq-eqb, ne_eqb}
 use Rattle.std.proofs.lemmas.List.{length-replicate}
-use Rattle.cs_heap.specs.Object.{Object, is_object, next_address, object_at, slot_count_of, slot_of}
+use Rattle.cs_heap.specs.Object.{Object, is_object, next_address, heap_object, slot_count_of, slot_of}
 use Rattle.cs_heap.proofs.Laws.{field_of-new, field_of-old, is_object-old, no_object-next, object_at-old, object_placed, pushed}
 use Rattle.cs_model.specs.Obj.{context_size}
 use Rattle.cs_frame.specs.declared.FrameRef.{FrameRef}
 use Rattle.cs_frame.specs.Frame.{Frame, nil, with_context}
 use Rattle.cs_frame.specs.Page.{IsFrame, frame, frames_of, index_in, nth, on_frame, on_nth}
 use Rattle.cs_frame.proofs.PageLaws.{IsFrame-on_frame, KeepsPlace, frame-on_frame, frame-on_frame_other, frames_of-on_page, frames_of-on_page_other, index_in-on_frame, length-on_nth, length-on_page, on_page-same, page-IsFrame}
-use Rattle.cs_marriage.specs.Agree.{Agree, AreMarried, FrameFits, HasContext, IsContextAt, frame_size, header_at}
+use Rattle.cs_marriage.specs.Agree.{Agree, AreMarried, FrameAgrees, HasContext, IsContextAt, frame_size, header_at}
 use Rattle.cs_marriage.specs.Marriage.{new_size, new_spouse}
 use Rattle.cs_marriage.proofs.Objects.{LikeContext, LikeMethod, context_like, context_same, context_there, header_same, method_like, method_same, method_there}
 use Rattle.cs_marriage.proofs.Places.{link_once}
@@ -19,7 +19,7 @@ use Rattle.cs_marriage.proofs.Places.{link_once}
 
 -- all objects but that at an address are read as before
 abbrev pub Stays : List Object → List Object → ℕ → Type 0
-Stays os ws a = (b : ℕ) → is_object os b ≡ true → b ≢ a → object_at ws b ≡ object_at os b
+Stays os ws a = (b : ℕ) → is_object os b ≡ true → b ≢ a → heap_object ws b ≡ heap_object os b
 
 pub size_none : (os : List Object) (f : Frame) → f.context ≡ nil → frame_size os f ≡ context_size (header_at os f.method)
 size_none os f e = ap (λ b. if b then context_size (header_at os f.method) else slot_count_of os f.context - 6) (eq-eqb f.context nil e)
@@ -47,7 +47,7 @@ module _ (os ws : List Object) (r : FrameRef) (f : Frame) (method : LikeMethod o
     | inr ne ↦ size_some ws f ne ∙ ap (λ n. n - 6) (context ne).count ∙ sym (size_some os f ne)
   ]
 
-  pub fits_like : FrameFits os r f → FrameFits ws r f
+  pub fits_like : FrameAgrees os r f → FrameAgrees ws r f
   fits_like fits = record {
     within = fits.within;
     method = method_same os ws f.method method fits.method;
@@ -55,7 +55,7 @@ module _ (os ws : List Object) (r : FrameRef) (f : Frame) (method : LikeMethod o
     married = λ ne. married_like ne (fits.married ne);
   }
 
-pub fits_stays : (os ws : List Object) (a : ℕ) → Stays os ws a → (r : FrameRef) (f : Frame) → f.method ≢ a → f.context ≢ a → FrameFits os r f → FrameFits ws r f
+pub fits_stays : (os ws : List Object) (a : ℕ) → Stays os ws a → (r : FrameRef) (f : Frame) → f.method ≢ a → f.context ≢ a → FrameAgrees os r f → FrameAgrees ws r f
 fits_stays os ws a stays r f other apart fits =
     fits_like os ws r f (method_like os ws f.method (stays f.method (method_there os f.method fits.method) other))
     (λ ne. context_like os ws f.context (stays f.context (context_there os f.context (fits.married ne).context) apart)) fits
@@ -148,7 +148,7 @@ module _ (os : List Object) (ps : List (List Frame)) (r : FrameRef) (a : ℕ) (a
   pub new_aligned : a % 8 ≡ 0
   new_aligned = (object_placed (pushed os the_spouse) a (context_there (pushed os the_spouse) a context_new)).aligned
 
-  fits_new : FrameFits (pushed os the_spouse) r (with_context a the_frame)
+  fits_new : FrameAgrees (pushed os the_spouse) r (with_context a the_frame)
   fits_new =
       let old = agree.frames r is in
       record {
@@ -185,12 +185,12 @@ module _ (os : List Object) (ps : List (List Frame)) (r : FrameRef) (a : ℕ) (a
       keeps : KeepsPlace (with_context a)
       keeps f = refl
 
-      fits : (q : FrameRef) → IsFrame (on_frame ps r (with_context a)) q → (q ≡ r) ⊎ (q ≢ r) → FrameFits (pushed os the_spouse) q (frame (on_frame ps r (with_context a)) q)
+      fits : (q : FrameRef) → IsFrame (on_frame ps r (with_context a)) q → (q ≡ r) ⊎ (q ≢ r) → FrameAgrees (pushed os the_spouse) q (frame (on_frame ps r (with_context a)) q)
       fits q iq (inl e) =
-          subst (λ s. FrameFits (pushed os the_spouse) s (frame (on_frame ps r (with_context a)) s)) (sym e)
-          (subst (FrameFits (pushed os the_spouse) r) (sym (frame-on_frame ps r (with_context a) keeps is)) fits_new)
+          subst (λ s. FrameAgrees (pushed os the_spouse) s (frame (on_frame ps r (with_context a)) s)) (sym e)
+          (subst (FrameAgrees (pushed os the_spouse) r) (sym (frame-on_frame ps r (with_context a) keeps is)) fits_new)
       fits q iq (inr ne) =
           let old = frame_back ps r q (with_context a) keeps is iq in
           let at_q = agree.frames q old in
-          subst (FrameFits (pushed os the_spouse) q) (sym (frame-on_frame_other ps r q (with_context a) keeps is old ne))
+          subst (FrameAgrees (pushed os the_spouse) q) (sym (frame-on_frame_other ps r q (with_context a) keeps is old ne))
           (fits_stays os (pushed os the_spouse) a stays q (frame ps q) (apart (frame ps q).method (method_there os (frame ps q).method at_q.method)) (context_apart q old) at_q)

@@ -5,18 +5,18 @@ use Rattle.std.specs.Prelude.{slice_index, ◌==◌, ◌/◌, ◌%◌, if◌then
 use Rattle.std.proofs.lemmas.Bool.{cases_eq, eq-eqb, ne_eqb}
 use Rattle.std.proofs.lemmas.Bool.Decides.{nat_tests}
 use Rattle.std.proofs.lemmas.List.{get_or-drop, get_or-take, take_more}
-use Rattle.cs_heap.specs.Object.{Object, birth_of, class_of, field_of, object_at, set_word, slot_count_of, slot_of, with_object}
+use Rattle.cs_model.specs.Words.{small_value}
+use Rattle.cs_heap.specs.Object.{Object, birth_at, class_at, part_at, heap_object, set_word, slot_count_of, slot_of, with_object, words_at}
 use Rattle.cs_heap.proofs.Laws.{KeepsCount, field_of-with_object_kept, field_of-with_object_same, is_object-with_object, object_at-with_object_other, object_placed, set_word_keeps}
 use Rattle.cs_word.specs.declared.Kind.TheVariants as kind
-use Rattle.cs_word.specs.Word.{small_value}
 use Rattle.cs_classes.specs.Meaning.{count_of, count_of_kind, depth_in}
 use Rattle.cs_frame.specs.declared.FrameRef.{FrameRef}
-use Rattle.cs_frame.specs.Frame.{Frame, IsPc, IsValue, nil, pushed, with_stack}
-use Rattle.cs_frame.specs.Page.{IsBase, IsFrame, IsTop, frame, frames_of, index_in, index_of, nth, on_frame, on_nth, on_page, on_top, ref_of, top, used}
+use Rattle.cs_frame.specs.Frame.{Frame, IsPc, IsValue, nil, value_pushed, with_values}
+use Rattle.cs_frame.specs.Page.{IsBase, IsFrame, IsTop, frame, frames_of, index_in, frame_index, nth, on_frame, on_nth, on_page, on_top, frame_ref, top, frames_used}
 use Rattle.cs_frame.proofs.PageLaws.{frames_of-on_page, frames_of-on_page_other, length-on_page, on_page-on_page}
 use Rattle.cs_marriage.specs.Place.{link_word, names_place}
-use Rattle.cs_marriage.specs.Agree.{Agree, FrameFits, HasNoFrame, IsContextAt}
-use Rattle.cs_marriage.specs.Marriage.{CanBase, base_frame, cleared, linked, stack_words, words_at, words_if}
+use Rattle.cs_marriage.specs.Agree.{Agree, FrameAgrees, HasNoFrame, IsContextAt}
+use Rattle.cs_marriage.specs.Marriage.{CanBase, base_frame, cleared, linked, stack_words, words_if}
 use Rattle.cs_marriage.proofs.Agreeing.{Stays, fits_stays, size_some}
 use Rattle.cs_marriage.proofs.Clearing.{cleared_keeps, get_or-cleared}
 use Rattle.cs_marriage.proofs.Objects.{context_long, context_there, method_apart, method_like, method_same, method_there}
@@ -26,14 +26,14 @@ use Rattle.cs_marriage.proofs.Places.{link_names}
 
 module _ (os : List Object) (a : ℕ) where
   pub slot_is : (i : ℕ) → slot_of os a i ≡ slice_index (words_at os a) i
-  slot_is i = go (object_at os a)
+  slot_is i = go (heap_object os a)
     where
       go : (o : Option Object) → option_map_or (λ (x : Object). slice_index x.words i) o 0 ≡ slice_index (words_if o) i
       go None = refl
       go (Some x) = refl
 
   pub count_is : slot_count_of os a ≡ length (words_at os a)
-  count_is = go (object_at os a)
+  count_is = go (heap_object os a)
     where
       go : (o : Option Object) → option_map_or (λ (x : Object). length x.words) o 0 ≡ length (words_if o)
       go None = refl
@@ -92,25 +92,25 @@ module _ (ps : List (List Frame)) (p : ℕ) (lt : p < length ps) where
   pub alone_frames : (g : Frame) → frames_of (alone ps p g) p ≡ g ∷ []
   alone_frames g = frames_of-on_page ps p (λ _. g ∷ []) lt
 
-  first : (g : Frame) → index_of (g ∷ []) g.at ≡ 0
-  first g = ap (λ b. cond b 0 (suc (index_of [] g.at))) (eq-eqb g.at g.at refl)
+  first : (g : Frame) → frame_index (g ∷ []) g.at ≡ 0
+  first g = ap (λ b. cond b 0 (suc (frame_index [] g.at))) (eq-eqb g.at g.at refl)
 
-  alone_index : (g : Frame) → index_in (alone ps p g) (ref_of p g) ≡ 0
-  alone_index g = ap (λ (fs : List Frame). index_of fs g.at) (alone_frames g) ∙ first g
+  alone_index : (g : Frame) → index_in (alone ps p g) (frame_ref p g) ≡ 0
+  alone_index g = ap (λ (fs : List Frame). frame_index fs g.at) (alone_frames g) ∙ first g
 
-  pub alone_frame : (g : Frame) → IsFrame (alone ps p g) (ref_of p g)
+  pub alone_frame : (g : Frame) → IsFrame (alone ps p g) (frame_ref p g)
   alone_frame g = omega (arith, alone_index g, ap length (alone_frames g))
 
-  pub alone_base : (g : Frame) → IsBase (alone ps p g) (ref_of p g)
+  pub alone_base : (g : Frame) → IsBase (alone ps p g) (frame_ref p g)
   alone_base g = omega (arith, alone_index g, ap length (alone_frames g))
 
-  pub alone_top : (g : Frame) → IsTop (alone ps p g) (ref_of p g)
+  pub alone_top : (g : Frame) → IsTop (alone ps p g) (frame_ref p g)
   alone_top g = (omega (arith, ap length (alone_frames g)), ap (λ (fs : List Frame). (top fs).at) (sym (alone_frames g)))
 
-  pub alone_is : (g : Frame) → frame (alone ps p g) (ref_of p g) ≡ g
+  pub alone_is : (g : Frame) → frame (alone ps p g) (frame_ref p g) ≡ g
   alone_is g = ap (nth (frames_of (alone ps p g) p)) (alone_index g) ∙ ap (λ (fs : List Frame). nth fs 0) (alone_frames g)
 
-  pub alone_on_frame : (g : Frame) (h : Frame → Frame) → on_frame (alone ps p g) (ref_of p g) h ≡ alone ps p (h g)
+  pub alone_on_frame : (g : Frame) (h : Frame → Frame) → on_frame (alone ps p g) (frame_ref p g) h ≡ alone ps p (h g)
   alone_on_frame g h =
       ap (λ k. on_page (alone ps p g) p (on_nth k h)) (alone_index g)
       ∙ on_page-on_page ps p (λ _. g ∷ []) (on_nth 0 h) lt
@@ -119,7 +119,7 @@ module _ (ps : List (List Frame)) (p : ℕ) (lt : p < length ps) where
   alone_on_top g h = on_page-on_page ps p (λ _. g ∷ []) (on_top h) lt
 
 -- the base frame, part by part
-pub base_is : (os : List Object) (a : ℕ) (s pc m c b r : ℕ) → s ≡ slot_of os a 0 → pc ≡ slot_of os a 1 → m ≡ slot_of os a 3 → c ≡ slot_of os a 4 → b ≡ birth_of os a → r ≡ slot_of os a 5
+pub base_is : (os : List Object) (a : ℕ) (s pc m c b r : ℕ) → s ≡ slot_of os a 0 → pc ≡ slot_of os a 1 → m ≡ slot_of os a 3 → c ≡ slot_of os a 4 → b ≡ birth_at os a → r ≡ slot_of os a 5
     → (record { at = 0; caller = s; saved_pc = pc; method = m; closure = c; context = a; birth = b; receiver = r; stack = stack_words os a }) ≡ base_frame os a
 base_is os a s pc m c b r es ep em ec eb er =
     let f = base_frame os a in
@@ -132,17 +132,17 @@ base_is os a s pc m c b r es ep em ec eb er =
 
 -- ---- the stack of the last frame
 
-pub used_stacked : (xs : List ℕ) (fs : List Frame) → (top fs).stack ≡ [] → used (on_top (with_stack xs) fs) ≤ used fs + length xs
+pub used_stacked : (xs : List ℕ) (fs : List Frame) → (top fs).stack ≡ [] → frames_used (on_top (with_values xs) fs) ≤ frames_used fs + length xs
 used_stacked xs [] e = omega arith
 used_stacked xs (f ∷ fs) e = omega (arith, ap length e)
 
-pub stacked_more : (xs : List ℕ) (v : ℕ) (fs : List Frame) → on_top (pushed v) (on_top (with_stack xs) fs) ≡ on_top (with_stack (xs ++ v ∷ [])) fs
+pub stacked_more : (xs : List ℕ) (v : ℕ) (fs : List Frame) → on_top (value_pushed v) (on_top (with_values xs) fs) ≡ on_top (with_values (xs ++ v ∷ [])) fs
 stacked_more xs v [] = refl
 stacked_more xs v (f ∷ fs) = refl
 
-pub stacked_none : (fs : List Frame) → (top fs).stack ≡ [] → on_top (with_stack []) fs ≡ fs
+pub stacked_none : (fs : List Frame) → (top fs).stack ≡ [] → on_top (with_values []) fs ≡ fs
 stacked_none [] e = refl
-stacked_none (f ∷ fs) e = ap (λ (xs : List ℕ). with_stack xs f ∷ fs) (sym e)
+stacked_none (f ∷ fs) e = ap (λ (xs : List ℕ). with_values xs f ∷ fs) (sym e)
 
 -- ---- the context that is linked
 
@@ -173,7 +173,7 @@ module _ (os : List Object) (a : ℕ) (g : Object → Object) (keeps : KeepsCoun
   agree_changed ps agree at none = record {
     few = agree.few;
     nil_there = is_object-with_object os a nil g keeps ∙ agree.nil_there;
-    nil_class = λ e. agree.nil_class (sym (ap (λ (o : Option Object). option_map_or (λ x. x.class) o 0) (object_at-with_object_other os a nil g keeps (λ f. agree.nil_class (ap (class_of os) (sym f) ∙ at.class)))) ∙ e);
+    nil_class = λ e. agree.nil_class (sym (ap (λ (o : Option Object). option_map_or (λ x. x.class) o 0) (object_at-with_object_other os a nil g keeps (λ f. agree.nil_class (ap (class_at os) (sym f) ∙ at.class)))) ∙ e);
     frames = λ r is. fits_stays os (with_object os a g) a others_stay r (frame ps r) (method_apart os (frame ps r).method a (agree.frames r is).method at.format) (none r is) (agree.frames r is);
   }
 
@@ -198,7 +198,7 @@ module _ (os : List Object) (ps : List (List Frame)) (a p : ℕ) (agree : Agree 
   the_objects = with_object os a (linked the_place)
 
   not_nil : a ≢ nil
-  not_nil e = agree.nil_class (ap (class_of os) (sym e) ∙ can.context.class)
+  not_nil e = agree.nil_class (ap (class_at os) (sym e) ∙ can.context.class)
 
   -- a single context has no frame
   none : HasNoFrame ps a
@@ -207,18 +207,18 @@ module _ (os : List Object) (ps : List (List Frame)) (a p : ℕ) (agree : Agree 
       let named : names_place (slot_of os a 0) ≡ true = ap (λ b. names_place (slot_of os b 0)) (sym e) ∙ (ap names_place m.place ∙ link_names r) in
       let single = can.single in absurd (cc)
 
-  field_linked : (g : Object → ℕ) → field_of g the_objects a ≡ field_of (λ x. g (linked the_place x)) os a
+  field_linked : (g : Object → ℕ) → part_at g the_objects a ≡ part_at (λ x. g (linked the_place x)) os a
   field_linked g = field_of-with_object_same g os a (linked the_place) (linked_keeps the_place)
 
   slot_linked : (i : ℕ) → 2 < i → i < 6 → slot_of the_objects a i ≡ slot_of os a i
-  slot_linked i gt less = field_linked (λ x. slice_index x.words i) ∙ go (object_at os a)
+  slot_linked i gt less = field_linked (λ x. slice_index x.words i) ∙ go (heap_object os a)
     where
       go : (o : Option Object) → option_map_or (λ (x : Object). slice_index (linked the_place x).words i) o 0 ≡ option_map_or (λ (x : Object). slice_index x.words i) o 0
       go None = refl
       go (Some x) = linked_slot the_place x.words i gt less
 
   place_linked : slot_of the_objects a 0 ≡ link_word the_place
-  place_linked = field_linked (λ x. slice_index x.words 0) ∙ go (object_at os a) (let long = context_long os a can.context in omega (arith, long, count_is os a))
+  place_linked = field_linked (λ x. slice_index x.words 0) ∙ go (heap_object os a) (let long = context_long os a can.context in omega (arith, long, count_is os a))
     where
       go : (o : Option Object) → 0 < length (words_if o) → option_map_or (λ (x : Object). slice_index (linked the_place x).words 0) o 0 ≡ link_word the_place
       go None some = absurd (omega (arith, some))
@@ -227,7 +227,7 @@ module _ (os : List Object) (ps : List (List Frame)) (a p : ℕ) (agree : Agree 
   count_linked : slot_count_of the_objects a ≡ slot_count_of os a
   count_linked = field_of-with_object_kept (λ x. length x.words) os a a (linked the_place) (linked_keeps the_place) (linked_keeps the_place)
 
-  fits_base : FrameFits the_objects the_place (base_frame os a)
+  fits_base : FrameAgrees the_objects the_place (base_frame os a)
   fits_base = record {
     within = omega arith;
     method = method_same os the_objects (slot_of os a 3) (method_like os the_objects (slot_of os a 3) (others_stay os a (linked the_place) (linked_keeps the_place) (slot_of os a 3)
@@ -243,7 +243,7 @@ module _ (os : List Object) (ps : List (List Frame)) (a p : ℕ) (agree : Agree 
     };
   }
 
-  fits_all : (r : FrameRef) → IsFrame (alone ps p (base_frame os a)) r → FrameFits the_objects r (frame (alone ps p (base_frame os a)) r)
+  fits_all : (r : FrameRef) → IsFrame (alone ps p (base_frame os a)) r → FrameAgrees the_objects r (frame (alone ps p (base_frame os a)) r)
   fits_all r is = elim (cases_eq r.page p) [
     | inl e ↦ here e
     | inr ne ↦ there ne
@@ -252,23 +252,23 @@ module _ (os : List Object) (ps : List (List Frame)) (a p : ℕ) (agree : Agree 
       f : Frame
       f = base_frame os a
 
-      here : r.page ≡ p → FrameFits the_objects r (frame (alone ps p (base_frame os a)) r)
+      here : r.page ≡ p → FrameAgrees the_objects r (frame (alone ps p (base_frame os a)) r)
       here e = elim (cases_eq 0 r.at) [
         | inl z ↦
             let same : the_place ≡ r = ap (λ (n : ℕ). record { page = n; at = 0 }) (sym e) ∙ ap (λ (n : ℕ). record { page = r.page; at = n }) z in
-            subst (λ q. FrameFits the_objects q (frame (alone ps p (base_frame os a)) q)) same
-            (subst (FrameFits the_objects the_place) (sym (alone_is ps p lt (base_frame os a))) fits_base)
+            subst (λ q. FrameAgrees the_objects q (frame (alone ps p (base_frame os a)) q)) same
+            (subst (FrameAgrees the_objects the_place) (sym (alone_is ps p lt (base_frame os a))) fits_base)
         | inr ne ↦ absurd (
             let fs : frames_of (alone ps p (base_frame os a)) r.page ≡ base_frame os a ∷ [] = ap (frames_of (alone ps p (base_frame os a))) e ∙ alone_frames ps p lt (base_frame os a) in
-            let i : index_of (base_frame os a ∷ []) r.at ≡ 1 = ap (λ b. cond b 0 1) (ne_eqb 0 r.at ne) in
-            omega (arith, is, ap (λ (gs : List Frame). index_of gs r.at) fs, i, ap length fs))
+            let i : frame_index (base_frame os a ∷ []) r.at ≡ 1 = ap (λ b. cond b 0 1) (ne_eqb 0 r.at ne) in
+            omega (arith, is, ap (λ (gs : List Frame). frame_index gs r.at) fs, i, ap length fs))
       ]
 
-      there : r.page ≢ p → FrameFits the_objects r (frame (alone ps p (base_frame os a)) r)
+      there : r.page ≢ p → FrameAgrees the_objects r (frame (alone ps p (base_frame os a)) r)
       there ne =
           let same = frames_of-on_page_other ps p r.page (λ _. base_frame os a ∷ []) ne in
-          let old : IsFrame ps r = subst (λ (fs : List Frame). index_of fs r.at < length fs) same is in
-          subst (λ (fs : List Frame). FrameFits the_objects r (nth fs (index_of fs r.at))) (sym same)
+          let old : IsFrame ps r = subst (λ (fs : List Frame). frame_index fs r.at < length fs) same is in
+          subst (λ (fs : List Frame). FrameAgrees the_objects r (nth fs (frame_index fs r.at))) (sym same)
           (fits_stays os the_objects a (others_stay os a (linked the_place) (linked_keeps the_place)) r (frame ps r)
           (method_apart os (frame ps r).method a (agree.frames r old).method can.context.format) (none r old) (agree.frames r old))
 

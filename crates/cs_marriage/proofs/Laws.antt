@@ -2,18 +2,18 @@
 use Rattle.std.proofs.Common.{◌≡◌, ◌≢◌, inl, inr, ℕ, zero, suc, ◌+◌, ◌-◌, ◌<◌, ◌≤◌, ◌^◌, Bool, true, false, List, [], ◌∷◌, ◌++◌, length, replicate, take, drop, cond, refl, ap, sym, subst, ◌∙◌, arith, length-append, length-take}
 use Rattle.std.specs.Prelude.{◌==◌, ◌/◌, ◌%◌, if◌then◌else◌}
 use Rattle.std.proofs.lemmas.Bool.{cases_eq, eq-eqb, ne_eqb}
-use Rattle.cs_heap.specs.Object.{Object, birth_of, class_of, is_object, slot_count_of, slot_of, with_hash, with_slot}
+use Rattle.cs_heap.specs.Object.{Object, birth_at, class_at, is_object, slot_count_of, slot_of, hash_set, slot_set}
 use Rattle.cs_heap.proofs.Laws.{birth_of-with_hash, birth_of-with_slot, class_of-with_hash, class_of-with_slot, field_of-old, format_of-with_hash, format_of-with_slot, is_object-old, is_object-with_hash, is_object-with_slot, object_at-old, object_placed, slot_count_of-with_hash, slot_count_of-with_slot, slot_of-with_hash, slot_of-with_slot_other_object, slot_of-with_slot_other_slot}
 use Rattle.cs_heap.proofs.Laws.{pushed as pushed_object}
 use Rattle.std.proofs.lemmas.List.{length-set}
 use Rattle.cs_model.specs.Obj.{context_class, context_size}
 use Rattle.cs_frame.specs.declared.FrameRef.{FrameRef}
 use Rattle.cs_frame.specs.declared.NewFrame.{NewFrame}
-use Rattle.cs_frame.specs.Frame.{Frame, IsValue, cut, nil, popped, pushed, with_caller, with_saved_pc}
-use Rattle.cs_frame.specs.Frame.{with_slot as with_frame_slot}
-use Rattle.cs_frame.specs.Page.{CanCall, IsFrame, IsStacked, called, frame, frames_of, fresh, index_in, index_of, nth, on_frame, on_nth, on_page, on_top, rest_of, top, used}
+use Rattle.cs_frame.specs.Frame.{Frame, IsValue, call_cut, nil, top_popped, value_pushed, with_caller, with_saved_pc}
+use Rattle.cs_frame.specs.Frame.{with_value as with_frame_slot}
+use Rattle.cs_frame.specs.Page.{HasArguments, IsFrame, AreStacked, called, frame, frames_of, fresh, index_in, frame_index, nth, on_frame, on_nth, on_page, on_top, rest_of, top, frames_used}
 use Rattle.cs_frame.proofs.PageLaws.{at-nth_index, end-nth, frame-on_frame, frame-on_frame_other, frames_of-on_page, frames_of-on_page_other, length-on_page, length-stack_called}
-use Rattle.cs_marriage.specs.Agree.{Agree, FrameFits, HasContext, HasNoFrame, IsContextAt, IsMethodAt, IsWidowed, frame_size, header_at}
+use Rattle.cs_marriage.specs.Agree.{Agree, FrameAgrees, HasContext, HasNoFrame, IsContextAt, IsMethodAt, IsWidowed, frame_size, header_at}
 use Rattle.cs_marriage.specs.Place.{names_place}
 use Rattle.cs_marriage.proofs.Places.{link_names}
 use Rattle.cs_marriage.proofs.Agreeing.{fits_like, frame_back, same_ref, size_none, size_some}
@@ -21,7 +21,7 @@ use Rattle.cs_marriage.proofs.Objects.{LikeContext, LikeMethod, context_like, co
 
 -- The frames of one page fit, each by its place.
 abbrev pub PageFits : List Object → ℕ → List Frame → Type 0
-PageFits os p fs = (at : ℕ) → index_of fs at < length fs → FrameFits os (record { page = p; at = at }) (nth fs (index_of fs at))
+PageFits os p fs = (at : ℕ) → frame_index fs at < length fs → FrameAgrees os (record { page = p; at = at }) (nth fs (frame_index fs at))
 
 pub page_fits : (os : List Object) (ps : List (List Frame)) (p : ℕ) → Agree os ps → PageFits os p (frames_of ps p)
 page_fits os ps p agree at lt = agree.frames (record { page = p; at = at }) lt
@@ -39,21 +39,21 @@ agree_on_page os ps p h agree lt fits = record {
   ];
 }
   where
-    here : (r : FrameRef) → IsFrame (on_page ps p h) r → r.page ≡ p → FrameFits os r (frame (on_page ps p h) r)
+    here : (r : FrameRef) → IsFrame (on_page ps p h) r → r.page ≡ p → FrameAgrees os r (frame (on_page ps p h) r)
     here r is e =
         let same : frames_of (on_page ps p h) r.page ≡ h (frames_of ps p) = ap (frames_of (on_page ps p h)) e ∙ frames_of-on_page ps p h lt in
-        let within = subst (λ (fs : List Frame). index_of fs r.at < length fs) same is in
-        subst (λ (fs : List Frame). FrameFits os r (nth fs (index_of fs r.at))) (sym same)
-        (subst (λ (n : ℕ). FrameFits os (record { page = n; at = r.at }) (nth (h (frames_of ps p)) (index_of (h (frames_of ps p)) r.at))) (sym e) (fits r.at within))
+        let within = subst (λ (fs : List Frame). frame_index fs r.at < length fs) same is in
+        subst (λ (fs : List Frame). FrameAgrees os r (nth fs (frame_index fs r.at))) (sym same)
+        (subst (λ (n : ℕ). FrameAgrees os (record { page = n; at = r.at }) (nth (h (frames_of ps p)) (frame_index (h (frames_of ps p)) r.at))) (sym e) (fits r.at within))
 
-    there : (r : FrameRef) → IsFrame (on_page ps p h) r → r.page ≢ p → FrameFits os r (frame (on_page ps p h) r)
+    there : (r : FrameRef) → IsFrame (on_page ps p h) r → r.page ≢ p → FrameAgrees os r (frame (on_page ps p h) r)
     there r is ne =
         let same = frames_of-on_page_other ps p r.page h ne in
-        let old : IsFrame ps r = subst (λ (fs : List Frame). index_of fs r.at < length fs) same is in
-        subst (λ (fs : List Frame). FrameFits os r (nth fs (index_of fs r.at))) (sym same) (agree.frames r old)
+        let old : IsFrame ps r = subst (λ (fs : List Frame). frame_index fs r.at < length fs) same is in
+        subst (λ (fs : List Frame). FrameAgrees os r (nth fs (frame_index fs r.at))) (sym same) (agree.frames r old)
 
 -- no frames at all
-pub agree_empty : (os : List Object) (n : ℕ) → n ≤ 64 → is_object os nil ≡ true → class_of os nil ≢ context_class → Agree os (replicate n [])
+pub agree_empty : (os : List Object) (n : ℕ) → n ≤ 64 → is_object os nil ≡ true → class_at os nil ≢ context_class → Agree os (replicate n [])
 agree_empty os n few there class = record {
   few = omega (arith, few, many n);
   nil_there = there;
@@ -70,38 +70,38 @@ agree_empty os n few there class = record {
     none (suc n) zero = refl
     none (suc n) (suc p) = none n p
 
-index_here : (f : Frame) (fs : List Frame) (at : ℕ) → f.at ≡ at → index_of (f ∷ fs) at ≡ 0
-index_here f fs at e = ap (λ b. cond b 0 (suc (index_of fs at))) (eq-eqb f.at at e)
+index_here : (f : Frame) (fs : List Frame) (at : ℕ) → f.at ≡ at → frame_index (f ∷ fs) at ≡ 0
+index_here f fs at e = ap (λ b. cond b 0 (suc (frame_index fs at))) (eq-eqb f.at at e)
 
-index_there : (f : Frame) (fs : List Frame) (at : ℕ) → f.at ≢ at → index_of (f ∷ fs) at ≡ suc (index_of fs at)
-index_there f fs at ne = ap (λ b. cond b 0 (suc (index_of fs at))) (ne_eqb f.at at ne)
+index_there : (f : Frame) (fs : List Frame) (at : ℕ) → f.at ≢ at → frame_index (f ∷ fs) at ≡ suc (frame_index fs at)
+index_there f fs at ne = ap (λ b. cond b 0 (suc (frame_index fs at))) (ne_eqb f.at at ne)
 
 -- a frame above others that fit
-pub fits_above : (os : List Object) (p : ℕ) (f : Frame) (fs : List Frame) → FrameFits os (record { page = p; at = f.at }) f → PageFits os p fs → PageFits os p (f ∷ fs)
+pub fits_above : (os : List Object) (p : ℕ) (f : Frame) (fs : List Frame) → FrameAgrees os (record { page = p; at = f.at }) f → PageFits os p fs → PageFits os p (f ∷ fs)
 fits_above os p f fs fit rest at lt = elim (cases_eq f.at at) [
   | inl e ↦
-      subst (λ k. FrameFits os (record { page = p; at = at }) (nth (f ∷ fs) k)) (sym (index_here f fs at e))
-      (subst (λ (n : ℕ). FrameFits os (record { page = p; at = n }) f) e fit)
+      subst (λ k. FrameAgrees os (record { page = p; at = at }) (nth (f ∷ fs) k)) (sym (index_here f fs at e))
+      (subst (λ (n : ℕ). FrameAgrees os (record { page = p; at = n }) f) e fit)
   | inr ne ↦
       let i = index_there f fs at ne in
-      subst (λ k. FrameFits os (record { page = p; at = at }) (nth (f ∷ fs) k)) (sym i) (rest at (omega (arith, lt, i)))
+      subst (λ k. FrameAgrees os (record { page = p; at = at }) (nth (f ∷ fs) k)) (sym i) (rest at (omega (arith, lt, i)))
 ]
 
 -- and the others, where it goes
-pub fits_below : (os : List Object) (p : ℕ) (f : Frame) (fs : List Frame) → IsStacked (f ∷ fs) → PageFits os p (f ∷ fs) → PageFits os p fs
+pub fits_below : (os : List Object) (p : ℕ) (f : Frame) (fs : List Frame) → AreStacked (f ∷ fs) → PageFits os p (f ∷ fs) → PageFits os p fs
 fits_below os p f fs stacked fits at lt =
-    let end = end-nth fs (index_of fs at) stacked.1 lt in
+    let end = end-nth fs (frame_index fs at) stacked.1 lt in
     let place = at-nth_index fs at lt in
     let i = index_there f fs at (λ e. omega (arith, e, end, place, stacked.0)) in
-    subst (λ k. FrameFits os (record { page = p; at = at }) (nth (f ∷ fs) k)) i (fits at (omega (arith, i, lt)))
+    subst (λ k. FrameAgrees os (record { page = p; at = at }) (nth (f ∷ fs) k)) i (fits at (omega (arith, i, lt)))
 
-pub fits_top : (os : List Object) (p : ℕ) (f : Frame) (fs : List Frame) → PageFits os p (f ∷ fs) → FrameFits os (record { page = p; at = f.at }) f
+pub fits_top : (os : List Object) (p : ℕ) (f : Frame) (fs : List Frame) → PageFits os p (f ∷ fs) → FrameAgrees os (record { page = p; at = f.at }) f
 fits_top os p f fs fits =
     let i = index_here f fs f.at refl in
-    subst (λ k. FrameFits os (record { page = p; at = f.at }) (nth (f ∷ fs) k)) i (fits f.at (omega (arith, i)))
+    subst (λ k. FrameAgrees os (record { page = p; at = f.at }) (nth (f ∷ fs) k)) i (fits f.at (omega (arith, i)))
 
 -- a frame whose stack is another that is no longer than its size
-pub fits_stack : (os : List Object) (r : FrameRef) (f : Frame) (xs : List ℕ) → length xs ≤ frame_size os f → FrameFits os r f → FrameFits os r (record f { stack = xs })
+pub fits_stack : (os : List Object) (r : FrameRef) (f : Frame) (xs : List ℕ) → length xs ≤ frame_size os f → FrameAgrees os r f → FrameAgrees os r (record f { stack = xs })
 fits_stack os r f xs le fits = record {
   within = fits.within;
   method = fits.method;
@@ -111,10 +111,10 @@ fits_stack os r f xs le fits = record {
 }
 
 -- a frame returns
-pub agree_dropped : (os : List Object) (ps : List (List Frame)) (p : ℕ) → Agree os ps → p < length ps → IsStacked (frames_of ps p) → Agree os (on_page ps p rest_of)
+pub agree_dropped : (os : List Object) (ps : List (List Frame)) (p : ℕ) → Agree os ps → p < length ps → AreStacked (frames_of ps p) → Agree os (on_page ps p rest_of)
 agree_dropped os ps p agree lt stacked = agree_on_page os ps p rest_of agree lt (go (frames_of ps p) stacked (page_fits os ps p agree))
   where
-    go : (fs : List Frame) → IsStacked fs → PageFits os p fs → PageFits os p (rest_of fs)
+    go : (fs : List Frame) → AreStacked fs → PageFits os p fs → PageFits os p (rest_of fs)
     go [] st fits = fits
     go (f ∷ fs) st fits = fits_below os p f fs st fits
 
@@ -131,7 +131,7 @@ pub record NewFits (os : List Object) (new : NewFrame) : Type 0 where
   pub stack : new.args + new.fill ≤ context_size (header_at os new.method.0)
 
 fits_fresh : (os : List Object) (p : ℕ) (new : NewFrame) (at caller : ℕ) (xs : List ℕ) → NewFits os new → at < 4096 → length (fresh new at caller xs).stack ≡ new.args + new.fill
-    → FrameFits os (record { page = p; at = at }) (fresh new at caller xs)
+    → FrameAgrees os (record { page = p; at = at }) (fresh new at caller xs)
 fits_fresh os p new at caller xs can lt long = record {
   within = lt;
   method = can.method;
@@ -144,63 +144,63 @@ pub method_value : (os : List Object) (m : ℕ) → IsMethodAt os m → IsValue 
 method_value os m is e = omega (arith, e, (object_placed os m (method_there os m is)).aligned)
 
 -- a call
-pub agree_called : (os : List Object) (ps : List (List Frame)) (p : ℕ) (new : NewFrame) → Agree os ps → p < length ps → IsStacked (frames_of ps p)
-    → used (frames_of ps p) + 66 ≤ 4096 → CanCall new.args (frames_of ps p) → NewFits os new → Agree os (on_page ps p (called new))
+pub agree_called : (os : List Object) (ps : List (List Frame)) (p : ℕ) (new : NewFrame) → Agree os ps → p < length ps → AreStacked (frames_of ps p)
+    → frames_used (frames_of ps p) + 66 ≤ 4096 → HasArguments new.args (frames_of ps p) → NewFits os new → Agree os (on_page ps p (called new))
 agree_called os ps p new agree lt stacked room can fits = agree_on_page os ps p (called new) agree lt (go (frames_of ps p) stacked room can (page_fits os ps p agree))
   where
-    go : (fs : List Frame) → IsStacked fs → used fs + 66 ≤ 4096 → CanCall new.args fs → PageFits os p fs → PageFits os p (called new fs)
+    go : (fs : List Frame) → AreStacked fs → frames_used fs + 66 ≤ 4096 → HasArguments new.args fs → PageFits os p fs → PageFits os p (called new fs)
     go [] st room can old = fits_above os p (fresh new 0 new.receiver.0 []) [] (fits_fresh os p new 0 new.receiver.0 [] fits (omega arith) (length-stack_called new [] can)) old
     go (f ∷ fs) st room can old =
         let short = length-take (length f.stack - (new.args + 1)) f.stack in
         let under = fits_top os p f fs old in
         let cut_fits = fits_stack os (record { page = p; at = f.at }) f (take (length f.stack - (new.args + 1)) f.stack) (omega (arith, short, under.stack)) under in
-        fits_above os p (fresh new (used (cut new.args f ∷ fs)) nil (drop (length f.stack - new.args) f.stack)) (cut new.args f ∷ fs)
-        (fits_fresh os p new (used (cut new.args f ∷ fs)) nil (drop (length f.stack - new.args) f.stack) fits (omega (arith, short, room)) (length-stack_called new (f ∷ fs) can))
-        (fits_above os p (cut new.args f) fs cut_fits (fits_below os p f fs st old))
+        fits_above os p (fresh new (frames_used (call_cut new.args f ∷ fs)) nil (drop (length f.stack - new.args) f.stack)) (call_cut new.args f ∷ fs)
+        (fits_fresh os p new (frames_used (call_cut new.args f ∷ fs)) nil (drop (length f.stack - new.args) f.stack) fits (omega (arith, short, room)) (length-stack_called new (f ∷ fs) can))
+        (fits_above os p (call_cut new.args f) fs cut_fits (fits_below os p f fs st old))
 
 -- every frame has room for 16 values
-pub size_fits : (os : List Object) (r : FrameRef) (f : Frame) → FrameFits os r f → 16 ≤ frame_size os f
+pub size_fits : (os : List Object) (r : FrameRef) (f : Frame) → FrameAgrees os r f → 16 ≤ frame_size os f
 size_fits os r f fits = elim (cases_eq f.context nil) [
   | inl e ↦ omega (arith, size_none os f e, size_least (header_at os f.method))
   | inr ne ↦ omega (arith, size_some os f ne, context_long os f.context (fits.married ne).context)
 ]
 
 -- a value is pushed on a stack that isn't full
-pub agree_pushed : (os : List Object) (ps : List (List Frame)) (p v : ℕ) → Agree os ps → p < length ps → IsStacked (frames_of ps p)
-    → length (top (frames_of ps p)).stack < frame_size os (top (frames_of ps p)) → Agree os (on_page ps p (on_top (pushed v)))
-agree_pushed os ps p v agree lt stacked small = agree_on_page os ps p (on_top (pushed v)) agree lt (go (frames_of ps p) stacked small (page_fits os ps p agree))
+pub agree_pushed : (os : List Object) (ps : List (List Frame)) (p v : ℕ) → Agree os ps → p < length ps → AreStacked (frames_of ps p)
+    → length (top (frames_of ps p)).stack < frame_size os (top (frames_of ps p)) → Agree os (on_page ps p (on_top (value_pushed v)))
+agree_pushed os ps p v agree lt stacked small = agree_on_page os ps p (on_top (value_pushed v)) agree lt (go (frames_of ps p) stacked small (page_fits os ps p agree))
   where
-    go : (fs : List Frame) → IsStacked fs → length (top fs).stack < frame_size os (top fs) → PageFits os p fs → PageFits os p (on_top (pushed v) fs)
+    go : (fs : List Frame) → AreStacked fs → length (top fs).stack < frame_size os (top fs) → PageFits os p fs → PageFits os p (on_top (value_pushed v) fs)
     go [] st small fits = fits
     go (f ∷ fs) st small fits =
-        fits_above os p (pushed v f) fs
+        fits_above os p (value_pushed v f) fs
         (fits_stack os (record { page = p; at = f.at }) f (f.stack ++ v ∷ []) (omega (arith, small, length-append f.stack (v ∷ []))) (fits_top os p f fs fits))
         (fits_below os p f fs st fits)
 
 -- the last value is popped
-pub agree_popped : (os : List Object) (ps : List (List Frame)) (p : ℕ) → Agree os ps → p < length ps → IsStacked (frames_of ps p) → Agree os (on_page ps p (on_top popped))
-agree_popped os ps p agree lt stacked = agree_on_page os ps p (on_top popped) agree lt (go (frames_of ps p) stacked (page_fits os ps p agree))
+pub agree_popped : (os : List Object) (ps : List (List Frame)) (p : ℕ) → Agree os ps → p < length ps → AreStacked (frames_of ps p) → Agree os (on_page ps p (on_top top_popped))
+agree_popped os ps p agree lt stacked = agree_on_page os ps p (on_top top_popped) agree lt (go (frames_of ps p) stacked (page_fits os ps p agree))
   where
-    go : (fs : List Frame) → IsStacked fs → PageFits os p fs → PageFits os p (on_top popped fs)
+    go : (fs : List Frame) → AreStacked fs → PageFits os p fs → PageFits os p (on_top top_popped fs)
     go [] st fits = fits
     go (f ∷ fs) st fits =
         let under = fits_top os p f fs fits in
-        fits_above os p (popped f) fs
+        fits_above os p (top_popped f) fs
         (fits_stack os (record { page = p; at = f.at }) f (take (length f.stack - 1) f.stack) (omega (arith, under.stack, length-take (length f.stack - 1) f.stack)) under)
         (fits_below os p f fs st fits)
 
 -- the last frame of a page with frames
-pub top_fits : (os : List Object) (ps : List (List Frame)) (p : ℕ) → Agree os ps → 0 < length (frames_of ps p) → FrameFits os (record { page = p; at = (top (frames_of ps p)).at }) (top (frames_of ps p))
+pub top_fits : (os : List Object) (ps : List (List Frame)) (p : ℕ) → Agree os ps → 0 < length (frames_of ps p) → FrameAgrees os (record { page = p; at = (top (frames_of ps p)).at }) (top (frames_of ps p))
 top_fits os ps p agree some = go (frames_of ps p) some (page_fits os ps p agree)
   where
-    go : (fs : List Frame) → 0 < length fs → PageFits os p fs → FrameFits os (record { page = p; at = (top fs).at }) (top fs)
+    go : (fs : List Frame) → 0 < length fs → PageFits os p fs → FrameAgrees os (record { page = p; at = (top fs).at }) (top fs)
     go [] some fits = absurd (omega (arith, some))
     go (f ∷ fs) some fits = fits_top os p f fs fits
 
 -- ---- the heap changes
 
 -- methods and contexts are read the same
-pub agree_like : (os ws : List Object) (ps : List (List Frame)) → Agree os ps → is_object ws nil ≡ true → class_of ws nil ≡ class_of os nil
+pub agree_like : (os ws : List Object) (ps : List (List Frame)) → Agree os ps → is_object ws nil ≡ true → class_at ws nil ≡ class_at os nil
     → ((m : ℕ) → IsMethodAt os m → LikeMethod os ws m) → ((a : ℕ) → IsContextAt os a → LikeContext os ws a) → Agree ws ps
 agree_like os ws ps agree there class methods contexts = record {
   few = agree.few;
@@ -218,10 +218,10 @@ agree_grown os ps y agree =
     (λ a at. context_like os (pushed_object os y) a (object_at-old os y a (context_there os a at)))
 
 -- a slot is written of what is no context, and it is no header of a method
-pub agree_stored : (os : List Object) (ps : List (List Frame)) (a i v : ℕ) → Agree os ps → class_of os a ≢ context_class → (IsMethodAt os a → i ≢ 0)
-    → Agree (with_slot os a i v) ps
+pub agree_stored : (os : List Object) (ps : List (List Frame)) (a i v : ℕ) → Agree os ps → class_at os a ≢ context_class → (IsMethodAt os a → i ≢ 0)
+    → Agree (slot_set os a i v) ps
 agree_stored os ps a i v agree other header =
-    agree_like os (with_slot os a i v) ps agree (is_object-with_slot os a i v nil ∙ agree.nil_there) (class_of-with_slot os a i v nil)
+    agree_like os (slot_set os a i v) ps agree (is_object-with_slot os a i v nil ∙ agree.nil_there) (class_of-with_slot os a i v nil)
     (λ m is. record {
       format = format_of-with_slot os a i v m;
       count = slot_count_of-with_slot os a i v m;
@@ -230,7 +230,7 @@ agree_stored os ps a i v agree other header =
         | inr ne ↦ slot_of-with_slot_other_object os a i v m 0 ne
       ];
     })
-    (λ c at. let ne : a ≢ c = λ e. other (ap (class_of os) e ∙ at.class) in record {
+    (λ c at. let ne : a ≢ c = λ e. other (ap (class_at os) e ∙ at.class) in record {
       class = class_of-with_slot os a i v c;
       format = format_of-with_slot os a i v c;
       birth = birth_of-with_slot os a i v c;
@@ -242,9 +242,9 @@ agree_stored os ps a i v agree other header =
     })
 
 -- an object is given a hash
-pub agree_hashed : (os : List Object) (ps : List (List Frame)) (a h : ℕ) → Agree os ps → Agree (with_hash os a h) ps
+pub agree_hashed : (os : List Object) (ps : List (List Frame)) (a h : ℕ) → Agree os ps → Agree (hash_set os a h) ps
 agree_hashed os ps a h agree =
-    agree_like os (with_hash os a h) ps agree (is_object-with_hash os a h nil ∙ agree.nil_there) (class_of-with_hash os a h nil)
+    agree_like os (hash_set os a h) ps agree (is_object-with_hash os a h nil ∙ agree.nil_there) (class_of-with_hash os a h nil)
     (λ m is. record {
       format = format_of-with_hash os a h m;
       count = slot_count_of-with_hash os a h m;
@@ -274,7 +274,7 @@ pub record KeepsTies (g : Frame → Frame) : Type 0 where
   pub stack : (f : Frame) → length (g f).stack ≡ length f.stack
 
 fits_tied : (os : List Object) (r : FrameRef) (f h : Frame) → h.method ≡ f.method → h.closure ≡ f.closure → h.context ≡ f.context → h.birth ≡ f.birth → h.receiver ≡ f.receiver
-    → length h.stack ≡ length f.stack → FrameFits os r f → FrameFits os r h
+    → length h.stack ≡ length f.stack → FrameAgrees os r f → FrameAgrees os r h
 fits_tied os r f h em ec ex eb er es fits = record {
   within = fits.within;
   method = subst (IsMethodAt os) (sym em) fits.method;
@@ -285,7 +285,7 @@ fits_tied os r f h em ec ex eb er es fits = record {
       omega (arith, es, size, fits.stack);
   married = λ ne. let m = fits.married (λ e. ne (ex ∙ e)) in record {
     context = subst (IsContextAt os) (sym ex) m.context;
-    birth = ap (birth_of os) ex ∙ m.birth ∙ sym eb;
+    birth = ap (birth_at os) ex ∙ m.birth ∙ sym eb;
     place = ap (λ a. slot_of os a 0) ex ∙ m.place;
     method = ap (λ a. slot_of os a 3) ex ∙ m.method ∙ sym em;
     closure = ap (λ a. slot_of os a 4) ex ∙ m.closure ∙ sym ec;
@@ -299,14 +299,14 @@ agree_on_frame os ps r g ties agree is = record {
   nil_there = agree.nil_there;
   nil_class = agree.nil_class;
   frames = λ q iq. elim (same_ref q r) [
-    | inl e ↦ subst (λ s. FrameFits os s (frame (on_frame ps r g) s)) (sym e) (subst (FrameFits os r) (sym (frame-on_frame ps r g ties.place is)) here)
+    | inl e ↦ subst (λ s. FrameAgrees os s (frame (on_frame ps r g) s)) (sym e) (subst (FrameAgrees os r) (sym (frame-on_frame ps r g ties.place is)) here)
     | inr ne ↦
         let old = frame_back ps r q g ties.place is iq in
-        subst (FrameFits os q) (sym (frame-on_frame_other ps r q g ties.place is old ne)) (agree.frames q old)
+        subst (FrameAgrees os q) (sym (frame-on_frame_other ps r q g ties.place is old ne)) (agree.frames q old)
   ];
 }
   where
-    here : FrameFits os r (g (frame ps r))
+    here : FrameAgrees os r (g (frame ps r))
     here = let f = frame ps r in
         fits_tied os r f (g f) (ties.method f) (ties.closure f) (ties.context f) (ties.birth f) (ties.receiver f) (ties.stack f) (agree.frames r is)
 

@@ -1,7 +1,7 @@
 -- A new context is written.
 use Rattle.std.proofs.Common.{◌≡◌, ℕ, ◌+◌, Bool, true, false, List, ◌∷◌, length, replicate, refl, ap, ◌∙◌}
 use Rattle.std.specs.Prelude.{slice_set, if◌then◌else◌, ◌==◌, ◌/◌, ◌%◌, ◌^◌}
-use Rattle.cs_heap.specs.Object.{Object, new_object, next_address, no_flags, set_word, slot_count_of, with_slot}
+use Rattle.cs_heap.specs.Object.{Object, new_object, next_address, no_flags, set_word, slot_count_of, slot_set}
 use Rattle.cs_heap.proofs.Laws.{field_of-new, length-new_words, next_address-new, next_address-set_word, pushed, with_slot-new}
 use Rattle.cs_model.specs.Obj.{context_size}
 use Rattle.cs_frame.specs.declared.FrameRef.{FrameRef}
@@ -22,16 +22,16 @@ module _ (os : List Object) (size birth a : ℕ) (at : a ≡ next_address os (6 
   at_blank : a ≡ next_address os (length blank.words)
   at_blank = next_address-new os a 36 3 (6 + size) birth at
 
-  pub written : (l m c r : ℕ) → with_slot (with_slot (with_slot (with_slot (pushed os blank) a 0 l) a 3 m) a 4 c) a 5 r
+  pub written : (l m c r : ℕ) → slot_set (slot_set (slot_set (slot_set (pushed os blank) a 0 l) a 3 m) a 4 c) a 5 r
       ≡ pushed os (set_word 5 r (set_word 4 c (set_word 3 m (set_word 0 l blank))))
   written l m c r =
       let x = set_word 0 l blank in let y = set_word 3 m x in let z = set_word 4 c y in
       let ax = next_address-set_word os blank a 0 l at_blank in
       let ay = next_address-set_word os x a 3 m ax in
       let az = next_address-set_word os y a 4 c ay in
-      ap (λ (ws : List Object). with_slot (with_slot (with_slot ws a 3 m) a 4 c) a 5 r) (with_slot-new os blank a 0 l at_blank)
-      ∙ (ap (λ (ws : List Object). with_slot (with_slot ws a 4 c) a 5 r) (with_slot-new os x a 3 m ax)
-      ∙ (ap (λ (ws : List Object). with_slot ws a 5 r) (with_slot-new os y a 4 c ay)
+      ap (λ (ws : List Object). slot_set (slot_set (slot_set ws a 3 m) a 4 c) a 5 r) (with_slot-new os blank a 0 l at_blank)
+      ∙ (ap (λ (ws : List Object). slot_set (slot_set ws a 4 c) a 5 r) (with_slot-new os x a 3 m ax)
+      ∙ (ap (λ (ws : List Object). slot_set ws a 5 r) (with_slot-new os y a 4 c ay)
       ∙ with_slot-new os z a 5 r az))
 
 abbrev pub spouse_with : ℕ → List ℕ → Object

@@ -2,8 +2,8 @@
 use Rattle.std.proofs.Common.{◌≡◌, ◌≢◌, inl, inr, ℕ, zero, suc, ◌<◌, ◌≤◌, true, List, [], ◌∷◌, length, Option, Some, None, option_and_then, is_some, refl, ap, sym, ◌∙◌, arith}
 use Rattle.std.specs.Prelude.{slice_get, slice_index, unwrap_or}
 use Rattle.std.specs.Option.{option_map_or}
-use Rattle.cs_heap.specs.Object.{Object, at_index, birth_of, class_of, field_of, format_of, index_of, is_object, object_at, slot_count_of, slot_of, with_object}
-use Rattle.cs_heap.specs.Format.{is_method}
+use Rattle.cs_heap.specs.Object.{Object, at_index, birth_at, class_at, part_at, format_at, object_place, is_object, heap_object, slot_count_of, slot_of, with_object}
+use Rattle.cs_heap.specs.Format.{is_code}
 use Rattle.cs_heap.proofs.Places.{has_number}
 use Rattle.cs_heap.proofs.Laws.{KeepsCount, index_of-with_object}
 use Rattle.cs_classes.specs.Meaning.{count_of}
@@ -20,7 +20,7 @@ at_index_twice (suc k) f g (x ∷ xs) = ap (λ (ys : List Object). x ∷ ys) (at
 pub with_object_twice : (xs : List Object) (a : ℕ) (f g : Object → Object) → KeepsCount f → with_object (with_object xs a f) a g ≡ with_object xs a (λ x. g (f x))
 with_object_twice xs a f g keeps =
     ap (λ (o : Option ℕ). option_map_or (λ k. at_index k g (with_object xs a f)) o (with_object xs a f)) (index_of-with_object xs a a f keeps)
-    ∙ go (index_of xs a)
+    ∙ go (object_place xs a)
   where
     go : (o : Option ℕ)
         → option_map_or (λ k. at_index k g (option_map_or (λ k. at_index k f xs) o xs)) o (option_map_or (λ k. at_index k f xs) o xs)
@@ -29,10 +29,10 @@ with_object_twice xs a f g keeps =
     go (Some k) = at_index_twice k f g xs
 
 -- changes that agree at the object
-pub with_object_alike : (xs : List Object) (a : ℕ) (f g : Object → Object) → ((x : Object) → object_at xs a ≡ Some x → f x ≡ g x)
+pub with_object_alike : (xs : List Object) (a : ℕ) (f g : Object → Object) → ((x : Object) → heap_object xs a ≡ Some x → f x ≡ g x)
     → with_object xs a f ≡ with_object xs a g
 unfolding at_index
-with_object_alike xs a f g h = go (index_of xs a) h
+with_object_alike xs a f g h = go (object_place xs a) h
   where
     at : (k : ℕ) (ys : List Object) → ((x : Object) → slice_get ys k ≡ Some x → f x ≡ g x) → at_index k f ys ≡ at_index k g ys
     at k [] h = refl
@@ -47,7 +47,7 @@ with_object_alike xs a f g h = go (index_of xs a) h
 -- a change of nothing
 pub with_object_none : (xs : List Object) (a : ℕ) (f : Object → Object) → ((x : Object) → f x ≡ x) → with_object xs a f ≡ xs
 unfolding at_index
-with_object_none xs a f h = go (index_of xs a)
+with_object_none xs a f h = go (object_place xs a)
   where
     at : (k : ℕ) (ys : List Object) → at_index k f ys ≡ ys
     at k [] = refl
@@ -76,31 +76,31 @@ pub method_there : (os : List Object) (a : ℕ) → IsMethodAt os a → is_objec
 method_there os a is = counted_there os a is.header
 
 -- a method is no context
-pub method_apart : (os : List Object) (m a : ℕ) → IsMethodAt os m → format_of os a ≡ 3 → m ≢ a
+pub method_apart : (os : List Object) (m a : ℕ) → IsMethodAt os m → format_at os a ≡ 3 → m ≢ a
 method_apart os m a is three e =
-    let no : is_method 3 ≡ true = ap is_method (sym three ∙ ap (format_of os) (sym e)) ∙ is.format in absurd (cc)
+    let no : is_code 3 ≡ true = ap is_code (sym three ∙ ap (format_at os) (sym e)) ∙ is.format in absurd (cc)
 
 -- ---- what is read of a method or a context is the same
 
 -- what counts of a method
 pub record LikeMethod (os ws : List Object) (m : ℕ) : Type 0 where
-  pub format : format_of ws m ≡ format_of os m
+  pub format : format_at ws m ≡ format_at os m
   pub count : slot_count_of ws m ≡ slot_count_of os m
   pub header : slot_of ws m 0 ≡ slot_of os m 0
 
 -- what counts of a context that has a frame
 pub record LikeContext (os ws : List Object) (a : ℕ) : Type 0 where
-  pub class : class_of ws a ≡ class_of os a
-  pub format : format_of ws a ≡ format_of os a
-  pub birth : birth_of ws a ≡ birth_of os a
+  pub class : class_at ws a ≡ class_at os a
+  pub format : format_at ws a ≡ format_at os a
+  pub birth : birth_at ws a ≡ birth_at os a
   pub count : slot_count_of ws a ≡ slot_count_of os a
   pub place : slot_of ws a 0 ≡ slot_of os a 0
   pub method : slot_of ws a 3 ≡ slot_of os a 3
   pub closure : slot_of ws a 4 ≡ slot_of os a 4
   pub receiver : slot_of ws a 5 ≡ slot_of os a 5
 
-module _ (os ws : List Object) (a : ℕ) (same : object_at ws a ≡ object_at os a) where
-  pub field_same : (g : Object → ℕ) → field_of g ws a ≡ field_of g os a
+module _ (os ws : List Object) (a : ℕ) (same : heap_object ws a ≡ heap_object os a) where
+  pub field_same : (g : Object → ℕ) → part_at g ws a ≡ part_at g os a
   field_same g = ap (λ (o : Option Object). option_map_or g o 0) same
 
   pub method_like : LikeMethod os ws a
@@ -134,7 +134,7 @@ context_same os ws a like at = record {
 
 pub method_same : (os ws : List Object) (m : ℕ) → LikeMethod os ws m → IsMethodAt os m → IsMethodAt ws m
 method_same os ws m like is = record {
-  format = ap is_method like.format ∙ is.format;
+  format = ap is_code like.format ∙ is.format;
   header = omega (arith, like.count, is.header);
 }
 

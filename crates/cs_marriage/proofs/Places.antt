@@ -1,8 +1,9 @@
 -- Words that name places.
 use Rattle.std.proofs.Common.{◌≡◌, ◌≢◌, ℕ, ◌%◌, ◌<◌, true, false, not, eqb, inl, inr, arith, ap, refl, ◌∙◌}
 use Rattle.std.proofs.lemmas.Bool.{cases_Bool, eq-eqb, eqb-true}
+use Rattle.cs_model.specs.Words.{small_value}
 use Rattle.cs_word.specs.declared.Kind.TheVariants as kind
-use Rattle.cs_word.specs.Word.{kind_of, small_value}
+use Rattle.cs_word.specs.Word.{kind_of}
 use Rattle.cs_frame.specs.declared.FrameRef.{FrameRef}
 use Rattle.cs_marriage.specs.Place.{link_word, names_place, page_named}
 

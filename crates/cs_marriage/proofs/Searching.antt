@@ -1,10 +1,10 @@
 -- The walk down a page in search of a context.
 use Rattle.std.proofs.Common.{◌≡◌, ◌≢◌, ◌↔◌, inl, inr, ℕ, zero, suc, ◌-◌, ◌<◌, ◌≤◌, true, false, List, [], ◌∷◌, length, Option, Some, None, IfSome, IsNone, refl, ap, sym, subst, ◌∙◌, arith}
 use Rattle.std.proofs.lemmas.Bool.{cases_eq}
-use Rattle.cs_heap.specs.Object.{Object, class_of, slot_of}
+use Rattle.cs_heap.specs.Object.{Object, class_at, slot_of}
 use Rattle.cs_frame.specs.declared.FrameRef.{FrameRef}
 use Rattle.cs_frame.specs.Frame.{Frame, nil}
-use Rattle.cs_frame.specs.Page.{IsBase, IsFrame, IsStacked, IsTop, caller_of, frame, frames_of, index_in, nth, ref_of, top}
+use Rattle.cs_frame.specs.Page.{IsBase, IsFrame, AreStacked, IsTop, caller_of, frame, frames_of, index_in, nth, frame_ref, top}
 use Rattle.cs_frame.proofs.PageLaws.{IsTop-is_frame, index_of-nth}
 use Rattle.cs_marriage.specs.Agree.{Agree, HasContext, HasNoFrame, IsContextAt, IsSpouse}
 use Rattle.cs_marriage.specs.Marriage.{PageLacks}
@@ -36,14 +36,14 @@ no_page ps p a past k lt = absurd (omega (arith, lt, ap length (none ps p past))
     none (q ∷ qs) zero le = absurd (omega (arith, le))
     none (q ∷ qs) (suc n) le = none qs n (omega (arith, le))
 
-pub walk_begins : (ps : List (List Frame)) (p a : ℕ) (o : Option FrameRef) → (IsNone o ↔ (frames_of ps p ≡ [])) → IfSome o (λ r. r ≡ ref_of p (top (frames_of ps p)))
+pub walk_begins : (ps : List (List Frame)) (p a : ℕ) (o : Option FrameRef) → (IsNone o ↔ (frames_of ps p ≡ [])) → IfSome o (λ r. r ≡ frame_ref p (top (frames_of ps p)))
     → IfSome o (IsTop ps) → Walked ps p a o
 walk_begins ps p a None none is last = λ k lt. absurd (omega (arith, lt, ap length (none.0 refl)))
 walk_begins ps p a (Some r) none is last =
     let t = IsTop-is_frame ps r last in
     record { page = ap (λ (q : FrameRef). q.page) is; is = t.1; above = λ k lt. absurd (omega (arith, lt, t.0)) }
 
-module _ (ps : List (List Frame)) (p a : ℕ) (r : FrameRef) (stacked : IsStacked (frames_of ps p)) (at : IsAt ps p a r) (other : (frame ps r).context ≢ a) where
+module _ (ps : List (List Frame)) (p a : ℕ) (r : FrameRef) (stacked : AreStacked (frames_of ps p)) (at : IsAt ps p a r) (other : (frame ps r).context ≢ a) where
   -- this one has another, too
   with_this : (k : ℕ) → k < suc (index_in ps r) → (nth (frames_of ps p) k).context ≢ a
   with_this k lt = elim (cases_eq k (index_in ps r)) [
@@ -51,15 +51,15 @@ module _ (ps : List (List Frame)) (p a : ℕ) (r : FrameRef) (stacked : IsStacke
     | inr ne ↦ at.above k (omega (arith, lt, ne))
   ]
 
-  next_index : (g : FrameRef) → g ≡ ref_of r.page (caller_of ps r) → suc (index_in ps r) < length (frames_of ps r.page) → index_in ps g ≡ suc (index_in ps r)
+  next_index : (g : FrameRef) → g ≡ frame_ref r.page (caller_of ps r) → suc (index_in ps r) < length (frames_of ps r.page) → index_in ps g ≡ suc (index_in ps r)
   next_index g e lt =
       ap (index_in ps) e
-      ∙ index_of-nth (frames_of ps r.page) (suc (index_in ps r)) (subst (λ (q : ℕ). IsStacked (frames_of ps q)) (sym at.page) stacked) lt
+      ∙ index_of-nth (frames_of ps r.page) (suc (index_in ps r)) (subst (λ (q : ℕ). AreStacked (frames_of ps q)) (sym at.page) stacked) lt
 
   more : (IsBase ps r → ⊥) → suc (index_in ps r) < length (frames_of ps r.page)
   more above = omega (arith, at.is, above)
 
-  pub walk_goes : (o : Option FrameRef) → (IsNone o ↔ IsBase ps r) → IfSome o (λ g. g ≡ ref_of r.page (caller_of ps r)) → Walked ps p a o × (left ps o < left ps (Some r))
+  pub walk_goes : (o : Option FrameRef) → (IsNone o ↔ IsBase ps r) → IfSome o (λ g. g ≡ frame_ref r.page (caller_of ps r)) → Walked ps p a o × (left ps o < left ps (Some r))
   walk_goes None base is =
       let e : suc (index_in ps r) ≡ length (frames_of ps r.page) = base.0 refl in
       ((λ k lt. with_this k (omega (arith, lt, e, ap (λ (q : ℕ). length (frames_of ps q)) at.page))), omega (arith, e))
@@ -80,7 +80,7 @@ module _ (ps : List (List Frame)) (p a : ℕ) (r : FrameRef) (stacked : IsStacke
 
 module _ (os : List Object) (ps : List (List Frame)) (a : ℕ) (agree : Agree os ps) (is : IsContextAt os a) where
   not_nil : a ≢ nil
-  not_nil e = agree.nil_class (ap (class_of os) (sym e) ∙ is.class)
+  not_nil e = agree.nil_class (ap (class_at os) (sym e) ∙ is.class)
 
   -- a frame of this context stands where the context says
   placed : (r : FrameRef) → HasContext ps a r → slot_of os a 0 ≡ link_word r

@@ -1,7 +1,7 @@
 -- When heap and frames agree: what a frame has for a context, and what a context has for a frame.
 use Rattle.std.specs.Prelude.{◌≡◌, ◌≢◌, ◌⊎◌, ◌↔◌, ℕ, ◌-◌, ◌<◌, ◌≤◌, ◌==◌, true, false, if◌then◌else◌, List, length, unwrap_or}
-use Rattle.cs_heap.specs.Object.{Object, birth_of, class_of, format_of, is_object, slot_count_of, slot_of}
-use Rattle.cs_heap.specs.Format.{is_method}
+use Rattle.cs_heap.specs.Object.{Object, birth_at, class_at, format_at, is_object, slot_count_of, slot_of}
+use Rattle.cs_heap.specs.Format.{is_code}
 use Rattle.cs_classes.specs.Meaning.{count_of}
 use Rattle.cs_model.specs.Obj.{context_class, context_fields, context_size}
 use Rattle.cs_frame.specs.declared.FrameRef.{FrameRef}
@@ -13,8 +13,8 @@ use Rattle.cs_marriage.specs.declared.state.Spouse.TheVariants as spouse
 
 -- a context: six fields, and a stack of 16 or 56 values
 pub record IsContextAt (os : List Object) (a : ℕ) : Type 0 where
-  pub class : class_of os a ≡ context_class
-  pub format : format_of os a ≡ 3
+  pub class : class_at os a ≡ context_class
+  pub format : format_at os a ≡ 3
   pub slots : (slot_count_of os a ≡ 22) ⊎ (slot_count_of os a ≡ 62)
 
 -- the header of the method at an address
@@ -23,7 +23,7 @@ header_at os a = unwrap_or (count_of (slot_of os a 0)) 0
 
 -- a method, with a header
 pub record IsMethodAt (os : List Object) (a : ℕ) : Type 0 where
-  pub format : is_method (format_of os a) ≡ true
+  pub format : is_code (format_at os a) ≡ true
   pub header : 0 < slot_count_of os a
 
 -- how many values the stack of a frame may hold: as many as that of its context, or where it has none as its method asks for
@@ -34,13 +34,13 @@ frame_size os f = if f.context == nil then context_size (header_at os f.method) 
 -- Beside that it has what it keeps when the frame returns.
 pub record AreMarried (os : List Object) (r : FrameRef) (f : Frame) : Type 0 where
   pub context : IsContextAt os f.context
-  pub birth : birth_of os f.context ≡ f.birth
+  pub birth : birth_at os f.context ≡ f.birth
   pub place : slot_of os f.context 0 ≡ link_word r
   pub method : slot_of os f.context 3 ≡ f.method
   pub closure : slot_of os f.context 4 ≡ f.closure
   pub receiver : slot_of os f.context 5 ≡ f.receiver
 
-pub record FrameFits (os : List Object) (r : FrameRef) (f : Frame) : Type 0 where
+pub record FrameAgrees (os : List Object) (r : FrameRef) (f : Frame) : Type 0 where
   pub within : r.at < 4096
   pub method : IsMethodAt os f.method
   pub stack : length f.stack ≤ frame_size os f
@@ -49,8 +49,8 @@ pub record FrameFits (os : List Object) (r : FrameRef) (f : Frame) : Type 0 wher
 pub record Agree (os : List Object) (ps : List (List Frame)) : Type 0 where
   pub few : length ps ≤ 64
   pub nil_there : is_object os nil ≡ true
-  pub nil_class : class_of os nil ≢ context_class
-  pub frames : (r : FrameRef) → IsFrame ps r → FrameFits os r (frame ps r)
+  pub nil_class : class_at os nil ≢ context_class
+  pub frames : (r : FrameRef) → IsFrame ps r → FrameAgrees os r (frame ps r)
 
 -- ---- the three states of a context
 

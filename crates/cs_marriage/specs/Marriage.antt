@@ -1,7 +1,7 @@
 -- What the calls make of heap and frames.
 use Rattle.std.specs.Prelude.{◌≡◌, ◌≢◌, ℕ, pos, ◌+◌, ◌-◌, ◌<◌, ◌≤◌, ◌^◌, ◌==◌, false, if◌then◌else◌, List, [], ◌∷◌, ◌++◌, Option, Some, None, IsSome, length, take, drop, replicate, unwrap_or}
 use Rattle.cs_word.specs.Word.{small_word}
-use Rattle.cs_heap.specs.Object.{Object, birth_of, next_address, no_flags, object_at, set_word, slot_count_of, slot_of, with_slot}
+use Rattle.cs_heap.specs.Object.{Object, birth_at, next_address, no_flags, heap_object, set_word, slot_count_of, slot_of, slot_set, words_at}
 use Rattle.cs_classes.specs.Meaning.{count_of, depth_in}
 use Rattle.cs_model.specs.Obj.{context_class, context_fields, context_size}
 use Rattle.cs_frame.specs.declared.FrameRef.{FrameRef}
@@ -45,9 +45,6 @@ abbrev pub words_if : Option Object → List ℕ
 words_if None = []
 words_if (Some x) = x.words
 
-abbrev pub words_at : List Object → ℕ → List ℕ
-words_at os a = words_if (object_at os a)
-
 -- the stack of the context at an address
 abbrev pub stack_words : List Object → ℕ → List ℕ
 stack_words os a = take (depth_in (words_at os a)) (drop context_fields (words_at os a))
@@ -61,7 +58,7 @@ base_frame os a = record {
   method = slot_of os a 3;
   closure = slot_of os a 4;
   context = a;
-  birth = birth_of os a;
+  birth = birth_at os a;
   receiver = slot_of os a 5;
   stack = stack_words os a;
 }
@@ -82,7 +79,7 @@ pub record CanBase (os : List Object) (a : ℕ) : Type 0 where
   pub context : IsContextAt os a
   pub single : names_place (slot_of os a 0) ≡ false
   pub live : IsSome (count_of (slot_of os a 1))
-  pub birth : birth_of os a < 2 ^ 62
+  pub birth : birth_at os a < 2 ^ 62
   pub method : IsMethodAt os (slot_of os a 3)
   pub values : (i : ℕ) → i < slot_count_of os a → IsValue (slot_of os a i)
   pub stack : context_fields + unwrap_or (count_of (slot_of os a 2)) 0 ≤ slot_count_of os a
@@ -91,4 +88,4 @@ pub record CanBase (os : List Object) (a : ℕ) : Type 0 where
 
 -- the context at an address is single and dead
 abbrev pub buried : List Object → ℕ → List Object
-buried os a = with_slot (with_slot (with_slot os a 0 nil) a 1 nil) a 2 (small_word (pos 0))
+buried os a = slot_set (slot_set (slot_set os a 0 nil) a 1 nil) a 2 (small_word (pos 0))

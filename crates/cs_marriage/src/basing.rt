@@ -1,10 +1,10 @@
 //! How a single context becomes the base frame of a page.
 ghost use Rattle.std.specs.Prelude.{◌≡◌, ◌+◌, ◌<◌, ◌≤◌, ◌^◌, ◌||◌, [], ◌∷◌, IsSome, length, unwrap_or};
-ghost use Rattle.cs_heap.specs.Object.{birth_of, is_watched, slot_count_of, slot_of, with_object};
+ghost use Rattle.cs_heap.specs.Object.{birth_at, is_watched, slot_count_of, slot_of, with_object};
 ghost use Rattle.cs_heap.specs.Writes.{slots_stored};
 ghost use Rattle.cs_classes.specs.Meaning.{count_of};
-ghost use Rattle.cs_frame.specs.Frame.{with_stack};
-ghost use Rattle.cs_frame.specs.Page.{IsTop, frames_of, on_page, on_top, top, used};
+ghost use Rattle.cs_frame.specs.Frame.{with_values};
+ghost use Rattle.cs_frame.specs.Page.{IsTop, frames_of, on_page, on_top, top, frames_used};
 ghost use Rattle.cs_marriage.specs.Agree.{Agree, HasContext, IsContextAt};
 ghost use Rattle.cs_marriage.specs.Marriage.{CanBase, base_frame, cleared_from, linked, stack_words};
 
@@ -64,9 +64,9 @@ fn build_base(heap: &Heap, frames: &mut Frames, ctx: Oop, page: u32) -> FrameRef
 fn copy_stack(heap: &Heap, frames: &mut Frames, ctx: Oop, f: FrameRef)
     requires context { CanBase heap.now.objects ctx.0 }
     requires top { IsTop frames.old f }
-    requires room { used (frames_of frames.old f.page) + 56 ≤ 4096 }
+    requires room { frames_used (frames_of frames.old f.page) + 56 ≤ 4096 }
     requires empty { (top (frames_of frames.old f.page)).stack ≡ [] }
-    ensures copied { frames.new ≡ on_page frames.old f.page (on_top (with_stack (stack_words heap.now.objects ctx.0))) }
+    ensures copied { frames.new ≡ on_page frames.old f.page (on_top (with_values (stack_words heap.now.objects ctx.0))) }
 {
     for i in 0..stack_depth(heap, ctx) {
         frames.push(f, heap.slot(ctx, FIRST_STACK + i));

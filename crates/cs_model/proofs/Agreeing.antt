@@ -2,7 +2,7 @@
 use Rattle.std.proofs.Common.{◌≡◌, ◌∙◌, ℕ, Bool, Option, Some, List, sym, ap}
 use Rattle.std.specs.Prelude.{slice_get}
 use Rattle.std.specs.List.{AllByRecursion}
-use Rattle.cs_model.specs.Ref.{Ref, birth_of}
+use Rattle.cs_model.specs.Ref.{Ref, named_object}
 use Rattle.cs_model.specs.Ref as ref
 use Rattle.cs_model.specs.Obj.{Context, Ctx, lies_in}
 use Rattle.cs_model.specs.State.{Kept, object_at, object_of, is_read_only, slots_of, special_at, scheduler_of, active_process, is_nil, IsHeld, ContextHeld}
@@ -155,7 +155,7 @@ instruction_at-kept v m k = option_equal (instruction_at_same k)
 
 place_at_same : {v m : Kept} {o p : Option Ref} → Keeps v m → SameOption (IsHeld v) o p → Same Any (place_at v o) (place_at m p)
 place_at_same k none = is no_place
-place_at_same k (some p h) = if_same (is_nil_same k (is p)) (is no_place) (two (λ r c. record { process = birth_of p; context = r.active; pc = c.pc }) (rest_same k) (active_context_same k))
+place_at_same k (some p h) = if_same (is_nil_same k (is p)) (is no_place) (two (λ r c. record { process = named_object p; context = r.active; pc = c.pc }) (rest_same k) (active_context_same k))
 
 pub place_of-kept : (v m : Kept) → Keeps v m → place_of m ≡ place_of v
 unfolding place_of

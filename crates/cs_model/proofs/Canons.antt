@@ -11,12 +11,12 @@ use Rattle.std.specs.FinMap.Entries.{below_all, where_key, is_sorted-where_key, 
 use Rattle.std.proofs.lemmas.Bool.Decides.{nat_tests}
 use Rattle.std.proofs.lemmas.Option.{slice_get_past}
 use Rattle.std.proofs.lemmas.Map.Made.{length-le_from_is_member}
-use Rattle.cs_model.specs.Ref.{Ref, Small, Char, birth_of}
+use Rattle.cs_model.specs.Ref.{Ref, Small, Char, named_object}
 use Rattle.cs_model.specs.Ref as ref
 use Rattle.cs_model.specs.Obj.{Obj, Ptr, Raw, Method, Ctx, is_context, is_context_at}
 use Rattle.cs_model.specs.State.{Kept, Rest, object_at, IsHeld, NamesHeld}
 use Rattle.cs_model.specs.Keeps.{Keeps}
-use Rattle.cs_model.specs.Canon.{Canon, plain_births, leads_to, contexts_from, queued, all_queued, turned, reached_births, order_of, number_in, object_in, canon, canon_by}
+use Rattle.cs_model.specs.Canon.{Canon, plain_births, leads_to, contexts_from, queued, all_queued, turned, reached_births, order_of, canon_number, canon_object, canon, canon_by}
 
 -- ---- lists
 
@@ -163,7 +163,7 @@ leads-held v (Method head header literals bytecodes) h = h
 leads-held v (Ctx c) h = (h.sender, (h.closure, (h.receiver, h.stack)))
 
 abbrev contexts_among : Kept → List Ref → List ℕ
-contexts_among k xs = filter (λ i. is_context_at (object_at k i)) (filter_map birth_of xs)
+contexts_among k xs = filter (λ i. is_context_at (object_at k i)) (filter_map named_object xs)
 
 among-kept : (v m : Kept) → Keeps v m → (xs : List Ref) → AllByRecursion (IsHeld v) xs → contexts_among v xs ≡ contexts_among m xs
 among-kept v m k [] h = refl
@@ -340,18 +340,18 @@ order-there v m k = every_joined (IsThere v) (plain_births v) (reached_births v)
 abbrev form : List ℕ → Rest → List Obj → Canon
 form order r objects = record {
   last_hash = r.last_hash;
-  special = number_in order r.special;
-  classes = map (λ e. (e.0, number_in order e.1)) (entries r.classes);
+  special = canon_number order r.special;
+  classes = map (λ e. (e.0, canon_number order e.1)) (entries r.classes);
   objects = objects;
 }
 
 abbrev objects_by : List ℕ → Kept → List Obj
-objects_by order k = filter_map (λ birth. option_map (object_in order) (object_at k birth)) order
+objects_by order k = filter_map (λ birth. option_map (canon_object order) (object_at k birth)) order
 
 pub canon-keeps : (v m : Kept) → Keeps v m → canon v ≡ canon m
 unfolding canon
 canon-keeps v m k = ap (λ r. form (order_of v) r (objects_by (order_of v) v)) k.rest
-    ∙ ap (form (order_of v) m.rest) (same_filter_map (λ birth. option_map (object_in (order_of v)) (object_at v birth))
-    (λ birth. option_map (object_in (order_of v)) (object_at m birth)) (order_of v)
-    (every (λ i h. ap (option_map (object_in (order_of v))) (same_there v m k i h)) (order_of v) (order-there v m k)))
+    ∙ ap (form (order_of v) m.rest) (same_filter_map (λ birth. option_map (canon_object (order_of v)) (object_at v birth))
+    (λ birth. option_map (canon_object (order_of v)) (object_at m birth)) (order_of v)
+    (every (λ i h. ap (option_map (canon_object (order_of v))) (same_there v m k i h)) (order_of v) (order-there v m k)))
     ∙ ap (λ order. canon_by order m) (order-kept v m k)

@@ -1,6 +1,6 @@
 -- What 74 and 196 write where they answer is what is said of the contexts that image code changes.
 use Rattle.std.proofs.Common.{◌≡◌, ℕ, Bool, true, false, refl, sym, ap, ◌∙◌, Option, Some, None, List, [], option_and_then, unwrap_or, if◌then◌else◌}
-use Rattle.cs_model.specs.Ref.{Ref, birth_of}
+use Rattle.cs_model.specs.Ref.{Ref, named_object}
 use Rattle.cs_model.specs.Ref as ref
 use Rattle.cs_model.specs.Obj.{Obj, Context, Ptr, Raw, Method, Ctx, is_fixed_at, context_in}
 use Rattle.cs_model.specs.State.{Kept, object_of, is_nil}
@@ -33,12 +33,12 @@ searched_ended k i goal TooLong e = absurd (cc)
 
 pub end_is : (k : Kept) (i : ℕ) → context_birth k (receiver k 1) ≡ Some i → is_answer (end_between_prim k 1).end ≡ true → end_between_prim k 1 ≡ answer (end_between_of k (ended_between k i (argument k 1 0)) i (argument k 1 0)) 1 (ref.Obj i)
 unfolding end_between_prim ended
-end_is k i e f = at ∙ go (is_end k goal) (birth_of goal) (is_nil k goal) (ap (λ o. is_answer o.end) (sym at) ∙ f) where
+end_is k i e f = at ∙ go (is_end k goal) (named_object goal) (is_nil k goal) (ap (λ o. is_answer o.end) (sym at) ∙ f) where
   goal : Ref
   goal = argument k 1 0
 
-  at : given (context_birth k (receiver k 1)) (fail k) (λ i. if is_end k goal then end_up_to k i goal (birth_of goal) else fail k) ≡ (if is_end k goal then end_up_to k i goal (birth_of goal) else fail k)
-  at = ap (λ o. given o (fail k) (λ i. if is_end k goal then end_up_to k i goal (birth_of goal) else fail k)) e
+  at : given (context_birth k (receiver k 1)) (fail k) (λ i. if is_end k goal then end_up_to k i goal (named_object goal) else fail k) ≡ (if is_end k goal then end_up_to k i goal (named_object goal) else fail k)
+  at = ap (λ o. given o (fail k) (λ i. if is_end k goal then end_up_to k i goal (named_object goal) else fail k)) e
 
   to : (j : Option ℕ) (n : Bool) → is_answer (given j (fail k) (λ j. if n then end_if k i goal [] else end_searched k i goal (senders_to k i j))).end ≡ true → given j (fail k) (λ j. if n then end_if k i goal [] else end_searched k i goal (senders_to k i j)) ≡ ended k i goal (if n then [] else given j [] (λ j. if_met (senders_to k i j)))
   to None n g = absurd (cc)
@@ -69,9 +69,9 @@ put_is k x v c f i (Some n) (Some m) e g h = go (accepts k (is_active k x) c n v
 pub slot_is : (k : Kept) (i f : ℕ) → context_birth k (receiver k 2) ≡ Some i → slot_index (argument k 2 0) ≡ Some f → is_answer (slot_at_put_prim k 2).end ≡ true → slot_at_put_prim k 2 ≡ answer (context_put k i f (argument k 2 1)) 2 (argument k 2 1)
 unfolding slot_at_put_prim
 slot_is k i f e g h = go (object_of k (receiver k 2)) e h where
-  go : (o : Option Obj) → option_and_then (λ c. birth_of (receiver k 2)) (context_in o) ≡ Some i → is_answer (if is_fixed_at o then fail k else answer_in (option_and_then (λ n. slot_put k (receiver k 2) n (argument k 2 1) o) (slot_index (argument k 2 0))) k 2 (argument k 2 1)).end ≡ true → (if is_fixed_at o then fail k else answer_in (option_and_then (λ n. slot_put k (receiver k 2) n (argument k 2 1) o) (slot_index (argument k 2 0))) k 2 (argument k 2 1)) ≡ answer (context_put k i f (argument k 2 1)) 2 (argument k 2 1)
+  go : (o : Option Obj) → option_and_then (λ c. named_object (receiver k 2)) (context_in o) ≡ Some i → is_answer (if is_fixed_at o then fail k else answer_in (option_and_then (λ n. slot_put k (receiver k 2) n (argument k 2 1) o) (slot_index (argument k 2 0))) k 2 (argument k 2 1)).end ≡ true → (if is_fixed_at o then fail k else answer_in (option_and_then (λ n. slot_put k (receiver k 2) n (argument k 2 1) o) (slot_index (argument k 2 0))) k 2 (argument k 2 1)) ≡ answer (context_put k i f (argument k 2 1)) 2 (argument k 2 1)
   go None p q = absurd (cc)
   go (Some (Ptr head slots)) p q = absurd (cc)
   go (Some (Raw head bytes)) p q = absurd (cc)
   go (Some (Method head header literals bytecodes)) p q = absurd (cc)
-  go (Some (Ctx c)) p q = put_is k (receiver k 2) (argument k 2 1) c f i (slot_index (argument k 2 0)) (birth_of (receiver k 2)) g p q
+  go (Some (Ctx c)) p q = put_is k (receiver k 2) (argument k 2 1) c f i (slot_index (argument k 2 0)) (named_object (receiver k 2)) g p q

@@ -5,7 +5,7 @@ use Rattle.cs_model.specs.declared.event.Event.{Event}
 use Rattle.cs_model.specs.declared.event.EventKind.{EventKind}
 use Rattle.cs_model.specs.declared.event.EventKind.TheVariants as kind
 use Rattle.cs_model.specs.State.{Kept, Run, State, Timer}
-use Rattle.cs_model.specs.Due.{Happened, happened, is_idle, due_timer, fire, with_clock, happen, with_events, is_due, left_count, counting, behind, and_then_due, due_of, due}
+use Rattle.cs_model.specs.Due.{Happened, happened, is_idle, due_timer, fire, with_clock, happen, with_events, is_due, left_count, event_counting, event_passed, and_then_due, due_of, due}
 use Rattle.cs_model.specs.Step.{Ending, Steps, Quit, Idle, Stopped, stops, birth_limit, idle, add_count, finish_of, ready, stop_in, after_due, bytecode, step}
 use Rattle.cs_model.specs.Shallow.{bytecode_state}
 use Rattle.cs_model.specs.End.{End, no_count, is_done, plus, given}
@@ -30,8 +30,8 @@ due_of_plain (e ∷ es) s = go (λ t. due_of_plain es t) (is_due s e) where
   Earlier : Type 0
   Earlier = (t : State) → IsPlain (due_of es t).end
 
-  done : Earlier → (c : Bool) (h : Happened) → IsPlain h.end → IsPlain (if c then counting (plus h.count (left_count h.state.kept)) (due_of es (behind h)) else h).end
-  done earlier true h p = earlier (behind h)
+  done : Earlier → (c : Bool) (h : Happened) → IsPlain h.end → IsPlain (if c then event_counting (plus h.count (left_count h.state.kept)) (due_of es (event_passed h)) else h).end
+  done earlier true h p = earlier (event_passed h)
   done earlier false h p = p
 
   go : Earlier → (b : Bool) → IsPlain (if b then and_then_due (happen e.kind s.kept (with_events es s.run)) (λ t. due_of es t) else happened (record s { run = with_events (e ∷ es) s.run })).end

@@ -7,7 +7,7 @@ use Rattle.std.specs.Ordering.{eq_by_cmp, nat_cmp}
 use Rattle.cs_model.specs.Ref.{Ref}
 use Rattle.cs_model.specs.Obj.{Context, Ctx, Obj, context_in, popped, with_stack}
 use Rattle.cs_model.specs.State.{Kept, put}
-use Rattle.cs_model.specs.Read.{active_birth, active_context, blank}
+use Rattle.cs_model.specs.Read.{active_birth, active_context, blank_context}
 use Rattle.cs_model.specs.Operation.{drop_of, edit_active, put_active}
 use Rattle.cs_model.proofs.Objects.{object_at-put_same}
 
@@ -24,7 +24,7 @@ insert_twice m i a b = same_map nat_cmp_total nat_cmp-IsAntisymmetric _ _ (λ q.
 
 pub active_context-put : (k : Kept) (c : Context) → active_context (put_active k c) ≡ c
 unfolding active_context put
-active_context-put k c = ap (λ o. unwrap_or (context_in o) blank) (object_at-put_same k (active_birth k) (Ctx c))
+active_context-put k c = ap (λ o. unwrap_or (context_in o) blank_context) (object_at-put_same k (active_birth k) (Ctx c))
 
 pub edit_twice : (k : Kept) (f g : Context → Context) → edit_active (edit_active k f) g ≡ edit_active k (λ c. g (f c))
 unfolding put

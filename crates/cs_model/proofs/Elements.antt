@@ -1,7 +1,7 @@
 -- Elements are read, written and copied alike.
 use Rattle.std.proofs.Common.{ℕ, zero, suc, ◌+◌, ◌-◌, ◌*◌, ◌/◌, ◌^◌, ℤ, pos, Option, Some, None, List, [], ◌∷◌, length, unwrap_or, nat_lt}
 use Rattle.std.specs.Prelude.{slice_get}
-use Rattle.cs_model.specs.Ref.{Ref, Small, small_of, index_of}
+use Rattle.cs_model.specs.Ref.{Ref, Small, small_of, small_index}
 use Rattle.cs_model.specs.Obj.{Obj, Ptr, Raw, Method, Ctx, first_pc}
 use Rattle.cs_model.specs.State.{Kept, IsHeld, NamesHeld}
 use Rattle.cs_model.specs.Arithmetic.{if_small}
@@ -36,7 +36,7 @@ unfolding range_of
 range_of_same k s = range_in_same k s (object_of_same k s)
 
 pub place_of_same : {v m : Kept} {P : Ref → Type 0} {x y i j : Ref} → Keeps v m → Same (IsHeld v) x y → Same P i j → SameOption Any (element_place v x i) (element_place m y j)
-place_of_same k s (same i h) = and_then_same (range_of_same k s) (λ r a. any_option (place_in r (index_of i)))
+place_of_same k s (same i h) = and_then_same (range_of_same k s) (λ r a. any_option (place_in r (small_index i)))
 
 -- ---- reading
 
@@ -72,8 +72,8 @@ store_unit_moved k s size place (same (Some n) a) = if_moved (is (nat_lt n (2 ^ 
 write_in_moved : {v m : Kept} {x y z w : Ref} {o p : Option Obj} → Keeps v m → Same (IsHeld v) x y → (place : ℕ) → Same (IsHeld v) z w → SameOption (NamesHeld v) o p → MovedOption v (write_in v x place z o) (write_in m y place w p)
 write_in_moved k s place t none = nothing
 write_in_moved k s place t (some (Ptr head slots) h) = map_moved _ _ (fields_of_same k s slots) (λ fields a. store_moved k s (fields + place) t)
-write_in_moved k s place t (some (Raw head bytes) h) = store_unit_moved k s (unit_bytes head.format) place (value index_of t)
-write_in_moved k s place t (some (Method head header literals bytecodes) h) = store_unit_moved k s 1 place (value index_of t)
+write_in_moved k s place t (some (Raw head bytes) h) = store_unit_moved k s (unit_bytes head.format) place (value small_index t)
+write_in_moved k s place t (some (Method head header literals bytecodes) h) = store_unit_moved k s 1 place (value small_index t)
 write_in_moved k s place t (some (Ctx c) h) = nothing
 
 pub with_element_moved : {v m : Kept} {x y z w : Ref} → Keeps v m → Same (IsHeld v) x y → (place : ℕ) → Same (IsHeld v) z w → MovedOption v (with_element v x place z) (with_element m y place w)

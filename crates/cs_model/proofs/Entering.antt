@@ -1,6 +1,6 @@
 -- Entering a block is alike.
 use Rattle.std.proofs.Common.{ℕ, ◌+◌, ◌==◌, ◌&&◌, Bool, true, false, Option, is_some, List, [], length, nat_le, if◌then◌else◌}
-use Rattle.cs_model.specs.Ref.{Ref, index_of}
+use Rattle.cs_model.specs.Ref.{Ref, small_index}
 use Rattle.cs_model.specs.Obj.{Obj, Context, Ptr, Raw, Method, Ctx, is_method, header_in, context_size}
 use Rattle.cs_model.specs.State.{Kept, object_of, IsHeld, ContextHeld, NamesHeld}
 use Rattle.cs_model.specs.Operation.{nil_of}
@@ -57,15 +57,15 @@ can_evaluate_same k s args =
     (value (λ xs. nat_le 3 (length xs)) (slots_same k s))
     (of_option is_some (outer_context_same k s)))
     (of_option is_method (object_of_same k (closure_method_same k s))))
-    (two (λ o x. lies_if_index o (index_of x)) (option_is (object_of_same k (closure_method_same k s))) (closure_slot_same k s 1)))
-    (value (λ x. is_count args (index_of x)) (closure_slot_same k s 2))
+    (two (λ o x. lies_if_index o (small_index x)) (option_is (object_of_same k (closure_method_same k s))) (closure_slot_same k s 1)))
+    (value (λ x. is_count args (small_index x)) (closure_slot_same k s 2))
 
 pub block_size_same : {v m : Kept} {x y : Ref} → Keeps v m → Same (IsHeld v) x y → Same Any (block_size v x) (block_size m y)
 block_size_same k s = of_option (λ o. context_size (header_in o)) (object_of_same k (closure_method_same k s))
 
 block_context_same : {v m : Kept} {x y : Ref} {c d : Context} → Keeps v m → Same (IsHeld v) x y → (args : ℕ) → Same (ContextHeld v) c d → Same (ContextHeld v) (block_context v x args c) (block_context m y args d)
 block_context_same k s args t =
-    context_same k (is 0) (active_ref_same k) (value index_of (closure_slot_same k s 1)) (closure_method_same k s) s (receiver_in_same k (outer_context_same k s))
+    context_same k (is 0) (active_ref_same k) (value small_index (closure_slot_same k s 1)) (closure_method_same k s) s (receiver_in_same k (outer_context_same k s))
     (append_same (last_values_same args (context_stack t)) (copied_values_same k s)) (block_size_same k s)
 
 pub enter_block_moved : {v m : Kept} {x y : Ref} → Keeps v m → Same (IsHeld v) x y → (args : ℕ) → Moved v (enter_block_of v x args) (enter_block_of m y args)

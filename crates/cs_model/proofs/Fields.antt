@@ -1,6 +1,6 @@
 -- Contexts as image code sees them, and their fields, are alike.
 use Rattle.std.proofs.Common.{◌≡◌, ℕ, ◌-◌, ◌==◌, ◌&&◌, ◌||◌, not, pos, Bool, true, false, subst, Option, Some, None, is_some, length, take, replicate, nat_lt, if◌then◌else◌}
-use Rattle.cs_model.specs.Ref.{Ref, Small, Char, index_of}
+use Rattle.cs_model.specs.Ref.{Ref, Small, Char, small_index}
 use Rattle.cs_model.specs.Ref as ref
 use Rattle.cs_model.specs.Obj.{Obj, Context, Ptr, Raw, Method, Ctx, is_context, context_fields, edit_context, is_method}
 use Rattle.cs_model.specs.State.{Kept, IsHeld, ContextHeld, NamesHeld}
@@ -42,8 +42,8 @@ pub accepts_same : {v m : Kept} {b e : Bool} {c d : Context} {x y : Ref} → Kee
 unfolding accepts
 accepts_same k (same b a) s i t =
     if_same (is (i == 0)) (or_else_same (is_nil_same k t) (is_context_ref_same k t))
-    (if_same (is (i == 1)) (if_same (is_nil_same k t) (is (not b)) (two (λ o x. lies_if_index o (index_of x)) (option_is (object_of_same k (context_method s))) t))
-    (if_same (is (i == 2)) (two (λ c x. not b && is_at_most c.size (index_of x)) s t)
+    (if_same (is (i == 1)) (if_same (is_nil_same k t) (is (not b)) (two (λ o x. lies_if_index o (small_index x)) (option_is (object_of_same k (context_method s))) t))
+    (if_same (is (i == 2)) (two (λ c x. not b && is_at_most c.size (small_index x)) s t)
     (if_same (is (i == 3)) (two (λ o c. not b && is_method o && lies_if_live o c.pc) (option_is (object_of_same k t)) s)
     (if_same (is (i == 4)) (and_same (is (not b)) (or_else_same (is_nil_same k t) (of_option (has_class_index closure_class) (object_of_same k t))))
     (value (λ c. i == 5 || nat_lt (i - context_fields) (length c.stack)) s)))))
@@ -62,7 +62,7 @@ unfolding with_field
 with_field_held v t i x nil g c h =
     choose_held v (i == 0) _ _ (record { sender = g; method = h.method; closure = h.closure; receiver = h.receiver; stack = h.stack })
     (choose_held v (i == 1) _ _ (record { sender = h.sender; method = h.method; closure = h.closure; receiver = h.receiver; stack = h.stack })
-    (choose_held v (i == 2) _ _ (of_depth_held v (nil_of t) nil (index_of x) c h)
+    (choose_held v (i == 2) _ _ (of_depth_held v (nil_of t) nil (small_index x) c h)
     (choose_held v (i == 3) _ _ (record { sender = h.sender; method = g; closure = h.closure; receiver = h.receiver; stack = h.stack })
     (choose_held v (i == 4) _ _ (record { sender = h.sender; method = h.method; closure = g; receiver = h.receiver; stack = h.stack })
     (choose_held v (i == 5) _ _ (record { sender = h.sender; method = h.method; closure = h.closure; receiver = g; stack = h.stack })

@@ -6,7 +6,7 @@ use Rattle.cs_model.specs.declared.event.EventKind.TheVariants as kind
 use Rattle.cs_model.specs.Ref.{Ref}
 use Rattle.cs_model.specs.State.{Kept, Run, State, Timer, IsHeld}
 use Rattle.cs_model.specs.PrimRun.{with_timer}
-use Rattle.cs_model.specs.Due.{external_semaphores, external_at, signal_external, due_timer, Happened, happened, with_out, fire, with_clock, add_input, happen, with_events, is_idle_at, is_idle, is_left, without_context, left_count, behind, and_then_due, due_of, due}
+use Rattle.cs_model.specs.Due.{external_semaphores, external_at, signal_external, due_timer, Happened, happened, with_out, fire, with_clock, add_input, happen, with_events, is_idle_at, is_idle, is_left, without_context, left_count, event_passed, and_then_due, due_of, due}
 use Rattle.cs_model.specs.End.{Out, Count, no_count, is_done, plus}
 use Rattle.cs_model.specs.Keeps.{Keeps, KeepsState}
 use Rattle.cs_model.specs.Alike.{Alike, AlikeHappened}
@@ -76,7 +76,7 @@ go_on_alike {v} {a} {b} f g h next =
     if_happened (same_by Any (is_done a.end) (is_done b.end) (ap is_done (sym h.end)) tt)
     (record {
       end = n.end;
-      count = ap (plus (plus a.count (left_count a.state.kept))) n.count ∙ ap (λ c. plus c (g (behind b)).count) c;
+      count = ap (plus (plus a.count (left_count a.state.kept))) n.count ∙ ap (λ c. plus c (g (event_passed b)).count) c;
       state = n.state;
       grows = grows-trans h.grows (grows-trans w.grows n.grows);
     })

@@ -1,12 +1,12 @@
 -- The primitives on instances, copies and classes, quick answers, and those on the stacks of contexts are alike.
 use Rattle.std.proofs.Common.{◌≡◌, ℕ, zero, suc, ◌+◌, ◌-◌, ◌%◌, ◌==◌, ◌&&◌, not, pos, negsuc, Bool, true, false, refl, sym, ap, subst, ◌∙◌, Option, Some, None, is_some, length, replicate, nat_lt, if◌then◌else◌}
-use Rattle.cs_model.specs.Ref.{Ref, Small, Char, birth_of, index_of, same_ref}
+use Rattle.cs_model.specs.Ref.{Ref, Small, Char, named_object, small_index, same_ref}
 use Rattle.cs_model.specs.Ref as ref
 use Rattle.cs_model.specs.Obj.{Obj, Context, Ptr, Raw, Method, Ctx, new_head, class_index_in, context_class, hash_in, is_context, is_header, literal_count, words_of, stored}
 use Rattle.cs_model.specs.State.{Kept, object_at, IsHeld, NamesHeld}
 use Rattle.cs_model.specs.Operation.{add_of}
 use Rattle.cs_model.specs.Instance.{Index, IndexAt, NoIndex, NoneFree, Hashed}
-use Rattle.cs_model.specs.PrimObject.{small_count, hash_prim, has_index, first_instance, instance_from, entry_index, table_index, some_instance_prim, index_but_context, next_instance_prim, blank_method, is_method_index, make_method, is_method_shape, new_method_prim, copy_kinds, copy_fits, count_of, copy_to, replace_prim, identical_prim, class_prim, copied, look_if, copy_object, copy_prim, answer_hashed, behavior_hash_prim, is_unwritable, read_only_prim, can_be_fixed, boolean_in, set_read_only_prim, quick_prim}
+use Rattle.cs_model.specs.PrimObject.{small_count, hash_prim, has_index, first_instance, instance_from, entry_index, table_index, some_instance_prim, index_but_context, next_instance_prim, blank_method, is_method_index, make_method, is_method_shape, new_method_prim, copy_kinds, copy_fits, range_count, copy_to, replace_prim, identical_prim, class_prim, copied, look_if, copy_object, copy_prim, answer_hashed, behavior_hash_prim, is_unwritable, read_only_prim, can_be_fixed, boolean_in, set_read_only_prim, quick_prim}
 use Rattle.cs_model.specs.PrimContext.{stack_at_prim, stack_put, stack_at_put_prim, stackp_prim}
 use Rattle.cs_model.specs.End.{Out}
 use Rattle.cs_model.specs.Keeps.{Keeps}
@@ -104,8 +104,8 @@ make_method_alike {v} {m} {x} k s count header (same (IndexAt index) a) =
 pub new_method_alike : {v m : Kept} → Keeps v m → (args : ℕ) → Alike v (new_method_prim v args) (new_method_prim m args)
 unfolding new_method_prim
 new_method_alike k args =
-    with_count_alike k 2 args (given_alike _ _ (plain (value index_of (argument_same k 2 0))) (fail_alike k) (λ count a.
-    given_alike _ _ (plain (value index_of (argument_same k 2 1))) (fail_alike k) (λ header b.
+    with_count_alike k 2 args (given_alike _ _ (plain (value small_index (argument_same k 2 0))) (fail_alike k) (λ count a.
+    given_alike _ _ (plain (value small_index (argument_same k 2 1))) (fail_alike k) (λ header b.
     if_alike (of_option (λ o. is_method_shape o && is_header header) (shape_of_same k (prim_receiver_same k 2)))
     (make_method_alike k (prim_receiver_same k 2) count header (class_index_for_same k (prim_receiver_same k 2)))
     (fail_alike k))))
@@ -114,8 +114,8 @@ new_method_alike k args =
 
 copy_to_alike : {v m : Kept} {x y z w : Ref} → Keeps v m → Same (IsHeld v) x y → Same (IsHeld v) z w → (start stop from : ℕ) → Alike v (copy_to v x z start stop from) (copy_to m y w start stop from)
 copy_to_alike k s t start stop from =
-    given_alike _ _ (plain (of_option count_of (range_of_same k s))) (fail_alike k) (λ mine a.
-    given_alike _ _ (plain (of_option count_of (range_of_same k t))) (fail_alike k) (λ its b.
+    given_alike _ _ (plain (of_option range_count (range_of_same k s))) (fail_alike k) (λ mine a.
+    given_alike _ _ (plain (of_option range_count (range_of_same k t))) (fail_alike k) (λ its b.
     if_alike (is (copy_fits start stop from mine its))
     (let c = copy_elements_moved k (stop + 1 - start) s (value (λ n. n + (start - 1)) (front_same k s)) t (value (λ n. n + (from - 1)) (front_same k t)) in
     behind c (answer_alike c.keeps 4 (up c.grows s)))
@@ -125,9 +125,9 @@ pub replace_alike : {v m : Kept} → Keeps v m → (args : ℕ) → Alike v (rep
 unfolding replace_prim
 replace_alike k args =
     with_count_alike k 4 args (unless_read_only_alike k (prim_receiver_same k 4)
-    (given_alike _ _ (plain (value index_of (argument_same k 4 0))) (fail_alike k) (λ start a.
-    given_alike _ _ (plain (value index_of (argument_same k 4 1))) (fail_alike k) (λ stop b.
-    given_alike _ _ (plain (value index_of (argument_same k 4 3))) (fail_alike k) (λ from c.
+    (given_alike _ _ (plain (value small_index (argument_same k 4 0))) (fail_alike k) (λ start a.
+    given_alike _ _ (plain (value small_index (argument_same k 4 1))) (fail_alike k) (λ stop b.
+    given_alike _ _ (plain (value small_index (argument_same k 4 3))) (fail_alike k) (λ from c.
     if_alike (two copy_kinds (option_is (object_of_same k (prim_receiver_same k 4))) (option_is (object_of_same k (argument_same k 4 2))))
     (copy_to_alike k (prim_receiver_same k 4) (argument_same k 4 2) start stop from) (fail_alike k))))))
 

@@ -4,7 +4,7 @@ use Rattle.cs_model.specs.declared.stop.Stop.{Stop}
 use Rattle.cs_model.specs.Ref.{Ref}
 use Rattle.cs_model.specs.Obj.{Obj, Ptr, Raw, Method, Ctx, context_in, header_in, bytecodes_in, primitive_number}
 use Rattle.cs_model.specs.State.{Kept, object_at, object_of, active_process, is_nil}
-use Rattle.cs_model.specs.Read.{blank, active_birth, active_context}
+use Rattle.cs_model.specs.Read.{blank_context, active_birth, active_context}
 use Rattle.cs_model.specs.End.{End, Out, Count, out, done, stop, counting, made, made_context, looked, given, is_done, and_then}
 use Rattle.cs_model.specs.End as ends
 use Rattle.cs_model.proofs.Leading.{Sound, Leads, leads_itself, leads_trans, pc_in}
@@ -41,7 +41,7 @@ known_is (Some i) n h = refl
 pub active_known : {k : Kept} → Runs k → k.rest.active ≡ Some (active_birth k)
 active_known {k} r = known_is k.rest.active k.rest.nil r.active
 
-found_is : (o : Option Obj) → IsSome (pc_in o) → o ≡ Some (Ctx (unwrap_or (context_in o) blank))
+found_is : (o : Option Obj) → IsSome (pc_in o) → o ≡ Some (Ctx (unwrap_or (context_in o) blank_context))
 found_is None h = absurd (cc)
 found_is (Some (Ptr head slots)) h = absurd (cc)
 found_is (Some (Raw head bytes)) h = absurd (cc)

@@ -6,7 +6,7 @@ use Rattle.cs_model.specs.declared.instruction.Instr.{Instr}
 use Rattle.cs_model.specs.declared.instruction.Op.{Op}
 use Rattle.cs_model.specs.Obj.{Obj, Context, Ptr, Raw, Method, Ctx, first_pc, literals_in, bytecodes_in, lies_in, slots_in, context_in}
 use Rattle.cs_model.specs.State.{Kept, object_at, object_of}
-use Rattle.cs_model.specs.Read.{blank, active_context, pc_of, method_of, literals_of, bytecodes_of}
+use Rattle.cs_model.specs.Read.{blank_context, active_context, pc_of, method_of, literals_of, bytecodes_of}
 use Rattle.cs_model.specs.Operation.{set_pc_of}
 use Rattle.cs_model.specs.Decode.{decode_at, len_of, op_of}
 use Rattle.cs_model.specs.Exec.{exec}
@@ -101,8 +101,8 @@ no_bytes at i e = let f = decode_fits [] at i e in omega (arith, f.all, f.one)
 pub instruction_runs : {k : Kept} (i : Instr) → Sound k → instruction_at k ≡ Some i → Runs k
 unfolding instruction_at method_of active_context
 instruction_runs {k} i s e = go k.rest.active refl where
-  blank_there : k.rest.active ≡ None → active_context k ≡ blank
-  blank_there h = ap (λ a. unwrap_or (context_in (object_at k (unwrap_or a k.rest.nil))) blank) h ∙ ap (λ c. unwrap_or c blank) (bare_context (object_at k k.rest.nil) s.bare)
+  blank_there : k.rest.active ≡ None → active_context k ≡ blank_context
+  blank_there h = ap (λ a. unwrap_or (context_in (object_at k (unwrap_or a k.rest.nil))) blank_context) h ∙ ap (λ c. unwrap_or c blank_context) (bare_context (object_at k k.rest.nil) s.bare)
 
   nothing : k.rest.active ≡ None → ⊥
   nothing h = no_bytes (pc_of k - first_pc (literals_of k)) i (ap (λ (c : Context). decode_at (bytecodes_in (object_of k c.method)) (pc_of k - first_pc (literals_of k))) (sym (blank_there h)) ∙ e)

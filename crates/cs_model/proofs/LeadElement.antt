@@ -1,7 +1,7 @@
 -- What writing and copying elements leads to.
 use Rattle.std.proofs.Common.{◌≡◌, ℕ, zero, suc, ◌+◌, ◌*◌, ◌^◌, Bool, true, false, refl, ap, subst, Option, Some, None, List, [], ◌∷◌, nat_lt, unwrap_or, option_map, option_and_then, if◌then◌else◌}
 use Rattle.std.specs.Prelude.{slice_get}
-use Rattle.cs_model.specs.Ref.{Ref, index_of}
+use Rattle.cs_model.specs.Ref.{Ref, small_index}
 use Rattle.cs_model.specs.Obj.{Obj, Ptr, Raw, Method, Ctx, slots_in}
 use Rattle.cs_model.specs.State.{Kept, object_of}
 use Rattle.cs_model.specs.Instance.{unit_bytes}
@@ -45,8 +45,8 @@ and_then_goes_if f (Some x) h = h x refl
 write_in_goes : {k : Kept} (x : Ref) (place : ℕ) (v : Ref) (o : Option Obj) → Ready k → GoesIf k (write_in k x place v o)
 write_in_goes {k} x place v None r = goes_none k
 write_in_goes {k} x place v (Some (Ptr head slots)) r = map_goes _ (named_fields k x slots) (λ fields. store_goes x (fields + place) v r)
-write_in_goes x place v (Some (Raw head bytes)) r = store_unit_goes x (unit_bytes head.format) place (index_of v) r
-write_in_goes x place v (Some (Method head header literals bytecodes)) r = store_unit_goes x 1 place (index_of v) r
+write_in_goes x place v (Some (Raw head bytes)) r = store_unit_goes x (unit_bytes head.format) place (small_index v) r
+write_in_goes x place v (Some (Method head header literals bytecodes)) r = store_unit_goes x 1 place (small_index v) r
 write_in_goes {k} x place v (Some (Ctx c)) r = goes_none k
 
 pub with_element_goes : {k : Kept} (x : Ref) (place : ℕ) (v : Ref) → Ready k → GoesIf k (with_element k x place v)

@@ -4,7 +4,7 @@ use Rattle.std.specs.Prelude.{slice_get}
 use Rattle.std.proofs.lemmas.Bool.{le-leb}
 use Rattle.std.proofs.lemmas.Bool.Decides.{eqb_tells, nat_tests}
 use Rattle.cs_model.specs.declared.stop.Stop.TheVariants as why
-use Rattle.cs_model.specs.Ref.{Ref, Small, Char, index_of}
+use Rattle.cs_model.specs.Ref.{Ref, Small, Char, small_index}
 use Rattle.cs_model.specs.Ref as ref
 use Rattle.cs_model.specs.Obj.{Obj, Context, Ptr, Raw, Method, Ctx, lies_in, lies_between, first_pc, context_in, is_method, header_in, bytecodes_in, has_primitive, number_in, primitive_number, dead}
 use Rattle.cs_model.specs.State.{Kept, object_at, object_of, put, PcLies, IsLive}
@@ -89,7 +89,7 @@ enter_goes {k} method args skip r entry =
 
 -- a closure that may be entered: its startpc lies in its method
 pub record IsBlock (k : Kept) (closure : Ref) : Type 0 where
-  pub lies : lies_if_index (object_of k (closure_method k closure)) (index_of (closure_slot k closure 1)) ≡ true
+  pub lies : lies_if_index (object_of k (closure_method k closure)) (small_index (closure_slot k closure 1)) ≡ true
 
 pub index_lies : (method : Option Obj) (o : Option ℕ) → lies_if_index method o ≡ true → (pc : ℕ) → o ≡ Some pc → lies_in method pc ≡ true
 index_lies method None h pc e = absurd (cc)
@@ -103,7 +103,7 @@ pub enter_block_goes : {k : Kept} (closure : Ref) (args : ℕ) → Ready k → I
 unfolding enter_block_of
 enter_block_goes {k} closure args r block =
     let method = object_of k (closure_method k closure) in
-    let start = index_of (closure_slot k closure 1) in
+    let start = small_index (closure_slot k closure 1) in
     enter_with_goes args (block_context k closure args) r (index_lies method start block.lies) (index_there method start block.lies)
 
 pub enter_block_leading : {P : Kept → Type 0} {k : Kept} (closure : Ref) (args : ℕ) → Ready k → IsBlock k closure → Leading P k (enter_block_out k closure args)
@@ -138,9 +138,9 @@ block_beside {k} f closure p r block =
     ap (λ x. method_in_context (nil_of k) (context_in (object_of t x))) (slot 0)
     ∙ read_beside (f c) (λ o. method_in_context (nil_of k) (context_in o)) r (p.method c) (closure_slot k closure 0) in
     record {
-      lies = ap (λ m. lies_if_index (object_of t m) (index_of (closure_slot t closure 1))) method
-          ∙ ap (λ x. lies_if_index (object_of t (closure_method k closure)) (index_of x)) (slot 1)
-          ∙ index_lies_on (object_of k (closure_method k closure)) (object_of t (closure_method k closure)) (becomes_of (edit_active_goes f p r).leads.stays (closure_method k closure)) (index_of (closure_slot k closure 1)) block.lies;
+      lies = ap (λ m. lies_if_index (object_of t m) (small_index (closure_slot t closure 1))) method
+          ∙ ap (λ x. lies_if_index (object_of t (closure_method k closure)) (small_index x)) (slot 1)
+          ∙ index_lies_on (object_of k (closure_method k closure)) (object_of t (closure_method k closure)) (becomes_of (edit_active_goes f p r).leads.stays (closure_method k closure)) (small_index (closure_slot k closure 1)) block.lies;
     } where
       index_lies_on : (m n : Option Obj) → Becomes m n → (o : Option ℕ) → lies_if_index m o ≡ true → lies_if_index n o ≡ true
       index_lies_on m n b None h = h

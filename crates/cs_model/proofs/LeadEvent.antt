@@ -8,7 +8,7 @@ use Rattle.cs_model.specs.State.{Kept, Run, State, Timer, active_process, is_nil
 use Rattle.cs_model.specs.Operation.{suspend_of}
 use Rattle.cs_model.specs.PrimProcess.{is_semaphore}
 use Rattle.cs_model.specs.PrimRun.{with_timer}
-use Rattle.cs_model.specs.Due.{external_at, signal_external, due_timer, Happened, happened, with_out, fire, with_clock, add_input, happen, with_events, is_idle_at, is_idle, is_due, without_context, left_count, counting, behind, and_then_due, due_of, due}
+use Rattle.cs_model.specs.Due.{external_at, signal_external, due_timer, Happened, happened, with_out, fire, with_clock, add_input, happen, with_events, is_idle_at, is_idle, is_due, without_context, left_count, event_counting, event_passed, and_then_due, due_of, due}
 use Rattle.cs_model.specs.End.{Out, is_done, plus}
 use Rattle.cs_model.proofs.Leading.{Sound, Leads, leads_itself, leads_trans}
 use Rattle.cs_model.proofs.LeadCombining.{Settled, Leading, done_leading, given_leading, if_leading, done_end}
@@ -119,7 +119,7 @@ if_due false h g = g
 
 go_on_dues : {k : Kept} (r : Run) (h : Happened) (f : State → Happened) → Happens k r h → ((t : Kept) → Between t → Dues t h.state.run (f (record { kept = t; run = h.state.run }))) → Dues k r (and_then_due h f)
 go_on_dues {k} r h f a next = go (is_done h.end) refl where
-  go : (b : Bool) → is_done h.end ≡ b → Dues k r (if b then counting (plus h.count (left_count h.state.kept)) (f (behind h)) else h)
+  go : (b : Bool) → is_done h.end ≡ b → Dues k r (if b then event_counting (plus h.count (left_count h.state.kept)) (f (event_passed h)) else h)
   go true e =
       let w = without_left a.leads.sound in
       let n = next (without_context h.state.kept) (record { sound = w.leads.sound; awake = w.awake (a.awake e); idle = w.idle }) in

@@ -9,7 +9,7 @@ use Rattle.cs_model.specs.Ref.{Ref, Small, Char, same_ref}
 use Rattle.cs_model.specs.Ref as ref
 use Rattle.cs_model.specs.Obj.{Obj, Context, Ptr, Raw, Method, Ctx, slots_in, context_in, lies_in, words_of_slots, pushed, popped}
 use Rattle.cs_model.specs.State.{Kept, object_at, object_of, is_read_only, special_at}
-use Rattle.cs_model.specs.Read.{blank, active_birth, active_context, stack_of, depth_of, size_of, pc_of, receiver_of, method_of, literals_of, from_top, class_of}
+use Rattle.cs_model.specs.Read.{blank_context, active_birth, active_context, stack_of, depth_of, size_of, pc_of, receiver_of, method_of, literals_of, from_top, class_of}
 use Rattle.cs_model.specs.Operation.{edit_active, push_of, drop_of, pop_of, set_pc_of, add_of, next_ref, nil_of, last_values}
 use Rattle.cs_model.specs.Context.{context_get, accepts, context_put}
 use Rattle.cs_model.specs.Number.{boolean}
@@ -326,7 +326,7 @@ unfolding method_of active_context add_of
 add_lies {k} pc o r l h =
     let t = add_of k o in
     let found : object_at t (active_birth k) ≡ object_at k (active_birth k) = add_below k o (active_birth k) (held_below r.sound (active_birth k) (ap is_some (active_found r))) in
-    ap (λ p. lies_in (object_of t (unwrap_or (context_in p) blank).method) pc) found
+    ap (λ p. lies_in (object_of t (unwrap_or (context_in p) blank_context).method) pc) found
     ∙ (becomes_of l.stays (active_context k).method).lies pc h
 
 -- where there is room, and behind it the pc still lies in the method

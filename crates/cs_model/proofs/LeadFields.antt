@@ -1,6 +1,6 @@
 -- Writes into contexts: what becomes of a state.
 use Rattle.std.proofs.Common.{◌≡◌, ℕ, ◌-◌, ◌==◌, ◌&&◌, not, Bool, true, false, refl, sym, ap, subst, ◌∙◌, Option, Some, None, IsSome, is_some, unwrap_or, if◌then◌else◌}
-use Rattle.cs_model.specs.Ref.{Ref, Small, Char, index_of, same_ref}
+use Rattle.cs_model.specs.Ref.{Ref, Small, Char, small_index, same_ref}
 use Rattle.cs_model.specs.Ref as ref
 use Rattle.cs_model.specs.Obj.{Obj, Context, Ctx, context_fields, edit_context, is_method, lies_in, stored, with_pc}
 use Rattle.cs_model.specs.State.{Kept, object_at, object_of, PcLies, is_nil}
@@ -23,7 +23,7 @@ written_same k active c d e m = record {
 }
 
 -- a pc
-written_pc : (k : Kept) (active : Bool) (c : Context) (v : Ref) (b : Bool) → is_nil k v ≡ b → (if b then not active else lies_if_index (object_of k c.method) (index_of v)) ≡ true → Written k active c (with_pc (index_of v) c)
+written_pc : (k : Kept) (active : Bool) (c : Context) (v : Ref) (b : Bool) → is_nil k v ≡ b → (if b then not active else lies_if_index (object_of k c.method) (small_index v)) ≡ true → Written k active c (with_pc (small_index v) c)
 written_pc k active c v true n h = record {
   lies = λ g pc e. absurd (nil_pc v n pc e);
   live = λ a g. absurd (not_both (sym (ap not a) ∙ h));
@@ -31,13 +31,13 @@ written_pc k active c v true n h = record {
   not_both : false ≡ true → ⊥
   not_both e = cc
 
-  nil_pc : (v : Ref) → is_nil k v ≡ true → (pc : ℕ) → index_of v ≡ Some pc → ⊥
+  nil_pc : (v : Ref) → is_nil k v ≡ true → (pc : ℕ) → small_index v ≡ Some pc → ⊥
   nil_pc (Small a) n pc e = absurd (cc)
   nil_pc (Char a) n pc e = absurd (cc)
   nil_pc (ref.Obj i) n pc e = absurd (cc)
 written_pc k active c v false n h = record {
-  lies = λ g pc e. index_lies (object_of k c.method) (index_of v) h pc e;
-  live = λ a g. index_there (object_of k c.method) (index_of v) h;
+  lies = λ g pc e. index_lies (object_of k c.method) (small_index v) h pc e;
+  live = λ a g. index_there (object_of k c.method) (small_index v) h;
 }
 
 written_method : (k : Kept) (active : Bool) (c : Context) (v : Ref) → (not active && is_method (object_of k v) && lies_if_live (object_of k v) c.pc) ≡ true → Written k active c (record c { method = v })
@@ -63,7 +63,7 @@ unfolding accepts with_field
 field_written k active c i v h =
     written_if k active (i == 0) c _ _ _ _ (λ e. written_same k active c (record c { sender = v }) refl refl)
     (written_if k active (i == 1) c _ _ _ _ (written_pc k active c v (is_nil k v) refl)
-    (written_if k active (i == 2) c _ _ _ _ (λ e. written_depth k active c (nil_of k) (index_of v))
+    (written_if k active (i == 2) c _ _ _ _ (λ e. written_depth k active c (nil_of k) (small_index v))
     (written_if k active (i == 3) c _ _ _ _ (written_method k active c v)
     (written_if k active (i == 4) c _ _ _ _ (λ e. written_same k active c (record c { closure = v }) refl refl)
     (λ e. plain (i == 5)))))) h where

@@ -10,7 +10,7 @@ use Rattle.cs_model.specs.Exec.{exec}
 use Rattle.cs_model.specs.Send.{enter_out}
 use Rattle.cs_model.specs.PrimRun.{Result, result}
 use Rattle.cs_model.specs.PrimTable.{is_perform}
-use Rattle.cs_model.specs.Step.{Message, message_in, return_in, primitive_in, call_in, is_fail, with_kept, counting, arguments_of, or_enter, try_performed, tried, try_primitive, sent, do_send, do_call, returned, do_return, followed, instruction_at, bytecode}
+use Rattle.cs_model.specs.Step.{Message, message_in, return_in, primitive_in, call_in, is_fail, with_kept, result_counting, arguments_of, or_enter, try_performed, tried, try_primitive, sent, do_send, do_call, returned, do_return, followed, instruction_at, bytecode}
 use Rattle.cs_model.specs.End.{End, Out, Count, out, stop, given}
 use Rattle.cs_model.specs.End as ends
 use Rattle.cs_model.specs.Keeps.{Keeps}
@@ -104,11 +104,11 @@ timer_on l m n o leads before after t e = elim (after t e) [
 ]
 
 -- what an Out and then a result lead to
-counting_led : {k : Kept} {r : Run} {o : Out} {a : Result} → Leading Runs k o → Led o.state r a → Led k r (counting o.count a)
+counting_led : {k : Kept} {r : Run} {o : Out} {a : Result} → Leading Runs k o → Led o.state r a → Led k r (result_counting o.count a)
 counting_led h n = record { out = record { leads = leads_trans h.leads n.out.leads; fits = n.out.fits }; timer = n.timer }
 
 -- the same behind a result
-behind_led : {k : Kept} {r : Run} {a c : Result} → Led k r a → Led a.out.state a.run c → Led k r (counting a.out.count c)
+behind_led : {k : Kept} {r : Run} {a c : Result} → Led k r a → Led a.out.state a.run c → Led k r (result_counting a.out.count c)
 behind_led {r = r} {a = a} {c = c} h n = record { out = record { leads = leads_trans h.out.leads n.out.leads; fits = n.out.fits }; timer = timer_on c.out.state r.timer a.run.timer c.run.timer n.out.leads h.timer n.timer }
 
 entered_led : (s : State) (method : Ref) → Ready s.kept → HasPrimitive s.kept method → Led s.kept s.run (result (enter_out s.kept method (arguments_of s.kept method) true) s.run)

@@ -2,7 +2,7 @@
 use Rattle.std.proofs.Common.{◌≡◌, ◌≢◌, ℕ, zero, suc, Bool, true, false, refl, sym, ap, subst, ◌∙◌, Option, Some, None, IsSome, List, [], ◌∷◌, length, arith, option_and_then, nat_le, if◌then◌else◌, inl, inr, ◌⊎◌}
 use Rattle.std.specs.Prelude.{slice_get, slice_set}
 use Rattle.std.proofs.lemmas.Bool.Decides.{eqb_tells, nat_tests}
-use Rattle.cs_model.specs.Ref.{Ref, Small, Char, birth_of}
+use Rattle.cs_model.specs.Ref.{Ref, Small, Char, named_object}
 use Rattle.cs_model.specs.Ref as ref
 use Rattle.cs_model.specs.Obj.{Obj, Ptr, Raw, Method, Ctx, slots_in, at_least}
 use Rattle.cs_model.specs.State.{Kept, object_at, object_of, put, slots_of, special_at, scheduler_of, active_process}

@@ -4,7 +4,7 @@ use Rattle.std.specs.FinMap.{FinMap, get, gets}
 use Rattle.std.specs.Prelude.{slice_get}
 use Rattle.std.specs.Ordering.{nat_cmp}
 use Rattle.std.proofs.lemmas.Bool.Decides.{eqb_tells, nat_tests}
-use Rattle.cs_model.specs.Ref.{Ref, Small, Char, birth_of, index_of}
+use Rattle.cs_model.specs.Ref.{Ref, Small, Char, named_object, small_index}
 use Rattle.cs_model.specs.Ref as ref
 use Rattle.cs_model.specs.Obj.{Obj, Ptr, Raw, Method, Ctx, hash_in, class_index_in, context_class, slots_in, context_in, at_least}
 use Rattle.cs_model.specs.State.{Kept, Rest, object_at, slots_of, with_rest, is_class_index}
@@ -140,7 +140,7 @@ make_with_goes {k} class shape size (IndexAt index) r h seen =
 
 pub shape_slots : (k : Kept) (class : Ref) (shape : ℕ) → shape_of k class ≡ Some shape → IsSome (slots_of k 3 class)
 shape_slots k class shape e = go (slots_of k 3 class) e where
-  go : (o : Option (List Ref)) → option_and_then (λ slots. option_and_then (λ x. index_of x) (slice_get slots 2)) o ≡ Some shape → IsSome o
+  go : (o : Option (List Ref)) → option_and_then (λ slots. option_and_then (λ x. small_index x) (slice_get slots 2)) o ≡ Some shape → IsSome o
   go None f = absurd (cc)
   go (Some slots) f = refl
 

@@ -2,7 +2,7 @@
 use Rattle.std.proofs.Common.{◌≡◌, ℕ, ◌+◌, ◌-◌, ◌==◌, ◌&&◌, Bool, true, refl, sym, ap, ◌∙◌, Option, Some, None, IsSome, is_some, List, length, unwrap_or, nat_lt, arith}
 use Rattle.std.specs.Prelude.{slice_get}
 use Rattle.std.proofs.lemmas.Bool.Decides.{nat_tests}
-use Rattle.cs_model.specs.Ref.{Ref, Small, Char, birth_of, index_of, same_ref}
+use Rattle.cs_model.specs.Ref.{Ref, Small, Char, named_object, small_index, same_ref}
 use Rattle.cs_model.specs.Ref as ref
 use Rattle.cs_model.specs.Obj.{Obj, Context, Ptr, Raw, Method, Ctx, class_index_in, is_context, at_least, is_header, words_of}
 use Rattle.cs_model.specs.State.{Kept, object_at, object_of, slots_of, special_at, is_class_index}
@@ -12,7 +12,7 @@ use Rattle.cs_model.specs.Instance.{Made, New, NotInstantiable, TableFull, insta
 use Rattle.cs_model.specs.Element.{range_of, element_place, front}
 use Rattle.cs_model.specs.Exec.{is_active, small_operands}
 use Rattle.cs_model.specs.PrimAnswer.{receiver, argument}
-use Rattle.cs_model.specs.PrimObject.{at_prim, at_put_prim, has_size, small_count, size_prim, is_bytes, char_at_prim, byte_code, char_at_put_prim, method_slot, slot_index, object_at_prim, object_at_put_prim, answer_made, new_prim, new_size_prim, point_class, point_slots, point_made, point_prim, answer_field, slot_at, slot_at_prim, context_at_put, slot_put, slot_at_put_prim, hash_prim, some_instance_prim, next_instance_prim, blank_method, is_method_index, make_method, is_method_shape, new_method_prim, copy_kinds, copy_fits, count_of, copy_to, replace_prim, identical_prim, class_prim, copied, look_if, copy_object, copy_prim, answer_hashed, behavior_hash_prim, read_only_prim, can_be_fixed, boolean_in, set_read_only_prim, quick_prim}
+use Rattle.cs_model.specs.PrimObject.{at_prim, at_put_prim, has_size, small_count, size_prim, is_bytes, char_at_prim, byte_code, char_at_put_prim, method_slot, slot_index, object_at_prim, object_at_put_prim, answer_made, new_prim, new_size_prim, point_class, point_slots, point_made, point_prim, answer_field, read_slot, slot_at_prim, context_at_put, slot_put, slot_at_put_prim, hash_prim, some_instance_prim, next_instance_prim, blank_method, is_method_index, make_method, is_method_shape, new_method_prim, copy_kinds, copy_fits, range_count, copy_to, replace_prim, identical_prim, class_prim, copied, look_if, copy_object, copy_prim, answer_hashed, behavior_hash_prim, read_only_prim, can_be_fixed, boolean_in, set_read_only_prim, quick_prim}
 use Rattle.cs_model.specs.End.{Out}
 use Rattle.cs_model.proofs.Leading.{Sound, PcsLie}
 use Rattle.cs_model.proofs.LeadCombining.{Ready, goes_trans, ready_behind, Leading, fail_leading, made_leading, looked_leading, given_leading, if_leading}
@@ -77,7 +77,7 @@ new_leading {k = k} args r = with_count_leading 0 args r (answer_made_leading 0 
 pub new_size_leading : {P : Kept → Type 0} {k : Kept} (args : ℕ) → Ready k → Leading P k (new_size_prim k args)
 unfolding new_size_prim
 new_size_leading {k = k} args r =
-    with_count_leading 1 args r (given_leading (index_of (argument k 1 0)) _ (fail_leading r) (λ size e.
+    with_count_leading 1 args r (given_leading (small_index (argument k 1 0)) _ (fail_leading r) (λ size e.
     answer_made_leading 1 (instantiate k (receiver k 1) size) r (instantiate_goes (receiver k 1) size r)))
 
 -- an object with two slots has some
@@ -107,7 +107,7 @@ answer_field_leading : {P : Kept → Type 0} {k : Kept} (args i : ℕ) (value : 
 answer_field_leading args i value r =
     given_leading value _ (fail_leading r) (λ x e. if_leading (i == 0) (λ f. looked_leading (answer_leading args x r)) (λ f. answer_leading args x r))
 
-pub slot_at_case : {P : Kept → Type 0} {k : Kept} (args i : ℕ) (o : Option Obj) → Ready k → Leading P k (slot_at k args i o)
+pub slot_at_case : {P : Kept → Type 0} {k : Kept} (args i : ℕ) (o : Option Obj) → Ready k → Leading P k (read_slot k args i o)
 slot_at_case args i None r = fail_leading r
 slot_at_case args i (Some (Ptr head slots)) r = answer_if_leading args (slice_get slots i) r
 slot_at_case args i (Some (Raw head bytes)) r = fail_leading r
@@ -123,17 +123,17 @@ itself : (n : ℕ) → (n == n) ≡ true
 itself n = grind (arith, nat_tests)
 
 -- what may be written into a field of a context
-context_at_put_goes : {k : Kept} (x : Ref) (i : ℕ) (v : Ref) (c : Context) (o : Option ℕ) → birth_of x ≡ o → object_of k x ≡ Some (Ctx c) → Ready k → GoesIf k (context_at_put k x i v c o)
+context_at_put_goes : {k : Kept} (x : Ref) (i : ℕ) (v : Ref) (c : Context) (o : Option ℕ) → named_object x ≡ o → object_of k x ≡ Some (Ctx c) → Ready k → GoesIf k (context_at_put k x i v c o)
 context_at_put_goes {k} x i v c None e f r = goes_none k
 context_at_put_goes {k} x i v c (Some birth) e f r =
     if_goes_some (accepts k (is_active k x) c i v) (λ h. context_put_goes birth (is_active k x) c i v r (there x birth e f) (is_it x birth e) h)
   where
-    there : (y : Ref) (b : ℕ) → birth_of y ≡ Some b → object_of k y ≡ Some (Ctx c) → object_at k b ≡ Some (Ctx c)
+    there : (y : Ref) (b : ℕ) → named_object y ≡ Some b → object_of k y ≡ Some (Ctx c) → object_at k b ≡ Some (Ctx c)
     there (Small a) b g h = absurd (cc)
     there (Char a) b g h = absurd (cc)
     there (ref.Obj j) b g h = ap (object_at k) (ap (λ o. unwrap_or o b) (sym g)) ∙ h
 
-    is_it : (y : Ref) (b : ℕ) → birth_of y ≡ Some b → k.rest.active ≡ Some b → is_active k y ≡ true
+    is_it : (y : Ref) (b : ℕ) → named_object y ≡ Some b → k.rest.active ≡ Some b → is_active k y ≡ true
     is_it (Small a) b g h = absurd (cc)
     is_it (Char a) b g h = absurd (cc)
     is_it (ref.Obj j) b g h = ap (λ n. j == n) (ap (λ o. unwrap_or o k.rest.nil) (h ∙ sym g)) ∙ itself j
@@ -143,7 +143,7 @@ slot_put_goes {k} x i v None e r = goes_none k
 slot_put_goes x i v (Some (Ptr head slots)) e r = if_goes_some (nat_lt i (length slots)) (λ f. store_goes x i v r)
 slot_put_goes {k} x i v (Some (Raw head bytes)) e r = goes_none k
 slot_put_goes {k} x i v (Some (Method head header literals bytecodes)) e r = goes_none k
-slot_put_goes x i v (Some (Ctx c)) e r = context_at_put_goes x i v c (birth_of x) refl e r
+slot_put_goes x i v (Some (Ctx c)) e r = context_at_put_goes x i v c (named_object x) refl e r
 
 pub slot_at_put_leading : {P : Kept → Type 0} {k : Kept} (args : ℕ) → Ready k → Leading P k (slot_at_put_prim k args)
 unfolding slot_at_put_prim
@@ -187,8 +187,8 @@ method_slots k class e = go (shape_of k class) refl e where
 pub new_method_leading : {P : Kept → Type 0} {k : Kept} (args : ℕ) → Ready k → Leading P k (new_method_prim k args)
 unfolding new_method_prim
 new_method_leading {k = k} args r =
-    with_count_leading 2 args r (given_leading (index_of (argument k 2 0)) _ (fail_leading r) (λ count e.
-    given_leading (index_of (argument k 2 1)) _ (fail_leading r) (λ header f.
+    with_count_leading 2 args r (given_leading (small_index (argument k 2 0)) _ (fail_leading r) (λ count e.
+    given_leading (small_index (argument k 2 1)) _ (fail_leading r) (λ header f.
     if_leading (is_method_shape (shape_of k (receiver k 2)) && is_header header)
     (λ g. make_method_leading (receiver k 2) count header (class_index_for k (receiver k 2)) r (method_slots k (receiver k 2) (and_true _ (is_header header) g).0) (class_index_for-not_hidden k (receiver k 2) r.sound.hidden))
     (λ g. fail_leading r))))
@@ -197,16 +197,16 @@ new_method_leading {k = k} args r =
 
 copy_to_leading : {P : Kept → Type 0} {k : Kept} (x other : Ref) (start stop from : ℕ) → Ready k → Leading P k (copy_to k x other start stop from)
 copy_to_leading {k = k} x other start stop from r =
-    given_leading (count_of (range_of k x)) _ (fail_leading r) (λ mine e.
-    given_leading (count_of (range_of k other)) _ (fail_leading r) (λ its f.
+    given_leading (range_count (range_of k x)) _ (fail_leading r) (λ mine e.
+    given_leading (range_count (range_of k other)) _ (fail_leading r) (λ its f.
     if_leading (copy_fits start stop from mine its) (λ g. answer_behind 4 x (copy_elements_goes (stop + 1 - start) x (front k x + (start - 1)) other (front k other + (from - 1)) r)) (λ g. fail_leading r)))
 
 pub replace_leading : {P : Kept → Type 0} {k : Kept} (args : ℕ) → Ready k → Leading P k (replace_prim k args)
 unfolding replace_prim
 replace_leading {k = k} args r =
-    with_count_leading 4 args r (unless_read_only_leading (receiver k 4) r (given_leading (index_of (argument k 4 0)) _ (fail_leading r) (λ start e.
-    given_leading (index_of (argument k 4 1)) _ (fail_leading r) (λ stop f.
-    given_leading (index_of (argument k 4 3)) _ (fail_leading r) (λ from g.
+    with_count_leading 4 args r (unless_read_only_leading (receiver k 4) r (given_leading (small_index (argument k 4 0)) _ (fail_leading r) (λ start e.
+    given_leading (small_index (argument k 4 1)) _ (fail_leading r) (λ stop f.
+    given_leading (small_index (argument k 4 3)) _ (fail_leading r) (λ from g.
     if_leading (copy_kinds (object_of k (receiver k 4)) (object_of k (argument k 4 2)))
     (λ h. copy_to_leading (receiver k 4) (argument k 4 2) start stop from r) (λ h. fail_leading r))))))
 

@@ -2,11 +2,11 @@
 use Rattle.std.proofs.Common.{◌≡◌, ℕ, zero, suc, ◌+◌, ◌-◌, ◌*◌, ◌<◌, Bool, true, false, refl, sym, ap, subst, ◌∙◌, Option, Some, None, IsSome, is_some, List, [], ◌∷◌, length, inl, inr, arith, unwrap_or}
 use Rattle.std.specs.Prelude.{slice_set}
 use Rattle.std.proofs.lemmas.Bool.Decides.{eqb_tells}
-use Rattle.cs_model.specs.Ref.{Ref, Small, Char, birth_of}
+use Rattle.cs_model.specs.Ref.{Ref, Small, Char, named_object}
 use Rattle.cs_model.specs.Ref as ref
 use Rattle.cs_model.specs.Obj.{Obj, Context, Ptr, Raw, Method, Ctx, is_context, class_index_in, lies_in, lies_between, first_pc, slots_in, context_in, with_pc, pushed, popped, stored, edit_context}
 use Rattle.cs_model.specs.State.{Kept, object_at, object_of, put, PcLies, is_class_index, IsLive}
-use Rattle.cs_model.specs.Read.{blank, active_birth, active_context, method_of}
+use Rattle.cs_model.specs.Read.{blank_context, active_birth, active_context, method_of}
 use Rattle.cs_model.specs.Operation.{put_active, edit_active, set_pc_of, push_of, drop_of, set_stack_of, edit_found, edit_object, with_slot, with_byte, with_hash, with_fixed, store_of, store_byte_of, set_fixed_of, add_of, activate, resume_of, suspend_of}
 use Rattle.cs_model.proofs.Objects.{object_at-put_same, object_at-put_other, at_put, rest-put}
 use Rattle.cs_model.proofs.Leading.{Sound, Becomes, becomes_by, becomes_new, Like, like_itself, like_context, Stays, Leads, leads_itself, pc_lies_on, plain_on, PcsLie, pc_in, put_leads, rest_leads}
@@ -15,7 +15,7 @@ use Rattle.cs_model.proofs.LeadCombining.{Ready, Goes, goes_by, active_found, ac
 -- ---- the active context
 
 context_inj : {c d : Context} → Ctx c ≡ Ctx d → c ≡ d
-context_inj e = ap (λ o. unwrap_or (context_in (Some o)) blank) e
+context_inj e = ap (λ o. unwrap_or (context_in (Some o)) blank_context) e
 
 pub context_lies : {k : Kept} (d : Context) → PcLies k d → PcsLie k (Ctx d)
 context_lies {k} d h = record { lies = λ c e. subst (λ x. PcLies k x) (context_inj e) h }

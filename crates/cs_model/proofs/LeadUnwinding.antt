@@ -1,7 +1,7 @@
 -- What becomes of a state by the primitives on closures, on senders and on the values of contexts.
 use Rattle.std.proofs.Common.{◌≡◌, ℕ, ◌-◌, Bool, true, false, refl, sym, ap, subst, ◌∙◌, Option, Some, None, List, [], ◌++◌, take, length, nat_lt, unwrap_or, if◌then◌else◌}
 use Rattle.cs_model.specs.declared.stop.Stop.TheVariants as why
-use Rattle.cs_model.specs.Ref.{Ref, birth_of}
+use Rattle.cs_model.specs.Ref.{Ref, named_object}
 use Rattle.cs_model.specs.Ref as ref
 use Rattle.cs_model.specs.Obj.{Context, context_in, edit_context, stored, with_stack}
 use Rattle.cs_model.specs.State.{Kept, object_at, is_nil}
@@ -53,7 +53,7 @@ pub unwind_mark_leading : {P : Kept → Type 0} {k : Kept} (args : ℕ) → Read
 unfolding unwind_mark_prim
 unwind_mark_leading {P} {k} args r = with_count_leading 1 args r
     (given_leading (context_birth k (receiver k 1)) _ (fail_leading r) (λ i e.
-    if_leading (is_end k (argument k 1 0)) (λ f. answer_mark_leading 1 (search_mark links k unwind_mark (birth_of (argument k 1 0)) (sender_birth k i)) r) (λ f. fail_leading r)))
+    if_leading (is_end k (argument k 1 0)) (λ f. answer_mark_leading 1 (search_mark links k unwind_mark (named_object (argument k 1 0)) (sender_birth k i)) r) (λ f. fail_leading r)))
 
 pub handler_mark_leading : {P : Kept → Type 0} {k : Kept} (args : ℕ) → Ready k → Leading P k (handler_mark_prim k args)
 unfolding handler_mark_prim
@@ -93,7 +93,7 @@ pub end_between_leading : {P : Kept → Type 0} {k : Kept} (args : ℕ) → Read
 unfolding end_between_prim
 end_between_leading {P} {k} args r = with_count_leading 1 args r
     (given_leading (context_birth k (receiver k 1)) _ (fail_leading r) (λ i e.
-    if_leading (is_end k (argument k 1 0)) (λ f. end_at_leading i (argument k 1 0) (birth_of (argument k 1 0)) r) (λ f. fail_leading r)))
+    if_leading (is_end k (argument k 1 0)) (λ f. end_at_leading i (argument k 1 0) (named_object (argument k 1 0)) r) (λ f. fail_leading r)))
 
 -- ---- the values of a context
 
@@ -114,7 +114,7 @@ pub stack_at_put_leading : {P : Kept → Type 0} {k : Kept} (args : ℕ) → Rea
 unfolding stack_at_put_prim
 stack_at_put_leading {P} {k} args r = with_count_leading 2 args r
     (answer_in_leading _ 2 (argument k 2 1) r (λ t e.
-    let a = and_then_some _ (birth_of (receiver k 2)) t e in
+    let a = and_then_some _ (named_object (receiver k 2)) t e in
     let b = and_then_some _ (context_in (object_at k a.0)) t a.2 in
     let d = and_then_some _ (slot_index (argument k 2 0)) t b.2 in
     stack_put_goes a.0 d.0 (argument k 2 1) b.0 r d.2))

@@ -65,3 +65,4 @@ pub mod Trying
 pub mod Finding
 pub mod Doing
 pub mod Changing
+pub mod Digits

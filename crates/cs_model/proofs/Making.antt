@@ -2,7 +2,7 @@
 use Rattle.std.proofs.Common.{◌≡◌, ℕ, ◌+◌, ◌*◌, ◌/◌, ◌%◌, ◌==◌, Bool, true, false, refl, ap, subst, ◌∙◌, Option, Some, None, is_some, replicate, nat_lt, if◌then◌else◌, inl, inr, rules, arith}
 use Rattle.std.specs.FinMap.{gets}
 use Rattle.std.proofs.lemmas.Bool.Decides.{eqb_tells}
-use Rattle.cs_model.specs.Ref.{Ref, Small, Char, birth_of, index_of}
+use Rattle.cs_model.specs.Ref.{Ref, Small, Char, named_object, small_index}
 use Rattle.cs_model.specs.Ref as ref
 use Rattle.cs_model.specs.Obj.{Obj, Ptr, Ctx, new_head, hash_in, context_class, words_of}
 use Rattle.cs_model.specs.State.{Kept, object_at, with_rest, IsHeld, NamesHeld, RestHeld}
@@ -40,7 +40,7 @@ table_held t index birth h has = record {
   active = h.active;
 }
 
-enter_class_moved : {v m : Kept} {x y : Ref} → Keeps v m → (index : ℕ) → Same (IsHeld v) x y → Moved v (enter_class v index (birth_of x)) (enter_class m index (birth_of y))
+enter_class_moved : {v m : Kept} {x y : Ref} → Keeps v m → (index : ℕ) → Same (IsHeld v) x y → Moved v (enter_class v index (named_object x)) (enter_class m index (named_object y))
 enter_class_moved k index (same (Small a) h) = unmoved k
 enter_class_moved k index (same (Char c) h) = unmoved k
 enter_class_moved {v} k index (same (ref.Obj i) h) = change_moved (with_class index i) k (unmoved k) (table_held v index i k.roots h)
@@ -90,7 +90,7 @@ enter_class_next k index (Some i) = refl
 
 pub take_index_next : (k : Kept) (x : Ref) (index : ℕ) → (take_index k x index).rest.next ≡ k.rest.next
 unfolding take_index
-take_index_next k x index = enter_class_next (edit_object k x (with_hash index)) index (birth_of x) ∙ ap (λ r. r.next) (edit_object_rest k x (with_hash index))
+take_index_next k x index = enter_class_next (edit_object k x (with_hash index)) index (named_object x) ∙ ap (λ r. r.next) (edit_object_rest k x (with_hash index))
 
 pub new_made : {v m t u : Kept} {o p : Obj} → Keeps v m → Moved v t u → t.rest.next ≡ v.rest.next → Same (NamesHeld v) o p → SameMade v (New (add_of t o) (next_ref v) (words_of o)) (New (add_of u p) (next_ref m) (words_of p))
 new_made {t = t} k a e (same o h) =
@@ -113,7 +113,7 @@ make_shaped_same k s size none = refused
 make_shaped_same k s size (some shape a) = choose_made (is_instance_shape (shape / 65536) (shape % 65536) size) (make_with_same k s shape size (class_index_for_same k s)) refused
 
 pub shape_of_same : {v m : Kept} {x y : Ref} → Keeps v m → Same (IsHeld v) x y → SameOption Any (shape_of v x) (shape_of m y)
-shape_of_same k s = and_then_same (slots_of_same k 3 s) (λ slots h. and_then_same (slice_same 2 (same slots h)) (λ z g. any_option (index_of z)))
+shape_of_same k s = and_then_same (slots_of_same k 3 s) (λ slots h. and_then_same (slice_same 2 (same slots h)) (λ z g. any_option (small_index z)))
 
 pub instantiate_same : {v m : Kept} {x y : Ref} → Keeps v m → Same (IsHeld v) x y → (size : ℕ) → SameMade v (instantiate v x size) (instantiate m y size)
 unfolding instantiate

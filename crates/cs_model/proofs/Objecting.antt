@@ -1,11 +1,11 @@
 -- The primitives on objects are alike.
 use Rattle.std.proofs.Common.{ℕ, ◌==◌, ◌&&◌, pos, Option, is_some, List, [], ◌∷◌, length, option_and_then, nat_lt}
 use Rattle.std.specs.Prelude.{slice_get}
-use Rattle.cs_model.specs.Ref.{Ref, Small, Char, index_of}
+use Rattle.cs_model.specs.Ref.{Ref, Small, Char, small_index}
 use Rattle.cs_model.specs.Obj.{Obj, Context, Ptr, Raw, Method, Ctx}
 use Rattle.cs_model.specs.State.{Kept, IsHeld, ContextHeld, NamesHeld}
 use Rattle.cs_model.specs.Instance.{Made}
-use Rattle.cs_model.specs.PrimObject.{at_prim, at_put_prim, has_size, small_count, size_prim, byte_string, byte_at, char_at_prim, byte_code, char_at_put_prim, method_slot, slot_index, object_at_prim, put_literal, object_at_put_prim, answer_made, new_prim, new_size_prim, point_class, point_slots, point_made, point_prim, answer_field, slot_at, slot_at_prim, context_at_put, slot_put, slot_at_put_prim}
+use Rattle.cs_model.specs.PrimObject.{at_prim, at_put_prim, has_size, small_count, size_prim, byte_string, byte_at, char_at_prim, byte_code, char_at_put_prim, method_slot, slot_index, object_at_prim, put_literal, object_at_put_prim, answer_made, new_prim, new_size_prim, point_class, point_slots, point_made, point_prim, answer_field, read_slot, slot_at_prim, context_at_put, slot_put, slot_at_put_prim}
 use Rattle.cs_model.specs.Keeps.{Keeps}
 use Rattle.cs_model.specs.Alike.{Alike}
 use Rattle.cs_model.proofs.Same.{Same, same, SameOption, none, some, Any, is, value, of_option, and_then_same, map_same, plain}
@@ -95,7 +95,7 @@ new_alike k args = with_count_alike k 0 args (answer_made_alike k 0 (instantiate
 pub new_size_alike : {v m : Kept} → Keeps v m → (args : ℕ) → Alike v (new_size_prim v args) (new_size_prim m args)
 unfolding new_size_prim
 new_size_alike k args =
-    with_count_alike k 1 args (given_alike _ _ (plain (value index_of (argument_same k 1 0))) (fail_alike k) (λ size a. answer_made_alike k 1 (instantiate_same k (prim_receiver_same k 1) size)))
+    with_count_alike k 1 args (given_alike _ _ (plain (value small_index (argument_same k 1 0))) (fail_alike k) (λ size a. answer_made_alike k 1 (instantiate_same k (prim_receiver_same k 1) size)))
 
 point_slots_same : {v : Kept} {a b c d : Ref} {xs ys : List Ref} → Same (IsHeld v) a b → Same (IsHeld v) c d → Same (AllHeld v) xs ys → Same (AllHeld v) (point_slots a c xs) (point_slots b d ys)
 point_slots_same {v} (same a g) (same c h) (same [] l) = listed v [] tt
@@ -121,7 +121,7 @@ point_alike k args =
 answer_field_alike : {v m : Kept} {o p : Option Ref} → Keeps v m → (args i : ℕ) → SameOption (IsHeld v) o p → Alike v (answer_field v args i o) (answer_field m args i p)
 answer_field_alike k args i s = given_alike _ _ s (fail_alike k) (λ x h. if_alike (is (i == 0)) (looked_alike (answer_alike k args (same x h))) (answer_alike k args (same x h)))
 
-pub slot_at_case : {v m : Kept} {o p : Option Obj} → Keeps v m → (args i : ℕ) → SameOption (NamesHeld v) o p → Alike v (slot_at v args i o) (slot_at m args i p)
+pub slot_at_case : {v m : Kept} {o p : Option Obj} → Keeps v m → (args i : ℕ) → SameOption (NamesHeld v) o p → Alike v (read_slot v args i o) (read_slot m args i p)
 slot_at_case k args i none = fail_alike k
 slot_at_case {v} k args i (some (Ptr head slots) h) = answer_if_alike k args (slice_same i (listed v slots h))
 slot_at_case k args i (some (Raw head bytes) h) = fail_alike k

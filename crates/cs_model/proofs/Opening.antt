@@ -2,7 +2,7 @@
 use Rattle.std.proofs.Common.{◌≡◌, ◌≢◌, ℕ, Bool, true, false, refl, sym, ap, subst, ◌∙◌, Option, Some, None, is_some, List, [], ◌∷◌, length, option_and_then, arith, inl, inr}
 use Rattle.std.specs.Prelude.{◌&&◌, not, nat_le, slice_get, slice_set, if◌then◌else◌}
 use Rattle.std.proofs.lemmas.Bool.Decides.{eqb_tells, nat_tests}
-use Rattle.cs_model.specs.Ref.{Ref, Small, Char, birth_of}
+use Rattle.cs_model.specs.Ref.{Ref, Small, Char, named_object}
 use Rattle.cs_model.specs.Ref as ref
 use Rattle.cs_model.specs.Obj.{Ctx, Method, Obj, Ptr, Raw, at_least, slots_in, Head}
 use Rattle.cs_model.specs.State.{Kept, active_process, is_nil, object_at, put, scheduler_of, slots_of, special_at}
@@ -16,7 +16,7 @@ use Rattle.cs_model.proofs.Objects.{object_at-put_other, object_at-put_same}
 
 -- the context that a process keeps is active, and the process keeps nil
 abbrev taken_of : Kept → Ref → Kept
-taken_of k p = open_at k p (option_and_then (λ x. birth_of x) (context_kept k p))
+taken_of k p = open_at k p (option_and_then (λ x. named_object x) (context_kept k p))
 
 -- ---- the process and the context that it keeps
 
@@ -90,7 +90,7 @@ module _ {k : Kept} {j i : ℕ} (p : Suspended k j i) where
 
   taken-after : context_kept k (ref.Obj j) ≡ Some (ref.Obj i) → taken_of k (ref.Obj j) ≡ after
   unfolding store_of after emptied
-  taken-after e = ap (λ o. open_at k (ref.Obj j) (option_and_then (λ y. birth_of y) o)) e
+  taken-after e = ap (λ o. open_at k (ref.Obj j) (option_and_then (λ y. named_object y) o)) e
       ∙ ap (λ o. resume_of (edit_found (operation.with_slot 1 (nil_of k)) j o k) i) p.there
 
   process_after : object_at after j ≡ Some emptied
@@ -201,9 +201,9 @@ scheduled k closed running = go (active_process k) refl
     not_running r = let no = sym closed ∙ r.known in cc
 
     by_context : (p : Ref) → active_process k ≡ Some p → is_nil k p ≡ false → IsRunning (taken_of k p) → (o : Option Ref) → context_kept k p ≡ o → Scheduled k (taken_of k p)
-    by_context p e other r None h = absurd (not_running (subst (λ o. IsRunning (open_at k p (option_and_then (λ x. birth_of x) o))) h r))
-    by_context p e other r (Some (Small a)) h = absurd (not_running (subst (λ o. IsRunning (open_at k p (option_and_then (λ x. birth_of x) o))) h r))
-    by_context p e other r (Some (Char c)) h = absurd (not_running (subst (λ o. IsRunning (open_at k p (option_and_then (λ x. birth_of x) o))) h r))
+    by_context p e other r None h = absurd (not_running (subst (λ o. IsRunning (open_at k p (option_and_then (λ x. named_object x) o))) h r))
+    by_context p e other r (Some (Small a)) h = absurd (not_running (subst (λ o. IsRunning (open_at k p (option_and_then (λ x. named_object x) o))) h r))
+    by_context p e other r (Some (Char c)) h = absurd (not_running (subst (λ o. IsRunning (open_at k p (option_and_then (λ x. named_object x) o))) h r))
     by_context p e other r (Some (ref.Obj i)) h =
         let s = suspended k p i h in
         let taken : taken_of k p ≡ after s.2 = ap (taken_of k) s.1 ∙ taken-after s.2 (ap (context_kept k) (sym s.1) ∙ h) in

@@ -2,7 +2,7 @@
 use Rattle.std.proofs.Common.{◌≡◌, ℕ, ◌+◌, ◌-◌, Bool, true, refl, sym, ap, subst, ◌∙◌, Option, Some, None, is_some, List, [], ◌∷◌, ◌++◌, length, take, drop, replicate, unwrap_or}
 use Rattle.std.specs.List.{AllByRecursion}
 use Rattle.std.specs.FinMap.{get}
-use Rattle.cs_model.specs.Ref.{Ref, Small, Char, birth_of}
+use Rattle.cs_model.specs.Ref.{Ref, Small, Char, named_object}
 use Rattle.cs_model.specs.Ref as ref
 use Rattle.cs_model.specs.Obj.{Obj, Context, Ptr, Raw, Method, Ctx, new_head, is_context, with_pc, with_stack, pushed, popped, stored, header_in, temporary_count, context_size}
 use Rattle.cs_model.specs.State.{Kept, Rest, put, with_rest, IsHeld, ContextHeld, NamesHeld, RestHeld}
@@ -252,7 +252,7 @@ cut_to_moved k dying target s =
     moved b (push_moved b.keeps (up b.grows s))
 
 -- the birth of a reference that is held
-birth_or_nil : {v m : Kept} {x y : Ref} → Keeps v m → Same (IsHeld v) x y → Same (Has v) (unwrap_or (birth_of x) v.rest.nil) (unwrap_or (birth_of y) m.rest.nil)
+birth_or_nil : {v m : Kept} {x y : Ref} → Keeps v m → Same (IsHeld v) x y → Same (Has v) (unwrap_or (named_object x) v.rest.nil) (unwrap_or (named_object y) m.rest.nil)
 birth_or_nil {v} k (same (Small a) h) = of (Has v) (λ r. r.nil) (rest_same k) (λ r e. subst (λ s. Has v s.nil) e k.roots.nil)
 birth_or_nil {v} k (same (Char a) h) = of (Has v) (λ r. r.nil) (rest_same k) (λ r e. subst (λ s. Has v s.nil) e k.roots.nil)
 birth_or_nil k (same (ref.Obj i) h) = same i h

@@ -5,7 +5,7 @@ use Rattle.cs_model.specs.declared.event.Event.{Event}
 use Rattle.cs_model.specs.declared.event.EventKind.{EventKind}
 use Rattle.cs_model.specs.declared.event.EventKind.TheVariants as kind
 use Rattle.cs_model.specs.State.{Kept, Run, State, Timer}
-use Rattle.cs_model.specs.Due.{Happened, happened, due_timer, fire, with_clock, happen, with_events, is_due, left_count, counting, behind, and_then_due, due_of, due}
+use Rattle.cs_model.specs.Due.{Happened, happened, due_timer, fire, with_clock, happen, with_events, is_due, left_count, event_counting, event_passed, and_then_due, due_of, due}
 use Rattle.cs_model.specs.Step.{Ending, Steps, Quit, Idle, Stopped, Step, Ran, birth_limit, step, run, run_by}
 use Rattle.cs_model.specs.Step as step
 use Rattle.cs_model.specs.Demand.{goes_on, step_after, behind_event, behind_events, before_bytecode, last_state, first_events, states_of}
@@ -55,11 +55,11 @@ event_of (e ∷ es) s n k h = go (λ t m f. event_of es t m k f) (is_due s e) h 
   Earlier : Type 0
   Earlier = (t : State) (m : ℕ) → slice_get (behind_events es t) m ≡ Some k → (due_of (take (suc m) es) t).state.kept ≡ k
 
-  rest : Earlier → (n : ℕ) (h : Happened) → slice_get ((behind h).kept ∷ behind_events es (behind h)) n ≡ Some k → (due_of (take n es) (behind (with_left (take n es) h))).state.kept ≡ k
+  rest : Earlier → (n : ℕ) (h : Happened) → slice_get ((event_passed h).kept ∷ behind_events es (event_passed h)) n ≡ Some k → (due_of (take n es) (event_passed (with_left (take n es) h))).state.kept ≡ k
   rest earlier zero h f = some_is f
-  rest earlier (suc n) h f = ap (λ a. a.state.kept) (due_of_left (take (suc n) es) (take (suc n) es) (behind h)) ∙ earlier (behind h) n f
+  rest earlier (suc n) h f = ap (λ a. a.state.kept) (due_of_left (take (suc n) es) (take (suc n) es) (event_passed h)) ∙ earlier (event_passed h) n f
 
-  done : Earlier → (c : Bool) (h : Happened) → slice_get (if c then (behind h).kept ∷ behind_events es (behind h) else []) n ≡ Some k → (if c then counting (plus h.count (left_count h.state.kept)) (due_of (take n es) (behind (with_left (take n es) h))) else with_left (take n es) h).state.kept ≡ k
+  done : Earlier → (c : Bool) (h : Happened) → slice_get (if c then (event_passed h).kept ∷ behind_events es (event_passed h) else []) n ≡ Some k → (if c then event_counting (plus h.count (left_count h.state.kept)) (due_of (take n es) (event_passed (with_left (take n es) h))) else with_left (take n es) h).state.kept ≡ k
   done earlier true h f = rest earlier n h f
   done earlier false h f = absurd (cc)
 
@@ -77,8 +77,8 @@ count_of (e ∷ es) s = go (λ t. count_of es t) (is_due s e) where
   Earlier : Type 0
   Earlier = (t : State) → length (behind_events es t) + ((if is_done (due_of es t).end then 0 else 1) + length (due_of es t).state.run.events) ≡ length es
 
-  done : Earlier → (c : Bool) (h : Happened) → is_done h.end ≡ c → h.state.run.events ≡ es → length (if c then (behind h).kept ∷ behind_events es (behind h) else []) + ((if is_done (if c then counting (plus h.count (left_count h.state.kept)) (due_of es (behind h)) else h).end then 0 else 1) + length (if c then counting (plus h.count (left_count h.state.kept)) (due_of es (behind h)) else h).state.run.events) ≡ suc (length es)
-  done earlier true h d f = omega (arith, earlier (behind h))
+  done : Earlier → (c : Bool) (h : Happened) → is_done h.end ≡ c → h.state.run.events ≡ es → length (if c then (event_passed h).kept ∷ behind_events es (event_passed h) else []) + ((if is_done (if c then event_counting (plus h.count (left_count h.state.kept)) (due_of es (event_passed h)) else h).end then 0 else 1) + length (if c then event_counting (plus h.count (left_count h.state.kept)) (due_of es (event_passed h)) else h).state.run.events) ≡ suc (length es)
+  done earlier true h d f = omega (arith, earlier (event_passed h))
   done earlier false h d f = subst (λ c. 0 + ((if c then 0 else 1) + length h.state.run.events) ≡ suc (length es)) (sym d) (omega (arith, ap length f))
 
   go : Earlier → (b : Bool) → length (if b then behind_event (happen e.kind s.kept (with_events es s.run)) (λ t. t.kept ∷ behind_events es t) else []) + ((if is_done (if b then and_then_due (happen e.kind s.kept (with_events es s.run)) (λ t. due_of es t) else happened (record s { run = with_events (e ∷ es) s.run })).end then 0 else 1) + length (if b then and_then_due (happen e.kind s.kept (with_events es s.run)) (λ t. due_of es t) else happened (record s { run = with_events (e ∷ es) s.run })).state.run.events) ≡ suc (length es)
@@ -92,8 +92,8 @@ last_of (e ∷ es) s d = go (λ t f. last_of es t f) (is_due s e) d where
   Earlier : Type 0
   Earlier = (t : State) → is_done (due_of es t).end ≡ true → last_state t.kept (behind_events es t) ≡ (due_of es t).state.kept
 
-  done : Earlier → (c : Bool) (h : Happened) → is_done h.end ≡ c → is_done (if c then counting (plus h.count (left_count h.state.kept)) (due_of es (behind h)) else h).end ≡ true → last_state s.kept (if c then (behind h).kept ∷ behind_events es (behind h) else []) ≡ (if c then counting (plus h.count (left_count h.state.kept)) (due_of es (behind h)) else h).state.kept
-  done earlier true h g d = earlier (behind h) d
+  done : Earlier → (c : Bool) (h : Happened) → is_done h.end ≡ c → is_done (if c then event_counting (plus h.count (left_count h.state.kept)) (due_of es (event_passed h)) else h).end ≡ true → last_state s.kept (if c then (event_passed h).kept ∷ behind_events es (event_passed h) else []) ≡ (if c then event_counting (plus h.count (left_count h.state.kept)) (due_of es (event_passed h)) else h).state.kept
+  done earlier true h g d = earlier (event_passed h) d
   done earlier false h g d = both (sym g ∙ d)
 
   go : Earlier → (b : Bool) → is_done (if b then and_then_due (happen e.kind s.kept (with_events es s.run)) (λ t. due_of es t) else happened (record s { run = with_events (e ∷ es) s.run })).end ≡ true → last_state s.kept (if b then behind_event (happen e.kind s.kept (with_events es s.run)) (λ t. t.kept ∷ behind_events es t) else []) ≡ (if b then and_then_due (happen e.kind s.kept (with_events es s.run)) (λ t. due_of es t) else happened (record s { run = with_events (e ∷ es) s.run })).state.kept

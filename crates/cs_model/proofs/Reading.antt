@@ -3,11 +3,11 @@ use Rattle.std.proofs.Common.{◌≡◌, ℕ, ◌+◌, ◌-◌, Bool, true, fals
 use Rattle.std.specs.Prelude.{slice_get}
 use Rattle.std.specs.List.{AllByRecursion}
 use Rattle.std.specs.FinMap.{get}
-use Rattle.cs_model.specs.Ref.{Ref, Small, Char, birth_of, same_ref}
+use Rattle.cs_model.specs.Ref.{Ref, Small, Char, named_object, same_ref}
 use Rattle.cs_model.specs.Ref as ref
 use Rattle.cs_model.specs.Obj.{Obj, Context, Ptr, Raw, Method, Ctx, is_fixed_at, slots_in, context_in, literals_in, bytecodes_in, at_least}
 use Rattle.cs_model.specs.State.{Kept, object_at, object_of, is_read_only, slots_of, special_at, scheduler_of, active_process, is_nil, IsHeld, ContextHeld, NamesHeld}
-use Rattle.cs_model.specs.Read.{index_of_class, class_index_of, class_of, blank, active_birth, active_context, stack_of, depth_of, size_of, pc_of, receiver_of, method_of, literals_of, bytecodes_of, from_top}
+use Rattle.cs_model.specs.Read.{index_of_class, class_index_of, class_of, blank_context, active_birth, active_context, stack_of, depth_of, size_of, pc_of, receiver_of, method_of, literals_of, bytecodes_of, from_top}
 use Rattle.cs_model.specs.Operation.{nil_of}
 use Rattle.cs_model.specs.Number.{boolean}
 use Rattle.cs_model.specs.Keeps.{Keeps, Grows}
@@ -161,12 +161,12 @@ active_birth_same {v} k = of (Has v) (λ r. unwrap_or r.active r.nil) (rest_same
 pub active_ref_same : {v m : Kept} → Keeps v m → Same (IsHeld v) (ref.Obj (active_birth v)) (ref.Obj (active_birth m))
 active_ref_same {v} k = of (IsHeld v) (λ i. ref.Obj i) (active_birth_same k) (λ i h. h)
 
-pub blank_held : (v : Kept) → ContextHeld v blank
+pub blank_held : (v : Kept) → ContextHeld v blank_context
 blank_held v = record { sender = tt; method = tt; closure = tt; receiver = tt; stack = tt }
 
 pub active_context_same : {v m : Kept} → Keeps v m → Same (ContextHeld v) (active_context v) (active_context m)
 unfolding active_context
-active_context_same {v} k = or_same (context_in_same (object_at_same k (active_birth_same k))) (same blank (blank_held v))
+active_context_same {v} k = or_same (context_in_same (object_at_same k (active_birth_same k))) (same blank_context (blank_held v))
 
 pub context_stack : {v : Kept} {c d : Context} → Same (ContextHeld v) c d → Same (AllHeld v) c.stack d.stack
 context_stack (same c h) = same c.stack (record { all = h.stack })

@@ -1,6 +1,6 @@
 -- Settling is alike, and so are the primitives that see the whole state.
 use Rattle.std.proofs.Common.{ℕ, ◌==◌, ◌||◌, ℤ, int_lt, Bool, true, false, refl, Option, Some, None, List, [], ◌∷◌, if◌then◌else◌}
-use Rattle.cs_model.specs.Ref.{Ref, Small, small_of, index_of}
+use Rattle.cs_model.specs.Ref.{Ref, Small, small_of, small_index}
 use Rattle.cs_model.specs.State.{Kept, Run, IsHeld}
 use Rattle.cs_model.specs.PrimObject.{byte_string, small_count}
 use Rattle.cs_model.specs.Settle.{open_at, open_if, open_kept, settle_if, settle_kept}
@@ -112,7 +112,7 @@ timer_alike k r args =
 
 bytes_to_write_same : {v m : Kept} {x y : Ref} → Keeps v m → Same (IsHeld v) x y → SameOption Any (bytes_to_write v x) (bytes_to_write m y)
 unfolding bytes_to_write
-bytes_to_write_same k s = plain (two (λ o x. or_bytes (byte_string o) (small_byte (index_of x))) (option_is (object_of_same k s)) s)
+bytes_to_write_same k s = plain (two (λ o x. or_bytes (byte_string o) (small_byte (small_index x))) (option_is (object_of_same k s)) s)
 
 pub write_alike : {v m : Kept} → Keeps v m → (r : Run) → (args : ℕ) → AlikeResult v (write_prim (record { kept = v; run = r }) args) (write_prim (record { kept = m; run = r }) args)
 unfolding write_prim

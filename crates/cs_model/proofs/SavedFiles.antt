@@ -9,7 +9,7 @@ use Rattle.std.proofs.lemmas.Bool.Decides.{nat_tests}
 use Rattle.std.specs.Prelude.{flat_map}
 use Rattle.std.specs.List.{AllByRecursion, range_with_len}
 use Rattle.cs_model.specs.Words.{bytes_of_words}
-use Rattle.cs_model.specs.ImageFile.{number_at, u32_at, u64_at, u32s_at, u64s_at, heap_size, header_in, words_in, has_births, birth_count, births_in, FileObject, Cut, File, cut_of, file_of, visible, stands, is_visible}
+use Rattle.cs_model.specs.ImageFile.{number_at, u32_at, u64_at, u32s_at, u64s_at, heap_size, file_header, words_in, has_births, birth_count, births_in, FileObject, Cut, File, cut_of, file_of, visible, stands, is_visible}
 use Rattle.cs_model.specs.SavedFile.{SavedObject, SavedBirths, SavedFile, FitsObject, FitsFile, FitsBirths, IsWordValue, IsSeen, IsReadAgain, IsSeenAgain, saved_bits, saved_words, overflow_words, body_size, saved_size, saved_sizes, placed_at, placed_from, saved_base, free_lists, page_place, page_address, table_root, table_page, all_saved, saved_heap, halves, birth_words, header_words, saved_bytes}
 use Rattle.cs_model.proofs.SavedNumbers.{number_behind, number_before, u32s_behind, u64s_behind, four, word_read, words_read, long_read, longs_read, length-bytes_of_words, length-halves}
 use Rattle.cs_model.proofs.SavedObjects.{body_words, length-saved, sizes-cons, cut_there, whole_cut, placed_append}
@@ -270,7 +270,7 @@ take_seam n xs ys e = ap (λ k. take k (xs ++ ys)) (sym e) ∙ take-append_seam 
 drop_seam : (n : ℕ) (xs ys : List ℕ) → length xs ≡ n → drop n (xs ++ ys) ≡ ys
 drop_seam n xs ys e = ap (λ k. drop k (xs ++ ys)) (sym e) ∙ drop-append_seam xs ys
 
-header_same : (f : SavedFile) → FitsFile f → header_in (saved_bytes f) ≡ take 8 f.header ++ replicate 16 0 ++ drop 24 f.header
+header_same : (f : SavedFile) → FitsFile f → file_header (saved_bytes f) ≡ take 8 f.header ++ replicate 16 0 ++ drop 24 f.header
 header_same f fits =
     ap₂ (λ (xs ys : List ℕ). xs ++ replicate 16 0 ++ ys)
     (ap (take 8) (from_words f) ∙ take_seam 8 (take 8 f.header) (bytes_of_words (header_words f) ++ (drop 24 f.header ++ (heap_bytes f ++ birth_bytes f))) (eight_long f fits))

@@ -6,7 +6,7 @@ use Rattle.std.proofs.lemmas.List.Sums.{sum_by-cons}
 use Rattle.std.proofs.lemmas.Bool.Decides.{nat_tests}
 use Rattle.std.specs.Prelude.{flat_map}
 use Rattle.std.specs.List.{AllByRecursion}
-use Rattle.cs_model.specs.ImageFile.{FileObject, Cut, in_front, cut_from, object_from, object_with, bits_at, top_byte, end_at, end_of}
+use Rattle.cs_model.specs.ImageFile.{FileObject, Cut, in_front, cut_from, object_from, object_with, bits_at, top_byte, end_at, object_end}
 use Rattle.cs_model.specs.SavedFile.{SavedObject, FitsObject, saved_bits, saved_words, overflow_words, words_before, body_size, saved_size, saved_sizes, placed_at, placed_from}
 use Rattle.cs_model.proofs.SavedNumbers.{get_behind}
 
@@ -210,7 +210,7 @@ cut_there (suc most) heap front first (o ∷ os) fits is len h =
     let lies : first < length heap = omega (arith, e, l, s, len) in
     grind (arith, nat_tests, lies) in
     let there = object_there heap front (flat_map saved_words os) first o fits.0 is len in
-    let next : end_of (placed_at first o) ≡ first + saved_size (length o.words) = omega arith in
+    let next : object_end (placed_at first o) ≡ first + saved_size (length o.words) = omega arith in
     rw (more, there) (ap (in_front (placed_at first o))
     (ap (λ k. cut_from most heap k) next
     ∙ cut_there most heap (front ++ saved_words o) (first + saved_size (length o.words)) os fits.1

@@ -4,7 +4,7 @@ use Rattle.std.specs.Prelude.{slice_get}
 use Rattle.std.specs.List.{AllByRecursion}
 use Rattle.cs_model.specs.declared.stop.Stop.TheVariants as why
 use Rattle.cs_model.specs.Ref as ref
-use Rattle.cs_model.specs.Ref.{Ref, Small, Char, same_ref, small_of, index_of}
+use Rattle.cs_model.specs.Ref.{Ref, Small, Char, same_ref, small_of, small_index}
 use Rattle.cs_model.specs.Obj.{Obj, Ptr, Raw, Method, Ctx, is_context, slots_in, at_least}
 use Rattle.cs_model.specs.State.{Kept, object_at, slots_of, IsHeld}
 use Rattle.cs_model.specs.Profile.{puts_in_front}
@@ -61,7 +61,7 @@ list_of_process_same : {v m : Kept} {x y p q : Ref} → Keeps v m → Same (IsHe
 unfolding list_of_process
 list_of_process_same k s p =
     and_then_same (lists_of_same k s) (λ lists h.
-    and_then_same (list_at_same (same lists h) (of_option (λ o. option_and_then (λ x. index_of x) o) (slot_same k process_slots priority p))) (λ list g.
+    and_then_same (list_at_same (same lists h) (of_option (λ o. option_and_then (λ x. small_index x) o) (slot_same k process_slots priority p))) (λ list g.
     if_list_same k (same list g)))
 
 with_list_alike : {v m : Kept} {p q : Ref} (f g : Ref → Out) → Keeps v m → Same (IsHeld v) p q → ((z : Ref) → IsHeld v z → Alike v (f z) (g z)) → Alike v (with_list_of v p f) (with_list_of m q g)

@@ -1,7 +1,7 @@
 -- Searches go alike: of methods along superclasses, and of contexts along senders and homes.
 use Rattle.std.proofs.Common.{ℕ, zero, suc, ◌==◌, ◌&&◌, false, Option, is_some, List, [], ◌∷◌, drop, option_and_then, pos}
 use Rattle.std.specs.List.{AllByRecursion}
-use Rattle.cs_model.specs.Ref.{Ref, Small, Char, birth_of, same_ref}
+use Rattle.cs_model.specs.Ref.{Ref, Small, Char, named_object, same_ref}
 use Rattle.cs_model.specs.Ref as ref
 use Rattle.cs_model.specs.Obj.{Context, is_method}
 use Rattle.cs_model.specs.State.{Kept, IsHeld, ContextHeld}
@@ -73,7 +73,7 @@ lookup_same k (same class h) (same selector g) = lookup_within_same k selector c
 
 -- ---- contexts
 
-pub birth_of_same : {v m : Kept} {x y : Ref} → Keeps v m → Same (IsHeld v) x y → SameOption (Has v) (birth_of x) (birth_of y)
+pub birth_of_same : {v m : Kept} {x y : Ref} → Keeps v m → Same (IsHeld v) x y → SameOption (Has v) (named_object x) (named_object y)
 birth_of_same k (same (Small a) h) = none
 birth_of_same k (same (Char c) h) = none
 birth_of_same k (same (ref.Obj i) h) = some i h

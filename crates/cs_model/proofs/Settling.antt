@@ -2,7 +2,7 @@
 use Rattle.std.proofs.Common.{◌≡◌, ◌≢◌, ℕ, suc, Bool, true, false, refl, sym, ap, subst, ◌∙◌, Option, Some, None, IsSome, List, [], ◌∷◌, length, unwrap_or, option_and_then, nat_le, if◌then◌else◌, ◌↔◌, inl, inr}
 use Rattle.std.specs.Prelude.{slice_get, slice_set}
 use Rattle.std.proofs.lemmas.Bool.Decides.{eqb_tells}
-use Rattle.cs_model.specs.Ref.{Ref, Small, Char, birth_of}
+use Rattle.cs_model.specs.Ref.{Ref, Small, Char, named_object}
 use Rattle.cs_model.specs.Ref as ref
 use Rattle.cs_model.specs.Obj.{Obj, Head, Ptr, Raw, Method, Ctx, slots_in, at_least}
 use Rattle.cs_model.specs.State.{Kept, Rest, State, object_at, object_of, put, with_rest, slots_of, special_at, scheduler_of, active_process, is_nil, IsValid, IsProcess}
@@ -160,8 +160,8 @@ reopened {k} {j} a process e apart i active =
     let again : store_of t (ref.Obj j) 1 nil ≡ put t j (with_one a nil) = stored_again a x in
     let begun : open_kept t ≡ resume_of (put t j (with_one a nil)) (active_birth k) =
     ap (open_if t) (process_stays a x None process ∙ e)
-    ∙ ap (λ b. if b then t else open_at t (ref.Obj j) (option_and_then (λ y. birth_of y) (context_kept t (ref.Obj j)))) apart
-    ∙ ap (λ o. open_at t (ref.Obj j) (option_and_then (λ y. birth_of y) o)) (kept_there a x None)
+    ∙ ap (λ b. if b then t else open_at t (ref.Obj j) (option_and_then (λ y. named_object y) (context_kept t (ref.Obj j)))) apart
+    ∙ ap (λ o. open_at t (ref.Obj j) (option_and_then (λ y. named_object y) o)) (kept_there a x None)
     ∙ ap (λ q. resume_of q (active_birth k)) again in
     let forgot : forgotten k ≡ put k j (with_one a nil) = ap (forget k) e ∙ ap (λ b. if b then k else store_of k (ref.Obj j) 1 nil) apart ∙ stored-is a nil in
     let result : open_kept (settle_kept k) ≡ resume_of (put t j (with_one a nil)) (active_birth k) = ap open_kept settled ∙ begun in
@@ -186,7 +186,7 @@ unfolding settle_kept open_kept forgotten
 no_context k p e nil =
     unchanged k
     (ap (settle_if k) e ∙ ap (λ b. if b then k else suspend_of (store_of k p 1 (ref.Obj (active_birth k)))) nil)
-    (ap (open_if k) e ∙ ap (λ b. if b then k else open_at k p (option_and_then (λ x. birth_of x) (context_kept k p))) nil)
+    (ap (open_if k) e ∙ ap (λ b. if b then k else open_at k p (option_and_then (λ x. named_object x) (context_kept k p))) nil)
     (ap (forget k) e ∙ ap (λ b. if b then k else store_of k p 1 (nil_of k)) nil)
 
 with_context : (k : Kept) (p : Ref) (o : Option ℕ) → k.rest.active ≡ o → ((is_nil k p ≡ true) ↔ (k.rest.active ≡ None)) → IsProcess k p → active_process k ≡ Some p → is_nil k p ≡ false

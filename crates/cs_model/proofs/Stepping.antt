@@ -11,7 +11,7 @@ use Rattle.cs_model.specs.Send.{enter_out}
 use Rattle.cs_model.specs.PrimRun.{Result}
 use Rattle.cs_model.specs.PrimTable.{prim, is_perform}
 use Rattle.cs_model.specs.Due.{Happened}
-use Rattle.cs_model.specs.Step.{Message, message_in, return_in, primitive_in, call_in, is_fail, counting, arguments_of, or_enter, try_performed, tried, try_primitive, sent, do_send, do_call, returned, do_return, followed, instruction_at, obey, bytecode, is_ref, is_process, process_fault, shape_fault, Ending, Steps, Quit, Idle, Stopped, Step, stops, next_step, ends_with, completed, saved_fault, finish, birth_limit, add_count, ready, stop_in, after_due, step, Ran, saved, go_on, run_by, run}
+use Rattle.cs_model.specs.Step.{Message, message_in, return_in, primitive_in, call_in, is_fail, result_counting, arguments_of, or_enter, try_performed, tried, try_primitive, sent, do_send, do_call, returned, do_return, followed, instruction_at, obey, bytecode, is_ref, is_process, process_fault, shape_fault, Ending, Steps, Quit, Idle, Stopped, Step, stops, next_step, ends_with, completed, saved_fault, finish, birth_limit, add_count, ready, stop_in, after_due, step, Ran, saved, go_on, run_by, run}
 use Rattle.cs_model.specs.End.{End, Out, Count, out, stop, no_count, plus, given}
 use Rattle.cs_model.specs.End as ends
 use Rattle.cs_model.specs.Keeps.{Keeps, Grows, KeepsState}
@@ -78,7 +78,7 @@ primitive_in_same v (same (ends.Stopped reason) h) = none
 -- ---- the primitive of a method that was found
 
 -- what is alike from behind an Out on is alike from before it on, and what was counted before counts too
-counting_result : {v : Kept} {a b : Out} {x y : Result} → Alike v a b → AlikeResult a.state x y → AlikeResult v (counting a.count x) (counting b.count y)
+counting_result : {v : Kept} {a b : Out} {x y : Result} → Alike v a b → AlikeResult a.state x y → AlikeResult v (result_counting a.count x) (result_counting b.count y)
 counting_result {v} {a} {b} {x} {y} h r = record { out = counting_alike (count_same h) (behind (left h) r.out); run = r.run; snapshot = r.snapshot }
 
 enter_at : {v m : Kept} {x y : Ref} {n l : ℕ} → Keeps v m → Same (IsHeld v) x y → Same Any n l → Alike v (enter_out v x n true) (enter_out m y l true)

@@ -11,7 +11,7 @@ use Rattle.cs_model.specs.Send.{enter_out, send}
 use Rattle.cs_model.specs.Return.{back}
 use Rattle.cs_model.specs.PrimRun.{Result, result}
 use Rattle.cs_model.specs.PrimTable.{prim, is_perform}
-use Rattle.cs_model.specs.Step.{Message, message_in, return_in, primitive_in, call_in, is_fail, with_kept, counting, arguments_of, or_enter, try_performed, try_primitive, sent, do_send, do_call, returned, do_return, followed}
+use Rattle.cs_model.specs.Step.{Message, message_in, return_in, primitive_in, call_in, is_fail, with_kept, result_counting, arguments_of, or_enter, try_performed, try_primitive, sent, do_send, do_call, returned, do_return, followed}
 use Rattle.cs_model.specs.Shallow.{is_answer, Trial, result_of, trial_in, trials_from, Sending, sending_of_call, sending_from, sent_out, trials}
 use Rattle.cs_model.specs.End.{Out, Count, stop, given}
 use Rattle.cs_model.specs.Alike.{SameButCount}
@@ -22,7 +22,7 @@ use Rattle.cs_model.proofs.Unanswered.{Unanswered, send_un, back_un, exec_un, en
 same_itself : (a : Result) → SameButCount a a
 same_itself a = record { end = refl; state = refl; run = refl; snapshot = refl }
 
-counting_same : {a b : Result} (n : Count) → SameButCount a b → SameButCount (counting n a) b
+counting_same : {a b : Result} (n : Count) → SameButCount a b → SameButCount (result_counting n a) b
 counting_same n h = record { end = h.end; state = h.state; run = h.run; snapshot = h.snapshot }
 
 same_trans : {a b c : Result} → SameButCount a b → SameButCount b c → SameButCount a c
@@ -52,7 +52,7 @@ call_sent r o a e = go (call_in o.end) e where
   to args None f = absurd (cc)
   to args (Some x) f = message_sent r o.state (record { selector = x; args = args; above = None }) a f
 
-  go : (c : Option (ℕ × ℕ)) → option_and_then (λ c. option_map {U = Sending} (λ selector. record { state = o.state; message = record { selector = selector; args = c.1; above = None } }) (special_at o.state c.0)) c ≡ Some a → SameButCount (given c (result o r) (λ c. counting o.count (do_call r o.state c.0 c.1))) (sent r (sent_out a))
+  go : (c : Option (ℕ × ℕ)) → option_and_then (λ c. option_map {U = Sending} (λ selector. record { state = o.state; message = record { selector = selector; args = c.1; above = None } }) (special_at o.state c.0)) c ≡ Some a → SameButCount (given c (result o r) (λ c. result_counting o.count (do_call r o.state c.0 c.1))) (sent r (sent_out a))
   go None f = absurd (cc)
   go (Some c) f = counting_same o.count (to c.1 (special_at o.state c.0) f)
 
@@ -62,7 +62,7 @@ return_sent r k x local a e = call_sent r (back k x local) a e
 
 pub followed_sent : (r : Run) (o : Out) (a : Sending) → sending_from o ≡ Some a → SameButCount (followed r o) (sent r (sent_out a))
 followed_sent r o a e = go (message_in o.end) (return_in o.end) e where
-  go : (m : Option Message) (p : Option (Ref × Bool)) → given m (option_and_then (λ p. sending_of_call (back o.state p.0 p.1)) p) (λ m. Some (record { state = o.state; message = m })) ≡ Some a → SameButCount (given m (given p (result o r) (λ p. counting o.count (do_return r o.state p.0 p.1))) (λ m. counting o.count (do_send r o.state m.selector m.args m.above))) (sent r (sent_out a))
+  go : (m : Option Message) (p : Option (Ref × Bool)) → given m (option_and_then (λ p. sending_of_call (back o.state p.0 p.1)) p) (λ m. Some (record { state = o.state; message = m })) ≡ Some a → SameButCount (given m (given p (result o r) (λ p. result_counting o.count (do_return r o.state p.0 p.1))) (λ m. result_counting o.count (do_send r o.state m.selector m.args m.above))) (sent r (sent_out a))
   go (Some m) p f = counting_same o.count (message_sent r o.state m a f)
   go None (Some p) f = counting_same o.count (return_sent r o.state p.0 p.1 a f)
   go None None f = absurd (cc)
@@ -73,7 +73,7 @@ pub record Untried (r : Run) (a : Result) : Type 0 where
   pub run : a.run ≡ r
   pub snapshot : a.snapshot ≡ None
 
-counting_untried : {r : Run} {a : Result} (n : Count) → Untried r a → Untried r (counting n a)
+counting_untried : {r : Run} {a : Result} (n : Count) → Untried r a → Untried r (result_counting n a)
 counting_untried n h = record { run = h.run; snapshot = h.snapshot }
 
 result_untried : (o : Out) (r : Run) → Untried r (result o r)
@@ -85,7 +85,7 @@ call_untried r o e = go (call_in o.end) e where
   to args None f = result_untried _ r
   to args (Some x) f = absurd (cc)
 
-  go : (c : Option (ℕ × ℕ)) → option_and_then (λ c. option_map {U = Sending} (λ selector. record { state = o.state; message = record { selector = selector; args = c.1; above = None } }) (special_at o.state c.0)) c ≡ None → Untried r (given c (result o r) (λ c. counting o.count (do_call r o.state c.0 c.1)))
+  go : (c : Option (ℕ × ℕ)) → option_and_then (λ c. option_map {U = Sending} (λ selector. record { state = o.state; message = record { selector = selector; args = c.1; above = None } }) (special_at o.state c.0)) c ≡ None → Untried r (given c (result o r) (λ c. result_counting o.count (do_call r o.state c.0 c.1)))
   go None f = result_untried o r
   go (Some c) f = counting_untried o.count (to c.1 (special_at o.state c.0) f)
 
@@ -95,7 +95,7 @@ return_untried r k x local e = call_untried r (back k x local) e
 
 followed_untried : (r : Run) (o : Out) → sending_from o ≡ None → Untried r (followed r o)
 followed_untried r o e = go (message_in o.end) (return_in o.end) e where
-  go : (m : Option Message) (p : Option (Ref × Bool)) → given m (option_and_then (λ p. sending_of_call (back o.state p.0 p.1)) p) (λ m. Some (record { state = o.state; message = m })) ≡ None → Untried r (given m (given p (result o r) (λ p. counting o.count (do_return r o.state p.0 p.1))) (λ m. counting o.count (do_send r o.state m.selector m.args m.above)))
+  go : (m : Option Message) (p : Option (Ref × Bool)) → given m (option_and_then (λ p. sending_of_call (back o.state p.0 p.1)) p) (λ m. Some (record { state = o.state; message = m })) ≡ None → Untried r (given m (given p (result o r) (λ p. result_counting o.count (do_return r o.state p.0 p.1))) (λ m. result_counting o.count (do_send r o.state m.selector m.args m.above)))
   go (Some m) p f = absurd (cc)
   go None (Some p) f = counting_untried o.count (return_untried r o.state p.0 p.1 f)
   go None None f = result_untried o r
@@ -117,13 +117,13 @@ given_same r (t ∷ u ∷ v ∷ ts) h g = g
 trial_given : (r : Run) (t : Trial) → GivenBy r (try_primitive t.state t.method t.number) (trials_from t)
 unfolding try_primitive
 trial_given r t = go (primitive_in (result_of t).out.end) where
-  go : (p : Option (Ref × ℕ)) → GivenBy r (given p (or_enter t.state t.method (result_of t)) (λ p. counting (result_of t).out.count (try_performed (with_kept (result_of t).out.state (result_of t).run) p.0 p.1))) (t ∷ option_to_list (option_map {U = Trial} (λ p. record { state = with_kept (result_of t).out.state (result_of t).run; method = p.0; number = p.1 }) p))
+  go : (p : Option (Ref × ℕ)) → GivenBy r (given p (or_enter t.state t.method (result_of t)) (λ p. result_counting (result_of t).out.count (try_performed (with_kept (result_of t).out.state (result_of t).run) p.0 p.1))) (t ∷ option_to_list (option_map {U = Trial} (λ p. record { state = with_kept (result_of t).out.state (result_of t).run; method = p.0; number = p.1 }) p))
   go None = same_itself _
   go (Some p) = counting_same (result_of t).out.count (same_itself _)
 
 sent_given : (r : Run) (o : Out) → GivenBy r (sent r o) (given (trial_in r o) [] (λ t. trials_from t))
 sent_given r o = go (primitive_in o.end) where
-  go : (p : Option (Ref × ℕ)) → GivenBy r (given p (result o r) (λ p. counting o.count (try_primitive (with_kept o.state r) p.0 p.1))) (given (option_map {U = Trial} (λ p. record { state = with_kept o.state r; method = p.0; number = p.1 }) p) [] (λ t. trials_from t))
+  go : (p : Option (Ref × ℕ)) → GivenBy r (given p (result o r) (λ p. result_counting o.count (try_primitive (with_kept o.state r) p.0 p.1))) (given (option_map {U = Trial} (λ p. record { state = with_kept o.state r; method = p.0; number = p.1 }) p) [] (λ t. trials_from t))
   go None = result_untried o r
   go (Some p) = given_same r (trials_from (record { state = with_kept o.state r; method = p.0; number = p.1 })) (counting_same o.count (same_itself _)) (trial_given r (record { state = with_kept o.state r; method = p.0; number = p.1 }))
 
@@ -166,18 +166,18 @@ unsent_answer r o u e = go (message_in o.end) (return_in o.end) e where
   to b args None f = refl
   to b args (Some x) f = absurd (cc)
 
-  called : (b : Out) → is_answer b.end ≡ false → (c : Option (ℕ × ℕ)) → option_and_then (λ c. option_map {U = Sending} (λ selector. record { state = b.state; message = record { selector = selector; args = c.1; above = None } }) (special_at b.state c.0)) c ≡ None → is_answer (given c (result b r) (λ c. counting b.count (do_call r b.state c.0 c.1))).out.end ≡ false
+  called : (b : Out) → is_answer b.end ≡ false → (c : Option (ℕ × ℕ)) → option_and_then (λ c. option_map {U = Sending} (λ selector. record { state = b.state; message = record { selector = selector; args = c.1; above = None } }) (special_at b.state c.0)) c ≡ None → is_answer (given c (result b r) (λ c. result_counting b.count (do_call r b.state c.0 c.1))).out.end ≡ false
   called b v None f = v
   called b v (Some c) f = to b c.1 (special_at b.state c.0) f
 
-  go : (m : Option Message) (p : Option (Ref × Bool)) → given m (option_and_then (λ p. sending_of_call (back o.state p.0 p.1)) p) (λ m. Some (record { state = o.state; message = m })) ≡ None → is_answer (given m (given p (result o r) (λ p. counting o.count (do_return r o.state p.0 p.1))) (λ m. counting o.count (do_send r o.state m.selector m.args m.above))).out.end ≡ false
+  go : (m : Option Message) (p : Option (Ref × Bool)) → given m (option_and_then (λ p. sending_of_call (back o.state p.0 p.1)) p) (λ m. Some (record { state = o.state; message = m })) ≡ None → is_answer (given m (given p (result o r) (λ p. result_counting o.count (do_return r o.state p.0 p.1))) (λ m. result_counting o.count (do_send r o.state m.selector m.args m.above))).out.end ≡ false
   go (Some m) p f = absurd (cc)
   go None (Some p) f = ap (λ a. is_answer a.out.end) (do_return_is r o.state p.0 p.1) ∙ called (back o.state p.0 p.1) (back_un o.state p.0 p.1).none (call_in (back o.state p.0 p.1).end) f
   go None None f = u
 
 sent_answer : (r : Run) (o : Out) → Unanswered o → given (trial_in r o) [] (λ t. trials_from t) ≡ [] → is_answer (sent r o).out.end ≡ false
 sent_answer r o u e = go (primitive_in o.end) e where
-  go : (p : Option (Ref × ℕ)) → given (option_map {U = Trial} (λ p. record { state = with_kept o.state r; method = p.0; number = p.1 }) p) [] (λ t. trials_from t) ≡ [] → is_answer (given p (result o r) (λ p. counting o.count (try_primitive (with_kept o.state r) p.0 p.1))).out.end ≡ false
+  go : (p : Option (Ref × ℕ)) → given (option_map {U = Trial} (λ p. record { state = with_kept o.state r; method = p.0; number = p.1 }) p) [] (λ t. trials_from t) ≡ [] → is_answer (given p (result o r) (λ p. result_counting o.count (try_primitive (with_kept o.state r) p.0 p.1))).out.end ≡ false
   go None f = u.none
   go (Some p) f = absurd (cc)
 

@@ -1,6 +1,6 @@
 -- The primitives that evaluate closures, and those that look along senders, are alike.
 use Rattle.std.proofs.Common.{ℕ, zero, suc, Option, None, is_some, List, [], length}
-use Rattle.cs_model.specs.Ref.{Ref, birth_of}
+use Rattle.cs_model.specs.Ref.{Ref, named_object}
 use Rattle.cs_model.specs.Ref as ref
 use Rattle.cs_model.specs.State.{Kept, IsHeld}
 use Rattle.cs_model.specs.Operation.{kill_all}
@@ -68,7 +68,7 @@ pub unwind_mark_alike : {v m : Kept} → Keeps v m → (args : ℕ) → Alike v 
 unfolding unwind_mark_prim
 unwind_mark_alike k args =
     with_count_alike k 1 args (given_alike _ _ (context_birth_same k (prim_receiver_same k 1)) (fail_alike k) (λ i h.
-    if_alike (is_end_same k (argument_same k 1 0)) (answer_mark_alike k 1 (mark_from_same k unwind_mark i h (value birth_of (argument_same k 1 0)))) (fail_alike k)))
+    if_alike (is_end_same k (argument_same k 1 0)) (answer_mark_alike k 1 (mark_from_same k unwind_mark i h (value named_object (argument_same k 1 0)))) (fail_alike k)))
 
 pub handler_mark_alike : {v m : Kept} → Keeps v m → (args : ℕ) → Alike v (handler_mark_prim v args) (handler_mark_prim m args)
 unfolding handler_mark_prim

@@ -13,7 +13,8 @@ use Rattle.cs_model.specs.Obj as obj
 use Rattle.cs_model.specs.State.{Kept, Rest}
 use Rattle.cs_model.specs.Words.{plain_format}
 use Rattle.cs_model.specs.BuilderText.{Mention, Number, Code, Nil, True, False, Symbol, Named, Dictionary, Values, MethodOf, ClassLine, MethodLine, ProcessLine, Form, Class, Object, Bytes, Method, Process, Special, Active, Ready}
-use Rattle.cs_model.specs.BuilderFault.{BuildFault, fault_of, forms_of, known_classes, classes_of, class_named, is_named, is_end, is_literal, mentions_in, code_from, place_where}
+use Rattle.cs_model.specs.BuilderFault.{BuildFault, text_fault, forms_of, known_classes, all_classes, class_named, is_named, is_end_line, is_literal, mentions_in, code_from, place_where}
+use Rattle.cs_model.specs.Text.{first_that}
 
 -- ---- the order of objects
 
@@ -46,7 +47,7 @@ first_dictionary forms = first_class + sum_by object_count (all_forms forms)
 
 -- the place of a class among all classes
 abbrev pub class_place : List Form → List ℕ → Option ℕ
-class_place forms name = position (λ c. bytes_eq c.name name) (classes_of forms)
+class_place forms name = position (λ c. bytes_eq c.name name) (all_classes forms)
 
 abbrev pub dictionary_birth : List Form → ℕ → ℕ
 dictionary_birth forms place = first_dictionary forms + 2 * place
@@ -55,13 +56,13 @@ abbrev pub values_birth : List Form → ℕ → ℕ
 values_birth forms place = dictionary_birth forms place + 1
 
 abbrev pub first_symbol : List Form → ℕ
-first_symbol forms = dictionary_birth forms (length (classes_of forms))
+first_symbol forms = dictionary_birth forms (length (all_classes forms))
 
 -- ---- symbols
 
 -- the special selectors, each with its number of arguments
-abbrev pub special_selectors : List (List ℕ × ℕ)
-special_selectors =
+abbrev pub selector_names : List (List ℕ × ℕ)
+selector_names =
     (codes "+", 1) ∷ (codes "-", 1) ∷ (codes "<", 1) ∷ (codes ">", 1) ∷ (codes "<=", 1) ∷ (codes ">=", 1)
     ∷ (codes "=", 1) ∷ (codes "~=", 1) ∷ (codes "*", 1) ∷ (codes "/", 1) ∷ (codes "\\\\", 1) ∷ (codes "@", 1)
     ∷ (codes "bitShift:", 1) ∷ (codes "//", 1) ∷ (codes "bitAnd:", 1) ∷ (codes "bitOr:", 1)
@@ -89,7 +90,7 @@ with_new names name = if list_any (bytes_eq name) names then names else names ++
 
 -- each symbol once, in the order of first mention
 abbrev pub symbols_of : List Form → List (List ℕ)
-symbols_of forms = fold with_new [] (map (λ e. e.0) special_selectors ++ map (λ e. e.1) special_symbols
+symbols_of forms = fold with_new [] (map (λ e. e.0) selector_names ++ map (λ e. e.1) special_symbols
     ++ flat_map symbols_in (all_forms forms))
 
 abbrev pub symbol_ref : List Form → List ℕ → Ref
@@ -124,17 +125,17 @@ is_method_of class selector form = false
 abbrev pub method_birth : List Form → List ℕ → List ℕ → Option ℕ
 method_birth forms class selector = birth_where forms (is_method_of class selector)
 
-abbrev pub ref_of : List Form → Mention → Ref
-ref_of forms (Number value) = Small value
-ref_of forms (Code value) = Char (unwrap_or (natural_of value) 0)
-ref_of forms Nil = nil_ref
-ref_of forms False = ref.Obj 1
-ref_of forms True = ref.Obj 2
-ref_of forms (Symbol name) = symbol_ref forms name
-ref_of forms (Named name) = obj_or_nil (named_birth forms name)
-ref_of forms (Dictionary class) = obj_or_nil (option_map (dictionary_birth forms) (class_place forms class))
-ref_of forms (Values class) = obj_or_nil (option_map (values_birth forms) (class_place forms class))
-ref_of forms (MethodOf class selector) = obj_or_nil (method_birth forms class selector)
+abbrev pub mention_ref : List Form → Mention → Ref
+mention_ref forms (Number value) = Small value
+mention_ref forms (Code value) = Char (unwrap_or (natural_of value) 0)
+mention_ref forms Nil = nil_ref
+mention_ref forms False = ref.Obj 1
+mention_ref forms True = ref.Obj 2
+mention_ref forms (Symbol name) = symbol_ref forms name
+mention_ref forms (Named name) = obj_or_nil (named_birth forms name)
+mention_ref forms (Dictionary class) = obj_or_nil (option_map (dictionary_birth forms) (class_place forms class))
+mention_ref forms (Values class) = obj_or_nil (option_map (values_birth forms) (class_place forms class))
+mention_ref forms (MethodOf class selector) = obj_or_nil (method_birth forms class selector)
 
 -- ---- classes
 
@@ -187,12 +188,12 @@ spare count = (4 - count % 4) % 4
 abbrev pub raw_object : ℕ → List ℕ → Obj
 raw_object class bytes = Raw (new_head class (16 + spare (length bytes))) bytes
 
-abbrev pub format_of : List Form → List ℕ → ℕ
-format_of forms class = option_map_or (λ c. unwrap_or (natural_of c.format) 0) (class_named forms class) 0
+abbrev pub class_format : List Form → List ℕ → ℕ
+class_format forms class = option_map_or (λ c. unwrap_or (natural_of c.format) 0) (class_named forms class) 0
 
 abbrev pub pointer_object : List Form → List ℕ → List Mention → Obj
 pointer_object forms class slots =
-    Ptr (new_head (class_index forms class) (plain_format (format_of forms class))) (map (ref_of forms) slots)
+    Ptr (new_head (class_index forms class) (plain_format (class_format forms class))) (map (mention_ref forms) slots)
 
 -- ---- methods
 
@@ -200,56 +201,56 @@ pointer_object forms class slots =
 abbrev pub body_behind : List ℕ → List ℕ → List Form → List Form
 body_behind class selector [] = []
 body_behind class selector (form ∷ forms) =
-    if is_method_of class selector form then before_first is_end forms else body_behind class selector forms
+    if is_method_of class selector form then before_first is_end_line forms else body_behind class selector forms
 
 abbrev pub body_of : List Form → MethodLine → List Form
 body_of forms line = body_behind line.class line.selector forms
 
-abbrev pub literals_of : List Form → MethodLine → List Ref
-literals_of forms line = map (ref_of forms) (flat_map mentions_in (filter is_literal (body_of forms line)))
+abbrev pub built_literals : List Form → MethodLine → List Ref
+built_literals forms line = map (mention_ref forms) (flat_map mentions_in (filter is_literal (body_of forms line)))
 
 abbrev pub natural : ℤ → ℕ
 natural value = unwrap_or (natural_of value) 0
 
-abbrev pub bit : Bool → ℕ
-bit b = if b then 1 else 0
+abbrev pub bit_of : Bool → ℕ
+bit_of b = if b then 1 else 0
 
 -- literal count, whether there is a primitive, whether the frame is large, temporaries with arguments, arguments
-abbrev pub header_of : MethodLine → ℕ → ℕ
-header_of line literals = literals + bit (is_some line.primitive) * 2 ^ 16 + bit line.large * 2 ^ 17
+abbrev pub built_header : MethodLine → ℕ → ℕ
+built_header line literals = literals + bit_of (is_some line.primitive) * 2 ^ 16 + bit_of line.large * 2 ^ 17
     + natural line.temporaries * 2 ^ 18 + natural line.arguments * 2 ^ 24
 
 abbrev pub primitive_bytes : Option ℤ → List ℕ
 primitive_bytes None = []
 primitive_bytes (Some number) = 139 ∷ natural number % 256 ∷ natural number / 256 ∷ []
 
-abbrev pub bytecodes_of : List Form → MethodLine → List ℕ
-bytecodes_of forms line = primitive_bytes line.primitive ++ code_from (body_of forms line) 0 (body_of forms line)
+abbrev pub built_bytecodes : List Form → MethodLine → List ℕ
+built_bytecodes forms line = primitive_bytes line.primitive ++ code_from (body_of forms line) 0 (body_of forms line)
 
 abbrev pub method_by : ℕ → List Ref → List ℕ → Obj
 method_by header literals bytecodes =
     obj.Method (new_head 43 (24 + spare (length bytecodes))) header literals bytecodes
 
 abbrev pub method_object : List Form → MethodLine → Obj
-method_object forms line = let literals = literals_of forms line in
-    method_by (header_of line (length literals)) literals (bytecodes_of forms line)
+method_object forms line = let literals = built_literals forms line in
+    method_by (built_header line (length literals)) literals (built_bytecodes forms line)
 
 -- ---- processes
 
 -- the first pc, behind the primitive where there is one
 abbrev pub begin_pc : List Form → MethodLine → ℕ
-begin_pc forms line = first_pc (literals_of forms line) + 3 * bit (is_some line.primitive)
+begin_pc forms line = first_pc (built_literals forms line) + 3 * bit_of (is_some line.primitive)
 
-abbrev pub context_by : List Form → MethodLine → Mention → Context
-context_by forms line receiver = record {
+abbrev pub first_context : List Form → MethodLine → Mention → Context
+first_context forms line receiver = record {
   hash = 0;
   sender = nil_ref;
   pc = Some (begin_pc forms line);
   method = obj_or_nil (method_birth forms line.class line.selector);
   closure = nil_ref;
-  receiver = ref_of forms receiver;
+  receiver = mention_ref forms receiver;
   stack = replicate (natural line.temporaries) nil_ref;
-  size = context_size (header_of line 0);
+  size = context_size (built_header line 0);
 }
 
 abbrev pub method_for : List Form → ProcessLine → Option MethodLine
@@ -272,11 +273,11 @@ last_ready forms priority = reverse (filter (has_priority forms priority) (ready
 
 -- What stands behind a process, where the last one comes first. A process that is made ready twice is linked anew each
 -- time, and the later links count.
-abbrev pub behind : List ℕ → List (List ℕ) → Option (List ℕ)
-behind name [] = None
-behind name (last ∷ []) = None
-behind name (last ∷ next ∷ names) =
-    if bytes_eq next name then Some last else if bytes_eq last name then None else behind name (next ∷ names)
+abbrev pub ready_behind : List ℕ → List (List ℕ) → Option (List ℕ)
+ready_behind name [] = None
+ready_behind name (last ∷ []) = None
+ready_behind name (last ∷ next ∷ names) =
+    if bytes_eq next name then Some last else if bytes_eq last name then None else ready_behind name (next ∷ names)
 
 abbrev pub process_ref : List Form → Option (List ℕ) → Ref
 process_ref forms name = obj_or_nil (option_and_then (process_birth forms) name)
@@ -290,27 +291,23 @@ list_if_ready forms priority name =
     if list_any (bytes_eq name) (ready_in forms) then ref.Obj (list_birth priority) else nil_ref
 
 -- nextLink, suspendedContext, priority and myList
-abbrev pub process_slots : List Form → ProcessLine → Ref → List Ref
-process_slots forms p context = process_ref forms (behind p.name (last_ready forms (natural p.priority)))
+abbrev pub built_process : List Form → ProcessLine → Ref → List Ref
+built_process forms p context = process_ref forms (ready_behind p.name (last_ready forms (natural p.priority)))
     ∷ context ∷ Small p.priority ∷ list_if_ready forms (natural p.priority) p.name ∷ []
 
 abbrev pub process_objects : List Form → ProcessLine → List Obj
 process_objects forms p =
-    option_map_or (λ m. Ctx (context_by forms m p.receiver) ∷ []) (method_for forms p) []
-    ++ Ptr (new_head 45 1) (process_slots forms p (obj_or_nil (birth_where forms (is_process_named p.name)))) ∷ []
+    option_map_or (λ m. Ctx (first_context forms m p.receiver) ∷ []) (method_for forms p) []
+    ++ Ptr (new_head 45 1) (built_process forms p (obj_or_nil (birth_where forms (is_process_named p.name)))) ∷ []
 
 -- ---- the first objects
 
-abbrev pub active_in : Form → Option (List ℕ)
-active_in (Active name) = Some name
-active_in form = None
-
-abbrev pub first_that : List (List ℕ) → Option (List ℕ)
-first_that [] = None
-first_that (name ∷ names) = Some name
+abbrev pub active_name : Form → Option (List ℕ)
+active_name (Active name) = Some name
+active_name form = None
 
 abbrev pub active_ref : List Form → Ref
-active_ref forms = process_ref forms (first_that (filter_map active_in forms))
+active_ref forms = process_ref forms (first_that (filter_map active_name forms))
 
 abbrev pub list_object : List Form → ℕ → Obj
 list_object forms priority = Ptr (new_head 47 1) (process_ref forms (first_that (reverse (last_ready forms priority)))
@@ -323,20 +320,20 @@ special_objects forms = (3, ref.Obj 5) ∷ (23, ref.Obj 4)
     ∷ (15, class_ref forms (codes "Message")) ∷ (18, class_ref forms (codes "Semaphore"))
     ∷ map (λ e. (e.0, symbol_ref forms e.1)) special_symbols
 
-abbrev pub special_in : List Form → Form → List (ℕ × Ref)
-special_in forms (Special place value) = (natural place, ref_of forms value) ∷ []
-special_in forms form = []
+abbrev pub special_given : List Form → Form → List (ℕ × Ref)
+special_given forms (Special place value) = (natural place, mention_ref forms value) ∷ []
+special_given forms form = []
 
-abbrev pub with_slot : List Ref → (ℕ × Ref) → List Ref
-with_slot slots e = slice_set slots e.0 e.1
+abbrev pub with_special : List Ref → (ℕ × Ref) → List Ref
+with_special slots e = slice_set slots e.0 e.1
 
 -- what the text says of a special object counts, and the last line most
 abbrev pub special_slots : List Form → List Ref
 special_slots forms =
-    fold with_slot (replicate 51 nil_ref) (special_objects forms ++ flat_map (special_in forms) forms)
+    fold with_special (replicate 51 nil_ref) (special_objects forms ++ flat_map (special_given forms) forms)
 
 abbrev pub selector_slots : List Form → List Ref
-selector_slots forms = flat_map (λ e. symbol_ref forms e.0 ∷ Small (pos e.1) ∷ []) special_selectors
+selector_slots forms = flat_map (λ e. symbol_ref forms e.0 ∷ Small (pos e.1) ∷ []) selector_names
 
 abbrev pub first_objects : List Form → List Obj
 first_objects forms = Ptr (new_head 34 0) [] ∷ Ptr (new_head 35 0) [] ∷ Ptr (new_head 38 0) []
@@ -355,22 +352,22 @@ objects_in forms (Method line) = method_object forms line ∷ []
 objects_in forms (Process line) = process_objects forms line
 objects_in forms form = []
 
-abbrev pub objects_of : List Form → List Obj
-objects_of forms = first_objects forms ++ flat_map (objects_in forms) (all_forms forms)
-    ++ flat_map (λ e. dictionary_objects forms e.0 e.1) (enumerate_from 0 (classes_of forms))
+abbrev pub text_objects : List Form → List Obj
+text_objects forms = first_objects forms ++ flat_map (objects_in forms) (all_forms forms)
+    ++ flat_map (λ e. dictionary_objects forms e.0 e.1) (enumerate_from 0 (all_classes forms))
     ++ map (raw_object 41) (symbols_of forms)
 
 -- each class by its index, and SmallInteger by two
 abbrev pub class_table : List Form → FinMap nat_cmp ℕ
 class_table forms = insert (from_entries (map (λ c. (class_index forms c.name, unwrap_or (named_birth forms c.name) 0))
-    (classes_of forms))) 3 (unwrap_or (named_birth forms (codes "SmallInteger")) 0)
+    (all_classes forms))) 3 (unwrap_or (named_birth forms (codes "SmallInteger")) 0)
 
 -- format 6521 and header size 64; all other places are 0
 abbrev pub header_bytes : List ℕ
 header_bytes = 121 ∷ 25 ∷ 0 ∷ 0 ∷ 64 ∷ replicate 59 0
 
-abbrev pub rest_of : List Form → Rest
-rest_of forms = record {
+abbrev pub text_rest : List Form → Rest
+text_rest forms = record {
   nil = 0;
   false_ = 1;
   true_ = 2;
@@ -378,16 +375,16 @@ rest_of forms = record {
   header = header_bytes;
   classes = class_table forms;
   last_hash = 0;
-  next = length (objects_of forms);
+  next = length (text_objects forms);
   active = None;
 }
 
-abbrev pub described : List Form → Kept
-described forms = record { objects = from_entries (enumerate_from 0 (objects_of forms)); rest = rest_of forms }
+abbrev pub text_state : List Form → Kept
+text_state forms = record { objects = from_entries (enumerate_from 0 (text_objects forms)); rest = text_rest forms }
 
 abbrev pub built_unless : Option BuildFault → Kept → Result Kept BuildFault
 built_unless None k = Ok k
 built_unless (Some fault) k = Err fault
 
 unfoldable pub built : List ℕ → Result Kept BuildFault
-built text = built_unless (fault_of text) (described (forms_of text))
+built text = built_unless (text_fault text) (text_state (forms_of text))

@@ -20,12 +20,12 @@ pub data BuildFault : Type 0 where
   BadName : (number : ℕ) → BuildFault
 
 -- the printed name of a fault, with its line
-abbrev pub fault_text : BuildFault → List ℕ
-fault_text TooMany = codes "TooMany"
-fault_text (BadLine number) = codes "BadLine " ++ decimal number
-fault_text (Twice number) = codes "Twice " ++ decimal number
-fault_text (BadRange number) = codes "BadRange " ++ decimal number
-fault_text (BadName number) = codes "BadName " ++ decimal number
+abbrev pub text_fault_name : BuildFault → List ℕ
+text_fault_name TooMany = codes "TooMany"
+text_fault_name (BadLine number) = codes "BadLine " ++ decimal number
+text_fault_name (Twice number) = codes "Twice " ++ decimal number
+text_fault_name (BadRange number) = codes "BadRange " ++ decimal number
+text_fault_name (BadName number) = codes "BadName " ++ decimal number
 
 -- ---- classes
 
@@ -63,18 +63,18 @@ known_classes =
     ∷ kind_of_object (codes "Point") 1 2
     ∷ []
 
-abbrev pub classes_in : Form → List ClassLine
-classes_in (Class line) = line ∷ []
-classes_in form = []
+abbrev pub class_lines_in : Form → List ClassLine
+class_lines_in (Class line) = line ∷ []
+class_lines_in form = []
 
-abbrev pub classes_of : List Form → List ClassLine
-classes_of forms = known_classes ++ flat_map classes_in forms
+abbrev pub all_classes : List Form → List ClassLine
+all_classes forms = known_classes ++ flat_map class_lines_in forms
 
 abbrev pub class_named : List Form → List ℕ → Option ClassLine
-class_named forms name = find (λ c. bytes_eq c.name name) (classes_of forms)
+class_named forms name = find (λ c. bytes_eq c.name name) (all_classes forms)
 
-abbrev pub is_class : List Form → List ℕ → Bool
-is_class forms name = is_some (class_named forms name)
+abbrev pub is_class_name : List Form → List ℕ → Bool
+is_class_name forms name = is_some (class_named forms name)
 
 -- ---- other things with names: classes, objects, bytes and processes share one space of names
 
@@ -99,24 +99,24 @@ abbrev pub method_named : List Form → List ℕ → List ℕ → Option MethodL
 method_named forms class selector =
     find (λ m. bytes_eq m.class class && bytes_eq m.selector selector) (flat_map methods_in forms)
 
-abbrev pub processes_in : Form → List ProcessLine
-processes_in (Process line) = line ∷ []
-processes_in form = []
+abbrev pub process_lines_in : Form → List ProcessLine
+process_lines_in (Process line) = line ∷ []
+process_lines_in form = []
 
-abbrev pub is_process : List Form → List ℕ → Bool
-is_process forms name = list_any (λ p. bytes_eq p.name name) (flat_map processes_in forms)
+abbrev pub is_process_name : List Form → List ℕ → Bool
+is_process_name forms name = list_any (λ p. bytes_eq p.name name) (flat_map process_lines_in forms)
 
-abbrev pub is_active : Form → Bool
-is_active (Active name) = true
-is_active form = false
+abbrev pub is_active_line : Form → Bool
+is_active_line (Active name) = true
+is_active_line form = false
 
-abbrev pub is_method : Form → Bool
-is_method (Method line) = true
-is_method form = false
+abbrev pub is_method_line : Form → Bool
+is_method_line (Method line) = true
+is_method_line form = false
 
-abbrev pub is_end : Form → Bool
-is_end End = true
-is_end form = false
+abbrev pub is_end_line : Form → Bool
+is_end_line End = true
+is_end_line form = false
 
 abbrev pub is_label : List ℕ → Form → Bool
 is_label name (Label label) = bytes_eq name label
@@ -128,7 +128,7 @@ is_literal form = false
 
 -- the lines behind the last line that begins a method
 abbrev pub open_body : List Form → List Form
-open_body forms = after_last is_method forms
+open_body forms = after_last is_method_line forms
 
 -- ---- code
 
@@ -150,8 +150,8 @@ jump_op word offset =
     option_map (λ n. op.JumpFalse n) (natural_of offset)
 
 -- jumps always take two bytes
-abbrev pub jump_bytes : List ℕ → ℤ → Option (List ℕ)
-jump_bytes word offset = option_and_then (form_bytes 2) (jump_op word offset)
+abbrev pub jump_code : List ℕ → ℤ → Option (List ℕ)
+jump_code word offset = option_and_then (form_bytes 2) (jump_op word offset)
 
 abbrev pub closure_bytes : ℤ → ℤ → ℤ → Option (List ℕ)
 closure_bytes copied args size = option_and_then (λ c. option_and_then (λ a. option_and_then (λ n.
@@ -175,36 +175,36 @@ abbrev pub label_place : List Form → List ℕ → Option ℕ
 label_place body label = place_where byte_count (is_label label) 0 body
 
 -- the bytes of a line at a place of a body; a jump or a block goes from behind its instruction to its label
-abbrev pub bytes_at : List Form → ℕ → Form → Option (List ℕ)
-bytes_at body place (Byte value) = option_map (λ b. b ∷ []) (natural_of value)
-bytes_at body place (Plain instruction) = plain_bytes instruction
-bytes_at body place (JumpTo word label) =
-    option_and_then (λ to. jump_bytes word (pos to -ℤ pos (place + 2))) (label_place body label)
-bytes_at body place (ClosureTo copied args label) =
+abbrev pub line_bytes : List Form → ℕ → Form → Option (List ℕ)
+line_bytes body place (Byte value) = option_map (λ b. b ∷ []) (natural_of value)
+line_bytes body place (Plain instruction) = plain_bytes instruction
+line_bytes body place (JumpTo word label) =
+    option_and_then (λ to. jump_code word (pos to -ℤ pos (place + 2))) (label_place body label)
+line_bytes body place (ClosureTo copied args label) =
     option_and_then (λ to. closure_bytes copied args (pos to -ℤ pos (place + 4))) (label_place body label)
-bytes_at body place form = Some []
+line_bytes body place form = Some []
 
 abbrev pub code_from : List Form → ℕ → List Form → List ℕ
 code_from body place [] = []
 code_from body place (form ∷ forms) =
-    unwrap_or (bytes_at body place form) [] ++ code_from body (place + byte_count form) forms
+    unwrap_or (line_bytes body place form) [] ++ code_from body (place + byte_count form) forms
 
-abbrev pub is_lost : List Form → Form → Bool
-is_lost body (JumpTo word label) = is_none (label_place body label)
-is_lost body (ClosureTo copied args label) = is_none (label_place body label)
-is_lost body form = false
+abbrev pub is_label_lost : List Form → Form → Bool
+is_label_lost body (JumpTo word label) = is_none (label_place body label)
+is_label_lost body (ClosureTo copied args label) = is_none (label_place body label)
+is_label_lost body form = false
 
 -- some jump or block from a place on has a label, and doesn't fit
 abbrev pub has_misfit : List Form → ℕ → List Form → Bool
 has_misfit body place [] = false
-has_misfit body place (form ∷ forms) = not (is_lost body form) && is_none (bytes_at body place form)
+has_misfit body place (form ∷ forms) = not (is_label_lost body form) && is_none (line_bytes body place form)
     || has_misfit body (place + byte_count form) forms
 
 -- ---- what stands above already
 
 abbrev pub is_twice : List Form → Form → Bool
 is_twice above (Method line) = is_some (method_named above line.class line.selector)
-is_twice above (Active name) = list_any is_active above
+is_twice above (Active name) = list_any is_active_line above
 is_twice above (Label name) = list_any (is_label name) (open_body above)
 is_twice above form = list_any (is_taken above) (names_in form)
 
@@ -243,8 +243,8 @@ method_fits line = is_between 0 15 line.arguments && is_between 0 (most_temporar
     && not (int_lt line.temporaries line.arguments) && option_map_or (is_between 0 65535) line.primitive true
 
 -- a method has at most 32,767 literals
-abbrev pub has_room : List Form → Bool
-has_room above = nat_lt (count_by is_literal (open_body above)) 32767
+abbrev pub has_literal_room : List Form → Bool
+has_literal_room above = nat_lt (count_by is_literal (open_body above)) 32767
 
 abbrev pub is_in_range : List Form → Form → Bool
 is_in_range above (Class line) = is_class_format line.format && is_between 0 65535 line.fields
@@ -252,7 +252,7 @@ is_in_range above (Object name class slots) = list_all fits slots && slots_fit a
 is_in_range above (Method line) = method_fits line
 is_in_range above (Process line) = is_between 1 8 line.priority && fits line.receiver
 is_in_range above (Special place value) = is_between 0 50 place && not (is_between 3 3 place) && fits value
-is_in_range above (Literal value) = fits value && has_room above
+is_in_range above (Literal value) = fits value && has_literal_room above
 is_in_range above (Byte value) = is_between 0 255 value
 is_in_range above (Plain instruction) = is_some (plain_bytes instruction)
 is_in_range above (ClosureTo copied args label) = is_some (closure_bytes copied args (pos 0))
@@ -269,18 +269,18 @@ abbrev pub is_bytes_class : ClassLine → Bool
 is_bytes_class c = is_between 16 16 c.format
 
 -- a process begins in a method without arguments
-abbrev pub can_begin : MethodLine → Bool
-can_begin m = is_between 0 0 m.arguments
+abbrev pub begins_process : MethodLine → Bool
+begins_process m = is_between 0 0 m.arguments
 
 abbrev pub has_names : List Form → Form → Bool
-has_names above (Class line) = option_map_or (is_class above) line.super true
+has_names above (Class line) = option_map_or (is_class_name above) line.super true
 has_names above (Object name class slots) = option_map_or is_object_class (class_named above class) false
 has_names above (Bytes name class bytes) = option_map_or is_bytes_class (class_named above class) false
-has_names above (Method line) = is_class above line.class
-has_names above (Process line) = option_map_or can_begin (method_named above line.class line.selector) false
-has_names above (Active name) = is_process above name
-has_names above (Ready name) = is_process above name
-has_names above End = not (list_any (is_lost (open_body above)) (open_body above))
+has_names above (Method line) = is_class_name above line.class
+has_names above (Process line) = option_map_or begins_process (method_named above line.class line.selector) false
+has_names above (Active name) = is_process_name above name
+has_names above (Ready name) = is_process_name above name
+has_names above End = not (list_any (is_label_lost (open_body above)) (open_body above))
 has_names above form = true
 
 -- ---- the first fault of a line
@@ -319,7 +319,7 @@ is_too_much text = is_too_long text || nat_lt 16332 (class_lines text)
 
 -- the last method has no end
 abbrev pub is_open : List Form → Bool
-is_open forms = list_any is_method forms && not (list_any is_end (open_body forms))
+is_open forms = list_any is_method_line forms && not (list_any is_end_line (open_body forms))
 
 abbrev pub mentions_in : Form → List Mention
 mentions_in (Object name class slots) = slots
@@ -330,8 +330,8 @@ mentions_in form = []
 
 abbrev pub is_known : List Form → Mention → Bool
 is_known forms (Named name) = is_taken forms name
-is_known forms (Dictionary class) = is_class forms class
-is_known forms (Values class) = is_class forms class
+is_known forms (Dictionary class) = is_class_name forms class
+is_known forms (Values class) = is_class_name forms class
 is_known forms (MethodOf class selector) = is_some (method_named forms class selector)
 is_known forms m = true
 
@@ -343,8 +343,8 @@ abbrev pub mention_fault : List Form → List (ℕ × Option Form) → Option Bu
 mention_fault forms lines =
     option_map (λ line. BadName line.0) (find (λ line. not (all_known forms line.1)) lines)
 
-unfoldable pub fault_of : List ℕ → Option BuildFault
-fault_of text =
+unfoldable pub text_fault : List ℕ → Option BuildFault
+text_fault text =
     if is_too_much text then Some TooMany else
     option_or (lines_fault [] (numbered_forms text))
     (if is_open (forms_of text) then Some (BadLine (length (lines_of text) + 1)) else

@@ -9,8 +9,8 @@ use Rattle.cs_model.specs.declared.instruction.Op.{Op}
 use Rattle.cs_model.specs.declared.instruction.Op.TheVariants.{PushRcvr, PushTemp, PushLit, PushLitVar, PopRcvr, PopTemp, PopLitVar, StoreRcvr, StoreTemp, StoreLitVar, PushSelf, PushTrue, PushFalse, PushNil, PushInt, ReturnSelf, ReturnTrue, ReturnFalse, ReturnNil, ReturnTop, BlockReturn, Send, SendSuper, Pop, Dup, ThisContext, NewArray, PopArray, PushVec, StoreVec, PopVec, Common}
 use Rattle.cs_model.specs.declared.instruction.Op.TheVariants as op
 use Rattle.cs_model.specs.Ref.{natural_of}
-use Rattle.cs_model.specs.Assemble.{name_of}
-use Rattle.cs_model.specs.Text.{space, is_empty, words_of, integer_in, is_name}
+use Rattle.cs_model.specs.Assemble.{op_name}
+use Rattle.cs_model.specs.Text.{space, is_empty, line_words, integer_in, is_name}
 
 -- ---- references
 
@@ -153,11 +153,11 @@ bytes_form (name ∷ class ∷ hex ∷ []) =
 bytes_form words = None
 
 -- nothing, or a primitive's number
-abbrev pub primitive_in : List (List ℕ) → Option (Option ℤ)
-primitive_in [] = Some None
-primitive_in (word ∷ number ∷ []) =
+abbrev pub primitive_given : List (List ℕ) → Option (Option ℤ)
+primitive_given [] = Some None
+primitive_given (word ∷ number ∷ []) =
     if bytes_eq word (codes "prim") then option_map (λ n. Some n) (integer_in number) else None
-primitive_in words = None
+primitive_given words = None
 
 -- the words behind the temporaries: large, and a primitive
 abbrev pub is_large : List (List ℕ) → Bool
@@ -181,7 +181,7 @@ method_line class selector arguments temporaries large primitive = Method (recor
 abbrev pub method_form : List (List ℕ) → Option Form
 method_form (class ∷ selector ∷ args ∷ temps ∷ words) = option_and_then (λ a. option_and_then (λ t. option_and_then (λ p.
     if is_name class then Some (method_line class selector a t (is_large words) p) else None)
-    (primitive_in (behind_large words))) (integer_in temps)) (integer_in args)
+    (primitive_given (behind_large words))) (integer_in temps)) (integer_in args)
 method_form words = None
 
 abbrev pub process_line : List ℕ → ℤ → List ℕ → List ℕ → Mention → Form
@@ -233,7 +233,7 @@ ops_of_two a b = Send a b ∷ SendSuper a b ∷ PushVec a b ∷ StoreVec a b ∷
 
 -- the one of that word
 abbrev pub op_named : List ℕ → List Op → Option Op
-op_named word ops = find (λ o. bytes_eq (name_of o) word) ops
+op_named word ops = find (λ o. bytes_eq (op_name o) word) ops
 
 abbrev pub plain_form : List ℕ → Option Form
 plain_form word = option_map (λ o. Plain (Some o)) (op_named word plain_ops)
@@ -287,7 +287,7 @@ is_trim line = not (slice_index line 0 == space) && not (slice_index line (lengt
 
 abbrev pub form_in : Bool → List ℕ → Option Form
 form_in inside line =
-    if is_trim line then (if inside then inner_form (words_of line) else outer_form (words_of line)) else None
+    if is_trim line then (if inside then inner_form (line_words line) else outer_form (line_words line)) else None
 
 -- empty lines and lines that begin with a number sign say nothing
 abbrev pub is_skipped : List ℕ → Bool

@@ -5,7 +5,7 @@ use Rattle.std.specs.Prelude.{ℕ, zero, suc, ◌+◌, ◌==◌, ◌&&◌, not, 
 use Rattle.std.specs.Option.{option_map_or}
 use Rattle.std.specs.List.{list_any}
 use Rattle.std.specs.FinMap.{entries}
-use Rattle.cs_model.specs.Ref.{Ref, Small, Char, same_ref, birth_of}
+use Rattle.cs_model.specs.Ref.{Ref, Small, Char, same_ref, named_object}
 use Rattle.cs_model.specs.Ref as ref
 use Rattle.cs_model.specs.Obj.{Obj, Head, Context, Ptr, Raw, Method, Ctx, is_context, is_context_at}
 use Rattle.cs_model.specs.State.{Kept, object_at}
@@ -26,7 +26,7 @@ leads_to (Some (Ctx c)) = c.sender ∷ c.closure ∷ c.receiver ∷ c.stack
 
 -- the births of the contexts to which the object of a birth leads
 abbrev pub contexts_from : Kept → ℕ → List ℕ
-contexts_from k birth = filter (λ i. is_context_at (object_at k i)) (filter_map birth_of (leads_to (object_at k birth)))
+contexts_from k birth = filter (λ i. is_context_at (object_at k i)) (filter_map named_object (leads_to (object_at k birth)))
 
 -- a queue takes at its end what it doesn't have yet
 abbrev pub queued : List ℕ → ℕ → List ℕ
@@ -52,16 +52,16 @@ order_of k = plain_births k ++ reached_births k
 -- ---- objects by numbers
 
 -- the number of a birth in an order
-abbrev pub number_in : List ℕ → ℕ → ℕ
-number_in order birth = option_map_or (λ place. place + 1) (position (λ i. i == birth) order) 0
+abbrev pub canon_number : List ℕ → ℕ → ℕ
+canon_number order birth = option_map_or (λ place. place + 1) (position (λ i. i == birth) order) 0
 
 abbrev pub ref_in : List ℕ → Ref → Ref
 ref_in order (Small value) = Small value
 ref_in order (Char code) = Char code
-ref_in order (ref.Obj birth) = ref.Obj (number_in order birth)
+ref_in order (ref.Obj birth) = ref.Obj (canon_number order birth)
 
-abbrev pub context_in : List ℕ → Context → Context
-context_in order c = record c {
+abbrev pub canon_context : List ℕ → Context → Context
+canon_context order c = record c {
   sender = ref_in order c.sender;
   method = ref_in order c.method;
   closure = ref_in order c.closure;
@@ -69,11 +69,11 @@ context_in order c = record c {
   stack = map (ref_in order) c.stack;
 }
 
-abbrev pub object_in : List ℕ → Obj → Obj
-object_in order (Ptr head slots) = Ptr head (map (ref_in order) slots)
-object_in order (Raw head bytes) = Raw head bytes
-object_in order (Method head header literals bytecodes) = Method head header (map (ref_in order) literals) bytecodes
-object_in order (Ctx c) = Ctx (context_in order c)
+abbrev pub canon_object : List ℕ → Obj → Obj
+canon_object order (Ptr head slots) = Ptr head (map (ref_in order) slots)
+canon_object order (Raw head bytes) = Raw head bytes
+canon_object order (Method head header literals bytecodes) = Method head header (map (ref_in order) literals) bytecodes
+canon_object order (Ctx c) = Ctx (canon_context order c)
 
 -- the last hash that was given, the special-object array, the class table by indices, and the objects by their numbers
 pub record Canon : Type 0 where
@@ -85,9 +85,9 @@ pub record Canon : Type 0 where
 abbrev pub canon_by : List ℕ → Kept → Canon
 canon_by order k = record {
   last_hash = k.rest.last_hash;
-  special = number_in order k.rest.special;
-  classes = map (λ e. (e.0, number_in order e.1)) (entries k.rest.classes);
-  objects = filter_map (λ birth. option_map (object_in order) (object_at k birth)) order;
+  special = canon_number order k.rest.special;
+  classes = map (λ e. (e.0, canon_number order e.1)) (entries k.rest.classes);
+  objects = filter_map (λ birth. option_map (canon_object order) (object_at k birth)) order;
 }
 
 unfoldable pub canon : Kept → Canon

@@ -1,11 +1,11 @@
 -- The command line: a command, a file and options, read as `clap` 4 reads a simple command without help and version flags.
 -- `Line` beside it is the shorter line of a first program.
-use Rattle.std.specs.Prelude.{ℕ, ◌==◌, ◌&&◌, ◌||◌, not, Bool, true, false, nat_le, if◌then◌else◌, List, [], ◌∷◌, ◌++◌, length, filter_map, codes, Option, Some, None, is_some, is_none, option_map, option_and_then, unwrap_or, slice_index}
+use Rattle.std.specs.Prelude.{ℕ, ◌==◌, ◌&&◌, ◌||◌, not, Bool, true, false, nat_le, if◌then◌else◌, List, [], ◌∷◌, ◌++◌, length, filter_map, codes, Option, Some, None, is_some, option_map, option_and_then, unwrap_or, slice_index}
 use Rattle.std.specs.Option.{option_map_or}
 use Rattle.std.specs.List.{list_any, before_first, after_first}
 use Rattle.std.specs.Str.{bytes_eq}
 use Rattle.cs_model.specs.Line.{most_steps, longest_name}
-use Rattle.cs_model.specs.Text.{number_between}
+use Rattle.cs_model.specs.Text.{number_between, first_that}
 
 -- ---- words
 
@@ -94,17 +94,13 @@ abbrev pub value_in : List ℕ → Part → Option (List ℕ)
 value_in name (Positional word) = None
 value_in name (Given other value) = if bytes_eq other name then Some value else None
 
-abbrev pub first_that : List (List ℕ) → Option (List ℕ)
-first_that [] = None
-first_that (word ∷ words) = Some word
-
-abbrev pub given : List Part → List ℕ → Option (List ℕ)
-given parts name = first_that (filter_map (value_in name) parts)
+abbrev pub given_value : List Part → List ℕ → Option (List ℕ)
+given_value parts name = first_that (filter_map (value_in name) parts)
 
 -- each option stands at most once
-abbrev pub has_repeats : List (List ℕ) → Bool
-has_repeats [] = false
-has_repeats (name ∷ names) = list_any (bytes_eq name) names || has_repeats names
+abbrev pub has_repeated_names : List (List ℕ) → Bool
+has_repeated_names [] = false
+has_repeated_names (name ∷ names) = list_any (bytes_eq name) names || has_repeated_names names
 
 -- ---- the line
 
@@ -149,12 +145,12 @@ number_given lowest highest default None = Some default
 number_given lowest highest default (Some word) = number_between lowest highest word
 
 -- one page is too few
-abbrev pub pages_in : List ℕ → Option ℕ
-pages_in word = option_and_then (λ n. if n == 1 then None else Some n) (number_between 0 64 word)
+abbrev pub page_count : List ℕ → Option ℕ
+page_count word = option_and_then (λ n. if n == 1 then None else Some n) (number_between 0 64 word)
 
 abbrev pub pages_given : Option (List ℕ) → Option (Option ℕ)
 pages_given None = Some None
-pages_given (Some word) = option_map (λ n. Some n) (pages_in word)
+pages_given (Some word) = option_map (λ n. Some n) (page_count word)
 
 abbrev pub steps_given : Option (List ℕ) → Option ℕ
 steps_given word = number_given 0 most_steps 1000000 word
@@ -162,24 +158,24 @@ steps_given word = number_given 0 most_steps 1000000 word
 abbrev pub heap_given : Option (List ℕ) → Option ℕ
 heap_given word = number_given 4096 67108864 16777216 word
 
-abbrev pub options_by : List Part → Option ℕ → ℕ → ℕ → Options
-options_by parts pages steps heap = record {
-  events = given parts (codes "--events");
+abbrev pub options_with : List Part → Option ℕ → ℕ → ℕ → Options
+options_with parts pages steps heap = record {
+  events = given_value parts (codes "--events");
   pages = pages;
   steps = steps;
   heap = heap;
-  save = given parts (codes "--save");
-  snapshot = given parts (codes "--snapshot");
-  other = given parts (codes "--other");
-  stats = is_some (given parts stats_word);
+  save = given_value parts (codes "--save");
+  snapshot = given_value parts (codes "--snapshot");
+  other = given_value parts (codes "--other");
+  stats = is_some (given_value parts stats_word);
 }
 
 -- the options, each of which must be in range whatever the command
 abbrev pub options_in : List Part → Option Options
 options_in parts = option_and_then (λ pages. option_and_then (λ steps. option_and_then (λ heap.
-    if has_short_names (options_by parts pages steps heap) then Some (options_by parts pages steps heap) else None)
-    (heap_given (given parts (codes "--heap")))) (steps_given (given parts (codes "--steps"))))
-    (pages_given (given parts (codes "--pages")))
+    if has_short_names (options_with parts pages steps heap) then Some (options_with parts pages steps heap) else None)
+    (heap_given (given_value parts (codes "--heap")))) (steps_given (given_value parts (codes "--steps"))))
+    (pages_given (given_value parts (codes "--pages")))
 
 -- a command that needs an option
 abbrev pub needing : Option (List ℕ) → Command → Option Command
@@ -204,7 +200,7 @@ line_with (word ∷ file ∷ more ∷ words) o = None
 
 abbrev pub line_in : List Part → Option CommandLine
 line_in parts =
-    if has_repeats (filter_map name_in parts) then None else
+    if has_repeated_names (filter_map name_in parts) then None else
     option_and_then (line_with (filter_map positional_in parts)) (options_in parts)
 
 -- the command and its values, or that the line is refused
@@ -231,26 +227,3 @@ is_run command = false
 -- a run takes snapshots where it has a name for them
 abbrev pub takes_snapshots : CommandLine → Bool
 takes_snapshots line = is_run line.command && is_some line.options.snapshot
-
--- ---- what the machine can't do yet
-
--- a run without events, snapshots, counts and saving, on pages
-abbrev pub is_simple_run : Options → Bool
-is_simple_run o = is_none o.events && is_none o.save && is_none o.snapshot && not o.stats && not (run_pages o == 0)
-
--- the commands that the machine has: to run an image, and to print one
-abbrev pub can_do : Command → Options → Bool
-can_do Run o = is_simple_run o
-can_do Inspect o = true
-can_do command o = false
-
-abbrev pub is_possible : CommandLine → Bool
-is_possible line = can_do line.command line.options
-
-abbrev pub possible : CommandLine → Option CommandLine
-possible line = if is_possible line then Some line else None
-
--- The line that the machine takes. What can't be done yet is refused besides: to build, to compare or to generate, and a
--- run that asks for events, snapshots, the line of counts, a machine without pages, or saving at its end.
-unfoldable pub line_of : List (List ℕ) → Option CommandLine
-line_of words = option_and_then possible (command_line_of words)

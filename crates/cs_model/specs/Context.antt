@@ -1,7 +1,7 @@
 -- Contexts as image code sees them: fields 0 sender, 1 pc, 2 stackp, 3 method, 4 closure, 5 receiver, and then the values
 -- of the stack. Nothing lies beyond stackp.
 use Rattle.std.specs.Prelude.{◌≡◌, ℕ, pos, ◌-◌, ◌==◌, ◌&&◌, ◌||◌, not, Bool, true, false, nat_lt, nat_le, if◌then◌else◌, List, ◌++◌, length, take, replicate, Option, Some, None, is_some, slice_get}
-use Rattle.cs_model.specs.Ref.{Ref, Small, index_of}
+use Rattle.cs_model.specs.Ref.{Ref, Small, small_index}
 use Rattle.cs_model.specs.Obj.{Obj, Context, class_index_in, context_fields, context_in, is_method, lies_in, with_pc, with_stack, stored, edit_context}
 use Rattle.cs_model.specs.State.{Kept, object_at, object_of, is_nil}
 use Rattle.cs_model.specs.Operation.{edit_found, nil_of}
@@ -48,8 +48,8 @@ is_at_most size (Some n) = nat_le n size
 unfoldable pub accepts : Kept → Bool → Context → ℕ → Ref → Bool
 accepts k active c i v =
     if i == 0 then is_nil k v || is_context_ref k v else
-    if i == 1 then (if is_nil k v then not active else lies_if_index (object_of k c.method) (index_of v)) else
-    if i == 2 then not active && is_at_most c.size (index_of v) else
+    if i == 1 then (if is_nil k v then not active else lies_if_index (object_of k c.method) (small_index v)) else
+    if i == 2 then not active && is_at_most c.size (small_index v) else
     if i == 3 then not active && is_method (object_of k v) && lies_if_live (object_of k v) c.pc else
     if i == 4 then not active && (is_nil k v || has_class_index closure_class (object_of k v)) else
     i == 5 || nat_lt (i - context_fields) (length c.stack)
@@ -69,8 +69,8 @@ to_depth nil (Some n) c = with_stack (of_depth nil n c.stack) c
 unfoldable pub with_field : Kept → ℕ → Ref → Context → Context
 with_field k i v c =
     if i == 0 then record c { sender = v } else
-    if i == 1 then with_pc (index_of v) c else
-    if i == 2 then to_depth (nil_of k) (index_of v) c else
+    if i == 1 then with_pc (small_index v) c else
+    if i == 2 then to_depth (nil_of k) (small_index v) c else
     if i == 3 then record c { method = v } else
     if i == 4 then record c { closure = v } else
     if i == 5 then record c { receiver = v } else

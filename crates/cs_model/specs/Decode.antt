@@ -118,8 +118,8 @@ jump code b =
     JumpFalse ((code - 172) * 256 + b)
 
 -- 176 to 255: the 32 special selectors, and sends of one of the first 16 literals with 0, 1 or 2 arguments
-abbrev pub send : ℕ → Op
-send code =
+abbrev pub send_op : ℕ → Op
+send_op code =
     if nat_lt code 192 then Special (code - 176) else
     if nat_lt code 208 then Common (code - 192) else
     Send (code % 16) (code / 16 - 13)
@@ -133,7 +133,7 @@ op_of code b c d =
     if nat_lt code 128 then None else
     if nat_lt code 144 then extended code b c d else
     if nat_lt code 176 then Some (jump code b) else
-    Some (send code)
+    Some (send_op code)
 
 -- the instruction at a place, where there is one and its bytes are all there
 unfoldable pub decode_at : List ℕ → ℕ → Option Instr

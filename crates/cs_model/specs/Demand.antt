@@ -7,7 +7,7 @@ use Rattle.cs_model.specs.declared.event.Event.{Event}
 use Rattle.cs_model.specs.Obj.{Obj, words_of}
 use Rattle.cs_model.specs.State.{Kept, State, object_at}
 use Rattle.cs_model.specs.Return.{is_live}
-use Rattle.cs_model.specs.Due.{Happened, happen, with_events, behind, is_due}
+use Rattle.cs_model.specs.Due.{Happened, happen, with_events, event_passed, is_due}
 use Rattle.cs_model.specs.Step.{Ending, Steps, Quit, Idle, Stopped, Step, birth_limit, step, run}
 use Rattle.cs_model.specs.End.{given, is_done}
 
@@ -24,7 +24,7 @@ unfoldable pub step_after : ℕ → State → Option Step
 step_after n s = if goes_on (run n s).ending then Some (step (run n s).state) else None
 
 abbrev pub behind_event : Happened → (State → List Kept) → List Kept
-behind_event h next = if is_done h.end then next (behind h) else []
+behind_event h next = if is_done h.end then next (event_passed h) else []
 
 -- the states behind each of the events that are due; the list is followed as in `due_of`
 unfoldable pub behind_events : List Event → State → List Kept
@@ -65,27 +65,27 @@ HasBegun n s i = was_active i (states_of n s) ≡ true
 
 -- ---- words
 
-abbrev pub words_at : Option Obj → ℕ
-words_at None = 0
-words_at (Some o) = words_of o
+abbrev pub words_taken : Option Obj → ℕ
+words_taken None = 0
+words_taken (Some o) = words_of o
 
 -- the words of the objects and contexts that have births below n
 unfoldable pub words_below : ℕ → Kept → ℕ
 words_below zero k = 0
-words_below (suc n) k = words_below n k + words_at (object_at k n)
+words_below (suc n) k = words_below n k + words_taken (object_at k n)
 
 -- the words of all objects and contexts
-abbrev pub words_in : Kept → ℕ
-words_in k = words_below k.rest.next k
+abbrev pub words_held : Kept → ℕ
+words_held k = words_below k.rest.next k
 
 -- The words of all objects and contexts behind n steps. Nothing leaves the map, so these are the words at the beginning and of
 -- all that was made since; what a step made before it stopped counts too, and behind an end nothing is made.
 unfoldable pub heavy : ℕ → State → ℕ
-heavy n s = words_in s.kept + (run n s).count.objects + (run n s).count.contexts
+heavy n s = words_held s.kept + (run n s).count.objects + (run n s).count.contexts
 
 -- the same without the contexts that entering methods and blocks made in the run
 unfoldable pub own : ℕ → State → ℕ
-own n s = words_in s.kept + (run n s).count.objects
+own n s = words_held s.kept + (run n s).count.objects
 
 -- ---- looks
 

@@ -85,14 +85,14 @@ abbrev pub left_count : Kept → Count
 left_count k = if is_left k then record { objects = 0; contexts = 0; looks = 1 } else no_count
 
 -- behind an event, which may leave no process active by a store into a link
-abbrev pub behind : Happened → State
-behind h = record { kept = without_context h.state.kept; run = h.state.run }
+abbrev pub event_passed : Happened → State
+event_passed h = record { kept = without_context h.state.kept; run = h.state.run }
 
-abbrev pub counting : Count → Happened → Happened
-counting n h = record h { count = plus n h.count }
+abbrev pub event_counting : Count → Happened → Happened
+event_counting n h = record h { count = plus n h.count }
 
 abbrev pub and_then_due : Happened → (State → Happened) → Happened
-and_then_due h next = if is_done h.end then counting (plus h.count (left_count h.state.kept)) (next (behind h)) else h
+and_then_due h next = if is_done h.end then event_counting (plus h.count (left_count h.state.kept)) (next (event_passed h)) else h
 
 -- the events are given as a list, so that the recursion follows it; `with_events` leaves those that aren't due
 unfoldable pub due_of : List Event → State → Happened

@@ -1,6 +1,6 @@
 -- Elements: the indexed slots of a pointer object behind its named fields, the units of raw bytes, the bytes of a method.
 use Rattle.std.specs.Prelude.{ℕ, zero, suc, ℤ, pos, ◌+◌, ◌-◌, ◌*◌, ◌/◌, ◌%◌, ◌^◌, ◌&&◌, nat_lt, nat_le, if◌then◌else◌, List, [], ◌∷◌, length, take, drop, Option, Some, None, option_map, option_and_then, slice_get, unwrap_or}
-use Rattle.cs_model.specs.Ref.{Ref, Small, small_of, index_of, natural_of}
+use Rattle.cs_model.specs.Ref.{Ref, Small, small_of, small_index, natural_of}
 use Rattle.cs_model.specs.Obj.{Obj, Ptr, Raw, Method, Ctx, first_pc, slots_in}
 use Rattle.cs_model.specs.State.{Kept, object_of, slots_of}
 use Rattle.cs_model.specs.Read.{class_of}
@@ -55,7 +55,7 @@ place_in r None = None
 place_in r (Some i) = if nat_le r.first i && nat_lt (i - r.first) r.count then Some (i - r.first) else None
 
 abbrev pub element_place : Kept → Ref → Ref → Option ℕ
-element_place k x index = option_and_then (λ r. place_in r (index_of index)) (range_of k x)
+element_place k x index = option_and_then (λ r. place_in r (small_index index)) (range_of k x)
 
 -- ---- reading
 
@@ -90,8 +90,8 @@ store_unit k x size place (Some n) = if nat_lt n (2 ^ (8 * size)) then Some (sto
 abbrev pub write_in : Kept → Ref → ℕ → Ref → Option Obj → Option Kept
 write_in k x place v None = None
 write_in k x place v (Some (Ptr head slots)) = option_map (λ fields. store_of k x (fields + place) v) (named_fields k x slots)
-write_in k x place v (Some (Raw head bytes)) = store_unit k x (unit_bytes head.format) place (index_of v)
-write_in k x place v (Some (Method head header literals bytecodes)) = store_unit k x 1 place (index_of v)
+write_in k x place v (Some (Raw head bytes)) = store_unit k x (unit_bytes head.format) place (small_index v)
+write_in k x place v (Some (Method head header literals bytecodes)) = store_unit k x 1 place (small_index v)
 write_in k x place v (Some (Ctx c)) = None
 
 -- the state with the element in a place written, where the value fits it

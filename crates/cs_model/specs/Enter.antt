@@ -1,6 +1,6 @@
 -- Entering blocks (methods are entered by an operation alone).
 use Rattle.std.specs.Prelude.{ℕ, ◌+◌, ◌==◌, ◌&&◌, Bool, false, nat_le, if◌then◌else◌, List, [], ◌++◌, length, drop, Option, Some, None, is_some, slice_get, unwrap_or}
-use Rattle.cs_model.specs.Ref.{Ref, Small, same_ref, index_of}
+use Rattle.cs_model.specs.Ref.{Ref, Small, same_ref, small_index}
 use Rattle.cs_model.specs.Ref as ref
 use Rattle.cs_model.specs.Obj.{Obj, Context, Ptr, Raw, Method, Ctx, context_in, is_method, header_in, context_size, words_of_slots, context_fields}
 use Rattle.cs_model.specs.State.{Kept, object_of}
@@ -50,8 +50,8 @@ unfoldable pub can_evaluate : Kept → Ref → ℕ → Bool
 can_evaluate k closure args =
     nat_le 3 (length (closure_slots (object_of k closure))) && is_some (outer_context k closure)
     && is_method (object_of k (closure_method k closure))
-    && lies_if_index (object_of k (closure_method k closure)) (index_of (closure_slot k closure 1))
-    && is_count args (index_of (closure_slot k closure 2))
+    && lies_if_index (object_of k (closure_method k closure)) (small_index (closure_slot k closure 1))
+    && is_count args (small_index (closure_slot k closure 2))
 
 -- the size of the context in which it runs
 abbrev pub block_size : Kept → Ref → ℕ
@@ -62,7 +62,7 @@ abbrev pub block_context : Kept → Ref → ℕ → Context → Context
 block_context k closure args old = record {
   hash = 0;
   sender = ref.Obj (active_birth k);
-  pc = index_of (closure_slot k closure 1);
+  pc = small_index (closure_slot k closure 1);
   method = closure_method k closure;
   closure = closure;
   receiver = receiver_in_context (nil_of k) (outer_context k closure);

@@ -3,7 +3,7 @@ use Rattle.std.specs.Prelude.{ℕ, ◌+◌, ◌-◌, ◌*◌, ℤ, pos, negsuc, 
 use Rattle.cs_model.specs.declared.stop.Stop.TheVariants as why
 use Rattle.cs_model.specs.declared.instruction.Op.{Op}
 use Rattle.cs_model.specs.declared.instruction.Op.TheVariants as op
-use Rattle.cs_model.specs.Ref.{Ref, Small, same_ref, small_of, index_of}
+use Rattle.cs_model.specs.Ref.{Ref, Small, same_ref, small_of, small_index}
 use Rattle.cs_model.specs.Ref as ref
 use Rattle.cs_model.specs.Obj.{Obj, Context, Ptr, Raw, Method, Ctx, new_head, slots_in, lies_in, words_of_slots}
 use Rattle.cs_model.specs.State.{Kept, object_of, is_read_only, slots_of, special_at, is_nil}
@@ -195,7 +195,7 @@ abbrev pub special_selectors : ℕ
 special_selectors = 23
 
 abbrev pub argument_count_in : Ref → Option ℕ
-argument_count_in x = option_and_then (λ n. if nat_lt n 16 then Some n else None) (index_of x)
+argument_count_in x = option_and_then (λ n. if nat_lt n 16 then Some n else None) (small_index x)
 
 abbrev pub selector_pair : Kept → ℕ → Option (List Ref)
 selector_pair k i = option_and_then (λ table. slots_of k (2 * i + 2) table) (special_at k special_selectors)

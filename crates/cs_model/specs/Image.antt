@@ -8,8 +8,8 @@ use Rattle.cs_model.specs.Ref as ref
 use Rattle.cs_model.specs.Obj.{Obj, Head}
 use Rattle.cs_model.specs.State.{Kept, Rest}
 use Rattle.cs_model.specs.Words.{obj_by}
-use Rattle.cs_model.specs.ImageFile.{special_address, last_hash_in, header_in, words_in, births_in, next_birth_in, FileObject, cut_of, File, file_of, visible, address_in}
-use Rattle.cs_model.specs.ImageFault.{ImageFault, is_too_long, is_short, is_bad_format, is_bad_header_size, is_bad_profile, is_bad_length, bad_object, is_over, is_bad_table, bad_ref, bad_class, bad_context, is_bad_roots, is_bad_births, has_entry, entry_in, table_size}
+use Rattle.cs_model.specs.ImageFile.{special_address, last_hash_in, file_header, words_in, births_in, next_birth_in, FileObject, cut_of, File, file_of, visible, address_in}
+use Rattle.cs_model.specs.ImageFault.{ImageFault, is_long_file, is_short, is_bad_format, is_bad_header_size, is_bad_profile, is_bad_length, bad_object, is_over, is_bad_table, bad_ref, bad_class, bad_context, is_bad_roots, is_bad_births, has_entry, entry_in, table_size}
 use Rattle.cs_model.specs.ImageFault as fault
 
 -- ---- the state
@@ -36,7 +36,7 @@ rest_in bytes f births = record {
   false_ = slice_index births 1;
   true_ = slice_index births 2;
   special = birth_in f births (special_address bytes);
-  header = header_in bytes;
+  header = file_header bytes;
   classes = classes_in f births table_size;
   last_hash = last_hash_in bytes;
   next = next_birth_in bytes (length (visible f));
@@ -66,9 +66,9 @@ first_of [] = None
 first_of (fault ∷ faults) = option_or fault (first_of faults)
 
 -- the first fault of a file, for a heap of so many words; within one kind it is that of the lowest place
-unfoldable pub fault_of : List ℕ → ℕ → Option ImageFault
-fault_of bytes limit = let f = file_of bytes in first_of (
-    when (is_too_long bytes) fault.TooLong
+unfoldable pub image_fault : List ℕ → ℕ → Option ImageFault
+image_fault bytes limit = let f = file_of bytes in first_of (
+    when (is_long_file bytes) fault.TooLong
     ∷ when (is_short bytes) fault.Short
     ∷ when (is_bad_format bytes) fault.BadFormat
     ∷ when (is_bad_header_size bytes) fault.BadHeaderSize
@@ -90,4 +90,4 @@ state_unless None k = Ok k
 state_unless (Some fault) k = Err fault
 
 unfoldable pub image_of : List ℕ → ℕ → Result Kept ImageFault
-image_of bytes limit = state_unless (fault_of bytes limit) (described bytes)
+image_of bytes limit = state_unless (image_fault bytes limit) (described bytes)

@@ -6,7 +6,7 @@ use Rattle.std.specs.List.{list_any, list_all, enumerate_from}
 use Rattle.cs_model.specs.Obj.{context_class, context_fields, words_of_slots, literal_count, is_header, lies_between}
 use Rattle.cs_model.specs.Words.{natural_in_word, is_pointer_format, is_method_format, has_shape, unused_bytes, header_in_words, literals_in_words, bytecode_count}
 use Rattle.cs_model.specs.Profile.{is_second_profile, pages_in, is_page_count}
-use Rattle.cs_model.specs.ImageFile.{u32_at, heap_size, old_base, has_births, birth_count, births_in, next_birth_in, FileObject, Cut, stands, is_hidden, is_visible, File, visible, named, names, nil_in, is_nil}
+use Rattle.cs_model.specs.ImageFile.{u32_at, heap_size, old_base, has_births, birth_count, births_in, next_birth_in, FileObject, Cut, stands, is_hidden, is_visible, File, visible, named, names, nil_in, is_nil_word}
 
 pub data ImageFault : Type 0 where
   TooLong : ImageFault
@@ -25,26 +25,26 @@ pub data ImageFault : Type 0 where
   BadBirths : ImageFault
 
 -- the printed name of a fault, with its place
-abbrev pub fault_text : ImageFault → List ℕ
-fault_text TooLong = codes "TooLong"
-fault_text Short = codes "Short"
-fault_text BadFormat = codes "BadFormat"
-fault_text BadHeaderSize = codes "BadHeaderSize"
-fault_text BadProfile = codes "BadProfile"
-fault_text BadLength = codes "BadLength"
-fault_text (BadObject at) = codes "BadObject " ++ decimal at
-fault_text OverLimit = codes "OverLimit"
-fault_text BadTable = codes "BadTable"
-fault_text (BadRef at) = codes "BadRef " ++ decimal at
-fault_text (BadClass at) = codes "BadClass " ++ decimal at
-fault_text (BadContext at) = codes "BadContext " ++ decimal at
-fault_text BadRoots = codes "BadRoots"
-fault_text BadBirths = codes "BadBirths"
+abbrev pub image_fault_name : ImageFault → List ℕ
+image_fault_name TooLong = codes "TooLong"
+image_fault_name Short = codes "Short"
+image_fault_name BadFormat = codes "BadFormat"
+image_fault_name BadHeaderSize = codes "BadHeaderSize"
+image_fault_name BadProfile = codes "BadProfile"
+image_fault_name BadLength = codes "BadLength"
+image_fault_name (BadObject at) = codes "BadObject " ++ decimal at
+image_fault_name OverLimit = codes "OverLimit"
+image_fault_name BadTable = codes "BadTable"
+image_fault_name (BadRef at) = codes "BadRef " ++ decimal at
+image_fault_name (BadClass at) = codes "BadClass " ++ decimal at
+image_fault_name (BadContext at) = codes "BadContext " ++ decimal at
+image_fault_name BadRoots = codes "BadRoots"
+image_fault_name BadBirths = codes "BadBirths"
 
 -- ---- the file and its header
 
-abbrev pub is_too_long : List ℕ → Bool
-is_too_long bytes = nat_lt 536870912 (length bytes)
+abbrev pub is_long_file : List ℕ → Bool
+is_long_file bytes = nat_lt 536870912 (length bytes)
 
 abbrev pub is_short : List ℕ → Bool
 is_short bytes = nat_lt (length bytes) 64
@@ -102,24 +102,24 @@ begins_well f = has_object f 0 is_oddball && has_object f 1 is_oddball && has_ob
     && has_object f 3 (λ o. is_hidden o && o.format == 10) && has_object f 4 (λ o. is_hidden o && o.format == 2)
 
 -- the pages that the root holds, 16 or fewer
-abbrev pub page_words : File → List ℕ
-page_words f = option_map_or (λ root. take 16 root.words) (slice_get f.objects 4) []
+abbrev pub page_addresses : File → List ℕ
+page_addresses f = option_map_or (λ root. take 16 root.words) (slice_get f.objects 4) []
 
 -- a page is nil or a hidden object of 1,024 slots or more
 abbrev pub is_page : File → ℕ → Bool
-is_page f word = is_nil f word || names f (λ o. is_hidden o && o.format == 2 && nat_le 1024 (length o.words)) word
+is_page f word = is_nil_word f word || names f (λ o. is_hidden o && o.format == 2 && nat_le 1024 (length o.words)) word
 
 -- the object that a word names, if that isn't nil
 abbrev pub unless_nil : File → ℕ → Option FileObject
-unless_nil f word = if is_nil f word then None else named f word
+unless_nil f word = if is_nil_word f word then None else named f word
 
 -- entry i of page p is that of class index 1024 * p + i; where there is no page it is nil
 unfoldable pub entry_in : File → ℕ → ℕ
 entry_in f index = option_map_or (λ page. slice_index page.words (index % 1024))
-    (option_and_then (unless_nil f) (slice_get (page_words f) (index / 1024))) (nil_in f)
+    (option_and_then (unless_nil f) (slice_get (page_addresses f) (index / 1024))) (nil_in f)
 
 abbrev pub has_entry : File → ℕ → Bool
-has_entry f index = not (is_nil f (entry_in f index))
+has_entry f index = not (is_nil_word f (entry_in f index))
 
 -- a class is a visible object with pointers and three slots or more, no context, and its hash is its index
 abbrev pub is_class : ℕ → FileObject → Bool
@@ -128,7 +128,7 @@ is_class index o = is_visible o && nat_le 1 o.format && nat_le o.format 5 && not
 
 -- every entry but that of index 3 is nil or a class
 abbrev pub is_sound_entry : File → ℕ → Bool
-is_sound_entry f index = index == 3 || is_nil f (entry_in f index) || names f (is_class index) (entry_in f index)
+is_sound_entry f index = index == 3 || is_nil_word f (entry_in f index) || names f (is_class index) (entry_in f index)
 
 -- what is true of each number below n
 abbrev pub all_below : ℕ → (ℕ → Bool) → Bool
@@ -146,7 +146,7 @@ has_known_classes f = not (has_entry f 0) && not (has_entry f 16)
     && entry_in f 3 == entry_in f 1 && names f (λ o. o.hash == 1) (entry_in f 1)
 
 unfoldable pub is_bad_table : File → Bool
-is_bad_table f = not (begins_well f && list_all (is_page f) (page_words f) && has_known_classes f
+is_bad_table f = not (begins_well f && list_all (is_page f) (page_addresses f) && has_known_classes f
     && all_below table_size (is_sound_entry f))
 
 -- ---- references
@@ -171,15 +171,15 @@ bad_class f = option_map (λ o. o.place) (find (λ o. nat_lt o.class 4 || not (h
 
 -- ---- contexts
 
-abbrev pub is_context : FileObject → Bool
-is_context o = o.class == context_class
+abbrev pub is_file_context : FileObject → Bool
+is_file_context o = o.class == context_class
 
-abbrev pub is_method : FileObject → Bool
-is_method o = is_method_format o.format
+abbrev pub is_file_method : FileObject → Bool
+is_file_method o = is_method_format o.format
 
 -- a word that is a SmallInteger, as a pc of a method
 abbrev pub is_pc_of : ℕ → FileObject → Bool
-is_pc_of word o = is_method o && option_map_or
+is_pc_of word o = is_file_method o && option_map_or
     (lies_between (4 * (1 + literal_count (header_in_words o.words)) + 1) (bytecode_count o.format o.words))
     (natural_in_word word) false
 
@@ -190,20 +190,20 @@ is_stackp size word = option_map_or (λ n. nat_le n size) (natural_in_word word)
 abbrev pub is_sound_context : File → FileObject → Bool
 is_sound_context f o =
     o.format == 3 && (length o.words == 22 || length o.words == 62)
-    && (is_nil f (slice_index o.words 0) || names f is_context (slice_index o.words 0))
-    && (is_nil f (slice_index o.words 1) || names f (is_pc_of (slice_index o.words 1)) (slice_index o.words 3))
-    && (is_nil f (slice_index o.words 2) || is_stackp (length o.words - context_fields) (slice_index o.words 2))
-    && (is_nil f (slice_index o.words 3) || names f is_method (slice_index o.words 3))
-    && (is_nil f (slice_index o.words 4) || names f (λ c. c.class == 37) (slice_index o.words 4))
+    && (is_nil_word f (slice_index o.words 0) || names f is_file_context (slice_index o.words 0))
+    && (is_nil_word f (slice_index o.words 1) || names f (is_pc_of (slice_index o.words 1)) (slice_index o.words 3))
+    && (is_nil_word f (slice_index o.words 2) || is_stackp (length o.words - context_fields) (slice_index o.words 2))
+    && (is_nil_word f (slice_index o.words 3) || names f is_file_method (slice_index o.words 3))
+    && (is_nil_word f (slice_index o.words 4) || names f (λ c. c.class == 37) (slice_index o.words 4))
 
 unfoldable pub bad_context : File → Option ℕ
-bad_context f = option_map (λ o. o.place) (find (λ o. is_context o && not (is_sound_context f o)) (visible f))
+bad_context f = option_map (λ o. o.place) (find (λ o. is_file_context o && not (is_sound_context f o)) (visible f))
 
 -- ---- roots
 
 -- the words of the visible pointer object with n slots or more that a word names, where a context counts as none
 abbrev pub fields_of : ℕ → FileObject → Option (List ℕ)
-fields_of n o = if is_visible o && is_pointer_format o.format && not (is_context o) && nat_le n (length o.words)
+fields_of n o = if is_visible o && is_pointer_format o.format && not (is_file_context o) && nat_le n (length o.words)
     then Some o.words else None
 
 abbrev pub fields_in : File → ℕ → ℕ → Option (List ℕ)
@@ -220,15 +220,15 @@ active_process_in f word =
     (fields_in f 2 (slice_index link 1))) (fields_in f 2 (slice_index special 3))) (special_in f word)
 
 abbrev pub is_live_context : FileObject → Bool
-is_live_context o = is_context o && is_some (natural_in_word (slice_index o.words 1))
+is_live_context o = is_file_context o && is_some (natural_in_word (slice_index o.words 1))
 
 -- a process is nil, or has four slots and a live context in its slot 1
-abbrev pub is_process : File → ℕ → Bool
-is_process f word = is_nil f word
+abbrev pub is_process_word : File → ℕ → Bool
+is_process_word f word = is_nil_word f word
     || option_map_or (λ process. names f is_live_context (slice_index process 1)) (fields_in f 4 word) false
 
 unfoldable pub is_bad_roots : File → ℕ → Bool
-is_bad_roots f word = not (option_map_or (is_process f) (active_process_in f word) false)
+is_bad_roots f word = not (option_map_or (is_process_word f) (active_process_in f word) false)
 
 -- ---- births
 

@@ -45,8 +45,8 @@ abbrev pub last_hash_in : List ℕ → ℕ
 last_hash_in bytes = u32_at bytes 20 % 2 ^ 22
 
 -- the header, in which the bytes at places 8 to 23 count as 0
-abbrev pub header_in : List ℕ → List ℕ
-header_in bytes = take 8 bytes ++ replicate 16 0 ++ take 40 (drop 24 bytes)
+abbrev pub file_header : List ℕ → List ℕ
+file_header bytes = take 8 bytes ++ replicate 16 0 ++ take 40 (drop 24 bytes)
 
 -- the heap's words of 4 bytes, which follow the header
 unfoldable pub words_in : List ℕ → List ℕ
@@ -92,8 +92,8 @@ top_byte bits = bits / 2 ^ 56
 abbrev pub end_at : ℕ → ℕ → ℕ
 end_at place slots = place + 2 + 2 * max 1 ((slots + 1) / 2)
 
-abbrev pub end_of : FileObject → ℕ
-end_of o = end_at o.place (length o.words)
+abbrev pub object_end : FileObject → ℕ
+object_end o = end_at o.place (length o.words)
 
 -- the object with this header and so many slots
 abbrev pub object_with : List ℕ → ℕ → ℕ → ℕ → ℕ → FileObject
@@ -138,7 +138,7 @@ nothing = record { objects = []; torn = None }
 unfoldable pub cut_from : ℕ → List ℕ → ℕ → Cut
 cut_from zero heap place = nothing
 cut_from (suc most) heap place = if nat_le (length heap) place then nothing
-    else cut_behind place (object_from heap place) (λ o. cut_from most heap (end_of o))
+    else cut_behind place (object_from heap place) (λ o. cut_from most heap (object_end o))
 
 -- a heap cut into its objects, of which it has fewer than words
 abbrev pub cut_of : List ℕ → Cut
@@ -183,5 +183,5 @@ names f passes word = option_map_or passes (named f word) false
 abbrev pub nil_in : File → ℕ
 nil_in f = option_map_or (address_in f) (slice_get f.objects 0) 0
 
-abbrev pub is_nil : File → ℕ → Bool
-is_nil f word = word == nil_in f
+abbrev pub is_nil_word : File → ℕ → Bool
+is_nil_word f word = word == nil_in f

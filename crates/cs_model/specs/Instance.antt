@@ -3,7 +3,7 @@
 use Rattle.std.specs.Prelude.{ℕ, zero, suc, ◌+◌, ◌-◌, ◌*◌, ◌/◌, ◌%◌, ◌==◌, ◌&&◌, ◌||◌, not, Bool, false, nat_lt, if◌then◌else◌, [], replicate, Option, Some, None, is_some, option_and_then, slice_get}
 use Rattle.std.specs.FinMap.{FinMap, get, insert}
 use Rattle.std.specs.Ordering.{nat_cmp}
-use Rattle.cs_model.specs.Ref.{Ref, Small, Char, birth_of, index_of}
+use Rattle.cs_model.specs.Ref.{Ref, Small, Char, named_object, small_index}
 use Rattle.cs_model.specs.Ref as ref
 use Rattle.cs_model.specs.Obj.{Obj, Context, Ptr, Raw, Ctx, new_head, hash_in, context_class, words_of}
 use Rattle.cs_model.specs.State.{Kept, Rest, with_rest, object_at, object_of, slots_of}
@@ -61,7 +61,7 @@ enter_class k index (Some birth) = with_rest (with_class index birth k.rest) k
 
 -- the class has the index as its hash, and stands there in the class table
 unfoldable pub take_index : Kept → Ref → ℕ → Kept
-take_index k class index = enter_class (edit_object k class (with_hash index)) index (birth_of class)
+take_index k class index = enter_class (edit_object k class (with_hash index)) index (named_object class)
 
 -- ---- instances
 
@@ -123,7 +123,7 @@ make_shaped k class size (Some shape) =
 
 -- slot 2 of a class, where that is no negative number
 abbrev pub shape_of : Kept → Ref → Option ℕ
-shape_of k class = option_and_then (λ slots. option_and_then (λ x. index_of x) (slice_get slots 2)) (slots_of k 3 class)
+shape_of k class = option_and_then (λ slots. option_and_then (λ x. small_index x) (slice_get slots 2)) (slots_of k 3 class)
 
 unfoldable pub instantiate : Kept → Ref → ℕ → Made
 instantiate k class size = make_shaped k class size (shape_of k class)

@@ -8,9 +8,9 @@ digits_from n [] = Some n
 digits_from n (b ∷ bytes) = if is_ascii_digit b then digits_from (10 * n + (b - 48)) bytes else None
 
 -- a number in decimal digits without leading zeros
-abbrev pub number_in : List ℕ → Option ℕ
-number_in [] = None
-number_in (b ∷ bytes) = if b == 48 && nat_lt 0 (length bytes) then None else digits_from 0 (b ∷ bytes)
+abbrev pub decimal_number : List ℕ → Option ℕ
+decimal_number [] = None
+decimal_number (b ∷ bytes) = if b == 48 && nat_lt 0 (length bytes) then None else digits_from 0 (b ∷ bytes)
 
 abbrev pub at_most : ℕ → ℕ → Option ℕ
 at_most most n = if nat_le n most then Some n else None

@@ -1,7 +1,7 @@
 -- The operations on the kept parts from which instructions, sends, returns and primitives are composed. Each is total:
 -- where its condition fails it leaves something that no definition uses.
 use Rattle.std.specs.Prelude.{ℕ, ◌+◌, ◌-◌, Bool, List, [], ◌∷◌, ◌++◌, length, drop, replicate, Option, Some, None, slice_get, slice_set, unwrap_or, if◌then◌else◌}
-use Rattle.cs_model.specs.Ref.{Ref, birth_of}
+use Rattle.cs_model.specs.Ref.{Ref, named_object}
 use Rattle.cs_model.specs.Ref as ref
 use Rattle.cs_model.specs.Obj.{Obj, Context, Ptr, Raw, Method, Ctx, new_head, given_hash, fixed_to, first_pc, temporary_count, context_size, literals_in, header_in, dead, with_pc, pushed, popped, stored}
 use Rattle.cs_model.specs.State.{Kept, Rest, put, with_rest, object_at, object_of}
@@ -43,7 +43,7 @@ edit_at f None k = k
 edit_at f (Some i) k = edit_found f i (object_at k i) k
 
 abbrev pub edit_object : Kept → Ref → (Obj → Obj) → Kept
-edit_object k x f = edit_at f (birth_of x) k
+edit_object k x f = edit_at f (named_object x) k
 
 -- slot i of a pointer object, or a literal of a method, where the header is slot 0
 abbrev pub with_slot : ℕ → Ref → Obj → Obj
@@ -156,7 +156,7 @@ suspend_of k = with_rest (activate None k.rest) k
 
 -- the active context dies, its sender is active, and the value is pushed
 unfoldable pub leave_of : Kept → Ref → Kept
-leave_of k x = push_of (resume_of (kill_of k (active_birth k)) (unwrap_or (birth_of (active_context k).sender) k.rest.nil)) x
+leave_of k x = push_of (resume_of (kill_of k (active_birth k)) (unwrap_or (named_object (active_context k).sender) k.rest.nil)) x
 
 -- contexts die, the target is active, and the value is pushed
 unfoldable pub kill_all : List ℕ → Kept → Kept

@@ -1,7 +1,7 @@
 -- Primitives on the stack values of contexts: 210 and 211 read and write value i, counted from 1, and 212 is stackp. (Fields
 -- of contexts, and their copies, are cases of the primitives on objects.)
 use Rattle.std.specs.Prelude.{ℕ, nat_lt, if◌then◌else◌, length, Option, Some, None, option_map, option_and_then, slice_get}
-use Rattle.cs_model.specs.Ref.{Ref, birth_of}
+use Rattle.cs_model.specs.Ref.{Ref, named_object}
 use Rattle.cs_model.specs.Obj.{Context, context_in, edit_context, stored}
 use Rattle.cs_model.specs.State.{Kept, object_at, object_of}
 use Rattle.cs_model.specs.Operation.{edit_found}
@@ -20,7 +20,7 @@ unfoldable pub stack_at_put_prim : Kept → ℕ → Out
 stack_at_put_prim k args = with_count k 2 args
     (answer_in
     (option_and_then (λ birth. option_and_then (λ c. option_and_then (λ i. stack_put k birth i (argument k 2 1) c) (slot_index (argument k 2 0)))
-    (context_in (object_at k birth))) (birth_of (receiver k 2)))
+    (context_in (object_at k birth))) (named_object (receiver k 2)))
     k 2 (argument k 2 1))
 
 unfoldable pub stackp_prim : Kept → ℕ → Out

@@ -1,7 +1,7 @@
 -- Primitives on objects (Blue Book, part four: array and stream, storage management; the numbers are this machine's own).
 use Rattle.std.specs.Prelude.{ℕ, zero, suc, pos, negsuc, ◌+◌, ◌-◌, ◌/◌, ◌%◌, ◌==◌, ◌&&◌, ◌||◌, not, Bool, true, false, nat_lt, nat_le, if◌then◌else◌, List, [], ◌∷◌, length, replicate, Option, Some, None, is_some, option_map, option_and_then, slice_get, unwrap_or}
 use Rattle.std.specs.FinMap.{get}
-use Rattle.cs_model.specs.Ref.{Ref, Small, Char, birth_of, index_of, same_ref}
+use Rattle.cs_model.specs.Ref.{Ref, Small, Char, named_object, small_index, same_ref}
 use Rattle.cs_model.specs.Ref as ref
 use Rattle.cs_model.specs.Obj.{Obj, Context, Ptr, Raw, Method, Ctx, new_head, class_index_in, context_class, hash_in, is_fixed, is_context, is_header, literal_count, words_of}
 use Rattle.cs_model.specs.State.{Kept, object_at, object_of, is_read_only, slots_of, special_at}
@@ -87,7 +87,7 @@ method_slot (Some (Method head header literals bytecodes)) i = slice_get (Small 
 method_slot (Some (Ctx c)) i = None
 
 abbrev pub slot_index : Ref → Option ℕ
-slot_index x = option_and_then (λ i. if nat_lt 0 i then Some (i - 1) else None) (index_of x)
+slot_index x = option_and_then (λ i. if nat_lt 0 i then Some (i - 1) else None) (small_index x)
 
 unfoldable pub object_at_prim : Kept → ℕ → Out
 object_at_prim k args = with_count k 1 args
@@ -112,7 +112,7 @@ new_prim k args = with_count k 0 args (answer_made k 0 (instantiate k (receiver 
 
 unfoldable pub new_size_prim : Kept → ℕ → Out
 new_size_prim k args = with_count k 1 args
-    (given (index_of (argument k 1 0)) (fail k) (λ size. answer_made k 1 (instantiate k (receiver k 1) size)))
+    (given (small_index (argument k 1 0)) (fail k) (λ size. answer_made k 1 (instantiate k (receiver k 1) size)))
 
 -- 18: a Point with two fields, by special 12; nothing is made where its class has fewer slots
 abbrev pub point_class : ℕ
@@ -138,16 +138,16 @@ point_prim k args = with_count k 1 args
 abbrev pub answer_field : Kept → ℕ → ℕ → Option Ref → Out
 answer_field k args i value = given value (fail k) (λ x. if i == 0 then looked (answer k args x) else answer k args x)
 
-abbrev pub slot_at : Kept → ℕ → ℕ → Option Obj → Out
-slot_at k args i None = fail k
-slot_at k args i (Some (Ptr head slots)) = answer_if k args (slice_get slots i)
-slot_at k args i (Some (Raw head bytes)) = fail k
-slot_at k args i (Some (Method head header literals bytecodes)) = fail k
-slot_at k args i (Some (Ctx c)) = answer_field k args i (context_get k c i)
+abbrev pub read_slot : Kept → ℕ → ℕ → Option Obj → Out
+read_slot k args i None = fail k
+read_slot k args i (Some (Ptr head slots)) = answer_if k args (slice_get slots i)
+read_slot k args i (Some (Raw head bytes)) = fail k
+read_slot k args i (Some (Method head header literals bytecodes)) = fail k
+read_slot k args i (Some (Ctx c)) = answer_field k args i (context_get k c i)
 
 unfoldable pub slot_at_prim : Kept → ℕ → Out
 slot_at_prim k args = with_count k 1 args
-    (given (slot_index (argument k 1 0)) (fail k) (λ i. slot_at k 1 i (object_of k (receiver k 1))))
+    (given (slot_index (argument k 1 0)) (fail k) (λ i. read_slot k 1 i (object_of k (receiver k 1))))
 
 abbrev pub context_at_put : Kept → Ref → ℕ → Ref → Context → Option ℕ → Option Kept
 context_at_put k x i v c None = None
@@ -158,7 +158,7 @@ slot_put k x i v None = None
 slot_put k x i v (Some (Ptr head slots)) = if nat_lt i (length slots) then Some (store_of k x i v) else None
 slot_put k x i v (Some (Raw head bytes)) = None
 slot_put k x i v (Some (Method head header literals bytecodes)) = None
-slot_put k x i v (Some (Ctx c)) = context_at_put k x i v c (birth_of x)
+slot_put k x i v (Some (Ctx c)) = context_at_put k x i v c (named_object x)
 
 unfoldable pub slot_at_put_prim : Kept → ℕ → Out
 slot_at_put_prim k args = with_count k 2 args (unless_read_only k (receiver k 2)
@@ -192,7 +192,7 @@ entry_index k birth None = None
 entry_index k birth (Some o) = option_and_then (λ i. if i == birth then Some (hash_in o) else None) (get k.rest.classes (hash_in o))
 
 abbrev pub table_index : Kept → Ref → Option ℕ
-table_index k x = option_and_then (λ i. entry_index k i (object_at k i)) (birth_of x)
+table_index k x = option_and_then (λ i. entry_index k i (object_at k i)) (named_object x)
 
 unfoldable pub some_instance_prim : Kept → ℕ → Out
 some_instance_prim k args = with_count k 0 args
@@ -204,7 +204,7 @@ index_but_context (Some o) = if is_context o then None else Some (class_index_in
 
 unfoldable pub next_instance_prim : Kept → ℕ → Out
 next_instance_prim k args = with_count k 0 args
-    (answer_if k 0 (option_and_then (λ i. option_and_then (λ index. instance_from k index (i + 1)) (index_but_context (object_at k i))) (birth_of (receiver k 0))))
+    (answer_if k 0 (option_and_then (λ i. option_and_then (λ index. instance_from k index (i + 1)) (index_but_context (object_at k i))) (named_object (receiver k 0))))
 
 -- ---- 79: a new method
 
@@ -229,8 +229,8 @@ is_method_shape (Some shape) = shape / 65536 == 24
 
 unfoldable pub new_method_prim : Kept → ℕ → Out
 new_method_prim k args = with_count k 2 args
-    (given (index_of (argument k 2 0)) (fail k) (λ count.
-    given (index_of (argument k 2 1)) (fail k) (λ header.
+    (given (small_index (argument k 2 0)) (fail k) (λ count.
+    given (small_index (argument k 2 1)) (fail k) (λ header.
     if is_method_shape (shape_of k (receiver k 2)) && is_header header then
     make_method k (receiver k 2) count header (class_index_for k (receiver k 2))
     else fail k)))
@@ -247,22 +247,22 @@ abbrev pub copy_fits : ℕ → ℕ → ℕ → ℕ → ℕ → Bool
 copy_fits start stop from mine its =
     nat_le 1 start && nat_le start (stop + 1) && nat_le stop mine && nat_le 1 from && nat_le (from + stop) (its + start)
 
-abbrev pub count_of : Option Range → Option ℕ
-count_of None = None
-count_of (Some r) = Some r.count
+abbrev pub range_count : Option Range → Option ℕ
+range_count None = None
+range_count (Some r) = Some r.count
 
 abbrev pub copy_to : Kept → Ref → Ref → ℕ → ℕ → ℕ → Out
 copy_to k x other start stop from =
-    given (count_of (range_of k x)) (fail k) (λ mine.
-    given (count_of (range_of k other)) (fail k) (λ its.
+    given (range_count (range_of k x)) (fail k) (λ mine.
+    given (range_count (range_of k other)) (fail k) (λ its.
     if copy_fits start stop from mine its then
     answer (copy_elements (stop + 1 - start) k x (front k x + (start - 1)) other (front k other + (from - 1))) 4 x else fail k))
 
 unfoldable pub replace_prim : Kept → ℕ → Out
 replace_prim k args = with_count k 4 args (unless_read_only k (receiver k 4)
-    (given (index_of (argument k 4 0)) (fail k) (λ start.
-    given (index_of (argument k 4 1)) (fail k) (λ stop.
-    given (index_of (argument k 4 3)) (fail k) (λ from.
+    (given (small_index (argument k 4 0)) (fail k) (λ start.
+    given (small_index (argument k 4 1)) (fail k) (λ stop.
+    given (small_index (argument k 4 3)) (fail k) (λ from.
     if copy_kinds (object_of k (receiver k 4)) (object_of k (argument k 4 2)) then copy_to k (receiver k 4) (argument k 4 2) start stop from else fail k)))))
 
 -- ---- 110, 111, 148, 175
@@ -332,4 +332,4 @@ quick_prim k number args =
     if number == 259 then answer k args (nil_of k) else
     if number == 260 then answer k args (Small (negsuc 0)) else
     if nat_lt number 264 then answer k args (Small (pos (number - 261))) else
-    slot_at k args (number - 264) (object_of k (receiver k args))
+    read_slot k args (number - 264) (object_of k (receiver k args))

@@ -1,6 +1,6 @@
 -- Primitives on the run: snapshots, the end, the clock, the timer, output and input. They see the whole state.
 use Rattle.std.specs.Prelude.{ℕ, ℤ, ◌==◌, ◌||◌, true, false, int_lt, nat_lt, if◌then◌else◌, List, [], ◌∷◌, ◌++◌, Option, Some, None}
-use Rattle.cs_model.specs.Ref.{Ref, Small, small_of, index_of}
+use Rattle.cs_model.specs.Ref.{Ref, Small, small_of, small_index}
 use Rattle.cs_model.specs.State.{Kept, Run, State, Timer, object_of, is_nil, active_process}
 use Rattle.cs_model.specs.Operation.{store_of, nil_of}
 use Rattle.cs_model.specs.Number.{boolean}
@@ -91,7 +91,7 @@ or_bytes (Some bytes) other = Some bytes
 
 -- the bytes of a byte object, or the byte that a SmallInteger from 0 to 255 is
 unfoldable pub bytes_to_write : Kept → Ref → Option (List ℕ)
-bytes_to_write k x = or_bytes (byte_string (object_of k x)) (small_byte (index_of x))
+bytes_to_write k x = or_bytes (byte_string (object_of k x)) (small_byte (small_index x))
 
 abbrev pub written : List ℕ → Run → Run
 written bytes r = record r { output = r.output ++ bytes }

@@ -1,7 +1,7 @@
 -- Primitives that evaluate closures, and those that look along senders for marks.
 use Rattle.std.specs.Prelude.{ℕ, zero, suc, ◌==◌, ◌||◌, Bool, false, if◌then◌else◌, List, [], length, Option, Some, None, is_some}
 use Rattle.cs_model.specs.declared.stop.Stop.TheVariants as why
-use Rattle.cs_model.specs.Ref.{Ref, birth_of}
+use Rattle.cs_model.specs.Ref.{Ref, named_object}
 use Rattle.cs_model.specs.Ref as ref
 use Rattle.cs_model.specs.Obj.{Context, context_in, edit_context}
 use Rattle.cs_model.specs.State.{Kept, object_at, object_of, is_nil}
@@ -63,7 +63,7 @@ is_end k x = is_nil k x || is_some (context_in (object_of k x))
 unfoldable pub unwind_mark_prim : Kept → ℕ → Out
 unwind_mark_prim k args = with_count k 1 args
     (given (context_birth k (receiver k 1)) (fail k) (λ i.
-    if is_end k (argument k 1 0) then answer_mark k 1 (search_mark links k unwind_mark (birth_of (argument k 1 0)) (sender_birth k i)) else fail k))
+    if is_end k (argument k 1 0) then answer_mark k 1 (search_mark links k unwind_mark (named_object (argument k 1 0)) (sender_birth k i)) else fail k))
 
 -- from the receiver itself on
 unfoldable pub handler_mark_prim : Kept → ℕ → Out
@@ -96,4 +96,4 @@ end_up_to k i goal (Some birth) = if is_nil k goal then end_if k i goal [] else 
 unfoldable pub end_between_prim : Kept → ℕ → Out
 end_between_prim k args = with_count k 1 args
     (given (context_birth k (receiver k 1)) (fail k) (λ i.
-    if is_end k (argument k 1 0) then end_up_to k i (argument k 1 0) (birth_of (argument k 1 0)) else fail k))
+    if is_end k (argument k 1 0) then end_up_to k i (argument k 1 0) (named_object (argument k 1 0)) else fail k))

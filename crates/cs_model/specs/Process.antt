@@ -8,7 +8,7 @@
 -- process keeps its context, and the other process starts.
 use Rattle.std.specs.Prelude.{ℕ, zero, suc, ℤ, pos, ◌+ℤ◌, ◌-ℤ◌, Bool, false, int_lt, if◌then◌else◌, List, [], ◌∷◌, Option, Some, None, is_some, option_and_then, slice_get, unwrap_or}
 use Rattle.cs_model.specs.declared.stop.Stop.TheVariants as why
-use Rattle.cs_model.specs.Ref.{Ref, Small, Char, birth_of, same_ref, small_of, index_of}
+use Rattle.cs_model.specs.Ref.{Ref, Small, Char, named_object, same_ref, small_of, small_index}
 use Rattle.cs_model.specs.Ref as ref
 use Rattle.cs_model.specs.Obj.{slots_in}
 use Rattle.cs_model.specs.State.{Kept, object_of, slots_of, is_nil, scheduler_of, active_process}
@@ -90,7 +90,7 @@ if_list k list = if is_some (slots_of k list_slots list) then Some list else Non
 unfoldable pub list_of_process : Kept → Ref → Ref → Option Ref
 list_of_process k scheduler p =
     option_and_then (λ lists. option_and_then (λ list. if_list k list)
-    (list_at lists (option_and_then (λ x. index_of x) (slot_or_none k process_slots priority p))))
+    (list_at lists (option_and_then (λ x. small_index x) (slot_or_none k process_slots priority p))))
     (lists_of k scheduler)
 
 abbrev pub with_list_of : Kept → Ref → (Ref → Out) → Out

@@ -21,8 +21,8 @@ unfoldable pub class_of : Kept → Ref → Option Ref
 class_of k x = option_map (λ i. ref.Obj i) (get k.rest.classes (class_index_of k x))
 
 -- what is read where no context is active
-abbrev pub blank : Context
-blank = record { hash = 0; sender = Small (pos 0); pc = None; method = Small (pos 0); closure = Small (pos 0); receiver = Small (pos 0); stack = []; size = 0 }
+abbrev pub blank_context : Context
+blank_context = record { hash = 0; sender = Small (pos 0); pc = None; method = Small (pos 0); closure = Small (pos 0); receiver = Small (pos 0); stack = []; size = 0 }
 
 -- the birth of the active context; where none is active that of nil, which is no context but always there
 abbrev pub active_birth : Kept → ℕ
@@ -30,7 +30,7 @@ active_birth k = unwrap_or k.rest.active k.rest.nil
 
 -- the active context
 unfoldable pub active_context : Kept → Context
-active_context k = unwrap_or (context_in (object_at k (active_birth k))) blank
+active_context k = unwrap_or (context_in (object_at k (active_birth k))) blank_context
 
 abbrev pub stack_of : Kept → List Ref
 stack_of k = (active_context k).stack

@@ -22,10 +22,10 @@ same_ref (Obj i) (Char c) = false
 same_ref (Obj i) (Obj j) = i == j
 
 -- the birth of the object that a reference names
-abbrev pub birth_of : Ref → Option ℕ
-birth_of (Small a) = None
-birth_of (Char c) = None
-birth_of (Obj i) = Some i
+abbrev pub named_object : Ref → Option ℕ
+named_object (Small a) = None
+named_object (Char c) = None
+named_object (Obj i) = Some i
 
 abbrev pub small_of : Ref → Option ℤ
 small_of (Small a) = Some a
@@ -42,5 +42,5 @@ natural_in None = None
 natural_in (Some a) = natural_of a
 
 -- a SmallInteger that isn't negative, as an index
-abbrev pub index_of : Ref → Option ℕ
-index_of x = natural_in (small_of x)
+abbrev pub small_index : Ref → Option ℕ
+small_index x = natural_in (small_of x)

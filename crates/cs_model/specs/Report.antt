@@ -2,7 +2,7 @@
 use Rattle.std.specs.Prelude.{ℕ, if◌then◌else◌, List, ◌++◌, Option, Some, None, codes, decimal}
 use Rattle.cs_model.specs.declared.stop.Stop.{Stop}
 use Rattle.cs_model.specs.declared.stop.Stop.TheVariants as why
-use Rattle.cs_model.specs.Ref.{Ref, birth_of}
+use Rattle.cs_model.specs.Ref.{Ref, named_object}
 use Rattle.cs_model.specs.State.{Kept, State, is_nil, active_process}
 use Rattle.cs_model.specs.Read.{active_context}
 use Rattle.cs_model.specs.Step.{Ending, Steps, Quit, Idle, Stopped}
@@ -40,7 +40,7 @@ no_place = record { process = None; context = None; pc = None }
 
 abbrev pub place_at : Kept → Option Ref → Place
 place_at k None = no_place
-place_at k (Some p) = if is_nil k p then no_place else record { process = birth_of p; context = k.rest.active; pc = (active_context k).pc }
+place_at k (Some p) = if is_nil k p then no_place else record { process = named_object p; context = k.rest.active; pc = (active_context k).pc }
 
 unfoldable pub place_of : Kept → Place
 place_of k = place_at k (active_process k)

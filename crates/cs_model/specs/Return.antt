@@ -3,7 +3,7 @@
 use Rattle.std.specs.Prelude.{ℕ, zero, suc, ◌==◌, ◌&&◌, Bool, false, nat_lt, if◌then◌else◌, List, [], ◌∷◌, ◌++◌, length, not, Option, Some, None, is_some, option_and_then, slice_get}
 use Rattle.std.specs.List.{list_any}
 use Rattle.cs_model.specs.declared.stop.Stop.TheVariants as why
-use Rattle.cs_model.specs.Ref.{Ref, Small, Char, birth_of, same_ref}
+use Rattle.cs_model.specs.Ref.{Ref, Small, Char, named_object, same_ref}
 use Rattle.cs_model.specs.Ref as ref
 use Rattle.cs_model.specs.Obj.{Obj, Context, slots_in, context_in, bytecodes_in, header_in, primitive_number}
 use Rattle.cs_model.specs.State.{Kept, object_at, object_of, is_nil}
@@ -33,7 +33,7 @@ context_at k x = context_in (object_of k x)
 
 -- the birth of a reference that is a context
 abbrev pub context_birth : Kept → Ref → Option ℕ
-context_birth k x = option_and_then (λ c. birth_of x) (context_at k x)
+context_birth k x = option_and_then (λ c. named_object x) (context_at k x)
 
 -- the sender of the context of a birth, if that is a context
 abbrev pub sender_birth : Kept → ℕ → Option ℕ

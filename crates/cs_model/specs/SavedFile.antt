@@ -3,7 +3,7 @@
 use Rattle.std.specs.Prelude.{◌≡◌, ℕ, ◌+◌, ◌*◌, ◌-◌, ◌/◌, ◌%◌, ◌^◌, ◌<◌, ◌≤◌, ◌==◌, ◌&&◌, Bool, true, false, not, nat_le, max, min, if◌then◌else◌, List, [], ◌∷◌, ◌++◌, length, map, flat_map, sum_by, take, drop, replicate, Option, Some, None, is_some}
 use Rattle.std.specs.List.{AllByRecursion, range_with_len}
 use Rattle.cs_model.specs.Words.{bytes_of_words}
-use Rattle.cs_model.specs.ImageFile.{number_at, heap_size, old_base, special_address, last_hash_in, header_in, words_in, has_births, birth_count, births_in, next_birth_in, FileObject, cut_of, file_of, visible, stands}
+use Rattle.cs_model.specs.ImageFile.{number_at, heap_size, old_base, special_address, last_hash_in, file_header, words_in, has_births, birth_count, births_in, next_birth_in, FileObject, cut_of, file_of, visible, stands}
 
 -- ---- one object
 
@@ -178,7 +178,7 @@ pub record IsReadAgain (f : SavedFile) (bytes : List ℕ) : Type 0 where
   pub base : old_base bytes ≡ saved_base
   pub special : special_address bytes ≡ f.special
   pub last_hash : last_hash_in bytes ≡ f.last_hash
-  pub header : header_in bytes ≡ take 8 f.header ++ replicate 16 0 ++ drop 24 f.header
+  pub header : file_header bytes ≡ take 8 f.header ++ replicate 16 0 ++ drop 24 f.header
   pub words : words_in bytes ≡ saved_heap f
   pub cut : cut_of (words_in bytes) ≡ record { objects = placed_from 0 (all_saved f); torn = None }
   pub has_births : has_births bytes ≡ is_some f.births

@@ -15,10 +15,10 @@ pub data ScriptFault : Type 0 where
   NotRising : (number : ℕ) → ScriptFault
 
 -- the printed name of a fault, with its line
-abbrev pub fault_text : ScriptFault → List ℕ
-fault_text TooMany = codes "TooMany"
-fault_text (BadLine number) = codes "BadLine " ++ decimal number
-fault_text (NotRising number) = codes "NotRising " ++ decimal number
+abbrev pub script_fault_name : ScriptFault → List ℕ
+script_fault_name TooMany = codes "TooMany"
+script_fault_name (BadLine number) = codes "BadLine " ++ decimal number
+script_fault_name (NotRising number) = codes "NotRising " ++ decimal number
 
 -- ---- lines
 
@@ -49,18 +49,18 @@ readings text = map (λ line. event_in (parts_of line)) (lines_of text)
 -- ---- faults
 
 -- what is wrong with a line: it is no event, or its event comes before the one of the line above
-abbrev pub line_fault : ℕ → ℕ → Option Event → Option ScriptFault
-line_fault number above None = Some (BadLine number)
-line_fault number above (Some e) = if nat_lt e.before above then Some (NotRising number) else None
+abbrev pub event_line_fault : ℕ → ℕ → Option Event → Option ScriptFault
+event_line_fault number above None = Some (BadLine number)
+event_line_fault number above (Some e) = if nat_lt e.before above then Some (NotRising number) else None
 
 -- the first fault of the lines from a number on
 abbrev pub first_fault : ℕ → ℕ → List (Option Event) → Option ScriptFault
 first_fault number above [] = None
 first_fault number above (r ∷ rs) =
-    option_or (line_fault number above r) (first_fault (number + 1) (option_map_or (λ e. e.before) r above) rs)
+    option_or (event_line_fault number above r) (first_fault (number + 1) (option_map_or (λ e. e.before) r above) rs)
 
-abbrev pub fault_of : List ℕ → Option ScriptFault
-fault_of text = if is_too_long text then Some TooMany else first_fault 1 0 (readings text)
+abbrev pub script_fault : List ℕ → Option ScriptFault
+script_fault text = if is_too_long text then Some TooMany else first_fault 1 0 (readings text)
 
 -- the events of a script, or its first fault
 abbrev pub script_unless : Option ScriptFault → List Event → Result (List Event) ScriptFault
@@ -68,4 +68,4 @@ script_unless None events = Ok events
 script_unless (Some fault) events = Err fault
 
 unfoldable pub script_of : List ℕ → Result (List Event) ScriptFault
-script_of text = script_unless (fault_of text) (filter_map (λ r. r) (readings text))
+script_of text = script_unless (script_fault text) (filter_map (λ r. r) (readings text))

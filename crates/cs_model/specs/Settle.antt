@@ -2,7 +2,7 @@
 -- no machine runs.
 use Rattle.std.specs.Prelude.{ℕ, pos, Bool, if◌then◌else◌, List, [], Option, Some, None, option_and_then, slice_get}
 use Rattle.cs_model.specs.declared.event.Event.{Event}
-use Rattle.cs_model.specs.Ref.{Ref, birth_of}
+use Rattle.cs_model.specs.Ref.{Ref, named_object}
 use Rattle.cs_model.specs.Ref as ref
 use Rattle.cs_model.specs.State.{Kept, Run, State, slots_of, is_nil, active_process}
 use Rattle.cs_model.specs.Read.{active_birth}
@@ -21,7 +21,7 @@ open_at k p None = k
 open_at k p (Some i) = resume_of (store_of k p 1 (nil_of k)) i
 
 abbrev pub open_process : Kept → Ref → Kept
-open_process k p = if is_nil k p then k else open_at k p (option_and_then (λ x. birth_of x) (context_kept k p))
+open_process k p = if is_nil k p then k else open_at k p (option_and_then (λ x. named_object x) (context_kept k p))
 
 abbrev pub open_if : Kept → Option Ref → Kept
 open_if k None = k

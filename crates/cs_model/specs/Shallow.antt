@@ -6,7 +6,7 @@ use Rattle.std.specs.List.{All, Contains, list_any}
 use Rattle.std.specs.Option.{option_to_list}
 use Rattle.cs_model.specs.declared.instruction.Op.{Op}
 use Rattle.cs_model.specs.declared.instruction.Op.TheVariants as op
-use Rattle.cs_model.specs.Ref.{Ref, birth_of, same_ref}
+use Rattle.cs_model.specs.Ref.{Ref, named_object, same_ref}
 use Rattle.cs_model.specs.State.{Kept, Run, State, special_at, is_nil, active_process}
 use Rattle.cs_model.specs.Read.{receiver_of}
 use Rattle.cs_model.specs.Exec.{exec}
@@ -121,7 +121,7 @@ if_met TooLong = []
 
 -- 196 gives its receiver another sender, and ends the contexts between
 abbrev pub ended_between : Kept → ℕ → Ref → List ℕ
-ended_between k i goal = if is_nil k goal then [] else given (birth_of goal) [] (λ j. if_met (senders_to k i j))
+ended_between k i goal = if is_nil k goal then [] else given (named_object goal) [] (λ j. if_met (senders_to k i j))
 
 abbrev pub changed_by_end : Kept → List ℕ
 changed_by_end k = given (context_birth k (receiver k 1)) [] (λ i. i ∷ ended_between k i (argument k 1 0))

@@ -51,8 +51,8 @@ abbrev pub with_kept : Kept → Run → State
 with_kept k r = record { kept = k; run = r }
 
 -- what was counted before counts too
-abbrev pub counting : Count → Result → Result
-counting n r = record r { out = record { end = r.out.end; state = r.out.state; count = plus n r.out.count } }
+abbrev pub result_counting : Count → Result → Result
+result_counting n r = record r { out = record { end = r.out.end; state = r.out.state; count = plus n r.out.count } }
 
 abbrev pub arguments_of : Kept → Ref → ℕ
 arguments_of k method = argument_count (header_in (object_of k method))
@@ -69,7 +69,7 @@ try_performed s method number =
 
 abbrev pub tried : State → Ref → Result → Result
 tried s method r =
-    given (primitive_in r.out.end) (or_enter s method r) (λ p. counting r.out.count (try_performed (with_kept r.out.state r.run) p.0 p.1))
+    given (primitive_in r.out.end) (or_enter s method r) (λ p. result_counting r.out.count (try_performed (with_kept r.out.state r.run) p.0 p.1))
 
 unfoldable pub try_primitive : State → Ref → ℕ → Result
 try_primitive s method number = tried s method (prim number (arguments_of s.kept method) s)
@@ -77,7 +77,7 @@ try_primitive s method number = tried s method (prim number (arguments_of s.kept
 -- ---- sends and returns
 
 abbrev pub sent : Run → Out → Result
-sent r o = given (primitive_in o.end) (result o r) (λ p. counting o.count (try_primitive (with_kept o.state r) p.0 p.1))
+sent r o = given (primitive_in o.end) (result o r) (λ p. result_counting o.count (try_primitive (with_kept o.state r) p.0 p.1))
 
 unfoldable pub do_send : Run → Kept → Ref → ℕ → Option Ref → Result
 do_send r k selector args above = sent r (send k selector args above)
@@ -87,7 +87,7 @@ abbrev pub do_call : Run → Kept → ℕ → ℕ → Result
 do_call r k special args = given (special_at k special) (result (stop why.BadSpecial k) r) (λ selector. do_send r k selector args None)
 
 abbrev pub returned : Run → Out → Result
-returned r o = given (call_in o.end) (result o r) (λ c. counting o.count (do_call r o.state c.0 c.1))
+returned r o = given (call_in o.end) (result o r) (λ c. result_counting o.count (do_call r o.state c.0 c.1))
 
 unfoldable pub do_return : Run → Kept → Ref → Bool → Result
 do_return r k value local = returned r (back k value local)
@@ -97,8 +97,8 @@ do_return r k value local = returned r (back k value local)
 abbrev pub followed : Run → Out → Result
 followed r o =
     given (message_in o.end)
-    (given (return_in o.end) (result o r) (λ p. counting o.count (do_return r o.state p.0 p.1)))
-    (λ m. counting o.count (do_send r o.state m.selector m.args m.above))
+    (given (return_in o.end) (result o r) (λ p. result_counting o.count (do_return r o.state p.0 p.1)))
+    (λ m. result_counting o.count (do_send r o.state m.selector m.args m.above))
 
 -- the instruction at the active pc
 unfoldable pub instruction_at : Kept → Option Instr

@@ -2,7 +2,7 @@
 use Rattle.std.specs.Prelude.{ℕ, ℤ, ◌==◌, ◌&&◌, ◌||◌, not, Bool, false, nat_lt, neg_ℤ, pos, if◌then◌else◌, List, [], ◌∷◌, length, filter, Option, Some, None, option_map, option_and_then}
 use Rattle.std.specs.Char.{is_ascii_alphabetic, is_ascii_alphanumeric}
 use Rattle.std.specs.List.{list_all, slice_split}
-use Rattle.cs_model.specs.Line.{number_in, at_most}
+use Rattle.cs_model.specs.Line.{decimal_number, at_most}
 
 abbrev pub line_feed : ℕ
 line_feed = 10
@@ -12,6 +12,10 @@ space = 32
 
 abbrev pub is_empty : List ℕ → Bool
 is_empty text = length text == 0
+
+abbrev pub first_that : List (List ℕ) → Option (List ℕ)
+first_that [] = None
+first_that (word ∷ words) = Some word
 
 -- the parts between line feeds are lines, but for an empty one at the end
 abbrev pub lines_in : List (List ℕ) → List (List ℕ)
@@ -32,21 +36,21 @@ abbrev pub parts_of : List ℕ → List (List ℕ)
 parts_of line = slice_split (λ b. b == space) line
 
 -- words are separated by one space or more
-abbrev pub words_of : List ℕ → List (List ℕ)
-words_of line = filter (λ word. not (is_empty word)) (parts_of line)
+abbrev pub line_words : List ℕ → List (List ℕ)
+line_words line = filter (λ word. not (is_empty word)) (parts_of line)
 
 -- a number in decimal digits without leading zeros, from the lowest to the highest
 abbrev pub number_between : ℕ → ℕ → List ℕ → Option ℕ
 number_between lowest highest word =
-    option_and_then (λ n. if nat_lt n lowest then None else at_most highest n) (number_in word)
+    option_and_then (λ n. if nat_lt n lowest then None else at_most highest n) (decimal_number word)
 
 -- the same with a minus sign in front, where it isn't 0
 abbrev pub negative_in : List ℕ → Option ℤ
-negative_in word = option_and_then (λ n. if n == 0 then None else Some (neg_ℤ (pos n))) (number_in word)
+negative_in word = option_and_then (λ n. if n == 0 then None else Some (neg_ℤ (pos n))) (decimal_number word)
 
 abbrev pub integer_in : List ℕ → Option ℤ
 integer_in [] = None
-integer_in (b ∷ bytes) = if b == 45 then negative_in bytes else option_map (λ n. pos n) (number_in (b ∷ bytes))
+integer_in (b ∷ bytes) = if b == 45 then negative_in bytes else option_map (λ n. pos n) (decimal_number (b ∷ bytes))
 
 -- a name is letters and digits and begins with a letter
 abbrev pub is_name : List ℕ → Bool

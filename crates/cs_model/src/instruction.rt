@@ -1,7 +1,7 @@
 //! The instructions of the V3PlusClosures bytecodes.
 
 ghost use Rattle.std.specs.Prelude.{◌≡◌};
-ghost use Rattle.cs_model.specs.Assemble.{name_of, plain_name};
+ghost use Rattle.cs_model.specs.Assemble.{op_name, plain_name};
 
 /// An instruction and the number of its bytes.
 #[derive(Clone, Copy, Debug, PartialEq, Eq)]
@@ -97,7 +97,7 @@ impl Op {
     /// The assembler's word for an instruction. A send by its selector's place among the special
     /// selectors is `op` or `common`, and code 139 is `prim`.
     pub fn name(self) -> &'static str
-        ensures { result.now ≡ name_of self }
+        ensures { result.now ≡ op_name self }
     {
         match self {
             Op::PushRcvr(_) => "pushRcvr",

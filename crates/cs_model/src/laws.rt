@@ -444,8 +444,8 @@ pub fn what_is_built_is_what_a_send_finds()
         → look_from k m.selector (begins_at k m.args m.above) ≡ sought.Missing → is_built_send k m ≡ false }
 {}
 
-/// The file of an image is read as it was put together: what is cut out of its bytes is what was given. Where each object is
-/// to be seen, the visible ones are those.
+/// The file of an image is read as it was put together: what is cut out of its bytes is what was given. Where each
+/// object is to be seen, the visible ones are those.
 pub fn a_saved_file_is_read_again()
     ensures read { (f : SavedFile) → FitsFile f → IsReadAgain f (saved_bytes f) }
     ensures seen { (f : SavedFile) → FitsFile f → AllByRecursion IsSeen f.objects → IsSeenAgain f (saved_bytes f) }

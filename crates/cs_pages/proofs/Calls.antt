@@ -3,7 +3,7 @@ use Rattle.std.proofs.Common.{◌≡◌, ◌≢◌, ap, length, ℕ, ◌+◌, �
 use Rattle.std.proofs.lemmas.Bool.{eqb-false, ne_eqb, not-true, not_from_false}
 use Rattle.std.proofs.lemmas.List.{get_or_read}
 use Rattle.cs_pages.specs.Order.{Order, without, IsFree}
-use Rattle.cs_pages.specs.Ring.{chain, order_of, IsRing}
+use Rattle.cs_pages.specs.Ring.{page_chain, order_by_ring, IsRing}
 use Rattle.cs_pages.specs.declared.Pages.TheInside.{Inside}
 use Rattle.cs_pages.proofs.Lists.{lacks_not, length-without, without-lacks, without-others, free_room}
 use Rattle.cs_pages.proofs.Links.{last_of, length-chain, linked_last}
@@ -11,7 +11,7 @@ use Rattle.cs_pages.proofs.Rings.{pages_in, ring_order, ring_start, page_in_rang
 
 -- the order that the fields keep
 abbrev pub kept : Inside → Order
-kept s = order_of s.older.items s.total s.used
+kept s = order_by_ring s.older.items s.total s.used
 
 abbrev pub HasRing : Inside → Type 0
 HasRing s = IsRing s.older.items s.newer.items (kept s)
@@ -24,7 +24,7 @@ abbrev pub newer_without : Inside → ℕ → ℕ → List ℕ
 newer_without s ahead behind = set s.newer.items ahead behind
 
 abbrev pub order_without : Inside → ℕ → ℕ → ℕ → Order
-order_without s p ahead behind = order_of (older_without s p ahead behind) s.total (s.used - 1)
+order_without s p ahead behind = order_by_ring (older_without s p ahead behind) s.total (s.used - 1)
 
 pub record Freed (s : Inside) (old : Order) (p ahead behind : ℕ) : Type 0 where
   pub ahead_in : ahead < s.total + 1
@@ -38,7 +38,7 @@ pub record Freed (s : Inside) (old : Order) (p ahead behind : ℕ) : Type 0 wher
 freed_kept : (s : Inside) (p ahead behind : ℕ) → HasRing s → Contains (kept s).recent p
     → ahead ≡ get_or s.older.items p ahead → behind ≡ get_or s.newer.items p behind → Freed s (kept s) p ahead behind
 freed_kept s p ahead behind ring used read_older read_newer =
-    let xs = chain s.older.items s.total s.used in
+    let xs = page_chain s.older.items s.total s.used in
     let below : p < s.total = page_in_range s.older.items s.newer.items s.total xs ring p used in
     let is_ahead : ahead ≡ get_or s.older.items p 0 = get_or_read s.older.items p ahead (omega (arith, ring.older_len)) read_older 0 in
     let is_behind : behind ≡ get_or s.newer.items p 0 = get_or_read s.newer.items p behind (omega (arith, ring.newer_len)) read_newer 0 in
@@ -72,7 +72,7 @@ abbrev pub newer_with : Inside → ℕ → ℕ → List ℕ
 newer_with s p second = set (set s.newer.items second p) p s.total
 
 abbrev pub order_with : Inside → ℕ → ℕ → Order
-order_with s p second = order_of (older_with s p second) s.total (s.used + 1)
+order_with s p second = order_by_ring (older_with s p second) s.total (s.used + 1)
 
 pub record PutFirst (s : Inside) (old : Order) (p second : ℕ) : Type 0 where
   pub second_in : second < s.total + 1
@@ -83,7 +83,7 @@ pub record PutFirst (s : Inside) (old : Order) (p second : ℕ) : Type 0 where
 put_first_kept : (s : Inside) (p second : ℕ) → HasRing s → IsFree (kept s) p
     → second ≡ get_or s.older.items s.total second → PutFirst s (kept s) p second
 put_first_kept s p second ring free read =
-    let xs = chain s.older.items s.total s.used in
+    let xs = page_chain s.older.items s.total s.used in
     let is_second : second ≡ get_or s.older.items s.total 0 = get_or_read s.older.items s.total second (omega (arith, ring.older_len)) read 0 in
     let after : IsRing (older_with s p second) (newer_with s p second) (pages_in s.total (p ∷ xs)) =
     rw is_second (ring_with s.older.items s.newer.items s.total xs ring p free) in
@@ -107,7 +107,7 @@ put_first s old p second is ring free read =
 pub link_tells : (s : Inside) (p link : ℕ) → HasRing s → p < s.total → link ≡ get_or s.older.items p link
     → IsTrue (not (eqb link p)) ↔ Contains (kept s).recent p
 link_tells s p link ring below read =
-    let xs = chain s.older.items s.total s.used in
+    let xs = page_chain s.older.items s.total s.used in
     let is_link : link ≡ get_or s.older.items p 0 = get_or_read s.older.items p link (omega (arith, ring.older_len)) read 0 in (
       λ moved. linked_use s.older.items s.newer.items s.total xs ring p below
           (λ same. eqb-false link p (not-true (eqb link p) moved) (is_link ∙ same)),

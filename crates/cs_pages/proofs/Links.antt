@@ -4,7 +4,7 @@ use Rattle.std.specs.List.{IsDistinct, AllByRecursion}
 use Rattle.std.proofs.lemmas.Bool.{eqb-false}
 use Rattle.std.proofs.lemmas.List.{length-set}
 use Rattle.std.proofs.lemmas.Map.Keys.{IsDistinct-head, IsDistinct-tail}
-use Rattle.cs_pages.specs.Ring.{chain, Linked}
+use Rattle.cs_pages.specs.Ring.{page_chain, Linked}
 use Rattle.cs_pages.proofs.Lists.{Lacks, eqb-flip, all_split}
 
 -- the first of the places xs and b, and the last of a and the places xs
@@ -24,16 +24,16 @@ pub all_last : (P : ℕ → Type 0) (a : ℕ) (xs : List ℕ) → P a → AllByR
 all_last P a [] here all = here
 all_last P a (x ∷ xs) here all = all_last P x xs all.0 all.1
 
-pub chain-linked : (older newer : List ℕ) (a : ℕ) (xs : List ℕ) (b : ℕ) → Linked older newer a xs b → chain older a (length xs) ≡ xs
+pub chain-linked : (older newer : List ℕ) (a : ℕ) (xs : List ℕ) (b : ℕ) → Linked older newer a xs b → page_chain older a (length xs) ≡ xs
 chain-linked older newer a [] b linked = refl
 chain-linked older newer a (x ∷ xs) b linked =
     rw linked.0.0 (ap (λ (ys : List ℕ). x ∷ ys) (chain-linked older newer x xs b linked.1))
 
-pub length-chain : (older : List ℕ) (a n : ℕ) → length (chain older a n) ≡ n
+pub length-chain : (older : List ℕ) (a n : ℕ) → length (page_chain older a n) ≡ n
 length-chain older a zero = refl
 length-chain older a (suc n) = ap suc (length-chain older (get_or older a 0) n)
 
-pub chain-next : (older : List ℕ) (a n k : ℕ) → k + 1 < n → get_or older (get_or (chain older a n) k 0) 0 ≡ get_or (chain older a n) (k + 1) 0
+pub chain-next : (older : List ℕ) (a n k : ℕ) → k + 1 < n → get_or older (get_or (page_chain older a n) k 0) 0 ≡ get_or (page_chain older a n) (k + 1) 0
 chain-next older a zero k more = absurd (omega arith)
 chain-next older a (suc zero) k more = absurd (omega arith)
 chain-next older a (suc (suc n)) zero more = refl

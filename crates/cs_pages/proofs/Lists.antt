@@ -9,7 +9,7 @@ use Rattle.std.proofs.lemmas.List.Elements.{All-contains, All-cons}
 use Rattle.std.proofs.lemmas.Map.Keys.{IsDistinct-head, IsDistinct-tail, IsDistinct-cons}
 use Rattle.std.proofs.lemmas.Map.Steps.{length-le_from_distinct_below, le-length_from_below}
 use Rattle.std.proofs.lemmas.Map.Views.{Contains-from_any, list_any-from_Contains, any-filter_same}
-use Rattle.cs_pages.specs.Order.{Order, without, IsSound, IsFree}
+use Rattle.cs_pages.specs.Order.{Order, without, IsSoundOrder, IsFree}
 
 -- p is none of xs
 abbrev pub Lacks : ℕ → List ℕ → Type 0
@@ -130,13 +130,13 @@ total-le_length total xs used =
     le-length_from_below xs total (λ q within. list_any-from_Contains nat_eq_equiv q xs (used q within))
 
 -- as many pages are used as there are exactly where none is free
-pub free_room : (order : Order) (p : ℕ) → IsSound order → IsFree order p → length order.recent < order.total
+pub free_room : (order : Order) (p : ℕ) → IsSoundOrder order → IsFree order p → length order.recent < order.total
 free_room order p sound free =
     let longer : length (p ∷ order.recent) ≤ order.total = length-le_total order.total (p ∷ order.recent)
     (IsDistinct-cons eqb p order.recent (lacks_from_not p order.recent free.1) sound.distinct)
     (All-cons (λ q. q < order.total) p order.recent free.0 sound.in_range) in
     omega arith
 
-pub none_free : (order : Order) → IsSound order → ((q : ℕ) → q < order.total → Contains order.recent q) → length order.recent ≡ order.total
+pub none_free : (order : Order) → IsSoundOrder order → ((q : ℕ) → q < order.total → Contains order.recent q) → length order.recent ≡ order.total
 none_free order sound used =
     omega (arith, length-le_total order.total order.recent sound.distinct sound.in_range, total-le_length order.total order.recent used)

@@ -6,7 +6,7 @@ use Rattle.std.proofs.lemmas.List.{length-set}
 use Rattle.std.proofs.lemmas.List.Elements.{All-contains, All-cons, All-from_recursion, recursion_from_All}
 use Rattle.std.proofs.lemmas.Map.Keys.{IsDistinct-cons}
 use Rattle.cs_pages.specs.Order.{Order, without, IsFree}
-use Rattle.cs_pages.specs.Ring.{chain, order_of, Linked, IsRing}
+use Rattle.cs_pages.specs.Ring.{page_chain, order_by_ring, Linked, IsRing}
 use Rattle.cs_pages.proofs.Lists.{Lacks, lacks_not, contains_cases, lacks_from_not, around, all_split, all_join, all_rest, distinct_rest, rest-lacks, without-around, length-le_total}
 use Rattle.cs_pages.proofs.Links.{first_of, last_of, all_first, all_last, chain-linked, linked_first, linked_last, linked_split, older_kept, left_out, put_in_front}
 
@@ -24,8 +24,8 @@ total_lacks total xs all = recursion_from_All (λ p. eqb total p ≡ false) xs
 
 -- facts of one ring
 module _ (older newer : List ℕ) (total : ℕ) (xs : List ℕ) (ring : IsRing older newer (pages_in total xs)) where
-  pub ring_order : (used : ℕ) → length xs ≡ used → order_of older total used ≡ pages_in total xs
-  ring_order used same = ap (pages_in total) (subst (λ n. chain older total n ≡ xs) same (chain-linked older newer total xs total ring.linked))
+  pub ring_order : (used : ℕ) → length xs ≡ used → order_by_ring older total used ≡ pages_in total xs
+  ring_order used same = ap (pages_in total) (subst (λ n. page_chain older total n ≡ xs) same (chain-linked older newer total xs total ring.linked))
 
   pub ring_within : length xs ≤ total
   ring_within = length-le_total total xs ring.sound.distinct ring.sound.in_range

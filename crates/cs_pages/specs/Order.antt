@@ -8,7 +8,7 @@ pub record Order : Type 0 where
   pub recent : List ℕ
 
 -- no page stands twice in the order, and each is one of the total
-pub record IsSound (order : Order) : Type 0 where
+pub record IsSoundOrder (order : Order) : Type 0 where
   pub distinct : IsDistinct nat_eq order.recent
   pub in_range : All (λ page. page < order.total) order.recent
 

@@ -1,15 +1,15 @@
 -- How two arrays of links keep the used pages: a ring through the place behind the last page.
 use Rattle.std.specs.Prelude.{◌≡◌, ℕ, zero, suc, ◌+◌, List, [], ◌∷◌, length, slice_index}
-use Rattle.cs_pages.specs.Order.{Order, IsSound, IsFree}
+use Rattle.cs_pages.specs.Order.{Order, IsSoundOrder, IsFree}
 
 -- the n places that `older` leads to, one after another, from a place on
-abbrev pub chain : List ℕ → ℕ → ℕ → List ℕ
-chain older place zero = []
-chain older place (suc n) = slice_index older place ∷ chain older (slice_index older place) n
+abbrev pub page_chain : List ℕ → ℕ → ℕ → List ℕ
+page_chain older place zero = []
+page_chain older place (suc n) = slice_index older place ∷ page_chain older (slice_index older place) n
 
 -- the order that the links keep: as many places as there are used pages, from the place behind the last page on
-abbrev pub order_of : List ℕ → ℕ → ℕ → Order
-order_of older total used = record { total = total; recent = chain older total used }
+abbrev pub order_by_ring : List ℕ → ℕ → ℕ → Order
+order_by_ring older total used = record { total = total; recent = page_chain older total used }
 
 -- the two arrays lead from a to b and back
 abbrev pub Joined : List ℕ → List ℕ → ℕ → ℕ → Type 0
@@ -25,5 +25,5 @@ pub record IsRing (older newer : List ℕ) (order : Order) : Type 0 where
   pub older_len : length older ≡ order.total + 1
   pub newer_len : length newer ≡ order.total + 1
   pub linked : Linked older newer order.total order.recent order.total
-  pub sound : IsSound order
+  pub sound : IsSoundOrder order
   pub idle : (page : ℕ) → IsFree order page → slice_index older page ≡ page

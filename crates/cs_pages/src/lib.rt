@@ -8,7 +8,7 @@
 
 ghost use Rattle.std.specs.Prelude.{◌≡◌, ◌≢◌, ℕ, ◌+◌, ◌-◌, ◌<◌, ◌≤◌, ◌↔◌, List, [], ◌∷◌, length, slice_index, vec_len};
 ghost use Rattle.std.specs.Prelude.{IsTrue, IsNone, IfOk, IfSome, IfNone, Contains};
-ghost use Rattle.cs_pages.specs.Order.{Order, without, IsSound, IsFree};
+ghost use Rattle.cs_pages.specs.Order.{Order, without, IsSoundOrder, IsFree};
 
 use std::alloc::{AllocError, Global};
 use std::marker::Model;
@@ -28,13 +28,13 @@ pub struct Pages {
 
 impl Model for Pages {
     ghost use Rattle.cs_pages.specs.Order.{Order};
-    ghost use Rattle.cs_pages.specs.Ring.{order_of, IsRing};
+    ghost use Rattle.cs_pages.specs.Ring.{order_by_ring, IsRing};
 
     ghost Value = { Order };
 
-    ghost view = { λ p. order_of p.older.items p.total p.used };
+    ghost view = { λ p. order_by_ring p.older.items p.total p.used };
 
-    ghost invariant = { λ p. IsRing p.older.items p.newer.items (order_of p.older.items p.total p.used) };
+    ghost invariant = { λ p. IsRing p.older.items p.newer.items (order_by_ring p.older.items p.total p.used) };
 }
 
 impl Pages {
@@ -42,7 +42,7 @@ impl Pages {
     /// machine has at most 64. An error comes only where memory is refused.
     pub fn new(alloc: Global, pages: u32) -> Result<Pages, AllocError>
         ensures free { IfOk result (λ made. made ≡ record { total = pages; recent = [] }) }
-        ensures sound { IfOk result IsSound }
+        ensures sound { IfOk result IsSoundOrder }
     {
         let older = self_links(alloc, pages)?;
         let newer = self_links(alloc, pages)?;
@@ -65,7 +65,7 @@ impl Pages {
     pub fn used(&self) -> u32
         ensures count { result ≡ length self.now.recent }
         ensures within { result ≤ self.now.total }
-        ensures sound { IsSound self.now }
+        ensures sound { IsSoundOrder self.now }
     {
         self.used
     }
@@ -110,7 +110,7 @@ impl Pages {
         ensures lowest { IfSome result (λ page. (q : ℕ) → q < page → Contains self.old.recent q) }
         ensures full { IsNone result ↔ (length self.old.recent ≡ self.old.total) }
         ensures none { IfNone result (self.new ≡ self.old) }
-        ensures sound { IsSound self.new }
+        ensures sound { IsSoundOrder self.new }
     {
         let Some(free) = self.first_free() else {
             return None;
@@ -125,7 +125,7 @@ impl Pages {
         ensures first { self.new ≡ record self.old { recent = page ∷ without page self.old.recent } }
         ensures same_pages { (q : ℕ) → Contains self.new.recent q ↔ Contains self.old.recent q }
         ensures count { length self.new.recent ≡ length self.old.recent }
-        ensures sound { IsSound self.new }
+        ensures sound { IsSoundOrder self.new }
     {
         self.free(page);
         self.put_first(page);
@@ -138,7 +138,7 @@ impl Pages {
         ensures is_free { IsFree self.new page }
         ensures others { (q : ℕ) → q ≢ page → (Contains self.new.recent q ↔ Contains self.old.recent q) }
         ensures count { length self.new.recent + 1 ≡ length self.old.recent }
-        ensures sound { IsSound self.new }
+        ensures sound { IsSoundOrder self.new }
     {
         let older = self.older[page as usize];
         let newer = self.newer[page as usize];
@@ -154,7 +154,7 @@ impl Pages {
         ensures is_free { IfSome result (IsFree self.now) }
         ensures lowest { IfSome result (λ page. (q : ℕ) → q < page → Contains self.now.recent q) }
         ensures full { IsNone result ↔ (length self.now.recent ≡ self.now.total) }
-        ensures sound { IsSound self.now }
+        ensures sound { IsSoundOrder self.now }
     {
         for page in 0..self.total {
             if !self.is_used(page) {
@@ -168,7 +168,7 @@ impl Pages {
     fn put_first(&mut self, page: u32)
         requires free { IsFree self.old page }
         ensures first { self.new ≡ record self.old { recent = page ∷ self.old.recent } }
-        ensures sound { IsSound self.new }
+        ensures sound { IsSoundOrder self.new }
     {
         let end = self.total;
         let second = self.older[end as usize];

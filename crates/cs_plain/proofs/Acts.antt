@@ -7,8 +7,8 @@ use Rattle.cs_word.specs.declared.Oop.{Oop}
 use Rattle.cs_word.specs.declared.Kind.{Kind}
 use Rattle.cs_word.specs.declared.Kind.TheVariants as kind
 use Rattle.cs_word.specs.Word.{kind_of}
-use Rattle.cs_heap.specs.Object.{Object, birth_of, class_of, index_of, is_object, object_at, slot_count_of, slot_of}
-use Rattle.cs_classes.specs.Meaning.{context_of, count_of, is_context, obj_of, ref_of, ref_of_kind}
+use Rattle.cs_heap.specs.Object.{Object, birth_at, class_at, object_place, is_object, heap_object, slot_count_of, slot_of}
+use Rattle.cs_classes.specs.Meaning.{context_of, count_of, is_heap_context, obj_of, ref_of, ref_of_kind}
 use Rattle.cs_classes.specs.Sound.{is_reference, is_reference_kind}
 use Rattle.cs_classes.proofs.Contexts.{depth_is}
 use Rattle.cs_classes.proofs.Heaps.{birth_of-object_at, object_there}
@@ -23,38 +23,38 @@ use Rattle.cs_model.specs.State.{Kept, object_of}
 use Rattle.cs_model.specs.Operation.{nil_of}
 use Rattle.cs_model.specs.Return.{closure_at, closure_in, context_birth, has_room, is_live, sender_birth}
 use Rattle.cs_acts.specs.Names.{Names, name_of}
-use Rattle.cs_acts.specs.Reading.{is_context_at, object_of_kind}
+use Rattle.cs_acts.specs.Reading.{is_context_word, object_of_kind}
 use Rattle.cs_acts.specs.Ready.{IsSound}
 use Rattle.cs_acts.specs.Targets.{method_in}
 use Rattle.cs_acts.proofs.Named.{Nowhere, Place, There, place}
 use Rattle.cs_plain.specs.declared.PlainWorld.{PlainWorld}
-use Rattle.cs_plain.specs.View.{birth_at, birth_in, stored_of, view_of}
+use Rattle.cs_plain.specs.View.{oop_birth, plain_birth, plain_stored, plain_view}
 use Rattle.cs_plain.proofs.Active as active
 use Rattle.cs_plain.proofs.Active.{meaning_there}
 use Rattle.cs_plain.proofs.Storing.{kind_address, no_context}
 
 -- the context at an address is the object x of the heap
 pub record ContextAt (w : PlainWorld) (a : Oop) (x : Object) : Type 0 where
-  pub there : object_at w.heap.objects a.0 ≡ Some x
-  pub context : is_context x ≡ true
-  pub birth : birth_at w.heap.objects a ≡ Some x.birth
-  pub means : state.object_at (view_of w) x.birth ≡ Some (Ctx (context_of (ref_of w.heap.objects) x.hash x.words))
+  pub there : heap_object w.heap.objects a.0 ≡ Some x
+  pub context : is_heap_context x ≡ true
+  pub birth : oop_birth w.heap.objects a ≡ Some x.birth
+  pub means : state.object_at (plain_view w) x.birth ≡ Some (Ctx (context_of (ref_of w.heap.objects) x.hash x.words))
   pub whole : IsWholeContext w.heap.objects x
   pub named : (i : ℕ) → i < length x.words → is_reference w.heap.objects (slice_index x.words i) ≡ true
   pub count : slot_count_of w.heap.objects a.0 ≡ length x.words
   pub slot : (i : ℕ) → slot_of w.heap.objects a.0 i ≡ slice_index x.words i
 
-pub context_at : (w : PlainWorld) (a : Oop) → IsSound (stored_of w) (view_of w) → IsSome (birth_at w.heap.objects a) → (x : Object) × ContextAt w a x
-context_at w a sound some = go (object_at w.heap.objects a.0) refl some
+pub context_at : (w : PlainWorld) (a : Oop) → IsSound (plain_stored w) (plain_view w) → IsSome (oop_birth w.heap.objects a) → (x : Object) × ContextAt w a x
+context_at w a sound some = go (heap_object w.heap.objects a.0) refl some
   where
-    is : (x : Object) (c : Bool) → is_context x ≡ c → object_at w.heap.objects a.0 ≡ Some x → IsSome (if c then Some x.birth else None) → (x : Object) × ContextAt w a x
+    is : (x : Object) (c : Bool) → is_heap_context x ≡ c → heap_object w.heap.objects a.0 ≡ Some x → IsSome (if c then Some x.birth else None) → (x : Object) × ContextAt w a x
     is x false o e s = absurd (cc)
     is x true o e s = (
       x,
       record {
         there = e;
         context = o;
-        birth = ap birth_in e ∙ ap (λ c. if c then Some x.birth else None) o;
+        birth = ap plain_birth e ∙ ap (λ c. if c then Some x.birth else None) o;
         means = meaning_there w a.0 x sound.holds.whole e ∙ ap (λ y. Some y) (obj_of-context (ref_of w.heap.objects) x o);
         whole = whole_context w.heap.objects x (sound_at w.heap.objects a.0 x sound.holds.whole.heap e) o;
         named = active.word_named w a.0 x sound e o;
@@ -63,26 +63,26 @@ context_at w a sound some = go (object_at w.heap.objects a.0) refl some
       },
     )
 
-    go : (y : Option Object) → object_at w.heap.objects a.0 ≡ y → IsSome (birth_in y) → (x : Object) × ContextAt w a x
+    go : (y : Option Object) → heap_object w.heap.objects a.0 ≡ y → IsSome (plain_birth y) → (x : Object) × ContextAt w a x
     go None e s = absurd (cc)
-    go (Some x) e s = is x (is_context x) refl e s
+    go (Some x) e s = is x (is_heap_context x) refl e s
 
 -- the slots of the fields are there
-pub field_within : (w : PlainWorld) (a : Oop) (i : ℕ) → IsSound (stored_of w) (view_of w) → IsSome (birth_at w.heap.objects a) → i < 6 → i < slot_count_of w.heap.objects a.0
+pub field_within : (w : PlainWorld) (a : Oop) (i : ℕ) → IsSound (plain_stored w) (plain_view w) → IsSome (oop_birth w.heap.objects a) → i < 6 → i < slot_count_of w.heap.objects a.0
 field_within w a i sound some few = let x = context_at w a sound some in omega (arith, x.1.whole.fields, x.1.count, few)
 
-module _ {w : PlainWorld} {a : Oop} {x : Object} (sound : IsSound (stored_of w) (view_of w)) (at : ContextAt w a x) where
+module _ {w : PlainWorld} {a : Oop} {x : Object} (sound : IsSound (plain_stored w) (plain_view w)) (at : ContextAt w a x) where
   abbrev context : Context
   context = context_of (ref_of w.heap.objects) x.hash x.words
 
   -- what is said of the context holds of the birth that the act stands for
-  pub of_birth : (P : ℕ → Type 0) → P x.birth → IfSome (birth_at w.heap.objects a) P
+  pub of_birth : (P : ℕ → Type 0) → P x.birth → IfSome (oop_birth w.heap.objects a) P
   of_birth P h = subst (λ o. IfSome o P) (sym at.birth) h
 
-  pub context_is : context_in (state.object_at (view_of w) x.birth) ≡ Some context
+  pub context_is : context_in (state.object_at (plain_view w) x.birth) ≡ Some context
   context_is = ap context_in at.means
 
-  pub word_named : (v : Oop) (i : ℕ) (y : Ref) → i < 6 → v.0 ≡ slot_of w.heap.objects a.0 i → ref_of w.heap.objects (slice_index x.words i) ≡ y → Names (stored_of w) v y
+  pub word_named : (v : Oop) (i : ℕ) (y : Ref) → i < 6 → v.0 ≡ slot_of w.heap.objects a.0 i → ref_of w.heap.objects (slice_index x.words i) ≡ y → Names (plain_stored w) v y
   word_named v i y few read is =
       let word : v.0 ≡ slice_index x.words i = read ∙ at.slot i in
       record {
@@ -90,15 +90,15 @@ module _ {w : PlainWorld} {a : Oop} {x : Object} (sound : IsSound (stored_of w) 
         is = ap (ref_of w.heap.objects) word ∙ is;
       }
 
-  pub closure_read : (v : Oop) → v.0 ≡ slot_of w.heap.objects a.0 4 → Names (stored_of w) v (closure_at (view_of w) x.birth)
+  pub closure_read : (v : Oop) → v.0 ≡ slot_of w.heap.objects a.0 4 → Names (plain_stored w) v (closure_at (plain_view w) x.birth)
   unfolding context_of
-  closure_read v read = word_named v 4 _ (omega arith) read (sym (ap (closure_in (nil_of (view_of w))) context_is))
+  closure_read v read = word_named v 4 _ (omega arith) read (sym (ap (closure_in (nil_of (plain_view w))) context_is))
 
-  pub method_read : (v : Oop) → v.0 ≡ slot_of w.heap.objects a.0 3 → Names (stored_of w) v (method_in (nil_of (view_of w)) (context_in (state.object_at (view_of w) x.birth)))
+  pub method_read : (v : Oop) → v.0 ≡ slot_of w.heap.objects a.0 3 → Names (plain_stored w) v (method_in (nil_of (plain_view w)) (context_in (state.object_at (plain_view w) x.birth)))
   unfolding context_of
-  method_read v read = word_named v 3 _ (omega arith) read (sym (ap (method_in (nil_of (view_of w))) context_is))
+  method_read v read = word_named v 3 _ (omega arith) read (sym (ap (method_in (nil_of (plain_view w))) context_is))
 
-  pub live_read : is_some (count_of (slot_of w.heap.objects a.0 1)) ≡ is_live (view_of w) x.birth
+  pub live_read : is_some (count_of (slot_of w.heap.objects a.0 1)) ≡ is_live (plain_view w) x.birth
   unfolding context_of
   live_read = ap (λ n. is_some (count_of n)) (at.slot 1) ∙ sym (ap (λ o. is_some (option_and_then (λ (c : Context). c.pc) o)) context_is)
 
@@ -106,7 +106,7 @@ module _ {w : PlainWorld} {a : Oop} {x : Object} (sound : IsSound (stored_of w) 
   depth_read = ap (λ n. unwrap_or (count_of n) 0) (at.slot 2) ∙ sym (depth_is (ref_of w.heap.objects) x.hash x.words at.whole.depth)
 
   pub full_read : (d n : ℕ) → d ≡ unwrap_or (count_of (slot_of w.heap.objects a.0 2)) 0 → n ≡ slot_count_of w.heap.objects a.0
-      → not (nat_le (n - 6) d) ≡ has_room (context_in (state.object_at (view_of w) x.birth))
+      → not (nat_le (n - 6) d) ≡ has_room (context_in (state.object_at (plain_view w) x.birth))
   unfolding context_of
   full_read d n deep long =
       ap₂ (λ (l m : ℕ). not (nat_le (m - 6) l)) (deep ∙ depth_read) (long ∙ at.count) ∙ below (length context.stack) (length x.words - 6) ∙ sym (ap has_room context_is)
@@ -117,8 +117,8 @@ module _ {w : PlainWorld} {a : Oop} {x : Object} (sound : IsSound (stored_of w) 
 -- ---- senders
 
 -- a word is the address of a context where it names one
-pub context_named : (w : PlainWorld) (v : Oop) → IsSound (stored_of w) (view_of w) → is_reference w.heap.objects v.0 ≡ true
-    → birth_at w.heap.objects v ≡ context_birth (view_of w) (name_of (stored_of w) v)
+pub context_named : (w : PlainWorld) (v : Oop) → IsSound (plain_stored w) (plain_view w) → is_reference w.heap.objects v.0 ≡ true
+    → oop_birth w.heap.objects v ≡ context_birth (plain_view w) (name_of (plain_stored w) v)
 unfolding ref_of is_reference
 context_named w v sound named = go (kind_of v.0) refl named
   where
@@ -126,9 +126,9 @@ context_named w v sound named = go (kind_of v.0) refl named
     gone None e = refl
     gone (Some j) e = absurd (cc)
 
-    no_object : (k : Kind) → kind_of v.0 ≡ k → object_of_kind w.heap.objects k ≡ None → Place w.heap.objects v.0 → object_at w.heap.objects v.0 ≡ None
+    no_object : (k : Kind) → kind_of v.0 ≡ k → object_of_kind w.heap.objects k ≡ None → Place w.heap.objects v.0 → heap_object w.heap.objects v.0 ≡ None
     no_object k e none (There x said at is) = absurd (let said_none = ap (object_of_kind w.heap.objects) e ∙ none in cc)
-    no_object k e none (Nowhere said is) = gone (index_of w.heap.objects v.0) is
+    no_object k e none (Nowhere said is) = gone (object_place w.heap.objects v.0) is
 
     none_in : (o : Obj) → obj.is_context o ≡ false → context_in (Some o) ≡ None
     none_in (obj.Ptr head slots) e = refl
@@ -136,28 +136,28 @@ context_named w v sound named = go (kind_of v.0) refl named
     none_in (obj.Method head header literals bytecodes) e = refl
     none_in (Ctx c) e = absurd (cc)
 
-    by_class : (x : Object) (c : Bool) → is_context x ≡ c → birth_in (Some x) ≡ option_and_then (λ d. Some x.birth) (context_in (Some (obj_of (ref_of w.heap.objects) x)))
+    by_class : (x : Object) (c : Bool) → is_heap_context x ≡ c → plain_birth (Some x) ≡ option_and_then (λ d. Some x.birth) (context_in (Some (obj_of (ref_of w.heap.objects) x)))
     by_class x true e = ap (λ c. if c then Some x.birth else None) e ∙ sym (ap (λ o. option_and_then (λ d. Some x.birth) (context_in (Some o))) (obj_of-context (ref_of w.heap.objects) x e))
     by_class x false e = ap (λ c. if c then Some x.birth else None) e ∙ sym (ap (option_and_then (λ d. Some x.birth)) (none_in (obj_of (ref_of w.heap.objects) x) (no_context (ref_of w.heap.objects) x e)))
 
-    at_address : is_object w.heap.objects v.0 ≡ true → birth_at w.heap.objects v ≡ context_birth (view_of w) (ref.Obj (birth_of w.heap.objects v.0))
+    at_address : is_object w.heap.objects v.0 ≡ true → oop_birth w.heap.objects v ≡ context_birth (plain_view w) (ref.Obj (birth_at w.heap.objects v.0))
     at_address is =
         let x = object_there w.heap.objects v.0 is in
         let birth = birth_of-object_at w.heap.objects v.0 x.0 x.1 in
-        ap birth_in x.1 ∙ by_class x.0 (is_context x.0) refl
+        ap plain_birth x.1 ∙ by_class x.0 (is_heap_context x.0) refl
         ∙ ap (λ o. option_and_then (λ d. Some x.0.birth) (context_in o)) (sym (meaning_there w v.0 x.0 sound.holds.whole x.1))
-        ∙ ap (λ n. context_birth (view_of w) (ref.Obj n)) (sym birth)
+        ∙ ap (λ n. context_birth (plain_view w) (ref.Obj n)) (sym birth)
 
-    go : (k : Kind) → kind_of v.0 ≡ k → is_reference_kind w.heap.objects k ≡ true → birth_at w.heap.objects v ≡ context_birth (view_of w) (ref_of_kind w.heap.objects k)
-    go (kind.Small z) e n = ap birth_in (no_object (kind.Small z) e refl (place w.heap.objects v.0))
-    go (kind.Character code) e n = ap birth_in (no_object (kind.Character code) e refl (place w.heap.objects v.0))
+    go : (k : Kind) → kind_of v.0 ≡ k → is_reference_kind w.heap.objects k ≡ true → oop_birth w.heap.objects v ≡ context_birth (plain_view w) (ref_of_kind w.heap.objects k)
+    go (kind.Small z) e n = ap plain_birth (no_object (kind.Small z) e refl (place w.heap.objects v.0))
+    go (kind.Character code) e n = ap plain_birth (no_object (kind.Character code) e refl (place w.heap.objects v.0))
     go (kind.Link l) e n = absurd (cc)
     go (kind.Object b) e n =
         let is : b ≡ v.0 = kind_address v.0 b e in
-        at_address (subst (λ n. is_object w.heap.objects n ≡ true) is n) ∙ ap (λ n. context_birth (view_of w) (ref.Obj (birth_of w.heap.objects n))) (sym is)
+        at_address (subst (λ n. is_object w.heap.objects n ≡ true) is n) ∙ ap (λ n. context_birth (plain_view w) (ref.Obj (birth_at w.heap.objects n))) (sym is)
 
 -- whether a word is the address of a context, as the code asks it
-pub context_asked : (os : List Object) (v : Oop) → is_context_at os v.0 ≡ is_some (birth_at os v)
+pub context_asked : (os : List Object) (v : Oop) → is_context_word os v.0 ≡ is_some (oop_birth os v)
 context_asked os v = go (is_object os v.0) refl
   where
     gone : (k : Option ℕ) → is_some k ≡ false → option_and_then (slice_get os) k ≡ None
@@ -168,21 +168,21 @@ context_asked os v = go (is_object os v.0) refl
     some x true = refl
     some x false = refl
 
-    go : (b : Bool) → is_object os v.0 ≡ b → is_context_at os v.0 ≡ is_some (birth_at os v)
+    go : (b : Bool) → is_object os v.0 ≡ b → is_context_word os v.0 ≡ is_some (oop_birth os v)
     go true e =
         let x = object_there os v.0 e in
-        let class : class_of os v.0 ≡ x.0.class = ap (λ (y : Option Object). option_map_or (λ (z : Object). z.class) y 0) x.1 in
-        ap₂ (λ (b : Bool) (n : ℕ). b && n == context_class) e class ∙ some x.0 (is_context x.0) ∙ ap (λ o. is_some (birth_in o)) (sym x.1)
-    go false e = ap (λ b. b && class_of os v.0 == context_class) e ∙ ap (λ o. is_some (birth_in o)) (sym (gone (index_of os v.0) e))
+        let class : class_at os v.0 ≡ x.0.class = ap (λ (y : Option Object). option_map_or (λ (z : Object). z.class) y 0) x.1 in
+        ap₂ (λ (b : Bool) (n : ℕ). b && n == context_class) e class ∙ some x.0 (is_heap_context x.0) ∙ ap (λ o. is_some (plain_birth o)) (sym x.1)
+    go false e = ap (λ b. b && class_at os v.0 == context_class) e ∙ ap (λ o. is_some (plain_birth o)) (sym (gone (object_place os v.0) e))
 
 -- the sender of the context, where that is one
-pub sender_read : {w : PlainWorld} {a : Oop} {x : Object} → IsSound (stored_of w) (view_of w) → ContextAt w a x → (v : Oop) → v.0 ≡ slot_of w.heap.objects a.0 0
-    → birth_at w.heap.objects v ≡ sender_birth (view_of w) x.birth
+pub sender_read : {w : PlainWorld} {a : Oop} {x : Object} → IsSound (plain_stored w) (plain_view w) → ContextAt w a x → (v : Oop) → v.0 ≡ slot_of w.heap.objects a.0 0
+    → oop_birth w.heap.objects v ≡ sender_birth (plain_view w) x.birth
 unfolding context_of
 sender_read {w} {a} {x} sound at v read =
     let names = word_named sound at v 0 (ref_of w.heap.objects (slice_index x.words 0)) (omega arith) read refl in
-    context_named w v sound names.sound ∙ ap (context_birth (view_of w)) names.is
-    ∙ sym (ap (option_and_then (λ (c : Context). context_birth (view_of w) c.sender)) (context_is sound at))
+    context_named w v sound names.sound ∙ ap (context_birth (plain_view w)) names.is
+    ∙ sym (ap (option_and_then (λ (c : Context). context_birth (plain_view w) c.sender)) (context_is sound at))
 
 pub none_asked : (o : Option ℕ) → is_some o ≡ false → ◌≡◌ {A = Option ℕ} None o
 none_asked None e = refl

@@ -11,7 +11,7 @@ use Rattle.cs_word.specs.declared.Oop.{Oop}
 use Rattle.cs_word.specs.declared.Kind.{Kind}
 use Rattle.cs_word.specs.declared.Kind.TheVariants as kind
 use Rattle.cs_word.specs.Word.{kind_of, small_word}
-use Rattle.cs_heap.specs.Object.{Object, is_object, object_at, slot_count_of, slot_of}
+use Rattle.cs_heap.specs.Object.{Object, is_object, heap_object, slot_count_of, slot_of}
 use Rattle.cs_model.proofs.Bools.{and_five}
 use Rattle.cs_classes.specs.Meaning.{context_of, count_of, obj_of, ref_of, ref_of_kind}
 use Rattle.cs_classes.specs.Sound.{is_reference, is_reference_kind}
@@ -19,7 +19,7 @@ use Rattle.cs_classes.proofs.Heaps.{birth_of-object_at, is_object-object_at, obj
 use Rattle.cs_classes.proofs.Refs.{count_of-small, index_of-ref_of, is_reference-small, ref_of-object, small_natural}
 use Rattle.cs_classes.proofs.Sorts.{IsContextOf, IsPointersOf, context_is, pointers_of, references-pointers}
 use Rattle.cs_classes.proofs.Sounds.{IsWholeContext, sound_at, whole_context}
-use Rattle.cs_model.specs.Ref.{Ref, index_of}
+use Rattle.cs_model.specs.Ref.{Ref, small_index}
 use Rattle.cs_model.specs.Ref as ref
 use Rattle.cs_model.specs.Obj.{Context, Ctx, Method, Obj, Ptr, Raw, context_in, context_size, lies_in, Head}
 use Rattle.cs_model.specs.Obj as obj
@@ -38,7 +38,7 @@ use Rattle.cs_plain.specs.declared.Fields.{Fields}
 use Rattle.cs_plain.specs.declared.PlainWorld.{PlainWorld}
 use Rattle.cs_plain.specs.Calling.{CanCall, called_context, called_of, called_stack, copied_words}
 use Rattle.cs_plain.specs.Calling as calling
-use Rattle.cs_plain.specs.View.{stored_of, view_of}
+use Rattle.cs_plain.specs.View.{plain_stored, plain_view}
 use Rattle.cs_plain.proofs.Active.{active_is, meaning_there, word_named}
 use Rattle.cs_plain.proofs.Entering.{Header, header_at, method_at}
 use Rattle.cs_plain.proofs.Storing.{kind_address}
@@ -47,28 +47,28 @@ use Rattle.cs_plain.proofs.Storing.{kind_address}
 
 record Found (w : PlainWorld) (v : Oop) (o : Obj) : Type 0 where
   object : Object
-  there : object_at w.heap.objects v.0 ≡ Some object
+  there : heap_object w.heap.objects v.0 ≡ Some object
   is : obj_of (ref_of w.heap.objects) object ≡ o
 
-found : (w : PlainWorld) (v : Oop) (o : Obj) → IsSound (stored_of w) (view_of w) → IsNamed (stored_of w) v → object_of (view_of w) (name_of (stored_of w) v) ≡ Some o → Found w v o
+found : (w : PlainWorld) (v : Oop) (o : Obj) → IsSound (plain_stored w) (plain_view w) → IsNamed (plain_stored w) v → object_of (plain_view w) (name_of (plain_stored w) v) ≡ Some o → Found w v o
 unfolding ref_of is_reference
 found w v o sound named h = go (kind_of v.0) refl named h
   where
     some_same : (p q : Obj) → ◌≡◌ {A = Option Obj} (Some p) (Some q) → p ≡ q
     some_same p q e = cc
 
-    go : (k : Kind) → kind_of v.0 ≡ k → is_reference_kind w.heap.objects k ≡ true → object_of (view_of w) (ref_of_kind w.heap.objects k) ≡ Some o → Found w v o
+    go : (k : Kind) → kind_of v.0 ≡ k → is_reference_kind w.heap.objects k ≡ true → object_of (plain_view w) (ref_of_kind w.heap.objects k) ≡ Some o → Found w v o
     go (kind.Small z) e n h = absurd (cc)
     go (kind.Character code) e n h = absurd (cc)
     go (kind.Link l) e n h = absurd (cc)
     go (kind.Object a) e n h =
         let is : a ≡ v.0 = kind_address v.0 a e in
         let x = object_there w.heap.objects a n in
-        let there : object_at w.heap.objects v.0 ≡ Some x.0 = ap (object_at w.heap.objects) (sym is) ∙ x.1 in
+        let there : heap_object w.heap.objects v.0 ≡ Some x.0 = ap (heap_object w.heap.objects) (sym is) ∙ x.1 in
         record {
           object = x.0;
           there = there;
-          is = some_same _ _ (sym (meaning_there w a x.0 sound.holds.whole x.1) ∙ ap (λ b. object_of (view_of w) (ref.Obj b)) (sym (birth_of-object_at w.heap.objects a x.0 x.1)) ∙ h);
+          is = some_same _ _ (sym (meaning_there w a x.0 sound.holds.whole x.1) ∙ ap (λ b. object_of (plain_view w) (ref.Obj b)) (sym (birth_of-object_at w.heap.objects a x.0 x.1)) ∙ h);
         }
 
 -- ---- the closure and its outer context
@@ -116,18 +116,18 @@ entry_there : (o : Option Obj) (i : Option ℕ) → lies_if_index o i ≡ true �
 entry_there o None h = absurd (cc)
 entry_there o (Some pc) h = record { at = pc; is = refl; lies = h }
 
-module _ (w : PlainWorld) (v : Oop) (args : ℕ) (ready : IsReady (stored_of w) (view_of w)) (named : IsNamed (stored_of w) v) (fits : CanEnterBlock (view_of w) (name_of (stored_of w) v) args) where
+module _ (w : PlainWorld) (v : Oop) (args : ℕ) (ready : IsReady (plain_stored w) (plain_view w)) (named : IsNamed (plain_stored w) v) (fits : CanEnterBlock (plain_view w) (name_of (plain_stored w) v) args) where
   abbrev k : Kept
-  k = view_of w
+  k = plain_view w
 
   abbrev x : Ref
-  x = name_of (stored_of w) v
+  x = name_of (plain_stored w) v
 
   abbrev os : List Object
   os = w.heap.objects
 
   can : (nat_le 3 (length (closure_slots (object_of k x))) ≡ true) × (is_some (outer_context k x) ≡ true) × (obj.is_method (object_of k (closure_method k x)) ≡ true)
-      × (lies_if_index (object_of k (closure_method k x)) (index_of (closure_slot k x 1)) ≡ true) × (is_count args (index_of (closure_slot k x 2)) ≡ true)
+      × (lies_if_index (object_of k (closure_method k x)) (small_index (closure_slot k x 1)) ≡ true) × (is_count args (small_index (closure_slot k x 2)) ≡ true)
   unfolding can_evaluate
   can = and_five _ _ _ _ _ fits.closure
 
@@ -161,7 +161,7 @@ module _ (w : PlainWorld) (v : Oop) (args : ℕ) (ready : IsReady (stored_of w) 
   pub closure_there : is_object os v.0 ≡ true
   closure_there = is_object-object_at os v.0 at.object at.there
 
-  slot_names : (i : ℕ) (u : Oop) → i < 3 → u.0 ≡ slot_of os v.0 i → Names (stored_of w) u (closure_slot k x i)
+  slot_names : (i : ℕ) (u : Oop) → i < 3 → u.0 ≡ slot_of os v.0 i → Names (plain_stored w) u (closure_slot k x i)
   slot_names i u few read =
       let within : i < length words = omega (arith, few, three_slots, count_is) in
       let word : u.0 ≡ get_or words i 0 = read ∙ ap (λ (o : Option Object). option_map_or (λ (z : Object). slice_index z.words i) o 0) at.there in
@@ -174,7 +174,7 @@ module _ (w : PlainWorld) (v : Oop) (args : ℕ) (ready : IsReady (stored_of w) 
   -- ---- the outer context
 
   module _ (outer : Oop) (read : outer.0 ≡ slot_of os v.0 0) where
-    outer_names : Names (stored_of w) outer (closure_slot k x 0)
+    outer_names : Names (plain_stored w) outer (closure_slot k x 0)
     outer_names = slot_names 0 outer (omega arith) read
 
     outer_is : AContext (object_of k (closure_slot k x 0))
@@ -197,7 +197,7 @@ module _ (w : PlainWorld) (v : Oop) (args : ℕ) (ready : IsReady (stored_of w) 
     pub outer_slots : 6 ≤ slot_count_of os outer.0
     outer_slots = omega (arith, outer_whole.fields, ap (λ (o : Option Object). option_map_or (λ (z : Object). length z.words) o 0) outer_at.there)
 
-    field_names : (i : ℕ) (u : Oop) (y : Ref) → i < 6 → u.0 ≡ slot_of os outer.0 i → ref_of os (slice_index outer_at.object.words i) ≡ y → Names (stored_of w) u y
+    field_names : (i : ℕ) (u : Oop) (y : Ref) → i < 6 → u.0 ≡ slot_of os outer.0 i → ref_of os (slice_index outer_at.object.words i) ≡ y → Names (plain_stored w) u y
     field_names i u y few from is =
         let word : u.0 ≡ slice_index outer_at.object.words i = from ∙ ap (λ (o : Option Object). option_map_or (λ (z : Object). slice_index z.words i) o 0) outer_at.there in
         record {
@@ -205,15 +205,15 @@ module _ (w : PlainWorld) (v : Oop) (args : ℕ) (ready : IsReady (stored_of w) 
           is = ap (ref_of os) word ∙ is;
         }
 
-    pub method_names : (m : Oop) → m.0 ≡ slot_of os outer.0 3 → Names (stored_of w) m (closure_method k x)
+    pub method_names : (m : Oop) → m.0 ≡ slot_of os outer.0 3 → Names (plain_stored w) m (closure_method k x)
     unfolding context_of
     method_names m from = field_names 3 m _ (omega arith) from (ap (λ (c : Context). c.method) outer_of.value ∙ sym (ap (method_in_context (nil_of k)) outer_context_is))
 
-    pub receiver_names : (r : Oop) → r.0 ≡ slot_of os outer.0 5 → Names (stored_of w) r (receiver_in_context (nil_of k) (outer_context k x))
+    pub receiver_names : (r : Oop) → r.0 ≡ slot_of os outer.0 5 → Names (plain_stored w) r (receiver_in_context (nil_of k) (outer_context k x))
     unfolding context_of
     receiver_names r from = field_names 5 r _ (omega arith) from (ap (λ (c : Context). c.receiver) outer_of.value ∙ sym (ap (receiver_in_context (nil_of k)) outer_context_is))
 
-    pub method_is : (m : Oop) → m.0 ≡ slot_of os outer.0 3 → obj.is_method (object_of k (name_of (stored_of w) m)) ≡ true
+    pub method_is : (m : Oop) → m.0 ≡ slot_of os outer.0 3 → obj.is_method (object_of k (name_of (plain_stored w) m)) ≡ true
     method_is m from = ap (λ y. obj.is_method (object_of k y)) (method_names m from).is ∙ can.2
 
     -- ---- the fields that the code writes
@@ -224,25 +224,25 @@ module _ (w : PlainWorld) (v : Oop) (args : ℕ) (ready : IsReady (stored_of w) 
       abbrev fields : Fields
       fields = record { sender = b; pc = pc; stackp = stackp; method = m; closure = v; receiver = receiver }
 
-      method : Names (stored_of w) m (closure_method k x)
+      method : Names (plain_stored w) m (closure_method k x)
       method = method_names m method_read
 
-      head : Header k (name_of (stored_of w) m) header
+      head : Header k (name_of (plain_stored w) m) header
       head =
           let at = method_at w m ready.sound method.sound (method_is m method_read) in
-          header_at os k (name_of (stored_of w) m) m.0 header at (counted ∙ ap (λ n. unwrap_or (count_of n) 0) read_header ∙ header_is os (object_of k (name_of (stored_of w) m)) m.0 at)
+          header_at os k (name_of (plain_stored w) m) m.0 header at (counted ∙ ap (λ n. unwrap_or (count_of n) 0) read_header ∙ header_is os (object_of k (name_of (plain_stored w) m)) m.0 at)
 
-      pc_names : Names (stored_of w) pc (closure_slot k x 1)
+      pc_names : Names (plain_stored w) pc (closure_slot k x 1)
       pc_names = slot_names 1 pc (omega arith) pc_read
 
-      pc_count : count_of pc.0 ≡ index_of (closure_slot k x 1)
-      pc_count = sym (index_of-ref_of os pc.0 pc_names.sound) ∙ ap index_of pc_names.is
+      pc_count : count_of pc.0 ≡ small_index (closure_slot k x 1)
+      pc_count = sym (index_of-ref_of os pc.0 pc_names.sound) ∙ ap small_index pc_names.is
 
-      entry : Entry (object_of k (closure_method k x)) (index_of (closure_slot k x 1))
+      entry : Entry (object_of k (closure_method k x)) (small_index (closure_slot k x 1))
       entry = entry_there _ _ can.3
 
       copied_is : copied_words os v.0 n ≡ drop 3 words
-      copied_is = ap (λ o. take n (drop 3 (calling.words_in o))) at.there ∙ take_all n (drop 3 words) (omega (arith, copied, count_is, length-drop 3 words))
+      copied_is = ap (λ o. take n (drop 3 (calling.words_there o))) at.there ∙ take_all n (drop 3 words) (omega (arith, copied, count_is, length-drop 3 words))
 
       values_are : map (ref_of os) (copied_words os v.0 n) ≡ copied_values k x
       values_are = ap (map (ref_of os)) copied_is ∙ sym (drop-map (ref_of os) 3 words) ∙ sym (ap (drop 3) slots_are)
@@ -266,7 +266,7 @@ module _ (w : PlainWorld) (v : Oop) (args : ℕ) (ready : IsReady (stored_of w) 
       stackp_count : count_of stackp.0 ≡ Some (args + n)
       stackp_count = ap count_of stackp_is ∙ count_of-small (args + n) stack_small
 
-      pub can_call : CanCall (stored_of w) k header args n fields
+      pub can_call : CanCall (plain_stored w) k header args n fields
       can_call = record {
         entry = entry.at;
         pc = pc_count ∙ entry.is;
@@ -283,17 +283,17 @@ module _ (w : PlainWorld) (v : Oop) (args : ℕ) (ready : IsReady (stored_of w) 
         there = fits.there;
         values = values_long;
         named = subst (AllPass (is_reference os)) (sym copied_is) (All-drop (λ (u : ℕ). is_reference os u ≡ true) 3 words references);
-        closed = closure_kind (stored_of w) k v ready.sound.holds named (evaluated k x args fits.closure).closure;
+        closed = closure_kind (plain_stored w) k v ready.sound.holds named (evaluated k x args fits.closure).closure;
         births = fits.births;
       }
 
-      pub called_is : called_of k args (called_context (stored_of w) k header args n fields) ≡ enter_block_of k x args
+      pub called_is : called_of k args (called_context (plain_stored w) k header args n fields) ≡ enter_block_of k x args
       unfolding enter_block_of enter_with
       called_is =
           let a = active_is w b ready known in
-          let sender : name_of (stored_of w) b ≡ ref.Obj (active_birth k) = ref_of-object os b.0 (is_object-object_at os b.0 a.0 a.1.there) ∙ ap (λ n. ref.Obj n) (sym a.1.birth) in
+          let sender : name_of (plain_stored w) b ≡ ref.Obj (active_birth k) = ref_of-object os b.0 (is_object-object_at os b.0 a.0 a.1.there) ∙ ap (λ n. ref.Obj n) (sym a.1.birth) in
           let left : unwrap_or (count_of stackp.0) 0 - (args + n) ≡ 0 = omega (arith, ap (λ (o : Option ℕ). unwrap_or o 0) stackp_count) in
-          let stack : called_stack (stored_of w) k (unwrap_or (count_of stackp.0) 0) args n fields ≡ last_values args (stack_of k) ++ copied_values k x =
+          let stack : called_stack (plain_stored w) k (unwrap_or (count_of stackp.0) 0) args n fields ≡ last_values args (stack_of k) ++ copied_values k x =
           ap₂ (λ us n. last_values args (stack_of k) ++ (us ++ replicate n (nil_of k))) values_are left ∙ ap (λ us. last_values args (stack_of k) ++ us) (append-nil (copied_values k x)) in
           let receives = (receiver_names receiver receiver_read).is in
           let size_back = sym size_is in

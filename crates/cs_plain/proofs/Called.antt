@@ -6,7 +6,7 @@ use Rattle.cs_word.specs.declared.Oop.{Oop}
 use Rattle.cs_word.specs.Word.{small_word}
 use Rattle.cs_heap.specs.Writes.{slot_stored, slots_stored}
 use Rattle.cs_acts.proofs.Dirty.{names-dirtied, ready-dirtied}
-use Rattle.cs_heap.specs.Object.{Memory, Object, is_object, new_object, next_address, size, slot_count_of, used, with_slot}
+use Rattle.cs_heap.specs.Object.{Memory, Object, is_object, new_object, next_address, size, slot_count_of, used, slot_set}
 use Rattle.cs_heap.proofs.Laws.{field_of-new, field_of-old, length-new_words, next_address-new, slot_count_of-with_slot}
 use Rattle.cs_classes.specs.Meaning.{depth_in}
 use Rattle.cs_classes.proofs.Heaps.{is_object-object_at, object_there}
@@ -20,8 +20,8 @@ use Rattle.cs_plain.specs.declared.Fields.{Fields}
 use Rattle.cs_plain.specs.declared.PlainWorld.{PlainWorld}
 use Rattle.cs_plain.specs.Calling.{CanCall, called_context, called_of, copied_words}
 use Rattle.cs_plain.specs.Calling as calling
-use Rattle.cs_plain.specs.Storing.{copied, with_fields}
-use Rattle.cs_plain.specs.View.{stored_of, view_of}
+use Rattle.cs_plain.specs.Storing.{values_copied, with_fields}
+use Rattle.cs_plain.specs.View.{plain_stored, plain_view}
 use Rattle.cs_plain.proofs.Active.{Active, active_is}
 use Rattle.cs_plain.proofs.Calling.{entered_names, entered_ready, entered_view, entered_words, with_entered}
 use Rattle.cs_plain.proofs.Making.{context_object-is, context_words, context_added}
@@ -32,11 +32,11 @@ use Rattle.cs_plain.proofs.Slots.{depth_is_read, depth_within, few_slots, fields
 
 count-fields : (h g : Memory) (a b : ℕ) (f : Fields) → g ≡ record h { objects = with_fields h.objects a f } → slot_count_of g.objects b ≡ slot_count_of h.objects b
 count-fields h g a b f e =
-    let o0 : List Object = with_slot h.objects a 0 f.sender.0 in
-    let o1 : List Object = with_slot o0 a 1 f.pc.0 in
-    let o2 : List Object = with_slot o1 a 2 f.stackp.0 in
-    let o3 : List Object = with_slot o2 a 3 f.method.0 in
-    let o4 : List Object = with_slot o3 a 4 f.closure.0 in
+    let o0 : List Object = slot_set h.objects a 0 f.sender.0 in
+    let o1 : List Object = slot_set o0 a 1 f.pc.0 in
+    let o2 : List Object = slot_set o1 a 2 f.stackp.0 in
+    let o3 : List Object = slot_set o2 a 3 f.method.0 in
+    let o4 : List Object = slot_set o3 a 4 f.closure.0 in
     ap (λ (m : Memory). slot_count_of m.objects b) e
     ∙ slot_count_of-with_slot o4 a 5 f.receiver.0 b ∙ slot_count_of-with_slot o3 a 4 f.closure.0 b ∙ slot_count_of-with_slot o2 a 3 f.method.0 b ∙ slot_count_of-with_slot o1 a 2 f.stackp.0 b
     ∙ slot_count_of-with_slot o0 a 1 f.pc.0 b ∙ slot_count_of-with_slot h.objects a 0 f.sender.0 b
@@ -56,27 +56,27 @@ count-new h g a class format slots birth e at =
 -- the heap with the new context
 abbrev made_objects : List Object → ℕ → ℕ → Fields → ℕ → ℕ → ℕ → ℕ → List Object
 made_objects os slots birth f new left args n =
-    with_slot (copied (copied (with_fields (os ++ new_object 36 3 slots birth ∷ []) new f) f.sender.0 (6 + left + 1) new 6 args) f.closure.0 3 new (6 + args) n) f.sender.0 2 (small_word (pos left))
+    slot_set (values_copied (values_copied (with_fields (os ++ new_object 36 3 slots birth ∷ []) new f) f.sender.0 (6 + left + 1) new 6 args) f.closure.0 3 new (6 + args) n) f.sender.0 2 (small_word (pos left))
 
 pub written-heap : (h0 h1 h2 h3 h4 h5 : Memory) (slots birth : ℕ) (f : Fields) (a left args n v : ℕ)
     → h1 ≡ record h0 { objects = h0.objects ++ new_object 36 3 slots birth ∷ [] } → h2 ≡ record h1 { objects = with_fields h1.objects a f }
-    → h3 ≡ record h2 { objects = copied h2.objects f.sender.0 (6 + left + 1) a 6 args } → h4 ≡ record h3 { objects = copied h3.objects f.closure.0 3 a (6 + args) n }
+    → h3 ≡ record h2 { objects = values_copied h2.objects f.sender.0 (6 + left + 1) a 6 args } → h4 ≡ record h3 { objects = values_copied h3.objects f.closure.0 3 a (6 + args) n }
     → h5 ≡ slot_stored h4 f.sender.0 2 v → v ≡ small_word (pos left)
     → h5 ≡ slots_stored h0 f.sender.0 (made_objects h0.objects slots birth f a left args n)
 written-heap h0 h1 h2 h3 h4 h5 slots birth f a left args n v e1 e2 e3 e4 e5 word =
-    e5 ∙ ap (λ (m : Memory). slot_stored m f.sender.0 2 v) (e4 ∙ ap (λ (m : Memory). record m { objects = copied m.objects f.closure.0 3 a (6 + args) n })
-    (e3 ∙ ap (λ (m : Memory). record m { objects = copied m.objects f.sender.0 (6 + left + 1) a 6 args }) (e2 ∙ ap (λ (m : Memory). record m { objects = with_fields m.objects a f }) e1)))
-    ∙ ap (λ (u : ℕ). slots_stored h0 f.sender.0 (with_slot (copied (copied (with_fields (h0.objects ++ new_object 36 3 slots birth ∷ []) a f) f.sender.0 (6 + left + 1) a 6 args) f.closure.0 3 a (6 + args) n) f.sender.0 2 u)) word
+    e5 ∙ ap (λ (m : Memory). slot_stored m f.sender.0 2 v) (e4 ∙ ap (λ (m : Memory). record m { objects = values_copied m.objects f.closure.0 3 a (6 + args) n })
+    (e3 ∙ ap (λ (m : Memory). record m { objects = values_copied m.objects f.sender.0 (6 + left + 1) a 6 args }) (e2 ∙ ap (λ (m : Memory). record m { objects = with_fields m.objects a f }) e1)))
+    ∙ ap (λ (u : ℕ). slots_stored h0 f.sender.0 (slot_set (values_copied (values_copied (with_fields (h0.objects ++ new_object 36 3 slots birth ∷ []) a f) f.sender.0 (6 + left + 1) a 6 args) f.closure.0 3 a (6 + args) n) f.sender.0 2 u)) word
 
 -- ---- the call
 
 pub record Enters (w v : PlainWorld) (header args n : ℕ) (f : Fields) : Type 0 where
-  pub view : view_of v ≡ called_of (view_of w) args (called_context (stored_of w) (view_of w) header args n f)
-  pub ready : IsReady (stored_of v) (view_of v)
-  pub names : KeepsNames (stored_of w) (stored_of v)
+  pub view : plain_view v ≡ called_of (plain_view w) args (called_context (plain_stored w) (plain_view w) header args n f)
+  pub ready : IsReady (plain_stored v) (plain_view v)
+  pub names : KeepsNames (plain_stored w) (plain_stored v)
 
 enters-dirtied : {w v : PlainWorld} {header args n : ℕ} {f : Fields} (d : Bool) → Enters w v header args n f → Enters w (dirtied v d) header args n f
-enters-dirtied {w = w} {v = v} d done = record { view = done.view; ready = ready-dirtied d done.ready; names = names-dirtied (stored_of w) (stored_of v) d done.names }
+enters-dirtied {w = w} {v = v} d done = record { view = done.view; ready = ready-dirtied d done.ready; names = names-dirtied (plain_stored w) (plain_stored v) d done.names }
 
 -- a context has at most 56 values
 size_few : (header : ℕ) → context_size header ≤ 56
@@ -86,8 +86,8 @@ size_few header = go (header / 2 ^ 17 % 2 == 1)
     go true = omega arith
     go false = omega arith
 
-module _ (w : PlainWorld) (header args n depth : ℕ) (f : Fields) (ready : IsReady (stored_of w) (view_of w)) (known : w.active ≡ Some f.sender)
-    (fits : CanCall (stored_of w) (view_of w) header args n f) (deep : depth ≡ depth_of (view_of w)) where
+module _ (w : PlainWorld) (header args n depth : ℕ) (f : Fields) (ready : IsReady (plain_stored w) (plain_view w)) (known : w.active ≡ Some f.sender)
+    (fits : CanCall (plain_stored w) (plain_view w) header args n f) (deep : depth ≡ depth_of (plain_view w)) where
   abbrev x : Object
   x = (active_is w f.sender ready known).0
 
@@ -121,7 +121,7 @@ module _ (w : PlainWorld) (header args n depth : ℕ) (f : Fields) (ready : IsRe
   copied_slots some =
       let y = object_there w.heap.objects f.closure.0 fits.closure in
       let count : slot_count_of w.heap.objects f.closure.0 ≡ length y.0.words = ap (λ (o : Option Object). option_map_or (λ (z : Object). length z.words) o 0) y.1 in
-      let long : length (take n (drop 3 y.0.words)) ≡ n = ap (λ o. length (take n (drop 3 (calling.words_in o)))) (sym y.1) ∙ fits.values in
+      let long : length (take n (drop 3 y.0.words)) ≡ n = ap (λ o. length (take n (drop 3 (calling.words_there o)))) (sym y.1) ∙ fits.values in
       omega (arith, some, count, long, length-take n (drop 3 y.0.words), length-drop 3 y.0.words)
 
   -- the slots behind the first two calls
@@ -147,7 +147,7 @@ module _ (w : PlainWorld) (header args n depth : ℕ) (f : Fields) (ready : IsRe
 
   module _ (slots : ℕ) (count : slots ≡ 6 + context_size header) where
     pub full : w.heap.limit < used w.heap.objects + size slots → (h : Memory) → h ≡ w.heap
-        → IsFullHeap (stored_of (record w { heap = h })) None 0 (called_of (view_of w) args (called_context (stored_of w) (view_of w) header args n f))
+        → IsFullHeap (plain_stored (record w { heap = h })) None 0 (called_of (plain_view w) args (called_context (plain_stored w) (plain_view w) header args n f))
     full over h same = record {
       words = omega (arith, ap (λ (g : Memory). g.limit) same, over, ap size count, entered_words header args n f ready active fits);
       room = tt;
@@ -162,11 +162,11 @@ module _ (w : PlainWorld) (header args n depth : ℕ) (f : Fields) (ready : IsRe
         let csize : ℕ = context_size header in
         let y = object_there os f.closure.0 fits.closure in
         let more : List ℕ = copied_words os f.closure.0 n in
-        let read : take n (drop 3 y.0.words) ≡ more = ap (λ o. take n (drop 3 (calling.words_in o))) (sym y.1) in
+        let read : take n (drop 3 y.0.words) ≡ more = ap (λ o. take n (drop 3 (calling.words_there o))) (sym y.1) in
         let next : new.0 ≡ next_address os (6 + csize) = at ∙ ap (next_address os) count in
         let same : depth ≡ d = deep ∙ sym (depth_is_read ready active) in
         let at : ℕ = 6 + (d - (args + 1)) + 1 in
-        let old : List Object = with_slot os f.sender.0 2 (small_word (pos (d - (args + 1)))) in
+        let old : List Object = slot_set os f.sender.0 2 (small_word (pos (d - (args + 1)))) in
         let part : List ℕ = take args (drop at x.words) in
         let objects : List Object = old ++ record (new_object 36 3 (6 + csize) w.roots.next_birth) { words = context_words f part more (csize - (args + n)) } ∷ [] in
         let heap : h ≡ slots_stored w.heap f.sender.0 objects =

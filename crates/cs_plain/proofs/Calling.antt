@@ -11,11 +11,11 @@ use Rattle.std.proofs.lemmas.List.Elements.{All-append, All-cons, All-drop, All-
 use Rattle.std.proofs.Math.Seq.{take-append-add}
 use Rattle.cs_word.specs.declared.Oop.{Oop}
 use Rattle.cs_word.specs.Word.{small_word}
-use Rattle.cs_heap.specs.Object.{Object, class_of, is_object, set_word, base, header_address, new_object, next_address, size, used, with_slot}
+use Rattle.cs_heap.specs.Object.{Object, class_at, is_object, set_word, base, header_address, new_object, next_address, size, used, slot_set}
 use Rattle.cs_heap.proofs.Laws.{object_at-new, used-pushed}
 use Rattle.cs_classes.specs.Meaning.{context_of, count_of, depth_in, kept_of, obj_of, ref_of}
 use Rattle.cs_classes.specs.Kinds.{ContextKinds, KindsStand}
-use Rattle.cs_classes.specs.Sound.{IsSoundObject, IsWhole, is_reference, is_sender, nil_of}
+use Rattle.cs_classes.specs.Sound.{IsSoundObject, IsWhole, is_reference, is_sender, nil_word}
 use Rattle.cs_classes.proofs.Fields.{nil_or_closure_named}
 use Rattle.cs_classes.proofs.Heaps.{is_object-object_at, set_word-IsEdit, stands}
 use Rattle.cs_classes.proofs.Makings.{Makes, makes, nil_is_object, ref_of-nil}
@@ -37,11 +37,11 @@ use Rattle.cs_acts.specs.Names.{KeepsNames, name_of}
 use Rattle.cs_acts.specs.Ready.{IsReady}
 use Rattle.cs_acts.proofs.ContextKinds.{kinds-enter_with}
 use Rattle.cs_acts.proofs.Named as named
-use Rattle.cs_model.specs.Demand.{words_in}
+use Rattle.cs_model.specs.Demand.{words_held}
 use Rattle.cs_plain.specs.declared.Fields.{Fields}
 use Rattle.cs_plain.specs.declared.PlainWorld.{PlainWorld}
 use Rattle.cs_plain.specs.Calling.{CanCall, called_context, called_of, called_stack, copied_words}
-use Rattle.cs_plain.specs.View.{birth_at, birth_in, stored_of, view_of}
+use Rattle.cs_plain.specs.View.{oop_birth, plain_birth, plain_stored, plain_view}
 use Rattle.cs_plain.proofs.Active.{Active, sound_world}
 use Rattle.cs_plain.proofs.Edits.{Edited, edited}
 use Rattle.cs_plain.proofs.Making.{drop-drop, context_words}
@@ -71,8 +71,8 @@ lies_method (Some (Ctx c)) pc h = absurd (false≢true h)
 abbrev pub with_entered : PlainWorld → List Object → Oop → PlainWorld
 with_entered w us new = record w { heap = record w.heap { objects = us }; roots = after_birth w.roots; active = Some new }
 
-module _ {w : PlainWorld} {x : Object} (header args n : ℕ) (f : Fields) (ready : IsReady (stored_of w) (view_of w)) (active : Active w f.sender x)
-    (fits : CanCall (stored_of w) (view_of w) header args n f) where
+module _ {w : PlainWorld} {x : Object} (header args n : ℕ) (f : Fields) (ready : IsReady (plain_stored w) (plain_view w)) (active : Active w f.sender x)
+    (fits : CanCall (plain_stored w) (plain_view w) header args n f) where
   abbrev left : ℕ
   left = depth_in x.words - (args + 1)
 
@@ -80,7 +80,7 @@ module _ {w : PlainWorld} {x : Object} (header args n : ℕ) (f : Fields) (ready
   at = 6 + left + 1
 
   abbrev old : List Object
-  old = with_slot w.heap.objects f.sender.0 2 (small_word (pos left))
+  old = slot_set w.heap.objects f.sender.0 2 (small_word (pos left))
 
   abbrev part : List ℕ
   part = take args (drop at x.words)
@@ -101,11 +101,11 @@ module _ {w : PlainWorld} {x : Object} (header args n : ℕ) (f : Fields) (ready
   refer = ref_of all
 
   abbrev c : Context
-  c = called_context (stored_of w) (view_of w) header args n f
+  c = called_context (plain_stored w) (plain_view w) header args n f
 
   -- ---- numbers
 
-  deep : depth_in x.words ≡ depth_of (view_of w)
+  deep : depth_in x.words ≡ depth_of (plain_view w)
   deep = depth_is_read ready active
 
   args_there : args < depth_in x.words
@@ -187,13 +187,13 @@ module _ {w : PlainWorld} {x : Object} (header args n : ℕ) (f : Fields) (ready
   some_old : 0 < length old
   some_old = omega (arith, old_whole.first)
 
-  method_there : is_method (object_of (view_of w) (name_of (stored_of w) f.method)) ≡ true
-  method_there = lies_method (object_of (view_of w) (name_of (stored_of w) f.method)) fits.entry fits.lies
+  method_there : is_method (object_of (plain_view w) (name_of (plain_stored w) f.method)) ≡ true
+  method_there = lies_method (object_of (plain_view w) (name_of (plain_stored w) f.method)) fits.entry fits.lies
 
   sender_kind : is_sender all f.sender.0 ≡ true
   sender_kind =
       let os = w.heap.objects in
-      let class : class_of os f.sender.0 ≡ x.class = ap (λ (o : Option Object). option_map_or (λ (y : Object). y.class) o 0) active.there in
+      let class : class_at os f.sender.0 ≡ x.class = ap (λ (o : Option Object). option_map_or (λ (y : Object). y.class) o 0) active.there in
       is_sender-push old new f.sender.0 some_old
       (ap (λ p. p f.sender.0) (is_sender-with_object os f.sender.0 mark (set_word-IsEdit 2 (small_word (pos left)))) ∙ is_sender-context os f.sender.0 sender_there (class ∙ eqb-true x.class 36 active.context))
 
@@ -201,18 +201,18 @@ module _ {w : PlainWorld} {x : Object} (header args n : ℕ) (f : Fields) (ready
   method_kind =
       is_nil_or_method-push old new f.method.0 some_old
       (ap (λ p. p f.method.0) (is_nil_or_method-with_object w.heap.objects f.sender.0 mark (set_word-IsEdit 2 (small_word (pos left))))
-      ∙ named.method_kind (stored_of w) (view_of w) f.method ready.sound.holds fits.method method_there)
+      ∙ named.method_kind (plain_stored w) (plain_view w) f.method ready.sound.holds fits.method method_there)
 
   closure_kind : is_nil_or_closure all f.closure.0 ≡ true
   closure_kind =
       is_nil_or_closure-push old new f.closure.0 some_old
       (ap (λ p. p f.closure.0) (is_nil_or_closure-with_object w.heap.objects f.sender.0 mark (set_word-IsEdit 2 (small_word (pos left)))) ∙ fits.closed)
 
-  c_kinds : ContextKinds (view_of w) c
+  c_kinds : ContextKinds (plain_view w) c
   c_kinds =
-      let k : Kept = view_of w in
-      let sender : Ref = name_of (stored_of w) f.sender in
-      let method : Ref = name_of (stored_of w) f.method in
+      let k : Kept = plain_view w in
+      let sender : Ref = name_of (plain_stored w) f.sender in
+      let method : Ref = name_of (plain_stored w) f.method in
       record {
         sender = or_right (is_nil k sender) (is_context_at (object_of k sender))
             (ap (λ r. is_context_at (object_of k r)) (ref_of-object w.heap.objects f.sender.0 sender_there)
@@ -235,8 +235,8 @@ module _ {w : PlainWorld} {x : Object} (header args n : ℕ) (f : Fields) (ready
       method = method_kind;
       closure = closure_kind;
       slots = subst (λ (n : ℕ). IsTrue (n == 22 || n == 62)) (sym words_long) (shape csize (sizes (header / 2 ^ 17 % 2 == 1)));
-      pc = or_right (f.pc.0 == nil_of all) (is_some (count_of f.pc.0)) (ap is_some fits.pc);
-      stackp = or_right (f.stackp.0 == nil_of all) (is_some (count_of f.stackp.0)) (ap is_some fits.stackp);
+      pc = or_right (f.pc.0 == nil_word all) (is_some (count_of f.pc.0)) (ap is_some fits.pc);
+      stackp = or_right (f.stackp.0 == nil_word all) (is_some (count_of f.stackp.0)) (ap is_some fits.stackp);
       depth = omega (arith, ap (λ (o : Option ℕ). unwrap_or o 0) fits.stackp, words_long, fits.fits);
     };
     method = λ n. absurd (false≢true n);
@@ -249,12 +249,12 @@ module _ {w : PlainWorld} {x : Object} (header args n : ℕ) (f : Fields) (ready
       sizes true = refl
       sizes false = refl
 
-  nil_is : refer base ≡ operation.nil_of (view_of w)
+  nil_is : refer base ≡ operation.nil_of (plain_view w)
   nil_is = refer_is base base_named ∙ ref_of-nil w.heap.objects w.classes w.roots ready.sound.holds.whole
 
   -- the arguments, the copied values, and nil
   stack_is : map refer (take fits.depth (part ++ (more ++ replicate (csize - (args + n)) base)))
-      ≡ called_stack (stored_of w) (view_of w) fits.depth args n f
+      ≡ called_stack (plain_stored w) (plain_view w) fits.depth args n f
   stack_is =
       let os = w.heap.objects in
       let d : ℕ = depth_in x.words in
@@ -267,13 +267,13 @@ module _ {w : PlainWorld} {x : Object} (header args n : ℕ) (f : Fields) (ready
       ∙ ap (λ n. part ++ take n (more ++ rest)) second ∙ ap (λ us. part ++ us) (take-append-add more rest above)
       ∙ ap (λ us. part ++ (more ++ us)) (take-replicate above (csize - (args + n)) base (omega (arith, fits.fits))) in
       let place : drop at x.words ≡ drop (d - args) (drop 6 x.words) = ap (λ n. drop n x.words) (omega (arith, args_there)) ∙ sym (drop-drop (d - args) 6 x.words) in
-      let values : map (ref_of os) part ≡ last_values args (stack_of (view_of w)) =
+      let values : map (ref_of os) part ≡ last_values args (stack_of (plain_view w)) =
       ap (λ us. map (ref_of os) (take args us)) place
       ∙ ap (map (ref_of os)) (sym (drop-take (d - args) args (drop 6 x.words)))
       ∙ sym (drop-map (ref_of os) (d - args) (take (d - args + args) (drop 6 x.words)))
       ∙ ap (λ n. drop (d - args) (map (ref_of os) (take n (drop 6 x.words)))) (omega (arith, args_there))
       ∙ ap (drop (d - args)) (sym (stack_words ready active))
-      ∙ ap (λ n. drop (n - args) (stack_of (view_of w))) deep in
+      ∙ ap (λ n. drop (n - args) (stack_of (plain_view w))) deep in
       ap (map refer) cut
       ∙ map-append refer part (more ++ replicate above base)
       ∙ ap₂ (λ (us vs : List Ref). us ++ vs) (map_alike (is_reference os) refer (ref_of os) refer_is part part_named ∙ values)
@@ -284,7 +284,7 @@ module _ {w : PlainWorld} {x : Object} (header args n : ℕ) (f : Fields) (ready
   unfolding context_of
   new_is =
       let stack = ap (λ o. map refer (take (unwrap_or o 0) (part ++ (more ++ replicate (csize - (args + n)) base)))) fits.stackp ∙ stack_is
-      ∙ ap (λ o. called_stack (stored_of w) (view_of w) (unwrap_or o 0) args n f) (sym fits.stackp) in
+      ∙ ap (λ o. called_stack (plain_stored w) (plain_view w) (unwrap_or o 0) args n f) (sym fits.stackp) in
       let size : length new.words - 6 ≡ csize = omega (arith, words_long) in
       let sender = refer_is f.sender.0 sender_named in
       let method = refer_is f.method.0 fits.method in
@@ -311,7 +311,7 @@ module _ {w : PlainWorld} {x : Object} (header args n : ℕ) (f : Fields) (ready
   made = makes old_whole new _ refl class_there new_sound (λ active. new_is)
 
   abbrev entered : Kept
-  entered = called_of (view_of w) args c
+  entered = called_of (plain_view w) args c
 
   kept : kept_of all w.classes (after_birth w.roots) (Some w.roots.next_birth) ≡ entered
   unfolding add_of put enter_with drop_of
@@ -323,21 +323,21 @@ module _ {w : PlainWorld} {x : Object} (header args n : ℕ) (f : Fields) (ready
   words = used-pushed old new ∙ ap₂ (λ (n l : ℕ). n + size l) edit.words words_long
 
   -- the words of the state behind it
-  pub entered_words : words_in entered ≡ used w.heap.objects + size (6 + csize)
-  entered_words = ap words_in (sym kept) ∙ words_of-kept all w (after_birth w.roots) (Some w.roots.next_birth) made.whole ∙ words
+  pub entered_words : words_held entered ≡ used w.heap.objects + size (6 + csize)
+  entered_words = ap words_held (sym kept) ∙ words_of-kept all w (after_birth w.roots) (Some w.roots.next_birth) made.whole ∙ words
 
-  dropped_is : view_of (with_objects w old) ≡ drop_of (view_of w) (args + 1)
+  dropped_is : plain_view (with_objects w old) ≡ drop_of (plain_view w) (args + 1)
   unfolding drop_of
   dropped_is = dropped.view
 
   -- the method stays where the old context is written
-  lies_behind : PcLies (drop_of (view_of w) (args + 1)) c
+  lies_behind : PcLies (drop_of (plain_view w) (args + 1)) c
   unfolding drop_of
   lies_behind pc e =
       let is : fits.entry ≡ pc = some_same fits.entry pc (sym fits.pc ∙ e) in
-      lies_still (view_of w) (active_birth (view_of w)) (Ctx (popped (args + 1) (active_context (view_of w))))
-      (no_place (state.object_at (view_of w) (active_birth (view_of w))) (active_context (view_of w)) (Ctx (popped (args + 1) (active_context (view_of w)))) ready.running.found) (name_of (stored_of w) f.method) pc
-      (subst (λ n. lies_in (object_of (view_of w) (name_of (stored_of w) f.method)) n ≡ true) is fits.lies)
+      lies_still (plain_view w) (active_birth (plain_view w)) (Ctx (popped (args + 1) (active_context (plain_view w))))
+      (no_place (state.object_at (plain_view w) (active_birth (plain_view w))) (active_context (plain_view w)) (Ctx (popped (args + 1) (active_context (plain_view w)))) ready.running.found) (name_of (plain_stored w) f.method) pc
+      (subst (λ n. lies_in (object_of (plain_view w) (name_of (plain_stored w) f.method)) n ≡ true) is fits.lies)
     where
       some_same : (m n : ℕ) → ◌≡◌ {A = Option ℕ} (Some m) (Some n) → m ≡ n
       some_same m n h = cc
@@ -345,7 +345,7 @@ module _ {w : PlainWorld} {x : Object} (header args n : ℕ) (f : Fields) (ready
   entered_pcs : KeepsPcs entered
   unfolding enter_with
   entered_pcs =
-      let d : Kept = drop_of (view_of w) (args + 1) in
+      let d : Kept = drop_of (plain_view w) (args + 1) in
       let next : ℕ = w.roots.next_birth in
       let fresh : state.object_at d next ≡ None =
       ap (λ t. state.object_at t next) (sym (dropped_is)) ∙ get-objects_of-fresh old next (next_is_fresh old w.classes w.roots old_whole) in
@@ -357,28 +357,28 @@ module _ {w : PlainWorld} {x : Object} (header args n : ℕ) (f : Fields) (ready
       same c e h = cc
 
   entered_kinds : KindsStand entered
-  entered_kinds = kinds-enter_with (view_of w) args (λ d. c) ready.running ready.sound.births ready.sound.kinds c_kinds
+  entered_kinds = kinds-enter_with (plain_view w) args (λ d. c) ready.running ready.sound.births ready.sound.kinds c_kinds
 
   -- ---- the world
 
-  pub entered_view : (v : Oop) → v.0 ≡ next_address w.heap.objects (6 + csize) → view_of (with_entered w all v) ≡ entered
+  pub entered_view : (v : Oop) → v.0 ≡ next_address w.heap.objects (6 + csize) → plain_view (with_entered w all v) ≡ entered
   entered_view v h =
       let next : v.0 ≡ next_address old (length new.words) = h ∙ ap₂ next_at (sym edit.words) (sym words_long) in
-      let birth : birth_at all v ≡ Some w.roots.next_birth = ap birth_in (object_at-new old new v.0 next) in
+      let birth : oop_birth all v ≡ Some w.roots.next_birth = ap plain_birth (object_at-new old new v.0 next) in
       ap (kept_of all w.classes (after_birth w.roots)) birth ∙ kept
     where
       next_at : ℕ → ℕ → ℕ
       next_at u n = header_address (base + 4 * u) n
 
-  pub entered_names : (v : Oop) → KeepsNames (stored_of w) (stored_of (with_entered w all v))
+  pub entered_names : (v : Oop) → KeepsNames (plain_stored w) (plain_stored (with_entered w all v))
   entered_names v = λ o h. record { sound = refers o.0 h; is = refer_is o.0 h }
 
   pub entered_ready : (v : Oop) → v.0 ≡ next_address w.heap.objects (6 + csize) → used w.heap.objects + size (6 + csize) ≤ w.heap.limit
-      → IsReady (stored_of (with_entered w all v)) (view_of (with_entered w all v))
+      → IsReady (plain_stored (with_entered w all v)) (plain_view (with_entered w all v))
   unfolding enter_with
   entered_ready v h room =
       let view = entered_view v h in
-      let d : Kept = drop_of (view_of w) (args + 1) in
+      let d : Kept = drop_of (plain_view w) (args + 1) in
       record {
         sound = sound_world (with_entered w all v) made.whole (omega (arith, words, room)) ready.sound.holds.most
             (subst KindsStand (sym view) entered_kinds) (subst KeepsPcs (sym view) entered_pcs);

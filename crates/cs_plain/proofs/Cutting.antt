@@ -3,7 +3,7 @@ use Rattle.std.proofs.Common.{◌≡◌, ◌≢◌, ℕ, ◌+◌, ◌≤◌, Boo
 use Rattle.std.specs.Prelude.{◌==◌}
 use Rattle.std.proofs.lemmas.Bool.{eq-eqb, eqb-true, false≢true}
 use Rattle.cs_word.specs.declared.Oop.{Oop}
-use Rattle.cs_heap.specs.Object.{Memory, Object, birth_of, is_object, slot_count_of, slot_of}
+use Rattle.cs_heap.specs.Object.{Memory, Object, birth_at, is_object, slot_count_of, slot_of}
 use Rattle.cs_classes.proofs.Heaps.{birth_of-object_at, is_object-object_at}
 use Rattle.cs_model.specs.Obj.{Context, Obj, context_in}
 use Rattle.cs_model.specs.State.{Kept, object_at}
@@ -18,8 +18,8 @@ use Rattle.cs_acts.specs.Ready.{IsReady, IsSound}
 use Rattle.cs_acts.specs.Targets.{CanCut, dying_in, dying_to}
 use Rattle.cs_plain.specs.declared.PlainWorld.{PlainWorld}
 use Rattle.cs_plain.specs.Cutting.{AtHome, CanLand, landed_of}
-use Rattle.cs_plain.specs.Storing.{buried}
-use Rattle.cs_plain.specs.View.{active_in, birth_at, stored_of, view_of}
+use Rattle.cs_plain.specs.Storing.{plain_buried}
+use Rattle.cs_plain.specs.View.{plain_active, oop_birth, plain_stored, plain_view}
 use Rattle.cs_plain.proofs.Acts as acts
 use Rattle.cs_plain.proofs.Acts.{ContextAt, sender_read}
 use Rattle.cs_plain.proofs.Leaving.{buried_edited, buried_sound, killed, names_both, some_same}
@@ -33,15 +33,15 @@ use Rattle.cs_plain.proofs.Written.{dirtied, keeps_names, with_objects}
 pub record Cuts (w v : PlainWorld) (home target : ℕ) (c : Oop) (n : ℕ) : Type 0 where
   pub birth : ℕ
   pub rest : List ℕ
-  pub at : birth_at v.heap.objects c ≡ Some birth
-  pub way : IsWay (view_of v) home birth rest
-  pub kills : kill_all (birth ∷ rest) (view_of v) ≡ kill_all (dying_to (view_of w) home) (view_of w)
+  pub at : oop_birth v.heap.objects c ≡ Some birth
+  pub way : IsWay (plain_view v) home birth rest
+  pub kills : kill_all (birth ∷ rest) (plain_view v) ≡ kill_all (dying_to (plain_view w) home) (plain_view w)
   pub few : length rest + n ≤ links
-  pub sender : sender_birth (view_of v) home ≡ Some target
+  pub sender : sender_birth (plain_view v) home ≡ Some target
   pub apart : is_among target (birth ∷ rest) ≡ false
-  pub stays : object_at (view_of v) target ≡ object_at (view_of w) target
-  pub sound : IsSound (stored_of v) (view_of v)
-  pub names : KeepsNames (stored_of w) (stored_of v)
+  pub stays : object_at (plain_view v) target ≡ object_at (plain_view w) target
+  pub sound : IsSound (plain_stored v) (plain_view v)
+  pub names : KeepsNames (plain_stored w) (plain_stored v)
   pub limit : v.heap.limit ≡ w.heap.limit
 
 cuts-dirtied : {w v : PlainWorld} {home target : ℕ} {c : Oop} {n : ℕ} (d : Bool) → Cuts w v home target c n → Cuts w (dirtied v d) home target c n
@@ -56,17 +56,17 @@ cuts-dirtied {w = w} {v = v} d h = record {
   apart = h.apart;
   stays = h.stays;
   sound = sound-dirtied d h.sound;
-  names = names-dirtied (stored_of w) (stored_of v) d h.names;
+  names = names-dirtied (plain_stored w) (plain_stored v) d h.names;
   limit = h.limit;
 }
 
 -- ---- at the beginning
 
-module _ (w : PlainWorld) (home : ℕ) (a : Oop) (ready : IsReady (stored_of w) (view_of w)) (known : w.active ≡ Some a) where
-  begins : (target : ℕ) → sender_birth (view_of w) home ≡ Some target → CanCut (view_of w) home target → Cuts w w home target a 0
+module _ (w : PlainWorld) (home : ℕ) (a : Oop) (ready : IsReady (plain_stored w) (plain_view w)) (known : w.active ≡ Some a) where
+  begins : (target : ℕ) → sender_birth (plain_view w) home ≡ Some target → CanCut (plain_view w) home target → Cuts w w home target a 0
   unfolding senders_to
   begins target sender can =
-      let k = view_of w in
+      let k = plain_view w in
       let i : ℕ = active_birth k in
       let found = search_first links k home (sender_birth k i) can.passed can.met in
       let dying : dying_to k home ≡ i ∷ found.0 ∷ found.1.1.rest = ap (dying_in i home) can.met ∙ ap (λ us. i ∷ us) (sym found.1.1.is) in
@@ -75,7 +75,7 @@ module _ (w : PlainWorld) (home : ℕ) (a : Oop) (ready : IsReady (stored_of w) 
       record {
         birth = i;
         rest = found.0 ∷ found.1.1.rest;
-        at = sym (ap (active_in w.heap.objects) known) ∙ ready.running.known;
+        at = sym (ap (plain_active w.heap.objects) known) ∙ ready.running.known;
         way = (other, found.1.0, found.1.1.way);
         kills = ap (λ us. kill_all us k) (sym dying);
         few = omega (arith, found.1.1.few);
@@ -95,10 +95,10 @@ module _ (w : PlainWorld) (home : ℕ) (a : Oop) (ready : IsReady (stored_of w) 
           go false e = refl
           go true e = absurd (first_apart target j rest (rest_apart target i (j ∷ rest) apart) (some_same j target (sym is ∙ alike (eqb-true i home e))))
 
-  pub cuts_first : IsSomeAnd (sender_birth (view_of w) home) (CanCut (view_of w) home) → IfSome (sender_birth (view_of w) home) (λ target. Cuts w w home target a 0)
-  cuts_first h = go (sender_birth (view_of w) home) refl h
+  pub cuts_first : IsSomeAnd (sender_birth (plain_view w) home) (CanCut (plain_view w) home) → IfSome (sender_birth (plain_view w) home) (λ target. Cuts w w home target a 0)
+  cuts_first h = go (sender_birth (plain_view w) home) refl h
     where
-      go : (o : Option ℕ) → sender_birth (view_of w) home ≡ o → IsSomeAnd o (CanCut (view_of w) home) → IfSome o (λ target. Cuts w w home target a 0)
+      go : (o : Option ℕ) → sender_birth (plain_view w) home ≡ o → IsSomeAnd o (CanCut (plain_view w) home) → IfSome o (λ target. Cuts w w home target a 0)
       go None e h = absurd h
       go (Some target) e h = begins target e h
 
@@ -106,13 +106,13 @@ module _ (w : PlainWorld) (home : ℕ) (a : Oop) (ready : IsReady (stored_of w) 
 
 pub record Cutting (w v : PlainWorld) (home : ℕ) (c : Oop) (n : ℕ) : Type 0 where
   pub target : ℕ
-  pub is : sender_birth (view_of w) home ≡ Some target
+  pub is : sender_birth (plain_view w) home ≡ Some target
   pub cuts : Cuts w v home target c n
 
-pub cutting : (w v : PlainWorld) (home : ℕ) (c : Oop) (n : ℕ) → IsSomeAnd (sender_birth (view_of w) home) (CanCut (view_of w) home) → IfSome (sender_birth (view_of w) home) (λ target. Cuts w v home target c n) → Cutting w v home c n
-cutting w v home c n some h = go (sender_birth (view_of w) home) refl some h
+pub cutting : (w v : PlainWorld) (home : ℕ) (c : Oop) (n : ℕ) → IsSomeAnd (sender_birth (plain_view w) home) (CanCut (plain_view w) home) → IfSome (sender_birth (plain_view w) home) (λ target. Cuts w v home target c n) → Cutting w v home c n
+cutting w v home c n some h = go (sender_birth (plain_view w) home) refl some h
   where
-    go : (o : Option ℕ) → sender_birth (view_of w) home ≡ o → IsSomeAnd o (CanCut (view_of w) home) → IfSome o (λ target. Cuts w v home target c n) → Cutting w v home c n
+    go : (o : Option ℕ) → sender_birth (plain_view w) home ≡ o → IsSomeAnd o (CanCut (plain_view w) home) → IfSome o (λ target. Cuts w v home target c n) → Cutting w v home c n
     go None e s h = absurd s
     go (Some target) e s h = record { target = target; is = e; cuts = h }
 
@@ -138,18 +138,18 @@ module _ (w v : PlainWorld) (home : ℕ) (c : Oop) (n : ℕ) (t : Cutting w v ho
   pub six_there : 6 ≤ slot_count_of v.heap.objects c.0
   six_there = omega (arith, at.whole.fields, at.count)
 
-  birth_read : birth_of v.heap.objects c.0 ≡ cuts.birth
+  birth_read : birth_at v.heap.objects c.0 ≡ cuts.birth
   birth_read = birth_of-object_at v.heap.objects c.0 x at.there ∙ birth_is
 
   -- ---- the home is met
 
-  met : cuts.rest ≡ [] → IfSome (sender_birth (view_of w) home) (λ target. AtHome w v home target c)
+  met : cuts.rest ≡ [] → IfSome (sender_birth (plain_view w) home) (λ target. AtHome w v home target c)
   unfolding kill_all
   met none =
-      let is : cuts.birth ≡ home = subst (λ us. IsWay (view_of v) home cuts.birth us) none cuts.way in
+      let is : cuts.birth ≡ home = subst (λ us. IsWay (plain_view v) home cuts.birth us) none cuts.way in
       subst (λ o. IfSome o (λ target. AtHome w v home target c)) (sym t.is) (record {
         birth = cuts.at ∙ ap (λ n. Some n) is;
-        kills = ap (kill_of (view_of v)) (sym is) ∙ ap (λ us. kill_all (cuts.birth ∷ us) (view_of v)) (sym none) ∙ cuts.kills;
+        kills = ap (kill_of (plain_view v)) (sym is) ∙ ap (λ us. kill_all (cuts.birth ∷ us) (plain_view v)) (sym none) ∙ cuts.kills;
         sender = cuts.sender;
         other = λ e. first_apart target cuts.birth cuts.rest cuts.apart (is ∙ sym e);
         stays = cuts.stays;
@@ -158,15 +158,15 @@ module _ (w v : PlainWorld) (home : ℕ) (c : Oop) (n : ℕ) (t : Cutting w v ho
         limit = cuts.limit;
       })
 
-  pub met_home : (birth : ℕ) → birth ≡ birth_of v.heap.objects c.0 → birth ≡ home → IfSome (sender_birth (view_of w) home) (λ target. AtHome w v home target c)
+  pub met_home : (birth : ℕ) → birth ≡ birth_at v.heap.objects c.0 → birth ≡ home → IfSome (sender_birth (plain_view w) home) (λ target. AtHome w v home target c)
   met_home birth read is = met (none cuts.rest cuts.way)
     where
-      none : (us : List ℕ) → IsWay (view_of v) home cuts.birth us → us ≡ []
+      none : (us : List ℕ) → IsWay (plain_view v) home cuts.birth us → us ≡ []
       none [] way = refl
       none (j ∷ js) way = absurd (false≢true (sym way.0 ∙ eq-eqb cuts.birth home (sym birth_read ∙ sym read ∙ is)))
 
   -- or all links were followed
-  pub met_last : links ≤ n → IfSome (sender_birth (view_of w) home) (λ target. AtHome w v home target c)
+  pub met_last : links ≤ n → IfSome (sender_birth (plain_view w) home) (λ target. AtHome w v home target c)
   met_last all = met (none cuts.rest (omega (arith, cuts.few, all)))
     where
       none : (us : List ℕ) → length us ≡ 0 → us ≡ []
@@ -175,18 +175,18 @@ module _ (w v : PlainWorld) (home : ℕ) (c : Oop) (n : ℕ) (t : Cutting w v ho
 
   -- ---- one more dies
 
-  module _ (sender : Oop) (h : Memory) (read : sender.0 ≡ slot_of v.heap.objects c.0 0) (e : h ≡ slots_stored v.heap c.0 (buried v.heap.objects c.0)) where
+  module _ (sender : Oop) (h : Memory) (read : sender.0 ≡ slot_of v.heap.objects c.0 0) (e : h ≡ slots_stored v.heap c.0 (plain_buried v.heap.objects c.0)) where
     abbrev u : PlainWorld
-    u = with_objects v (buried v.heap.objects c.0)
+    u = with_objects v (plain_buried v.heap.objects c.0)
 
     goes_on : (j : ℕ) (js : List ℕ) → cuts.rest ≡ j ∷ js → Cuts w u home target sender (n + 1)
     unfolding kill_all
     goes_on j js is =
-        let k = view_of v in
+        let k = plain_view v in
         let i : ℕ = cuts.birth in
         let way : IsWay k home i (j ∷ js) = subst (λ us. IsWay k home i us) is cuts.way in
         let there = ap (object_at k) (sym birth_is) ∙ at.means in
-        let view : view_of u ≡ kill_of k i = killed cuts.sound at ∙ ap (kill_of k) birth_is in
+        let view : plain_view u ≡ kill_of k i = killed cuts.sound at ∙ ap (kill_of k) birth_is in
         let apart : is_among target (i ∷ j ∷ js) ≡ false = subst (λ us. is_among target (i ∷ us) ≡ false) is cuts.apart in
         let own : is_among i (j ∷ js) ≡ false = way_apart k home i (j ∷ js) way in
         let not_home : home ≢ i = λ e. false≢true (sym way.0 ∙ eq-eqb i home (sym e)) in
@@ -201,59 +201,59 @@ module _ (w v : PlainWorld) (home : ℕ) (c : Oop) (n : ℕ) (t : Cutting w v ho
           apart = rest_apart target i (j ∷ js) apart;
           stays = ap (λ m. object_at m target) view ∙ killed_other k i _ there target (λ e. first_apart target i (j ∷ js) apart (sym e)) ∙ cuts.stays;
           sound = buried_sound cuts.sound at;
-          names = names_both w v u cuts.names (keeps_names v (buried v.heap.objects c.0) (buried_edited cuts.sound at));
+          names = names_both w v u cuts.names (keeps_names v (plain_buried v.heap.objects c.0) (buried_edited cuts.sound at));
           limit = cuts.limit;
         }
 
-    pub next : (birth : ℕ) → birth ≡ birth_of v.heap.objects c.0 → birth ≢ home → IfSome (sender_birth (view_of w) home) (λ target. Cuts w (record v { heap = h }) home target sender (n + 1))
+    pub next : (birth : ℕ) → birth ≡ birth_at v.heap.objects c.0 → birth ≢ home → IfSome (sender_birth (plain_view w) home) (λ target. Cuts w (record v { heap = h }) home target sender (n + 1))
     next birth is other = subst (λ o. IfSome o (λ target. Cuts w (record v { heap = h }) home target sender (n + 1))) (sym t.is)
-        (subst (λ (g : Memory). Cuts w (record v { heap = g }) home target sender (n + 1)) (sym e) (cuts-dirtied (slots_stored v.heap c.0 (buried v.heap.objects c.0)).dirty (go cuts.rest refl)))
+        (subst (λ (g : Memory). Cuts w (record v { heap = g }) home target sender (n + 1)) (sym e) (cuts-dirtied (slots_stored v.heap c.0 (plain_buried v.heap.objects c.0)).dirty (go cuts.rest refl)))
       where
         go : (us : List ℕ) → cuts.rest ≡ us → Cuts w u home target sender (n + 1)
-        go [] none = absurd (other (is ∙ birth_read ∙ subst (λ us. IsWay (view_of v) home cuts.birth us) none cuts.way))
+        go [] none = absurd (other (is ∙ birth_read ∙ subst (λ us. IsWay (plain_view v) home cuts.birth us) none cuts.way))
         go (j ∷ js) some = goes_on j js some
 
 -- ---- the value is pushed behind it
 
 pub record Cut (w v : PlainWorld) (home : ℕ) (c : Oop) : Type 0 where
   pub target : ℕ
-  pub is : sender_birth (view_of w) home ≡ Some target
-  pub can : CanCut (view_of w) home target
+  pub is : sender_birth (plain_view w) home ≡ Some target
+  pub can : CanCut (plain_view w) home target
   pub at : AtHome w v home target c
 
-pub cut : (w v : PlainWorld) (home : ℕ) (c : Oop) → IsSomeAnd (sender_birth (view_of w) home) (CanCut (view_of w) home) → IfSome (sender_birth (view_of w) home) (λ target. AtHome w v home target c) → Cut w v home c
-cut w v home c some h = go (sender_birth (view_of w) home) refl some h
+pub cut : (w v : PlainWorld) (home : ℕ) (c : Oop) → IsSomeAnd (sender_birth (plain_view w) home) (CanCut (plain_view w) home) → IfSome (sender_birth (plain_view w) home) (λ target. AtHome w v home target c) → Cut w v home c
+cut w v home c some h = go (sender_birth (plain_view w) home) refl some h
   where
-    go : (o : Option ℕ) → sender_birth (view_of w) home ≡ o → IsSomeAnd o (CanCut (view_of w) home) → IfSome o (λ target. AtHome w v home target c) → Cut w v home c
+    go : (o : Option ℕ) → sender_birth (plain_view w) home ≡ o → IsSomeAnd o (CanCut (plain_view w) home) → IfSome o (λ target. AtHome w v home target c) → Cut w v home c
     go None e s h = absurd s
     go (Some target) e s h = record { target = target; is = e; can = s; at = h }
 
-pub can_land : (w v : PlainWorld) (home : ℕ) (c : Oop) → Cut w v home c → IsSomeAnd (birth_at v.heap.objects c) (λ home. IsSomeAnd (sender_birth (view_of v) home) (CanLand (view_of v) home))
+pub can_land : (w v : PlainWorld) (home : ℕ) (c : Oop) → Cut w v home c → IsSomeAnd (oop_birth v.heap.objects c) (λ home. IsSomeAnd (sender_birth (plain_view v) home) (CanLand (plain_view v) home))
 can_land w v home c t =
-    subst (λ o. IsSomeAnd o (λ home. IsSomeAnd (sender_birth (view_of v) home) (CanLand (view_of v) home))) (sym t.at.birth)
-    (subst (λ o. IsSomeAnd o (CanLand (view_of v) home)) (sym t.at.sender) (record {
+    subst (λ o. IsSomeAnd o (λ home. IsSomeAnd (sender_birth (plain_view v) home) (CanLand (plain_view v) home))) (sym t.at.birth)
+    (subst (λ o. IsSomeAnd o (CanLand (plain_view v) home)) (sym t.at.sender) (record {
       live = ap (λ o. is_some (option_and_then (λ (d : Context). d.pc) (context_in o))) t.at.stays ∙ t.can.live;
       other = t.at.other;
       room = ap (λ o. has_room (context_in o)) t.at.stays ∙ t.can.room;
     }))
 
 -- the state in the end
-pub cut_exact : (w v u : PlainWorld) (home : ℕ) (c x : Oop) (t : Cut w v home c) → IsNamed (stored_of w) x
-    → IfSome (birth_at v.heap.objects c) (λ home. IfSome (sender_birth (view_of v) home) (λ target. view_of u ≡ landed_of (view_of v) home target (name_of (stored_of v) x)))
-    → view_of u ≡ cut_to_of (view_of w) (dying_to (view_of w) home) t.target (name_of (stored_of w) x)
+pub cut_exact : (w v u : PlainWorld) (home : ℕ) (c x : Oop) (t : Cut w v home c) → IsNamed (plain_stored w) x
+    → IfSome (oop_birth v.heap.objects c) (λ home. IfSome (sender_birth (plain_view v) home) (λ target. plain_view u ≡ landed_of (plain_view v) home target (name_of (plain_stored v) x)))
+    → plain_view u ≡ cut_to_of (plain_view w) (dying_to (plain_view w) home) t.target (name_of (plain_stored w) x)
 unfolding cut_to_of
 cut_exact w v u home c x t named h =
-    let landed : view_of u ≡ landed_of (view_of v) home t.target (name_of (stored_of v) x) =
-    subst (λ o. IfSome o (λ target. view_of u ≡ landed_of (view_of v) home target (name_of (stored_of v) x))) t.at.sender
-    (subst (λ o. IfSome o (λ home. IfSome (sender_birth (view_of v) home) (λ target. view_of u ≡ landed_of (view_of v) home target (name_of (stored_of v) x)))) t.at.birth h) in
-    landed ∙ ap (landed_of (view_of v) home t.target) (t.at.names x named).is ∙ ap (λ m. push_of (resume_of m t.target) (name_of (stored_of w) x)) t.at.kills
+    let landed : plain_view u ≡ landed_of (plain_view v) home t.target (name_of (plain_stored v) x) =
+    subst (λ o. IfSome o (λ target. plain_view u ≡ landed_of (plain_view v) home target (name_of (plain_stored v) x))) t.at.sender
+    (subst (λ o. IfSome o (λ home. IfSome (sender_birth (plain_view v) home) (λ target. plain_view u ≡ landed_of (plain_view v) home target (name_of (plain_stored v) x)))) t.at.birth h) in
+    landed ∙ ap (landed_of (plain_view v) home t.target) (t.at.names x named).is ∙ ap (λ m. push_of (resume_of m t.target) (name_of (plain_stored w) x)) t.at.kills
 
-pub cut_state : (w u : PlainWorld) (x : Oop) (home target : ℕ) → IsReady (stored_of w) (view_of w) → IsNamed (stored_of w) x → CanCut (view_of w) home target
-    → view_of u ≡ cut_to_of (view_of w) (dying_to (view_of w) home) target (name_of (stored_of w) x) → (m : Kept) → Keeps (view_of w) m
-    → Keeps (view_of u) (cut_to_of m (dying_to (view_of w) home) target (name_of (stored_of w) x))
+pub cut_state : (w u : PlainWorld) (x : Oop) (home target : ℕ) → IsReady (plain_stored w) (plain_view w) → IsNamed (plain_stored w) x → CanCut (plain_view w) home target
+    → plain_view u ≡ cut_to_of (plain_view w) (dying_to (plain_view w) home) target (name_of (plain_stored w) x) → (m : Kept) → Keeps (plain_view w) m
+    → Keeps (plain_view u) (cut_to_of m (dying_to (plain_view w) home) target (name_of (plain_stored w) x))
 cut_state w u x home target ready named can view m k =
-    subst (λ v. Keeps v (cut_to_of m (dying_to (view_of w) home) target (name_of (stored_of w) x))) (sym view)
-    (cut_to_moved k (dying_to (view_of w) home) (same target (held (object_at (view_of w) target) can.live)) (held_by w x ready named)).keeps
+    subst (λ v. Keeps v (cut_to_of m (dying_to (plain_view w) home) target (name_of (plain_stored w) x))) (sym view)
+    (cut_to_moved k (dying_to (plain_view w) home) (same target (held (object_at (plain_view w) target) can.live)) (held_by w x ready named)).keeps
   where
     held : (o : Option Obj) → is_some (option_and_then (λ (c : Context). c.pc) (context_in o)) ≡ true → is_some o ≡ true
     held None h = absurd (false≢true h)

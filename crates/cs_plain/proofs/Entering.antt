@@ -8,8 +8,8 @@ use Rattle.cs_word.specs.declared.Oop.{Oop}
 use Rattle.cs_word.specs.declared.Kind.{Kind}
 use Rattle.cs_word.specs.declared.Kind.TheVariants as kind
 use Rattle.cs_word.specs.Word.{kind_of, small_word}
-use Rattle.cs_heap.specs.Object.{Object, slot_count_of, slot_of, base, birth_of, is_object, object_at}
-use Rattle.cs_classes.specs.Meaning.{count_of, header_in, literals_in, obj_of, ref_of, ref_of_kind}
+use Rattle.cs_heap.specs.Object.{Object, slot_count_of, slot_of, base, birth_at, is_object, heap_object}
+use Rattle.cs_classes.specs.Meaning.{count_of, method_header, literal_words, obj_of, ref_of, ref_of_kind}
 use Rattle.cs_classes.specs.Meaning as meaning
 use Rattle.cs_classes.specs.Sound.{is_reference, is_reference_kind}
 use Rattle.cs_classes.proofs.Heaps.{birth_of-object_at, is_object-object_at, object_there}
@@ -36,16 +36,16 @@ use Rattle.cs_plain.specs.declared.Fields.{Fields}
 use Rattle.cs_plain.specs.declared.PlainWorld.{PlainWorld}
 use Rattle.cs_plain.specs.Calling.{CanCall, called_context, called_of, called_stack, copied_words}
 use Rattle.cs_plain.specs.Calling as calling
-use Rattle.cs_plain.specs.View.{stored_of, view_of}
+use Rattle.cs_plain.specs.View.{plain_stored, plain_view}
 use Rattle.cs_plain.proofs.Active.{active_is, meaning_there}
 use Rattle.cs_plain.proofs.Storing.{kind_address}
 
 -- ---- the method
 
-module _ (w : PlainWorld) (m : Oop) (sound : IsSound (stored_of w) (view_of w)) where
-  by_sort : (x : Object) → object_at w.heap.objects m.0 ≡ Some x → Sort x → obj.is_method (Some (obj_of (ref_of w.heap.objects) x)) ≡ true
+module _ (w : PlainWorld) (m : Oop) (sound : IsSound (plain_stored w) (plain_view w)) where
+  by_sort : (x : Object) → heap_object w.heap.objects m.0 ≡ Some x → Sort x → obj.is_method (Some (obj_of (ref_of w.heap.objects) x)) ≡ true
       → IsMethodAt w.heap.objects (Some (obj_of (ref_of w.heap.objects) x)) m.0
-  unfolding meaning.method_of
+  unfolding meaning.method_meaning
   by_sort x there (AContext c) h = absurd (let e = ap (λ y. obj.is_method (Some y)) (sym (obj_of-context (ref_of w.heap.objects) x c)) ∙ h in cc)
   by_sort x there (Pointers a p) h = absurd (let e = ap (λ y. obj.is_method (Some y)) (sym (obj_of-pointers (ref_of w.heap.objects) x a p)) ∙ h in cc)
   by_sort x there (Bytes a p n) h = absurd (let e = ap (λ y. obj.is_method (Some y)) (sym (obj_of-bytes (ref_of w.heap.objects) x a p n)) ∙ h in cc)
@@ -57,26 +57,26 @@ module _ (w : PlainWorld) (m : Oop) (sound : IsSound (stored_of w) (view_of w)) 
     means = ap (λ y. Some y) (obj_of-method (ref_of w.heap.objects) x a p n);
   }
 
-  at_address : is_object w.heap.objects m.0 ≡ true → obj.is_method (state.object_at (view_of w) (birth_of w.heap.objects m.0)) ≡ true
-      → IsMethodAt w.heap.objects (state.object_at (view_of w) (birth_of w.heap.objects m.0)) m.0
+  at_address : is_object w.heap.objects m.0 ≡ true → obj.is_method (state.object_at (plain_view w) (birth_at w.heap.objects m.0)) ≡ true
+      → IsMethodAt w.heap.objects (state.object_at (plain_view w) (birth_at w.heap.objects m.0)) m.0
   at_address is h =
       let x = object_there w.heap.objects m.0 is in
-      let found : state.object_at (view_of w) (birth_of w.heap.objects m.0) ≡ Some (obj_of (ref_of w.heap.objects) x.0) =
-      ap (state.object_at (view_of w)) (birth_of-object_at w.heap.objects m.0 x.0 x.1) ∙ meaning_there w m.0 x.0 sound.holds.whole x.1 in
+      let found : state.object_at (plain_view w) (birth_at w.heap.objects m.0) ≡ Some (obj_of (ref_of w.heap.objects) x.0) =
+      ap (state.object_at (plain_view w)) (birth_of-object_at w.heap.objects m.0 x.0 x.1) ∙ meaning_there w m.0 x.0 sound.holds.whole x.1 in
       subst (λ o. IsMethodAt w.heap.objects o m.0) (sym found) (by_sort x.0 x.1 (sort_of x.0) (ap obj.is_method (sym found) ∙ h))
 
-  by_kind : (k : Kind) → kind_of m.0 ≡ k → is_reference_kind w.heap.objects k ≡ true → obj.is_method (object_of (view_of w) (ref_of_kind w.heap.objects k)) ≡ true
-      → IsMethodAt w.heap.objects (object_of (view_of w) (ref_of_kind w.heap.objects k)) m.0
+  by_kind : (k : Kind) → kind_of m.0 ≡ k → is_reference_kind w.heap.objects k ≡ true → obj.is_method (object_of (plain_view w) (ref_of_kind w.heap.objects k)) ≡ true
+      → IsMethodAt w.heap.objects (object_of (plain_view w) (ref_of_kind w.heap.objects k)) m.0
   by_kind (kind.Small z) e n h = absurd (cc)
   by_kind (kind.Character code) e n h = absurd (cc)
   by_kind (kind.Link l) e n h = absurd (cc)
   by_kind (kind.Object a) e n h =
       let is : a ≡ m.0 = kind_address m.0 a e in
-      subst (λ b. IsMethodAt w.heap.objects (state.object_at (view_of w) (birth_of w.heap.objects b)) m.0) (sym is)
-      (at_address (subst (λ b. is_object w.heap.objects b ≡ true) is n) (subst (λ b. obj.is_method (state.object_at (view_of w) (birth_of w.heap.objects b)) ≡ true) is h))
+      subst (λ b. IsMethodAt w.heap.objects (state.object_at (plain_view w) (birth_at w.heap.objects b)) m.0) (sym is)
+      (at_address (subst (λ b. is_object w.heap.objects b ≡ true) is n) (subst (λ b. obj.is_method (state.object_at (plain_view w) (birth_at w.heap.objects b)) ≡ true) is h))
 
   -- the method that a word names stands in the heap
-  pub method_at : IsNamed (stored_of w) m → obj.is_method (object_of (view_of w) (name_of (stored_of w) m)) ≡ true → IsMethodAt w.heap.objects (object_of (view_of w) (name_of (stored_of w) m)) m.0
+  pub method_at : IsNamed (plain_stored w) m → obj.is_method (object_of (plain_view w) (name_of (plain_stored w) m)) ≡ true → IsMethodAt w.heap.objects (object_of (plain_view w) (name_of (plain_stored w) m)) m.0
   unfolding ref_of is_reference
   method_at named h = by_kind (kind_of m.0) refl named h
 
@@ -117,14 +117,14 @@ pub record Header (k : Kept) (x : Ref) (header : ℕ) : Type 0 where
   pub size : temporary_count header ≤ context_size header
   pub sizes : (context_size header == 16 || context_size header == 56) ≡ true
 
-pub header_at : (os : List Object) (k : Kept) (x : Ref) (m header : ℕ) → (at : IsMethodAt os (object_of k x) m) → header ≡ header_in at.object.words → Header k x header
+pub header_at : (os : List Object) (k : Kept) (x : Ref) (m header : ℕ) → (at : IsMethodAt os (object_of k x) m) → header ≡ method_header at.object.words → Header k x header
 header_at os k x m header at e =
     let valid = (parts os (object_of k x) m at).valid in
     let both = and_three _ _ _ (ap is_header e ∙ valid) in
     record {
       is = e ∙ sym (ap obj.header_in at.means);
       first = ap (λ o. first_pc (obj.literals_in o)) at.means
-          ∙ ap (λ n. 4 * (n + 1) + 1) (length-map (literals_in at.object.words) (ref_of os) ∙ length-literals os (object_of k x) m at ∙ ap literal_count (sym e));
+          ∙ ap (λ n. 4 * (n + 1) + 1) (length-map (literal_words at.object.words) (ref_of os) ∙ length-literals os (object_of k x) m at ∙ ap literal_count (sym e));
       temporaries = most (argument_count header) (temporary_count header) both.1;
       size = most (temporary_count header) (context_size header) both.2;
       sizes = either (header / 2 ^ 17 % 2 == 1);
@@ -139,27 +139,27 @@ header_at os k x m header at e =
 
 -- ---- the new context
 
-module _ (w : PlainWorld) (m b : Oop) (args : ℕ) (skip : Bool) (ready : IsReady (stored_of w) (view_of w)) (named : IsNamed (stored_of w) m)
-    (fits : CanEnter (view_of w) (name_of (stored_of w) m) args skip) (known : w.active ≡ Some b) (word header : ℕ) (read : word ≡ slot_of w.heap.objects m.0 0)
+module _ (w : PlainWorld) (m b : Oop) (args : ℕ) (skip : Bool) (ready : IsReady (plain_stored w) (plain_view w)) (named : IsNamed (plain_stored w) m)
+    (fits : CanEnter (plain_view w) (name_of (plain_stored w) m) args skip) (known : w.active ≡ Some b) (word header : ℕ) (read : word ≡ slot_of w.heap.objects m.0 0)
     (counted : header ≡ unwrap_or (count_of word) 0) where
-  method : IsMethodAt w.heap.objects (object_of (view_of w) (name_of (stored_of w) m)) m.0
+  method : IsMethodAt w.heap.objects (object_of (plain_view w) (name_of (plain_stored w) m)) m.0
   method = method_at w m ready.sound named fits.method
 
-  head : Header (view_of w) (name_of (stored_of w) m) header
-  head = header_at w.heap.objects (view_of w) (name_of (stored_of w) m) m.0 header method
-      (counted ∙ ap (λ n. unwrap_or (count_of n) 0) read ∙ header_is w.heap.objects (object_of (view_of w) (name_of (stored_of w) m)) m.0 method)
+  head : Header (plain_view w) (name_of (plain_stored w) m) header
+  head = header_at w.heap.objects (plain_view w) (name_of (plain_stored w) m) m.0 header method
+      (counted ∙ ap (λ n. unwrap_or (count_of n) 0) read ∙ header_is w.heap.objects (object_of (plain_view w) (name_of (plain_stored w) m)) m.0 method)
 
   abbrev entry : ℕ
   entry = 4 * (literal_count header + 1) + 1 + (if skip then 3 else 0)
 
-  entry_is : entry_pc (object_of (view_of w) (name_of (stored_of w) m)) skip ≡ entry
+  entry_is : entry_pc (object_of (plain_view w) (name_of (plain_stored w) m)) skip ≡ entry
   entry_is = ap (λ n. n + (if skip then 3 else 0)) head.first
 
-  lies : lies_in (object_of (view_of w) (name_of (stored_of w) m)) entry ≡ true
-  lies = ap (lies_in (object_of (view_of w) (name_of (stored_of w) m))) (sym entry_is) ∙ method_lies (object_of (view_of w) (name_of (stored_of w) m)) skip fits.method fits.marked
+  lies : lies_in (object_of (plain_view w) (name_of (plain_stored w) m)) entry ≡ true
+  lies = ap (lies_in (object_of (plain_view w) (name_of (plain_stored w) m))) (sym entry_is) ∙ method_lies (object_of (plain_view w) (name_of (plain_stored w) m)) skip fits.method fits.marked
 
   entry_small : entry < 2 ^ 30
-  entry_small = omega (arith, pc_small (stored_of w) (view_of w) m entry ready.sound.holds named lies)
+  entry_small = omega (arith, pc_small (plain_stored w) (plain_view w) m entry ready.sound.holds named lies)
 
   temporaries_small : temporary_count header < 2 ^ 30
   temporaries_small = omega arith
@@ -169,9 +169,9 @@ module _ (w : PlainWorld) (m b : Oop) (args : ℕ) (skip : Bool) (ready : IsRead
 
   -- the fields that the code writes
 
-  module _ (entry_pc temporaries depth : ℕ) (pc stackp receiver : Oop) (deep : depth ≡ depth_of (view_of w)) (entry_read : entry_pc ≡ entry) (pc_is : pc.0 ≡ small_word (pos entry_pc))
+  module _ (entry_pc temporaries depth : ℕ) (pc stackp receiver : Oop) (deep : depth ≡ depth_of (plain_view w)) (entry_read : entry_pc ≡ entry) (pc_is : pc.0 ≡ small_word (pos entry_pc))
       (temporaries_read : temporaries ≡ temporary_count header) (stackp_is : stackp.0 ≡ small_word (pos temporaries))
-      (names : Names (stored_of w) receiver (unwrap_or (slice_get (stack_of (view_of w)) (depth - (args + 1))) (operation.nil_of (view_of w)))) where
+      (names : Names (plain_stored w) receiver (unwrap_or (slice_get (stack_of (plain_view w)) (depth - (args + 1))) (operation.nil_of (plain_view w)))) where
     abbrev fields : Fields
     fields = record { sender = b; pc = pc; stackp = stackp; method = m; closure = record { 0 = base }; receiver = receiver }
 
@@ -188,13 +188,13 @@ module _ (w : PlainWorld) (m b : Oop) (args : ℕ) (skip : Bool) (ready : IsRead
     stackp_count = ap count_of stackp_word ∙ count_of-small (temporary_count header) temporaries_small
 
     nothing : copied_words w.heap.objects base 0 ≡ []
-    nothing = none (drop 3 (calling.words_in (object_at w.heap.objects base)))
+    nothing = none (drop 3 (calling.words_there (heap_object w.heap.objects base)))
       where
         none : (ws : List ℕ) → take 0 ws ≡ []
         none [] = refl
         none (a ∷ ws) = refl
 
-    pub can_call : CanCall (stored_of w) (view_of w) header args 0 fields
+    pub can_call : CanCall (plain_stored w) (plain_view w) header args 0 fields
     can_call = record {
       entry = entry;
       pc = pc_count;
@@ -215,26 +215,26 @@ module _ (w : PlainWorld) (m b : Oop) (args : ℕ) (skip : Bool) (ready : IsRead
       births = fits.births;
     }
 
-    pub called_is : called_of (view_of w) args (called_context (stored_of w) (view_of w) header args 0 fields) ≡ enter_of (view_of w) (name_of (stored_of w) m) args skip
+    pub called_is : called_of (plain_view w) args (called_context (plain_stored w) (plain_view w) header args 0 fields) ≡ enter_of (plain_view w) (name_of (plain_stored w) m) args skip
     unfolding enter_of enter_with
     called_is =
-        let k = view_of w in
+        let k = plain_view w in
         let a = active_is w b ready known in
-        let sender : name_of (stored_of w) b ≡ ref.Obj (active_birth k) = ref_of-object w.heap.objects b.0 (is_object-object_at w.heap.objects b.0 a.0 a.1.there) ∙ ap (λ n. ref.Obj n) (sym a.1.birth) in
-        let entered : count_of pc.0 ≡ Some (operation.entry_pc (object_of k (name_of (stored_of w) m)) skip) = pc_count ∙ ap (λ n. Some n) (sym entry_is) in
+        let sender : name_of (plain_stored w) b ≡ ref.Obj (active_birth k) = ref_of-object w.heap.objects b.0 (is_object-object_at w.heap.objects b.0 a.0 a.1.there) ∙ ap (λ n. ref.Obj n) (sym a.1.birth) in
+        let entered : count_of pc.0 ≡ Some (operation.entry_pc (object_of k (name_of (plain_stored w) m)) skip) = pc_count ∙ ap (λ n. Some n) (sym entry_is) in
         let closure : ref_of w.heap.objects base ≡ operation.nil_of k = ref_of-nil w.heap.objects w.classes w.roots ready.sound.holds.whole in
-        let receives : name_of (stored_of w) receiver ≡ receiver_below args (operation.nil_of k) (stack_of k) = names.is ∙ ap (λ n. unwrap_or (slice_get (stack_of k) (n - (args + 1))) (operation.nil_of k)) deep in
+        let receives : name_of (plain_stored w) receiver ≡ receiver_below args (operation.nil_of k) (stack_of k) = names.is ∙ ap (λ n. unwrap_or (slice_get (stack_of k) (n - (args + 1))) (operation.nil_of k)) deep in
         let none : map (ref_of w.heap.objects) (copied_words w.heap.objects base 0) ≡ [] = ap (map (ref_of w.heap.objects)) nothing in
-        let count : unwrap_or (count_of stackp.0) 0 ≡ temporary_count (obj.header_in (object_of k (name_of (stored_of w) m))) = ap (λ o. unwrap_or o 0) stackp_count ∙ ap temporary_count head.is in
-        let left : unwrap_or (count_of stackp.0) 0 - (args + 0) ≡ temporary_count (obj.header_in (object_of k (name_of (stored_of w) m))) - args = omega (arith, count) in
-        let stack : called_stack (stored_of w) k (unwrap_or (count_of stackp.0) 0) args 0 fields
-        ≡ last_values args (stack_of k) ++ replicate (temporary_count (obj.header_in (object_of k (name_of (stored_of w) m))) - args) (operation.nil_of k) =
+        let count : unwrap_or (count_of stackp.0) 0 ≡ temporary_count (obj.header_in (object_of k (name_of (plain_stored w) m))) = ap (λ o. unwrap_or o 0) stackp_count ∙ ap temporary_count head.is in
+        let left : unwrap_or (count_of stackp.0) 0 - (args + 0) ≡ temporary_count (obj.header_in (object_of k (name_of (plain_stored w) m))) - args = omega (arith, count) in
+        let stack : called_stack (plain_stored w) k (unwrap_or (count_of stackp.0) 0) args 0 fields
+        ≡ last_values args (stack_of k) ++ replicate (temporary_count (obj.header_in (object_of k (name_of (plain_stored w) m))) - args) (operation.nil_of k) =
         ap₂ (λ us n. last_values args (stack_of k) ++ (us ++ replicate n (operation.nil_of k))) none left in
         ap (called_of k args) (λ i. record {
           hash = 0;
           sender = sender i;
           pc = entered i;
-          method = name_of (stored_of w) m;
+          method = name_of (plain_stored w) m;
           closure = closure i;
           receiver = receives i;
           stack = stack i;
@@ -242,5 +242,5 @@ module _ (w : PlainWorld) (m b : Oop) (args : ℕ) (skip : Bool) (ready : IsRead
         })
 
 -- the method's header has a slot
-pub header_there : (w : PlainWorld) (m : Oop) → IsSound (stored_of w) (view_of w) → IsNamed (stored_of w) m → obj.is_method (object_of (view_of w) (name_of (stored_of w) m)) ≡ true → 0 < slot_count_of w.heap.objects m.0
-header_there w m sound named is = omega (arith, slots_fit w.heap.objects (object_of (view_of w) (name_of (stored_of w) m)) m.0 (method_at w m sound named is))
+pub header_there : (w : PlainWorld) (m : Oop) → IsSound (plain_stored w) (plain_view w) → IsNamed (plain_stored w) m → obj.is_method (object_of (plain_view w) (name_of (plain_stored w) m)) ≡ true → 0 < slot_count_of w.heap.objects m.0
+header_there w m sound named is = omega (arith, slots_fit w.heap.objects (object_of (plain_view w) (name_of (plain_stored w) m)) m.0 (method_at w m sound named is))

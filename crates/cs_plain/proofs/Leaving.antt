@@ -7,22 +7,22 @@ use Rattle.std.proofs.lemmas.Bool.{eq-eqb, or_left, or_right}
 use Rattle.std.proofs.lemmas.Bool.Decides.{nat_tests}
 use Rattle.cs_word.specs.declared.Oop.{Oop}
 use Rattle.cs_word.specs.Word.{small_word}
-use Rattle.cs_heap.specs.Object.{Memory, Object, base, set_word, slot_of, with_object, with_slot}
-use Rattle.cs_classes.specs.Meaning.{context_of, count_of, depth_in, is_context, kept_of, ref_of}
+use Rattle.cs_heap.specs.Object.{Memory, Object, base, set_word, slot_of, with_object, slot_set}
+use Rattle.cs_classes.specs.Meaning.{context_of, count_of, depth_in, is_heap_context, kept_of, ref_of}
 use Rattle.cs_classes.specs.Meaning as meaning
 use Rattle.cs_classes.specs.Kinds.{KindsStand}
-use Rattle.cs_classes.specs.Sound.{IsSoundObject, is_reference, nil_of}
+use Rattle.cs_classes.specs.Sound.{IsSoundObject, is_reference, nil_word}
 use Rattle.cs_classes.proofs.Contexts.{by_six, obj_of-edit_context}
 use Rattle.cs_classes.proofs.Heaps.{IsEdit, set_word-IsEdit, with_object-twice}
 use Rattle.cs_classes.proofs.Makings.{is_sender-base, nil_is_object, ref_of-nil}
 use Rattle.cs_classes.proofs.Refs.{count_of-small, is_reference-object, is_reference-small, small_natural}
 use Rattle.cs_classes.proofs.Sounds.{sound-set_context}
 use Rattle.cs_classes.proofs.Writes.{Does, does-edit}
-use Rattle.cs_model.specs.Ref.{Ref, birth_of}
+use Rattle.cs_model.specs.Ref.{Ref, named_object}
 use Rattle.cs_model.specs.Obj.{Context, Ctx, Method, Obj, Ptr, Raw, context_in, dead, edit_context}
 use Rattle.cs_model.specs.State.{Kept, object_at}
 use Rattle.cs_model.specs.Keeps.{Keeps, SameKept}
-use Rattle.cs_model.specs.Read.{IsRunning, active_birth, active_context, blank, depth_of, size_of}
+use Rattle.cs_model.specs.Read.{IsRunning, active_birth, active_context, blank_context, depth_of, size_of}
 use Rattle.cs_model.specs.Return.{context_at, context_birth, has_room, sender_birth}
 use Rattle.cs_model.specs.Operation.{dead_object, edit_found, edit_object, kill_of, leave_of, push_of, resume_of}
 use Rattle.cs_model.proofs.Operating.{leave_moved}
@@ -30,8 +30,8 @@ use Rattle.cs_acts.specs.Names.{IsNamed, KeepsNames, name_of}
 use Rattle.cs_acts.specs.Ready.{IsReady}
 use Rattle.cs_acts.specs.Targets.{CanArrive}
 use Rattle.cs_plain.specs.declared.PlainWorld.{PlainWorld}
-use Rattle.cs_plain.specs.Storing.{buried}
-use Rattle.cs_plain.specs.View.{birth_at, stored_of, view_of}
+use Rattle.cs_plain.specs.Storing.{plain_buried}
+use Rattle.cs_plain.specs.View.{oop_birth, plain_stored, plain_view}
 use Rattle.cs_plain.proofs.Active.{sound_world}
 use Rattle.cs_plain.proofs.Acts.{context_named}
 use Rattle.cs_plain.proofs.Edits.{Edited, edited}
@@ -49,7 +49,7 @@ use Rattle.cs_classes.proofs.Sounds.{sound_at}
 use Rattle.cs_model.specs.Ref as ref
 use Rattle.cs_acts.specs.Ready.{IsSound}
 use Rattle.cs_plain.specs.Cutting.{CanLand, landed_of}
-use Rattle.cs_plain.specs.View.{active_in}
+use Rattle.cs_plain.specs.View.{plain_active}
 use Rattle.cs_plain.proofs.Acts.{ContextAt, sender_read}
 use Rattle.cs_plain.proofs.Acts as acts
 use Rattle.cs_plain.proofs.Pcs.{no_place, pcs-put}
@@ -85,15 +85,15 @@ bury_hash : (x : Object) → (bury x).hash ≡ x.hash
 unfolding bury
 bury_hash x = refl
 
-buried-one : (os : List Object) (a : ℕ) → buried os a ≡ with_object os a bury
+buried-one : (os : List Object) (a : ℕ) → plain_buried os a ≡ with_object os a bury
 unfolding bury
 buried-one os a =
-    ap (λ us. with_slot us a 2 (small_word (pos 0))) (with_object-twice os a (set_word 0 base) (set_word 1 base) (set_word-IsEdit 0 base))
+    ap (λ us. slot_set us a 2 (small_word (pos 0))) (with_object-twice os a (set_word 0 base) (set_word 1 base) (set_word-IsEdit 0 base))
     ∙ with_object-twice os a (λ x. set_word 1 base (set_word 0 base x)) (set_word 2 (small_word (pos 0))) (both-IsEdit (set_word 0 base) (set_word 1 base) (set_word-IsEdit 0 base) (set_word-IsEdit 1 base))
 
-module _ {w : PlainWorld} {a : Oop} {x : Object} (sound : IsSound (stored_of w) (view_of w)) (at : ContextAt w a x) where
+module _ {w : PlainWorld} {a : Oop} {x : Object} (sound : IsSound (plain_stored w) (plain_view w)) (at : ContextAt w a x) where
   abbrev nil : ℕ
-  nil = meaning.birth_at w.heap.objects 0
+  nil = meaning.nth_birth w.heap.objects 0
 
   abbrev c : Context
   c = context_of (ref_of w.heap.objects) x.hash x.words
@@ -108,7 +108,7 @@ module _ {w : PlainWorld} {a : Oop} {x : Object} (sound : IsSound (stored_of w) 
       let zero_word : ℕ = small_word (pos 0) in
       let small : 0 < 2 ^ 30 = omega arith in
       let count = count_of-small 0 small in
-      let is_nil : (base == nil_of os) ≡ true = eq-eqb base (nil_of os) (sym sound.holds.whole.nil) in
+      let is_nil : (base == nil_word os) ≡ true = eq-eqb base (nil_word os) (sym sound.holds.whole.nil) in
       let first = sound-set_context os x 0 base (sound_at os a.0 x sound.holds.whole.heap at.there) at.context
       (record {
         reference = λ some. base_named;
@@ -123,7 +123,7 @@ module _ {w : PlainWorld} {a : Oop} {x : Object} (sound : IsSound (stored_of w) 
       (record {
         reference = λ some. base_named;
         sender = λ e. absurd (omega (arith, e));
-        pc = λ e. or_left (base == nil_of os) (is_some (count_of base)) is_nil;
+        pc = λ e. or_left (base == nil_word os) (is_some (count_of base)) is_nil;
         stackp = λ e. absurd (omega (arith, e));
         depth = λ e. absurd (omega (arith, e));
         method = λ e. absurd (omega (arith, e));
@@ -134,13 +134,13 @@ module _ {w : PlainWorld} {a : Oop} {x : Object} (sound : IsSound (stored_of w) 
         reference = λ some. is_reference-small os (pos 0) (small_natural 0 small);
         sender = λ e. absurd (omega (arith, e));
         pc = λ e. absurd (omega (arith, e));
-        stackp = λ e. or_right (zero_word == nil_of os) (is_some (count_of zero_word)) (ap is_some count);
+        stackp = λ e. or_right (zero_word == nil_word os) (is_some (count_of zero_word)) (ap is_some count);
         depth = λ e. omega (arith, ap (λ (o : Option ℕ). unwrap_or o 0) count);
         method = λ e. absurd (omega (arith, e));
         closure = λ e. absurd (omega (arith, e));
       })
 
-  does-bury : Does w.heap.objects (buried w.heap.objects a.0) w.classes w.roots (λ k. edit_object k (ref_of w.heap.objects a.0) (edit_context (dead nil)))
+  does-bury : Does w.heap.objects (plain_buried w.heap.objects a.0) w.classes w.roots (λ k. edit_object k (ref_of w.heap.objects a.0) (edit_context (dead nil)))
   unfolding bury buried_words
   does-bury =
       let os = w.heap.objects in
@@ -151,31 +151,31 @@ module _ {w : PlainWorld} {a : Oop} {x : Object} (sound : IsSound (stored_of w) 
       (buried_context refer x.hash x.words at.whole.fields
       ∙ ap (λ r. record (context_of refer x.hash x.words) { sender = r; pc = None; stack = [] }) (ref_of-nil os w.classes w.roots sound.holds.whole))))
 
-  pub buried_edited : Edited w.heap.objects (buried w.heap.objects a.0)
+  pub buried_edited : Edited w.heap.objects (plain_buried w.heap.objects a.0)
   buried_edited = subst (Edited w.heap.objects) (sym (buried-one w.heap.objects a.0)) (edited w.heap.objects a.0 x bury bury-IsEdit at.there)
 
-  pub killed : view_of (with_objects w (buried w.heap.objects a.0)) ≡ kill_of (view_of w) x.birth
+  pub killed : plain_view (with_objects w (plain_buried w.heap.objects a.0)) ≡ kill_of (plain_view w) x.birth
   unfolding kill_of
   killed =
       let os = w.heap.objects in
-      let us = buried os a.0 in
-      let k = view_of w in
+      let us = plain_buried os a.0 in
+      let k = plain_view w in
       let name : ref_of os a.0 ≡ ref.Obj x.birth = ref_of-object os a.0 (is_object-object_at os a.0 x at.there) ∙ ap (λ n. ref.Obj n) (birth_of-object_at os a.0 x at.there) in
-      ap (kept_of us w.classes w.roots) (active-same os us w.active buried_edited) ∙ does-bury.kept (active_in os w.active)
+      ap (kept_of us w.classes w.roots) (active-same os us w.active buried_edited) ∙ does-bury.kept (plain_active os w.active)
       ∙ ap (λ r. edit_object k r (edit_context (dead nil))) name
       ∙ ap (λ o. edit_found (edit_context (dead nil)) x.birth o k) at.means ∙ sym (ap (λ o. edit_found (dead_object nil) x.birth o k) at.means)
 
-  killed_pcs : KeepsPcs (kill_of (view_of w) x.birth)
-  killed_pcs = subst KeepsPcs (sym (kill-put (view_of w) x.birth c at.means))
-      (pcs-put (view_of w) x.birth (Ctx (dead nil c)) sound.pcs (no_place (object_at (view_of w) x.birth) c (Ctx (dead nil c)) at.means) (λ d e pc l. absurd (dead_pc d e pc l)))
+  killed_pcs : KeepsPcs (kill_of (plain_view w) x.birth)
+  killed_pcs = subst KeepsPcs (sym (kill-put (plain_view w) x.birth c at.means))
+      (pcs-put (plain_view w) x.birth (Ctx (dead nil c)) sound.pcs (no_place (object_at (plain_view w) x.birth) c (Ctx (dead nil c)) at.means) (λ d e pc l. absurd (dead_pc d e pc l)))
     where
       dead_pc : (d : Context) → Ctx (dead nil c) ≡ Ctx d → (pc : ℕ) → d.pc ≡ Some pc → ⊥
       dead_pc d e pc l = let same : dead nil c ≡ d = cc in let no : ◌≡◌ {A = Option ℕ} None (Some pc) = ap (λ (f : Context). f.pc) same ∙ l in absurd (cc)
 
   -- a context dies
-  pub buried_sound : IsSound (stored_of (with_objects w (buried w.heap.objects a.0))) (view_of (with_objects w (buried w.heap.objects a.0)))
-  buried_sound = sound_world (with_objects w (buried w.heap.objects a.0)) does-bury.whole (subst (λ n. n ≤ w.heap.limit) (sym buried_edited.words) sound.holds.within) sound.holds.most
-      (subst KindsStand (sym killed) (kinds-kill (view_of w) x.birth sound.kinds)) (subst KeepsPcs (sym killed) killed_pcs)
+  pub buried_sound : IsSound (plain_stored (with_objects w (plain_buried w.heap.objects a.0))) (plain_view (with_objects w (plain_buried w.heap.objects a.0)))
+  buried_sound = sound_world (with_objects w (plain_buried w.heap.objects a.0)) does-bury.whole (subst (λ n. n ≤ w.heap.limit) (sym buried_edited.words) sound.holds.within) sound.holds.most
+      (subst KindsStand (sym killed) (kinds-kill (plain_view w) x.birth sound.kinds)) (subst KeepsPcs (sym killed) killed_pcs)
 
 -- ---- its sender is active
 
@@ -199,32 +199,32 @@ live_context (Some (Ctx c)) h = go c.pc refl h
 
 -- the world in which a context died and another one is active
 abbrev pub with_left : PlainWorld → Oop → Oop → PlainWorld
-with_left w a sender = record w { heap = record w.heap { objects = buried w.heap.objects a.0 }; active = Some sender }
+with_left w a sender = record w { heap = record w.heap { objects = plain_buried w.heap.objects a.0 }; active = Some sender }
 
 pub record Landed (w v : PlainWorld) (home target : ℕ) : Type 0 where
-  pub view : view_of v ≡ resume_of (kill_of (view_of w) home) target
-  pub ready : IsReady (stored_of v) (view_of v)
-  pub names : KeepsNames (stored_of w) (stored_of v)
-  pub fits : depth_of (view_of v) < size_of (view_of v)
+  pub view : plain_view v ≡ resume_of (kill_of (plain_view w) home) target
+  pub ready : IsReady (plain_stored v) (plain_view v)
+  pub names : KeepsNames (plain_stored w) (plain_stored v)
+  pub fits : depth_of (plain_view v) < size_of (plain_view v)
 
 landed-dirtied : {w v : PlainWorld} {home target : ℕ} (d : Bool) → Landed w v home target → Landed w (dirtied v d) home target
-landed-dirtied {w = w} {v = v} d h = record { view = h.view; ready = ready-dirtied d h.ready; names = names-dirtied (stored_of w) (stored_of v) d h.names; fits = h.fits }
+landed-dirtied {w = w} {v = v} d h = record { view = h.view; ready = ready-dirtied d h.ready; names = names-dirtied (plain_stored w) (plain_stored v) d h.names; fits = h.fits }
 
-module _ {w : PlainWorld} {a : Oop} {x : Object} (sound : IsSound (stored_of w) (view_of w)) (at : ContextAt w a x) (sender : Oop) (read : sender.0 ≡ slot_of w.heap.objects a.0 0) where
-  landed_at : (target : ℕ) → sender_birth (view_of w) x.birth ≡ Some target → CanLand (view_of w) x.birth target → Landed w (with_left w a sender) x.birth target
+module _ {w : PlainWorld} {a : Oop} {x : Object} (sound : IsSound (plain_stored w) (plain_view w)) (at : ContextAt w a x) (sender : Oop) (read : sender.0 ≡ slot_of w.heap.objects a.0 0) where
+  landed_at : (target : ℕ) → sender_birth (plain_view w) x.birth ≡ Some target → CanLand (plain_view w) x.birth target → Landed w (with_left w a sender) x.birth target
   unfolding resume_of active_context
   landed_at target is can =
       let os = w.heap.objects in
-      let us = buried os a.0 in
-      let k = view_of w in
+      let us = plain_buried os a.0 in
+      let k = plain_view w in
       let d : Kept = kill_of k x.birth in
       let edit = buried_edited sound at in
-      let birth : birth_at us sender ≡ Some target = edit.births sender ∙ sender_read sound at sender read ∙ is in
-      let view : view_of (with_left w a sender) ≡ resume_of d target = ap (kept_of us w.classes w.roots) birth ∙ ap (λ m. resume_of m target) (killed sound at) in
+      let birth : oop_birth us sender ≡ Some target = edit.births sender ∙ sender_read sound at sender read ∙ is in
+      let view : plain_view (with_left w a sender) ≡ resume_of d target = ap (kept_of us w.classes w.roots) birth ∙ ap (λ m. resume_of m target) (killed sound at) in
       let t = live_context (object_at k target) can.live in
       let stays : object_at d target ≡ Some (Ctx t.context) = killed_other k x.birth (c sound at) at.means target can.other ∙ t.is in
       let pcs : KeepsPcs (resume_of d target) = pcs-rest (resume_of d target).rest d (killed_pcs sound at) in
-      let context : active_context (resume_of d target) ≡ t.context = ap (λ o. unwrap_or (context_in o) blank) stays in
+      let context : active_context (resume_of d target) ≡ t.context = ap (λ o. unwrap_or (context_in o) blank_context) stays in
       let room : nat_lt (length t.context.stack) t.context.size ≡ true = ap (λ o. has_room (context_in o)) (sym t.is) ∙ can.room in
       record {
         view = view;
@@ -244,36 +244,36 @@ module _ {w : PlainWorld} {a : Oop} {x : Object} (sound : IsSound (stored_of w) 
 pub record Target (w : PlainWorld) (a : Oop) : Type 0 where
   pub home : ℕ
   pub target : ℕ
-  pub birth : birth_at w.heap.objects a ≡ Some home
-  pub sender : sender_birth (view_of w) home ≡ Some target
-  pub can : CanLand (view_of w) home target
+  pub birth : oop_birth w.heap.objects a ≡ Some home
+  pub sender : sender_birth (plain_view w) home ≡ Some target
+  pub can : CanLand (plain_view w) home target
 
-pub target_of : (w : PlainWorld) (a : Oop) → IsSomeAnd (birth_at w.heap.objects a) (λ home. IsSomeAnd (sender_birth (view_of w) home) (CanLand (view_of w) home)) → Target w a
-target_of w a h = go (birth_at w.heap.objects a) refl h
+pub target_of : (w : PlainWorld) (a : Oop) → IsSomeAnd (oop_birth w.heap.objects a) (λ home. IsSomeAnd (sender_birth (plain_view w) home) (CanLand (plain_view w) home)) → Target w a
+target_of w a h = go (oop_birth w.heap.objects a) refl h
   where
-    then : (home : ℕ) → birth_at w.heap.objects a ≡ Some home → (o : Option ℕ) → sender_birth (view_of w) home ≡ o → IsSomeAnd o (CanLand (view_of w) home) → Target w a
+    then : (home : ℕ) → oop_birth w.heap.objects a ≡ Some home → (o : Option ℕ) → sender_birth (plain_view w) home ≡ o → IsSomeAnd o (CanLand (plain_view w) home) → Target w a
     then home e None f h = absurd h
     then home e (Some target) f h = record { home = home; target = target; birth = e; sender = f; can = h }
 
-    go : (o : Option ℕ) → birth_at w.heap.objects a ≡ o → IsSomeAnd o (λ home. IsSomeAnd (sender_birth (view_of w) home) (CanLand (view_of w) home)) → Target w a
+    go : (o : Option ℕ) → oop_birth w.heap.objects a ≡ o → IsSomeAnd o (λ home. IsSomeAnd (sender_birth (plain_view w) home) (CanLand (plain_view w) home)) → Target w a
     go None e h = absurd h
-    go (Some home) e h = then home e (sender_birth (view_of w) home) refl h
+    go (Some home) e h = then home e (sender_birth (plain_view w) home) refl h
 
 -- the slots of its fields are there
-pub six_slots : (w : PlainWorld) (a : Oop) → IsSound (stored_of w) (view_of w) → Target w a → 6 ≤ slot_count_of w.heap.objects a.0
+pub six_slots : (w : PlainWorld) (a : Oop) → IsSound (plain_stored w) (plain_view w) → Target w a → 6 ≤ slot_count_of w.heap.objects a.0
 six_slots w a sound t = let x = acts.context_at w a sound (ap is_some t.birth) in omega (arith, x.1.whole.fields, x.1.count)
 
 pub some_same : (m n : ℕ) → ◌≡◌ {A = Option ℕ} (Some m) (Some n) → m ≡ n
 some_same m n h = cc
 
 -- the heap that the code has
-pub landing : (w : PlainWorld) (a sender : Oop) (h : Memory) → IsSound (stored_of w) (view_of w) → (t : Target w a) → sender.0 ≡ slot_of w.heap.objects a.0 0
-    → h ≡ slots_stored w.heap a.0 (buried w.heap.objects a.0) → Landed w (record w { heap = h; active = Some sender }) t.home t.target
+pub landing : (w : PlainWorld) (a sender : Oop) (h : Memory) → IsSound (plain_stored w) (plain_view w) → (t : Target w a) → sender.0 ≡ slot_of w.heap.objects a.0 0
+    → h ≡ slots_stored w.heap a.0 (plain_buried w.heap.objects a.0) → Landed w (record w { heap = h; active = Some sender }) t.home t.target
 landing w a sender h sound t read e =
     let x = acts.context_at w a sound (ap is_some t.birth) in
     let is : x.0.birth ≡ t.home = some_same x.0.birth t.home (sym x.1.birth ∙ t.birth) in
-    let done = landed_at sound x.1 sender read t.target (ap (sender_birth (view_of w)) is ∙ t.sender) (subst (λ n. CanLand (view_of w) n t.target) (sym is) t.can) in
-    subst (λ (g : Memory). Landed w (record w { heap = g; active = Some sender }) t.home t.target) (sym e) (landed-dirtied (slots_stored w.heap a.0 (buried w.heap.objects a.0)).dirty (subst (λ n. Landed w (with_left w a sender) n t.target) is done))
+    let done = landed_at sound x.1 sender read t.target (ap (sender_birth (plain_view w)) is ∙ t.sender) (subst (λ n. CanLand (plain_view w) n t.target) (sym is) t.can) in
+    subst (λ (g : Memory). Landed w (record w { heap = g; active = Some sender }) t.home t.target) (sym e) (landed-dirtied (slots_stored w.heap a.0 (plain_buried w.heap.objects a.0)).dirty (subst (λ n. Landed w (with_left w a sender) n t.target) is done))
 
 -- ---- and the value is pushed
 
@@ -283,58 +283,58 @@ equal_kept a b s =
     λ i. record { objects = objects i; rest = s.rest i }
 
 -- the world behind the push
-pub landed_view : (w v u : PlainWorld) (a x : Oop) (t : Target w a) → Landed w v t.home t.target → IsNamed (stored_of w) x → SameKept (view_of u) (push_of (view_of v) (name_of (stored_of v) x))
-    → IfSome (birth_at w.heap.objects a) (λ home. IfSome (sender_birth (view_of w) home) (λ target. view_of u ≡ landed_of (view_of w) home target (name_of (stored_of w) x)))
+pub landed_view : (w v u : PlainWorld) (a x : Oop) (t : Target w a) → Landed w v t.home t.target → IsNamed (plain_stored w) x → SameKept (plain_view u) (push_of (plain_view v) (name_of (plain_stored v) x))
+    → IfSome (oop_birth w.heap.objects a) (λ home. IfSome (sender_birth (plain_view w) home) (λ target. plain_view u ≡ landed_of (plain_view w) home target (name_of (plain_stored w) x)))
 landed_view w v u a x t done named same =
-    let exact : view_of u ≡ landed_of (view_of w) t.home t.target (name_of (stored_of w) x) =
-    equal_kept (view_of u) (push_of (view_of v) (name_of (stored_of v) x)) same ∙ ap (push_of (view_of v)) (done.names x named).is ∙ ap (λ m. push_of m (name_of (stored_of w) x)) done.view in
-    subst (λ o. IfSome o (λ home. IfSome (sender_birth (view_of w) home) (λ target. view_of u ≡ landed_of (view_of w) home target (name_of (stored_of w) x)))) (sym t.birth)
-    (subst (λ o. IfSome o (λ target. view_of u ≡ landed_of (view_of w) t.home target (name_of (stored_of w) x))) (sym t.sender) exact)
+    let exact : plain_view u ≡ landed_of (plain_view w) t.home t.target (name_of (plain_stored w) x) =
+    equal_kept (plain_view u) (push_of (plain_view v) (name_of (plain_stored v) x)) same ∙ ap (push_of (plain_view v)) (done.names x named).is ∙ ap (λ m. push_of m (name_of (plain_stored w) x)) done.view in
+    subst (λ o. IfSome o (λ home. IfSome (sender_birth (plain_view w) home) (λ target. plain_view u ≡ landed_of (plain_view w) home target (name_of (plain_stored w) x)))) (sym t.birth)
+    (subst (λ o. IfSome o (λ target. plain_view u ≡ landed_of (plain_view w) t.home target (name_of (plain_stored w) x))) (sym t.sender) exact)
 
 -- ---- the active context
 
-birth_of_context : (k : Kept) (r : Ref) (i : ℕ) → context_birth k r ≡ Some i → birth_of r ≡ Some i
+birth_of_context : (k : Kept) (r : Ref) (i : ℕ) → context_birth k r ≡ Some i → named_object r ≡ Some i
 birth_of_context k r i h = go (context_at k r) h
   where
-    go : (o : Option Context) → option_and_then (λ c. birth_of r) o ≡ Some i → birth_of r ≡ Some i
+    go : (o : Option Context) → option_and_then (λ c. named_object r) o ≡ Some i → named_object r ≡ Some i
     go None e = absurd (cc)
     go (Some c) e = e
 
-module _ (w u : PlainWorld) (a v : Oop) (ready : IsReady (stored_of w) (view_of w)) (known : w.active ≡ Some a) (target : IsSomeAnd (sender_birth (view_of w) (active_birth (view_of w))) (CanArrive (view_of w))) where
-  active_at : birth_at w.heap.objects a ≡ Some (active_birth (view_of w))
-  active_at = sym (ap (active_in w.heap.objects) known) ∙ ready.running.known
+module _ (w u : PlainWorld) (a v : Oop) (ready : IsReady (plain_stored w) (plain_view w)) (known : w.active ≡ Some a) (target : IsSomeAnd (sender_birth (plain_view w) (active_birth (plain_view w))) (CanArrive (plain_view w))) where
+  active_at : oop_birth w.heap.objects a ≡ Some (active_birth (plain_view w))
+  active_at = sym (ap (plain_active w.heap.objects) known) ∙ ready.running.known
 
   -- it can die
-  pub can_land : IsSomeAnd (birth_at w.heap.objects a) (λ home. IsSomeAnd (sender_birth (view_of w) home) (CanLand (view_of w) home))
-  can_land = subst (λ o. IsSomeAnd o (λ home. IsSomeAnd (sender_birth (view_of w) home) (CanLand (view_of w) home))) (sym active_at) (go (sender_birth (view_of w) (active_birth (view_of w))) target)
+  pub can_land : IsSomeAnd (oop_birth w.heap.objects a) (λ home. IsSomeAnd (sender_birth (plain_view w) home) (CanLand (plain_view w) home))
+  can_land = subst (λ o. IsSomeAnd o (λ home. IsSomeAnd (sender_birth (plain_view w) home) (CanLand (plain_view w) home))) (sym active_at) (go (sender_birth (plain_view w) (active_birth (plain_view w))) target)
     where
-      go : (o : Option ℕ) → IsSomeAnd o (CanArrive (view_of w)) → IsSomeAnd o (CanLand (view_of w) (active_birth (view_of w)))
+      go : (o : Option ℕ) → IsSomeAnd o (CanArrive (plain_view w)) → IsSomeAnd o (CanLand (plain_view w) (active_birth (plain_view w)))
       go None h = h
       go (Some i) h = record { live = h.live; other = h.other; room = h.room }
 
-  sender_birth_is : sender_birth (view_of w) (active_birth (view_of w)) ≡ context_birth (view_of w) (active_context (view_of w)).sender
-  sender_birth_is = ap (λ o. option_and_then (λ (c : Context). context_birth (view_of w) c.sender) (context_in o)) ready.running.found
+  sender_birth_is : sender_birth (plain_view w) (active_birth (plain_view w)) ≡ context_birth (plain_view w) (active_context (plain_view w)).sender
+  sender_birth_is = ap (λ o. option_and_then (λ (c : Context). context_birth (plain_view w) c.sender) (context_in o)) ready.running.found
 
-  pub left_exact : IfSome (birth_at w.heap.objects a) (λ home. IfSome (sender_birth (view_of w) home) (λ target. view_of u ≡ landed_of (view_of w) home target (name_of (stored_of w) v)))
-      → view_of u ≡ leave_of (view_of w) (name_of (stored_of w) v)
+  pub left_exact : IfSome (oop_birth w.heap.objects a) (λ home. IfSome (sender_birth (plain_view w) home) (λ target. plain_view u ≡ landed_of (plain_view w) home target (name_of (plain_stored w) v)))
+      → plain_view u ≡ leave_of (plain_view w) (name_of (plain_stored w) v)
   unfolding leave_of
   left_exact h =
-      let k = view_of w in
-      let at = subst (λ o. IfSome o (λ home. IfSome (sender_birth k home) (λ target. view_of u ≡ landed_of k home target (name_of (stored_of w) v)))) active_at h in
+      let k = plain_view w in
+      let at = subst (λ o. IfSome o (λ home. IfSome (sender_birth k home) (λ target. plain_view u ≡ landed_of k home target (name_of (plain_stored w) v)))) active_at h in
       go (sender_birth k (active_birth k)) refl target at
     where
-      go : (o : Option ℕ) → sender_birth (view_of w) (active_birth (view_of w)) ≡ o → IsSomeAnd o (CanArrive (view_of w))
-          → IfSome o (λ target. view_of u ≡ landed_of (view_of w) (active_birth (view_of w)) target (name_of (stored_of w) v)) → view_of u ≡ leave_of (view_of w) (name_of (stored_of w) v)
+      go : (o : Option ℕ) → sender_birth (plain_view w) (active_birth (plain_view w)) ≡ o → IsSomeAnd o (CanArrive (plain_view w))
+          → IfSome o (λ target. plain_view u ≡ landed_of (plain_view w) (active_birth (plain_view w)) target (name_of (plain_stored w) v)) → plain_view u ≡ leave_of (plain_view w) (name_of (plain_stored w) v)
       go None e t h = absurd t
       go (Some i) e t h =
-          h ∙ ap (λ n. landed_of (view_of w) (active_birth (view_of w)) n (name_of (stored_of w) v))
-          (sym (ap (λ o. unwrap_or o (view_of w).rest.nil) (birth_of_context (view_of w) (active_context (view_of w)).sender i (sym sender_birth_is ∙ e))))
+          h ∙ ap (λ n. landed_of (plain_view w) (active_birth (plain_view w)) n (name_of (plain_stored w) v))
+          (sym (ap (λ o. unwrap_or o (plain_view w).rest.nil) (birth_of_context (plain_view w) (active_context (plain_view w)).sender i (sym sender_birth_is ∙ e))))
 
-pub left_state : (w u : PlainWorld) (x : Oop) → IsReady (stored_of w) (view_of w) → IsNamed (stored_of w) x → view_of u ≡ leave_of (view_of w) (name_of (stored_of w) x) → (m : Kept) → Keeps (view_of w) m
-    → Keeps (view_of u) (leave_of m (name_of (stored_of w) x))
-left_state w u x ready named view m k = subst (λ v. Keeps v (leave_of m (name_of (stored_of w) x))) (sym view) (leave_moved k (held_by w x ready named)).keeps
+pub left_state : (w u : PlainWorld) (x : Oop) → IsReady (plain_stored w) (plain_view w) → IsNamed (plain_stored w) x → plain_view u ≡ leave_of (plain_view w) (name_of (plain_stored w) x) → (m : Kept) → Keeps (plain_view w) m
+    → Keeps (plain_view u) (leave_of m (name_of (plain_stored w) x))
+left_state w u x ready named view m k = subst (λ v. Keeps v (leave_of m (name_of (plain_stored w) x))) (sym view) (leave_moved k (held_by w x ready named)).keeps
 
-pub names_both : (w v u : PlainWorld) → KeepsNames (stored_of w) (stored_of v) → KeepsNames (stored_of v) (stored_of u) → KeepsNames (stored_of w) (stored_of u)
+pub names_both : (w v u : PlainWorld) → KeepsNames (plain_stored w) (plain_stored v) → KeepsNames (plain_stored v) (plain_stored u) → KeepsNames (plain_stored w) (plain_stored u)
 names_both w v u first second = λ o named.
     let a = first o named in
     let b = second o a.sound in

@@ -3,12 +3,12 @@ use Rattle.std.proofs.Common.{◌≡◌, ℕ, zero, suc, ◌+◌, ◌-◌, ◌<�
 use Rattle.std.specs.Prelude.{slice_index}
 use Rattle.std.specs.Option.{option_map_or}
 use Rattle.std.proofs.lemmas.List.{append_assoc, drop-replicate, get_or-drop, length-append, length-replicate, length-set, set-append_right, take_more}
-use Rattle.cs_heap.specs.Object.{Object, at_index, base, is_object, new_object, next_address, object_at, set_word, slot_of, with_object, with_slot}
+use Rattle.cs_heap.specs.Object.{Object, at_index, base, is_object, new_object, next_address, heap_object, set_word, slot_of, with_object, slot_set}
 use Rattle.cs_heap.proofs.Laws.{field_of-old, index_of-below, index_of-old, next_address-set_word, with_object-index, with_slot-new}
 use Rattle.cs_heap.proofs.Places.{has_index}
 use Rattle.cs_classes.proofs.Heaps.{is_object-object_at}
 use Rattle.cs_plain.specs.declared.Fields.{Fields}
-use Rattle.cs_plain.specs.Storing.{copied, with_fields}
+use Rattle.cs_plain.specs.Storing.{values_copied, with_fields}
 
 -- ---- lists
 
@@ -99,20 +99,20 @@ stacked-words from at start n y first rest place h few words =
 
 -- the object of a context that is made: its fields, values of a stack, copied values, and nil
 unfoldable pub context_object : Fields → List ℕ → List ℕ → ℕ → ℕ → ℕ → ℕ → ℕ → Object
-context_object f from more at args copied size birth = stacked more 3 (6 + args) copied (stacked from at 6 args (fielded f (new_object 36 3 (6 + size) birth)))
+context_object f from more at args values_copied size birth = stacked more 3 (6 + args) values_copied (stacked from at 6 args (fielded f (new_object 36 3 (6 + size) birth)))
 
 abbrev pub context_words : Fields → List ℕ → List ℕ → ℕ → List ℕ
 context_words f values more left = f.sender.0 ∷ f.pc.0 ∷ f.stackp.0 ∷ f.method.0 ∷ f.closure.0 ∷ f.receiver.0 ∷ (values ++ (more ++ replicate left base))
 
 -- a closure has its copied values
 abbrev pub HasCopied : List ℕ → ℕ → Type 0
-HasCopied more copied = length (take copied (drop 3 more)) ≡ copied
+HasCopied more values_copied = length (take values_copied (drop 3 more)) ≡ values_copied
 
-pub context_object-is : (f : Fields) (from more : List ℕ) (at args copied size birth : ℕ) → at + args ≤ length from → HasCopied more copied → args + copied ≤ size
-    → context_object f from more at args copied size birth
-    ≡ record (new_object 36 3 (6 + size) birth) { words = context_words f (take args (drop at from)) (take copied (drop 3 more)) (size - (args + copied)) }
+pub context_object-is : (f : Fields) (from more : List ℕ) (at args values_copied size birth : ℕ) → at + args ≤ length from → HasCopied more values_copied → args + values_copied ≤ size
+    → context_object f from more at args values_copied size birth
+    ≡ record (new_object 36 3 (6 + size) birth) { words = context_words f (take args (drop at from)) (take values_copied (drop 3 more)) (size - (args + values_copied)) }
 unfolding fielded context_object stacked
-context_object-is f from more at args copied size birth h long l =
+context_object-is f from more at args values_copied size birth h long l =
     let y : Object = new_object 36 3 (6 + size) birth in
     let six : 6 + size ≡ suc (suc (suc (suc (suc (suc size))))) = omega arith in
     let first : List ℕ = f.sender.0 ∷ f.pc.0 ∷ f.stackp.0 ∷ f.method.0 ∷ f.closure.0 ∷ f.receiver.0 ∷ [] in
@@ -124,14 +124,14 @@ context_object-is f from more at args copied size birth h long l =
     ∙ ap (λ us. first ++ (values ++ us)) (drop-replicate args size base) ∙ sym (append_assoc first values (replicate (size - args) base)) in
     let values_long : length (first ++ values) ≡ 6 + args = omega (arith, h, length-append first values, length-take args (drop at from), length-drop at from) in
     let two = second (stacked from at 6 args (fielded f y)) (first ++ values) (size - args) (sym values_long) one (omega (arith, l)) in
-    let all = two ∙ ap (λ n. (first ++ values) ++ (take copied (drop 3 more) ++ replicate n base)) (omega (arith, l)) ∙ append_assoc first values (take copied (drop 3 more) ++ replicate (size - (args + copied)) base) in
-    stacked-is more 3 (6 + args) copied (stacked from at 6 args (fielded f y))
-    ∙ ap (λ (z : Object). record z { words = (stacked more 3 (6 + args) copied (stacked from at 6 args (fielded f y))).words }) (stacked-is from at 6 args (fielded f y))
+    let all = two ∙ ap (λ n. (first ++ values) ++ (take values_copied (drop 3 more) ++ replicate n base)) (omega (arith, l)) ∙ append_assoc first values (take values_copied (drop 3 more) ++ replicate (size - (args + values_copied)) base) in
+    stacked-is more 3 (6 + args) values_copied (stacked from at 6 args (fielded f y))
+    ∙ ap (λ (z : Object). record z { words = (stacked more 3 (6 + args) values_copied (stacked from at 6 args (fielded f y))).words }) (stacked-is from at 6 args (fielded f y))
     ∙ ap (λ us. record y { words = us }) all
   where
-    second : (z : Object) (first : List ℕ) (left : ℕ) → 6 + args ≡ length first → z.words ≡ first ++ replicate left base → copied ≤ left
-        → (stacked more 3 (6 + args) copied z).words ≡ first ++ (take copied (drop 3 more) ++ replicate (left - copied) base)
-    second z first left place words few = go copied long few
+    second : (z : Object) (first : List ℕ) (left : ℕ) → 6 + args ≡ length first → z.words ≡ first ++ replicate left base → values_copied ≤ left
+        → (stacked more 3 (6 + args) values_copied z).words ≡ first ++ (take values_copied (drop 3 more) ++ replicate (left - values_copied) base)
+    second z first left place words few = go values_copied long few
       where
         minus : (n : ℕ) → n ≡ n - 0
         minus n = omega arith
@@ -157,16 +157,16 @@ with_fields-new os y a f h =
     let h2 = next_address-set_word os y1 a 2 f.stackp.0 h1 in
     let h3 = next_address-set_word os y2 a 3 f.method.0 h2 in
     let h4 = next_address-set_word os y3 a 4 f.closure.0 h3 in
-    ap (λ us. with_slot (with_slot (with_slot (with_slot (with_slot us a 1 f.pc.0) a 2 f.stackp.0) a 3 f.method.0) a 4 f.closure.0) a 5 f.receiver.0) (with_slot-new os y a 0 f.sender.0 h)
-    ∙ ap (λ us. with_slot (with_slot (with_slot (with_slot us a 2 f.stackp.0) a 3 f.method.0) a 4 f.closure.0) a 5 f.receiver.0) (with_slot-new os y0 a 1 f.pc.0 h0)
-    ∙ ap (λ us. with_slot (with_slot (with_slot us a 3 f.method.0) a 4 f.closure.0) a 5 f.receiver.0) (with_slot-new os y1 a 2 f.stackp.0 h1)
-    ∙ ap (λ us. with_slot (with_slot us a 4 f.closure.0) a 5 f.receiver.0) (with_slot-new os y2 a 3 f.method.0 h2)
-    ∙ ap (λ us. with_slot us a 5 f.receiver.0) (with_slot-new os y3 a 4 f.closure.0 h3)
+    ap (λ us. slot_set (slot_set (slot_set (slot_set (slot_set us a 1 f.pc.0) a 2 f.stackp.0) a 3 f.method.0) a 4 f.closure.0) a 5 f.receiver.0) (with_slot-new os y a 0 f.sender.0 h)
+    ∙ ap (λ us. slot_set (slot_set (slot_set (slot_set us a 2 f.stackp.0) a 3 f.method.0) a 4 f.closure.0) a 5 f.receiver.0) (with_slot-new os y0 a 1 f.pc.0 h0)
+    ∙ ap (λ us. slot_set (slot_set (slot_set us a 3 f.method.0) a 4 f.closure.0) a 5 f.receiver.0) (with_slot-new os y1 a 2 f.stackp.0 h1)
+    ∙ ap (λ us. slot_set (slot_set us a 4 f.closure.0) a 5 f.receiver.0) (with_slot-new os y2 a 3 f.method.0 h2)
+    ∙ ap (λ us. slot_set us a 5 f.receiver.0) (with_slot-new os y3 a 4 f.closure.0 h3)
     ∙ with_slot-new os y4 a 5 f.receiver.0 h4
 
-copied-new : (os : List Object) (y x : Object) (a b at start n : ℕ) → object_at os b ≡ Some x → a ≡ next_address os (length y.words)
-    → copied (os ++ y ∷ []) b at a start n ≡ os ++ stacked x.words at start n y ∷ []
-unfolding copied stacked
+copied-new : (os : List Object) (y x : Object) (a b at start n : ℕ) → heap_object os b ≡ Some x → a ≡ next_address os (length y.words)
+    → values_copied (os ++ y ∷ []) b at a start n ≡ os ++ stacked x.words at start n y ∷ []
+unfolding values_copied stacked
 copied-new os y x a b at start zero there h = refl
 copied-new os y x a b at start (suc n) there h =
     let z : Object = stacked x.words at start n y in
@@ -174,8 +174,8 @@ copied-new os y x a b at start (suc n) there h =
     let read : slot_of us b (at + n) ≡ get_or x.words (at + n) 0 =
     field_of-old (λ (o : Object). slice_index o.words (at + n)) os z b (is_object-object_at os b x there)
     ∙ ap (λ (o : Option Object). option_map_or (λ (v : Object). slice_index v.words (at + n)) o 0) there in
-    ap (λ ts. with_slot ts a (start + n) (slot_of ts b (at + n))) (copied-new os y x a b at start n there h)
-    ∙ ap (with_slot us a (start + n)) read
+    ap (λ ts. slot_set ts a (start + n) (slot_of ts b (at + n))) (copied-new os y x a b at start n there h)
+    ∙ ap (slot_set us a (start + n)) read
     ∙ with_slot-new os z a (start + n) (get_or x.words (at + n) 0) (h ∙ ap (next_address os) (sym (length-stacked x.words at start n y)))
 
 -- a write to an object that stands, before the new one or behind it
@@ -192,18 +192,18 @@ with_object-old os y a g h =
     within zero (x ∷ os) l = refl
     within (suc k) (x ∷ os) l = ap (λ us. x ∷ us) (within k os (omega (arith, l)))
 
-pub context_added : (os : List Object) (x y : Object) (f : Fields) (a b c at args copies size birth v : ℕ) → object_at os b ≡ Some x → object_at os c ≡ Some y → a ≡ next_address os (6 + size)
-    → with_slot (copied (copied (with_fields (os ++ new_object 36 3 (6 + size) birth ∷ []) a f) b at a 6 args) c 3 a (6 + args) copies) b 2 v
-    ≡ with_slot os b 2 v ++ context_object f x.words y.words at args copies size birth ∷ []
+pub context_added : (os : List Object) (x y : Object) (f : Fields) (a b c at args copies size birth v : ℕ) → heap_object os b ≡ Some x → heap_object os c ≡ Some y → a ≡ next_address os (6 + size)
+    → slot_set (values_copied (values_copied (with_fields (os ++ new_object 36 3 (6 + size) birth ∷ []) a f) b at a 6 args) c 3 a (6 + args) copies) b 2 v
+    ≡ slot_set os b 2 v ++ context_object f x.words y.words at args copies size birth ∷ []
 unfolding fielded context_object
 context_added os x y f a b c at args copies size birth v there copied_there h =
     let z : Object = new_object 36 3 (6 + size) birth in
     let long : length z.words ≡ 6 + size = length-replicate (6 + size) base in
     let first : a ≡ next_address os (length z.words) = h ∙ ap (next_address os) (sym long) in
     let later : a ≡ next_address os (length (fielded f z).words) = first ∙ ap (next_address os) (sym (six z)) in
-    ap (λ us. with_slot (copied (copied us b at a 6 args) c 3 a (6 + args) copies) b 2 v) (with_fields-new os z a f first)
-    ∙ ap (λ us. with_slot (copied us c 3 a (6 + args) copies) b 2 v) (copied-new os (fielded f z) x a b at 6 args there later)
-    ∙ ap (λ us. with_slot us b 2 v) (copied-new os (stacked x.words at 6 args (fielded f z)) y a c 3 (6 + args) copies copied_there (later ∙ ap (next_address os) (sym (length-stacked x.words at 6 args (fielded f z)))))
+    ap (λ us. slot_set (values_copied (values_copied us b at a 6 args) c 3 a (6 + args) copies) b 2 v) (with_fields-new os z a f first)
+    ∙ ap (λ us. slot_set (values_copied us c 3 a (6 + args) copies) b 2 v) (copied-new os (fielded f z) x a b at 6 args there later)
+    ∙ ap (λ us. slot_set us b 2 v) (copied-new os (stacked x.words at 6 args (fielded f z)) y a c 3 (6 + args) copies copied_there (later ∙ ap (next_address os) (sym (length-stacked x.words at 6 args (fielded f z)))))
     ∙ with_object-old os (context_object f x.words y.words at args copies size birth) b (set_word 2 v) (is_object-object_at os b x there)
   where
     six : (y : Object) → length (fielded f y).words ≡ length y.words

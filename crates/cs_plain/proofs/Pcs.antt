@@ -6,7 +6,7 @@ use Rattle.cs_model.specs.Ref.{Ref, Small, Char}
 use Rattle.cs_model.specs.Ref as ref
 use Rattle.cs_model.specs.Obj.{Obj, Context, Ptr, Raw, Method, Ctx, context_in, lies_between, lies_in}
 use Rattle.cs_model.specs.State.{Kept, PcLies, Rest, object_at, object_of, put, with_rest}
-use Rattle.cs_model.specs.Read.{IsRunning, active_birth, active_context, blank, method_of, pc_of}
+use Rattle.cs_model.specs.Read.{IsRunning, active_birth, active_context, blank_context, method_of, pc_of}
 use Rattle.cs_model.specs.Operation.{edit_active, edit_found, store_of, with_slot}
 use Rattle.cs_model.proofs.Objects.{at_put, object_at-put_other, object_at-put_same}
 
@@ -82,7 +82,7 @@ unfolding active_context method_of
 running k i c pc active there live pcs =
     let birth : active_birth k ≡ i = ap (λ o. unwrap_or o k.rest.nil) active in
     let found : object_at k (active_birth k) ≡ Some (Ctx c) = ap (object_at k) birth ∙ there in
-    let context : active_context k ≡ c = ap (λ o. unwrap_or (context_in o) blank) found in
+    let context : active_context k ≡ c = ap (λ o. unwrap_or (context_in o) blank_context) found in
     let pc_is : pc_of k ≡ pc = ap (λ d. unwrap_or d.pc 0) context ∙ ap (λ o. unwrap_or o 0) live in
     record {
       known = active ∙ ap (λ n. Some n) (sym birth);

@@ -19,13 +19,13 @@ use Rattle.cs_acts.specs.Names.{Names}
 use Rattle.cs_acts.specs.Ready.{IsReady}
 use Rattle.cs_acts.proofs.Sizes.{pc_small}
 use Rattle.cs_plain.specs.declared.PlainWorld.{PlainWorld}
-use Rattle.cs_plain.specs.View.{stored_of, view_of}
+use Rattle.cs_plain.specs.View.{plain_stored, plain_view}
 use Rattle.cs_plain.proofs.Active.{Active, word_named}
 
 slots_at_most : (n : ℕ) → (n == 22 || n == 62) ≡ true → n ≤ 62
 slots_at_most n h = grind (arith, nat_tests)
 
-module _ {w : PlainWorld} {a : Oop} {x : Object} (ready : IsReady (stored_of w) (view_of w)) (active : Active w a x) where
+module _ {w : PlainWorld} {a : Oop} {x : Object} (ready : IsReady (plain_stored w) (plain_view w)) (active : Active w a x) where
   pub sound_active : IsSoundObject w.heap.objects x
   sound_active = sound_at w.heap.objects a.0 x ready.sound.holds.whole.heap active.there
 
@@ -39,7 +39,7 @@ module _ {w : PlainWorld} {a : Oop} {x : Object} (ready : IsReady (stored_of w) 
   slot_is i = ap (λ (o : Option Object). option_map_or (λ (y : Object). slice_index y.words i) o 0) active.there
 
   -- a slot that is read refers to what the context of the state has there
-  pub names_slot : (v : Oop) (i : ℕ) (y : Ref) → i < length x.words → v.0 ≡ slot_of w.heap.objects a.0 i → ref_of w.heap.objects (slice_index x.words i) ≡ y → Names (stored_of w) v y
+  pub names_slot : (v : Oop) (i : ℕ) (y : Ref) → i < length x.words → v.0 ≡ slot_of w.heap.objects a.0 i → ref_of w.heap.objects (slice_index x.words i) ≡ y → Names (plain_stored w) v y
   names_slot v i y within read is =
       let word : v.0 ≡ slice_index x.words i = read ∙ slot_is i in
       record {
@@ -51,40 +51,40 @@ module _ {w : PlainWorld} {a : Oop} {x : Object} (ready : IsReady (stored_of w) 
   pub few_slots : length x.words ≤ 62
   few_slots = slots_at_most (length x.words) (sound_active.context active.context).slots
 
-  pub depth_is_read : depth_in x.words ≡ depth_of (view_of w)
+  pub depth_is_read : depth_in x.words ≡ depth_of (plain_view w)
   depth_is_read = sym (depth_is (ref_of w.heap.objects) x.hash x.words whole_active.depth) ∙ ap (λ (c : Context). length c.stack) active.is
 
-  pub size_is_read : length x.words - 6 ≡ size_of (view_of w)
+  pub size_is_read : length x.words - 6 ≡ size_of (plain_view w)
   unfolding context_of
   size_is_read = ap (λ (c : Context). c.size) active.is
 
-  pub pc_is_read : unwrap_or (count_of (slice_index x.words 1)) 0 ≡ pc_of (view_of w)
+  pub pc_is_read : unwrap_or (count_of (slice_index x.words 1)) 0 ≡ pc_of (plain_view w)
   unfolding context_of
   pc_is_read = ap (λ (c : Context). unwrap_or c.pc 0) active.is
 
-  pub receiver_is_read : ref_of w.heap.objects (slice_index x.words 5) ≡ (active_context (view_of w)).receiver
+  pub receiver_is_read : ref_of w.heap.objects (slice_index x.words 5) ≡ (active_context (plain_view w)).receiver
   unfolding context_of
   receiver_is_read = ap (λ (c : Context). c.receiver) active.is
 
-  pub sender_is_read : ref_of w.heap.objects (slice_index x.words 0) ≡ (active_context (view_of w)).sender
+  pub sender_is_read : ref_of w.heap.objects (slice_index x.words 0) ≡ (active_context (plain_view w)).sender
   unfolding context_of
   sender_is_read = ap (λ (c : Context). c.sender) active.is
 
-  pub method_is_read : ref_of w.heap.objects (slice_index x.words 3) ≡ (active_context (view_of w)).method
+  pub method_is_read : ref_of w.heap.objects (slice_index x.words 3) ≡ (active_context (plain_view w)).method
   unfolding context_of
   method_is_read = ap (λ (c : Context). c.method) active.is
 
   pub fields_within : 6 ≤ length x.words
   fields_within = whole_active.fields
 
-  pub depth_within : depth_of (view_of w) ≤ length x.words - 6
+  pub depth_within : depth_of (plain_view w) ≤ length x.words - 6
   depth_within = omega (arith, depth_is_read, whole_active.depth)
 
-  pub stack_words : stack_of (view_of w) ≡ map (ref_of w.heap.objects) (take (depth_in x.words) (drop 6 x.words))
+  pub stack_words : stack_of (plain_view w) ≡ map (ref_of w.heap.objects) (take (depth_in x.words) (drop 6 x.words))
   unfolding context_of
   stack_words = ap (λ (c : Context). c.stack) (sym active.is)
 
-  pub stack_is_read : (i : ℕ) (d : Ref) → i < depth_of (view_of w) → ref_of w.heap.objects (slice_index x.words (6 + i)) ≡ unwrap_or (slice_get (stack_of (view_of w)) i) d
+  pub stack_is_read : (i : ℕ) (d : Ref) → i < depth_of (plain_view w) → ref_of w.heap.objects (slice_index x.words (6 + i)) ≡ unwrap_or (slice_get (stack_of (plain_view w)) i) d
   stack_is_read i d h =
       let words : List ℕ = take (depth_in x.words) (drop 6 x.words) in
       let few : i < length words = omega (arith, h, depth_is_read, whole_active.depth, length-take (depth_in x.words) (drop 6 x.words), length-drop 6 x.words) in
@@ -94,10 +94,10 @@ module _ {w : PlainWorld} {a : Oop} {x : Object} (ready : IsReady (stored_of w) 
       ∙ ap (λ o. unwrap_or o d) (slice_get-map (ref_of w.heap.objects) words i ∙ ap (option_map (ref_of w.heap.objects)) (got ∙ ap (λ n. Some n) value)))
 
   -- a pc that lies in the active method is small
-  pub pc_within : (pc : ℕ) → lies_in (method_of (view_of w)) pc ≡ true → pc < 2 ^ 29
+  pub pc_within : (pc : ℕ) → lies_in (method_of (plain_view w)) pc ≡ true → pc < 2 ^ 29
   unfolding method_of
   pc_within pc lies =
       let word : Oop = record { 0 = slice_index x.words 3 } in
-      pc_small (stored_of w) (view_of w) word pc ready.sound.holds
+      pc_small (plain_stored w) (plain_view w) word pc ready.sound.holds
       (word_named w a.0 x ready.sound active.there active.context 3 (omega (arith, fields_within)))
-      (ap (λ m. lies_in (object_of (view_of w) m) pc) method_is_read ∙ lies)
+      (ap (λ m. lies_in (object_of (plain_view w) m) pc) method_is_read ∙ lies)

@@ -5,9 +5,9 @@ use Rattle.cs_word.specs.declared.Oop.{Oop}
 use Rattle.cs_word.specs.Word.{small_word}
 use Rattle.cs_heap.specs.Writes.{slot_stored}
 use Rattle.cs_acts.proofs.Dirty.{names-dirtied, ready-dirtied}
-use Rattle.cs_heap.specs.Object.{Memory, Object, set_word, with_slot}
+use Rattle.cs_heap.specs.Object.{Memory, Object, set_word, slot_set}
 use Rattle.cs_classes.specs.Meaning.{count_of, depth_in, ref_of}
-use Rattle.cs_classes.specs.Sound.{nil_of}
+use Rattle.cs_classes.specs.Sound.{nil_word}
 use Rattle.cs_classes.proofs.Heaps.{set_word-IsEdit, with_object-twice}
 use Rattle.cs_classes.proofs.Refs.{count_of-small, is_reference-small, small_natural}
 use Rattle.cs_classes.proofs.Wholes.{ref_of-held}
@@ -22,7 +22,7 @@ use Rattle.cs_model.proofs.Operating.{drop_moved, push_moved, set_pc_moved, set_
 use Rattle.cs_acts.specs.Names.{IsNamed, KeepsNames, name_of}
 use Rattle.cs_acts.specs.Ready.{IsReady}
 use Rattle.cs_plain.specs.declared.PlainWorld.{PlainWorld}
-use Rattle.cs_plain.specs.View.{stored_of, view_of, active_in}
+use Rattle.cs_plain.specs.View.{plain_stored, plain_view, plain_active}
 use Rattle.cs_plain.proofs.Active.{Active}
 use Rattle.cs_plain.proofs.Edits.{Edited, edited}
 use Rattle.cs_plain.proofs.Slots.{depth_is_read, size_is_read}
@@ -30,17 +30,17 @@ use Rattle.cs_plain.proofs.Written.{dirtied, with_objects, written}
 
 -- the operation on every state that is kept; then the world is ready, and words mean what they meant
 pub record Writes (w v : PlainWorld) (op : Kept → Kept) : Type 0 where
-  pub state : (m : Kept) → Keeps (view_of w) m → Keeps (view_of v) (op m)
-  pub exact : SameKept (view_of v) (op (view_of w))
-  pub ready : IsReady (stored_of v) (view_of v)
-  pub names : KeepsNames (stored_of w) (stored_of v)
+  pub state : (m : Kept) → Keeps (plain_view w) m → Keeps (plain_view v) (op m)
+  pub exact : SameKept (plain_view v) (op (plain_view w))
+  pub ready : IsReady (plain_stored v) (plain_view v)
+  pub names : KeepsNames (plain_stored w) (plain_stored v)
 
 pub same_kept : (a b : Kept) → a ≡ b → SameKept a b
 same_kept a b e = record { objects = λ i. ap (λ k. object_at k i) e; rest = ap (λ k. k.rest) e }
 
 -- the same where the heap is dirty or not
 writes-dirtied : {w v : PlainWorld} {op : Kept → Kept} (d : Bool) → Writes w v op → Writes w (dirtied v d) op
-writes-dirtied {w = w} {v = v} d done = record { state = done.state; exact = done.exact; ready = ready-dirtied d done.ready; names = names-dirtied (stored_of w) (stored_of v) d done.names }
+writes-dirtied {w = w} {v = v} d done = record { state = done.state; exact = done.exact; ready = ready-dirtied d done.ready; names = names-dirtied (plain_stored w) (plain_stored v) d done.names }
 
 -- the same where the heap is told by an equation
 pub along : (w : PlainWorld) (h : Memory) (us : List Object) {d : Bool} (op : Kept → Kept) → h ≡ record w.heap { objects = us; dirty = d } → Writes w (with_objects w us) op → Writes w (record w { heap = h }) op
@@ -50,27 +50,27 @@ along w h us {d = d} op e done = subst (λ g. Writes w (record w { heap = g }) o
 pub twice : (h g k : Memory) (a i v j w z : ℕ) → g ≡ slot_stored h a i v → k ≡ slot_stored g a j w → w ≡ z → k ≡ slot_stored (slot_stored h a i v) a j z
 twice h g k a i v j w z first second word = second ∙ ap (λ (m : Memory). slot_stored m a j w) first ∙ ap (slot_stored (slot_stored h a i v) a j) word
 
-pub held_by : (w : PlainWorld) (o : Oop) → IsReady (stored_of w) (view_of w) → IsNamed (stored_of w) o → Same (IsHeld (view_of w)) (name_of (stored_of w) o) (name_of (stored_of w) o)
-held_by w o ready named = same (name_of (stored_of w) o) (ref_of-held w.heap.objects w.classes w.roots (active_in w.heap.objects w.active) o.0 ready.sound.holds.whole.heap named)
+pub held_by : (w : PlainWorld) (o : Oop) → IsReady (plain_stored w) (plain_view w) → IsNamed (plain_stored w) o → Same (IsHeld (plain_view w)) (name_of (plain_stored w) o) (name_of (plain_stored w) o)
+held_by w o ready named = same (name_of (plain_stored w) o) (ref_of-held w.heap.objects w.classes w.roots (plain_active w.heap.objects w.active) o.0 ready.sound.holds.whole.heap named)
 
-module _ {w : PlainWorld} {a : Oop} {x : Object} (ready : IsReady (stored_of w) (view_of w)) (active : Active w a x) where
+module _ {w : PlainWorld} {a : Oop} {x : Object} (ready : IsReady (plain_stored w) (plain_view w)) (active : Active w a x) where
   known : Holds w.heap.objects w.classes w.roots a.0 x
   known = record { whole = ready.sound.holds.whole; there = active.there }
 
-  slot_edited : (i v : ℕ) → Edited w.heap.objects (with_slot w.heap.objects a.0 i v)
+  slot_edited : (i v : ℕ) → Edited w.heap.objects (slot_set w.heap.objects a.0 i v)
   slot_edited i v = edited w.heap.objects a.0 x (set_word i v) (set_word-IsEdit i v) active.there
 
-  pub writes-set_pc : (pc : ℕ) → pc < 2 ^ 30 → lies_in (method_of (view_of w)) pc ≡ true
-      → Writes w (with_objects w (with_slot w.heap.objects a.0 1 (small_word (pos pc)))) (λ m. set_pc_of m pc)
+  pub writes-set_pc : (pc : ℕ) → pc < 2 ^ 30 → lies_in (method_of (plain_view w)) pc ≡ true
+      → Writes w (with_objects w (slot_set w.heap.objects a.0 1 (small_word (pos pc)))) (λ m. set_pc_of m pc)
   unfolding set_pc_of
   writes-set_pc pc small lies =
       let count : count_of (small_word (pos pc)) ≡ Some pc = count_of-small pc small in
       let does = does-set_pc known active.context (small_word (pos pc)) (is_reference-small w.heap.objects (pos pc) (small_natural pc small))
-      (or_right (small_word (pos pc) == nil_of w.heap.objects) (is_some (count_of (small_word (pos pc)))) (ap is_some count)) in
+      (or_right (small_word (pos pc) == nil_word w.heap.objects) (is_some (count_of (small_word (pos pc)))) (ap is_some count)) in
       let done = written w a x _ (with_pc (count_of (small_word (pos pc)))) pc ready active does (slot_edited 1 (small_word (pos pc))) count refl refl refl lies in
       record {
-        state = λ m k. subst (λ v. Keeps v (set_pc_of m pc)) (sym (done.view ∙ ap (λ p. edit_active (view_of w) (with_pc p)) count)) (set_pc_moved k (is pc)).keeps;
-        exact = same_kept _ _ (done.view ∙ ap (λ p. edit_active (view_of w) (with_pc p)) count);
+        state = λ m k. subst (λ v. Keeps v (set_pc_of m pc)) (sym (done.view ∙ ap (λ p. edit_active (plain_view w) (with_pc p)) count)) (set_pc_moved k (is pc)).keeps;
+        exact = same_kept _ _ (done.view ∙ ap (λ p. edit_active (plain_view w) (with_pc p)) count);
         ready = done.ready;
         names = done.names;
       }
@@ -79,27 +79,27 @@ module _ {w : PlainWorld} {a : Oop} {x : Object} (ready : IsReady (stored_of w) 
       or_right true c h = refl
       or_right false c h = h
 
-  pub writes-set_stack : (i : ℕ) (v : Oop) → IsNamed (stored_of w) v
-      → Writes w (with_objects w (with_slot w.heap.objects a.0 (6 + i) v.0)) (λ m. set_stack_of m i (name_of (stored_of w) v))
+  pub writes-set_stack : (i : ℕ) (v : Oop) → IsNamed (plain_stored w) v
+      → Writes w (with_objects w (slot_set w.heap.objects a.0 (6 + i) v.0)) (λ m. set_stack_of m i (name_of (plain_stored w) v))
   unfolding set_stack_of
   writes-set_stack i v named =
-      let done = written w a x _ (stored i (name_of (stored_of w) v)) (pc_of (view_of w)) ready active (does-set_stack known active.context i v.0 named) (slot_edited (6 + i) v.0)
+      let done = written w a x _ (stored i (name_of (plain_stored w) v)) (pc_of (plain_view w)) ready active (does-set_stack known active.context i v.0 named) (slot_edited (6 + i) v.0)
       ready.running.live refl refl refl ready.running.method in
       record {
-        state = λ m k. subst (λ u. Keeps u (set_stack_of m i (name_of (stored_of w) v))) (sym done.view) (set_stack_moved k i (held_by w v ready named)).keeps;
+        state = λ m k. subst (λ u. Keeps u (set_stack_of m i (name_of (plain_stored w) v))) (sym done.view) (set_stack_moved k i (held_by w v ready named)).keeps;
         exact = same_kept _ _ done.view;
         ready = done.ready;
         names = done.names;
       }
 
-  pub writes-push : (v : Oop) (d : ℕ) → d ≡ depth_of (view_of w) → depth_of (view_of w) < size_of (view_of w) → IsNamed (stored_of w) v
-      → Writes w (with_objects w (with_slot (with_slot w.heap.objects a.0 (6 + d) v.0) a.0 2 (small_word (pos (d + 1))))) (λ m. push_of m (name_of (stored_of w) v))
+  pub writes-push : (v : Oop) (d : ℕ) → d ≡ depth_of (plain_view w) → depth_of (plain_view w) < size_of (plain_view w) → IsNamed (plain_stored w) v
+      → Writes w (with_objects w (slot_set (slot_set w.heap.objects a.0 (6 + d) v.0) a.0 2 (small_word (pos (d + 1))))) (λ m. push_of m (name_of (plain_stored w) v))
   unfolding push_of
   writes-push v d deep room named =
       let os = w.heap.objects in
       let depth : depth_in x.words ≡ d = depth_is_read ready active ∙ sym deep in
       let fits : depth_in x.words < length x.words - 6 = omega (arith, room, depth_is_read ready active, size_is_read ready active) in
-      let does = subst (λ n. Does os (with_slot (with_slot os a.0 (6 + n) v.0) a.0 2 (small_word (pos (n + 1)))) w.classes w.roots (λ k. edit_object k (ref_of os a.0) (edit_context (pushed (ref_of os v.0))))) depth (does-push known active.context v.0 fits named) in
+      let does = subst (λ n. Does os (slot_set (slot_set os a.0 (6 + n) v.0) a.0 2 (small_word (pos (n + 1)))) w.classes w.roots (λ k. edit_object k (ref_of os a.0) (edit_context (pushed (ref_of os v.0))))) depth (does-push known active.context v.0 fits named) in
       let twice = with_object-twice os a.0 (set_word (6 + d) v.0) (set_word 2 (small_word (pos (d + 1)))) (set_word-IsEdit (6 + d) v.0) in
       let edit = edited os a.0 x (λ y. set_word 2 (small_word (pos (d + 1))) (set_word (6 + d) v.0 y)) (record {
         slots = λ y. (set_word-IsEdit 2 (small_word (pos (d + 1)))).slots (set_word (6 + d) v.0 y) ∙ (set_word-IsEdit (6 + d) v.0).slots y;
@@ -107,21 +107,21 @@ module _ {w : PlainWorld} {a : Oop} {x : Object} (ready : IsReady (stored_of w) 
         class = λ y. refl;
         format = λ y. refl;
       }) active.there in
-      let done = written w a x _ (pushed (name_of (stored_of w) v)) (pc_of (view_of w)) ready active does (subst (Edited os) (sym twice) edit) ready.running.live refl refl refl ready.running.method in
+      let done = written w a x _ (pushed (name_of (plain_stored w) v)) (pc_of (plain_view w)) ready active does (subst (Edited os) (sym twice) edit) ready.running.live refl refl refl ready.running.method in
       record {
-        state = λ m k. subst (λ u. Keeps u (push_of m (name_of (stored_of w) v))) (sym done.view) (push_moved k (held_by w v ready named)).keeps;
+        state = λ m k. subst (λ u. Keeps u (push_of m (name_of (plain_stored w) v))) (sym done.view) (push_moved k (held_by w v ready named)).keeps;
         exact = same_kept _ _ done.view;
         ready = done.ready;
         names = done.names;
       }
 
-  pub writes-pop : (d : ℕ) → d ≡ depth_of (view_of w) → Writes w (with_objects w (with_slot w.heap.objects a.0 2 (small_word (pos (d - 1))))) (λ m. drop_of m 1)
+  pub writes-pop : (d : ℕ) → d ≡ depth_of (plain_view w) → Writes w (with_objects w (slot_set w.heap.objects a.0 2 (small_word (pos (d - 1))))) (λ m. drop_of m 1)
   unfolding drop_of
   writes-pop d deep =
       let os = w.heap.objects in
       let depth : depth_in x.words ≡ d = depth_is_read ready active ∙ sym deep in
-      let does = subst (λ n. Does os (with_slot os a.0 2 (small_word (pos (n - 1)))) w.classes w.roots (λ k. edit_object k (ref_of os a.0) (edit_context (popped 1)))) depth (does-pop known active.context 1) in
-      let done = written w a x _ (popped 1) (pc_of (view_of w)) ready active does (slot_edited 2 (small_word (pos (d - 1)))) ready.running.live refl refl refl ready.running.method in
+      let does = subst (λ n. Does os (slot_set os a.0 2 (small_word (pos (n - 1)))) w.classes w.roots (λ k. edit_object k (ref_of os a.0) (edit_context (popped 1)))) depth (does-pop known active.context 1) in
+      let done = written w a x _ (popped 1) (pc_of (plain_view w)) ready active does (slot_edited 2 (small_word (pos (d - 1)))) ready.running.live refl refl refl ready.running.method in
       record {
         state = λ m k. subst (λ u. Keeps u (drop_of m 1)) (sym done.view) (drop_moved k 1).keeps;
         exact = same_kept _ _ done.view;

@@ -20,7 +20,7 @@ use Rattle.cs_acts.specs.Ready.{IsReady}
 use Rattle.cs_acts.proofs.ContextKinds.{kinds-edit_active}
 use Rattle.cs_acts.proofs.Running.{running-edit}
 use Rattle.cs_plain.specs.declared.PlainWorld.{PlainWorld}
-use Rattle.cs_plain.specs.View.{active_in, stored_of, view_of}
+use Rattle.cs_plain.specs.View.{plain_active, plain_stored, plain_view}
 use Rattle.cs_plain.proofs.Active.{Active, sound_world}
 use Rattle.cs_plain.proofs.Edits.{Edited}
 use Rattle.cs_plain.proofs.Pcs.{KeepsPcs, pcs-edit_active}
@@ -39,25 +39,25 @@ edit_object-active k g running = ap (λ o. edit_found (edit_context g) (active_b
 
 -- the active context was written: the state is edited, the world is ready, and words mean what they meant
 pub record Written (w v : PlainWorld) (g : Context → Context) : Type 0 where
-  pub view : view_of v ≡ edit_active (view_of w) g
-  pub ready : IsReady (stored_of v) (view_of v)
-  pub names : KeepsNames (stored_of w) (stored_of v)
+  pub view : plain_view v ≡ edit_active (plain_view w) g
+  pub ready : IsReady (plain_stored v) (plain_view v)
+  pub names : KeepsNames (plain_stored w) (plain_stored v)
 
-pub keeps_names : (w : PlainWorld) (us : List Object) → Edited w.heap.objects us → KeepsNames (stored_of w) (stored_of (with_objects w us))
+pub keeps_names : (w : PlainWorld) (us : List Object) → Edited w.heap.objects us → KeepsNames (plain_stored w) (plain_stored (with_objects w us))
 keeps_names w us same = λ o named. record { sound = ap (λ p. p o.0) same.sound ∙ named; is = ap (λ r. r o.0) same.refers }
 
-pub active-same : (os us : List Object) (active : Option Oop) → Edited os us → active_in us active ≡ active_in os active
+pub active-same : (os us : List Object) (active : Option Oop) → Edited os us → plain_active us active ≡ plain_active os active
 active-same os us None same = refl
 active-same os us (Some a) same = same.births a
 
-pub written_view : (w : PlainWorld) (a : Oop) (x : Object) (us : List Object) (g : Context → Context) → IsReady (stored_of w) (view_of w) → Active w a x
+pub written_view : (w : PlainWorld) (a : Oop) (x : Object) (us : List Object) (g : Context → Context) → IsReady (plain_stored w) (plain_view w) → Active w a x
     → Does w.heap.objects us w.classes w.roots (λ k. edit_object k (ref_of w.heap.objects a.0) (edit_context g))
-    → Edited w.heap.objects us → view_of (with_objects w us) ≡ edit_active (view_of w) g
+    → Edited w.heap.objects us → plain_view (with_objects w us) ≡ edit_active (plain_view w) g
 written_view w a x us g ready active does same =
     let os = w.heap.objects in
-    let name : ref_of os a.0 ≡ ref.Obj (active_birth (view_of w)) = ref_of-object os a.0 (is_object-object_at os a.0 x active.there) ∙ ap (λ b. ref.Obj b) (sym active.birth) in
-    ap (kept_of us w.classes w.roots) (active-same os us w.active same) ∙ does.kept (active_in os w.active)
-    ∙ ap (λ r. edit_object (view_of w) r (edit_context g)) name ∙ edit_object-active (view_of w) g ready.running
+    let name : ref_of os a.0 ≡ ref.Obj (active_birth (plain_view w)) = ref_of-object os a.0 (is_object-object_at os a.0 x active.there) ∙ ap (λ b. ref.Obj b) (sym active.birth) in
+    ap (kept_of us w.classes w.roots) (active-same os us w.active same) ∙ does.kept (plain_active os w.active)
+    ∙ ap (λ r. edit_object (plain_view w) r (edit_context g)) name ∙ edit_object-active (plain_view w) g ready.running
 
 -- contexts whose fields name the same name what they must, both or neither
 same_kinds : (k : Kept) (c d : Context) → d.sender ≡ c.sender → d.method ≡ c.method → d.closure ≡ c.closure → ContextKinds k c → ContextKinds k d
@@ -68,31 +68,31 @@ same_kinds k c d sender method closure kinds = record {
 }
 
 pub written : (w : PlainWorld) (a : Oop) (x : Object) (us : List Object) (g : Context → Context) (pc : ℕ)
-    → IsReady (stored_of w) (view_of w) → Active w a x
+    → IsReady (plain_stored w) (plain_view w) → Active w a x
     → Does w.heap.objects us w.classes w.roots (λ k. edit_object k (ref_of w.heap.objects a.0) (edit_context g))
     → Edited w.heap.objects us
-    → (g (active_context (view_of w))).pc ≡ Some pc → (g (active_context (view_of w))).method ≡ (active_context (view_of w)).method
-    → (g (active_context (view_of w))).sender ≡ (active_context (view_of w)).sender → (g (active_context (view_of w))).closure ≡ (active_context (view_of w)).closure
-    → lies_in (method_of (view_of w)) pc ≡ true
+    → (g (active_context (plain_view w))).pc ≡ Some pc → (g (active_context (plain_view w))).method ≡ (active_context (plain_view w)).method
+    → (g (active_context (plain_view w))).sender ≡ (active_context (plain_view w)).sender → (g (active_context (plain_view w))).closure ≡ (active_context (plain_view w)).closure
+    → lies_in (method_of (plain_view w)) pc ≡ true
     → Written w (with_objects w us) g
 unfolding method_of
 written w a x us g pc ready active does same at method sender closure lies =
     let view = written_view w a x us g ready active does same in
-    let kept : KeepsPcs (edit_active (view_of w) g) = pcs-edit_active (view_of w) g ready.running ready.sound.pcs (lies_there (g (active_context (view_of w))) at method) in
-    let old : Context = active_context (view_of w) in
-    let kinds : KindsStand (edit_active (view_of w) g) =
-    kinds-edit_active (view_of w) g ready.running.found ready.sound.kinds
-    (same_kinds (view_of w) old (g old) sender method closure (ready.sound.kinds (active_birth (view_of w)) old ready.running.found)) in
+    let kept : KeepsPcs (edit_active (plain_view w) g) = pcs-edit_active (plain_view w) g ready.running ready.sound.pcs (lies_there (g (active_context (plain_view w))) at method) in
+    let old : Context = active_context (plain_view w) in
+    let kinds : KindsStand (edit_active (plain_view w) g) =
+    kinds-edit_active (plain_view w) g ready.running.found ready.sound.kinds
+    (same_kinds (plain_view w) old (g old) sender method closure (ready.sound.kinds (active_birth (plain_view w)) old ready.running.found)) in
     record {
       view = view;
       ready = record {
         sound = sound_world (with_objects w us) does.whole (subst (λ n. n ≤ w.heap.limit) (sym same.words) ready.sound.holds.within) ready.sound.holds.most (subst KindsStand (sym view) kinds) (subst KeepsPcs (sym view) kept);
-        running = subst IsRunning (sym view) (running-edit (view_of w) g pc ready.running at method lies);
+        running = subst IsRunning (sym view) (running-edit (plain_view w) g pc ready.running at method lies);
       };
       names = keeps_names w us same;
     }
   where
-    lies_there : (c : Context) → c.pc ≡ Some pc → c.method ≡ (active_context (view_of w)).method → PcLies (view_of w) c
+    lies_there : (c : Context) → c.pc ≡ Some pc → c.method ≡ (active_context (plain_view w)).method → PcLies (plain_view w) c
     lies_there c live same p e =
         let is : pc ≡ p = cc in
-        ap (λ m. lies_in (object_of (view_of w) m) p) same ∙ ap (lies_in (object_of (view_of w) (active_context (view_of w)).method)) (sym is) ∙ lies
+        ap (λ m. lies_in (object_of (plain_view w) m) p) same ∙ ap (lies_in (object_of (plain_view w) (active_context (plain_view w)).method)) (sym is) ∙ lies

@@ -1,8 +1,8 @@
 -- A context that is made of its fields, of arguments, and of copied values.
 use Rattle.std.specs.Prelude.{◌≡◌, ℕ, ◌+◌, ◌-◌, ◌<◌, ◌≤◌, ◌==◌, ◌||◌, true, List, [], ◌++◌, length, drop, take, map, replicate, Option, Some, None, unwrap_or}
-use Rattle.cs_heap.specs.Object.{Object, is_object, object_at}
+use Rattle.cs_heap.specs.Object.{Object, is_object, heap_object}
 use Rattle.cs_classes.specs.Meaning.{count_of, ref_of}
-use Rattle.cs_classes.specs.Sound.{is_closure_address, is_reference, nil_of}
+use Rattle.cs_classes.specs.Sound.{is_closure_address, is_reference, nil_word}
 use Rattle.std.specs.List.{AllPass}
 use Rattle.cs_model.specs.Ref.{Ref}
 use Rattle.cs_model.specs.Obj.{Context, context_size, lies_in}
@@ -13,13 +13,13 @@ use Rattle.cs_model.specs.Operation as operation
 use Rattle.cs_acts.specs.Names.{IsNamed, Store, name_of}
 use Rattle.cs_plain.specs.declared.Fields.{Fields}
 
-abbrev pub words_in : Option Object → List ℕ
-words_in None = []
-words_in (Some x) = x.words
+abbrev pub words_there : Option Object → List ℕ
+words_there None = []
+words_there (Some x) = x.words
 
 -- so many words of a closure behind its three fields
 abbrev pub copied_words : List Object → ℕ → ℕ → List ℕ
-copied_words objects closure n = take n (drop 3 (words_in (object_at objects closure)))
+copied_words objects closure n = take n (drop 3 (words_there (heap_object objects closure)))
 
 -- The fields are those of a context that can run: its pc lies in its method, its closure is nil or a closure, its stack holds
 -- arguments and copied values, and the size by the method's header holds the stack. The arguments are on the active stack above one
@@ -40,7 +40,7 @@ pub record CanCall (s : Store) (k : Kept) (header args copied : ℕ) (f : Fields
   pub there : args < depth_of k
   pub values : length (copied_words s.memory.objects f.closure.0 copied) ≡ copied
   pub named : AllPass (is_reference s.memory.objects) (copied_words s.memory.objects f.closure.0 copied)
-  pub closed : (f.closure.0 == nil_of s.memory.objects || is_closure_address s.memory.objects f.closure.0) ≡ true
+  pub closed : (f.closure.0 == nil_word s.memory.objects || is_closure_address s.memory.objects f.closure.0) ≡ true
   pub births : k.rest.next < 4611686018427387904
 
 -- the arguments, the copied values, and nil

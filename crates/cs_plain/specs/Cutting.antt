@@ -10,17 +10,17 @@ use Rattle.cs_acts.specs.Names.{KeepsNames}
 use Rattle.cs_acts.specs.Ready.{IsSound}
 use Rattle.cs_acts.specs.Targets.{dying_to}
 use Rattle.cs_plain.specs.declared.PlainWorld.{PlainWorld}
-use Rattle.cs_plain.specs.View.{birth_at, stored_of, view_of}
+use Rattle.cs_plain.specs.View.{oop_birth, plain_stored, plain_view}
 
 -- The home stands at this address. With its death all that die are dead; its sender and the target are as before.
 pub record AtHome (old new : PlainWorld) (home target : ℕ) (context : Oop) : Type 0 where
-  pub birth : birth_at new.heap.objects context ≡ Some home
-  pub kills : kill_of (view_of new) home ≡ kill_all (dying_to (view_of old) home) (view_of old)
-  pub sender : sender_birth (view_of new) home ≡ Some target
+  pub birth : oop_birth new.heap.objects context ≡ Some home
+  pub kills : kill_of (plain_view new) home ≡ kill_all (dying_to (plain_view old) home) (plain_view old)
+  pub sender : sender_birth (plain_view new) home ≡ Some target
   pub other : target ≢ home
-  pub stays : object_at (view_of new) target ≡ object_at (view_of old) target
-  pub sound : IsSound (stored_of new) (view_of new)
-  pub names : KeepsNames (stored_of old) (stored_of new)
+  pub stays : object_at (plain_view new) target ≡ object_at (plain_view old) target
+  pub sound : IsSound (plain_stored new) (plain_view new)
+  pub names : KeepsNames (plain_stored old) (plain_stored new)
   pub limit : new.heap.limit ≡ old.heap.limit
 
 -- A return behind the death of this home can land on the target: that is another context, live, and has room for a value.

@@ -5,11 +5,12 @@
 #![tactic(auto)]
 
 ghost use Rattle.std.specs.Prelude.{◌≡◌, ◌<◌, ◌≤◌, ◌+◌, ◌*◌, ◌^◌, false, if◌then◌else◌, Some};
+ghost use Rattle.cs_classes.specs.Meaning.{loaded_kept};
 ghost use Rattle.cs_heap.specs.Object.{is_watched, slot_count_of};
 ghost use Rattle.cs_heap.specs.Writes.{slots_stored};
 ghost use Rattle.cs_model.specs.Obj.{context_size, literal_count};
 ghost use Rattle.cs_acts.specs.Ready.{IsReady};
-ghost use Rattle.cs_plain.specs.Storing.{buried, copied, with_fields};
+ghost use Rattle.cs_plain.specs.Storing.{plain_buried, values_copied, with_fields};
 
 use cs_acts::read::{active_process, nil, same, slot};
 use cs_acts::{Act, Full, Loaded, Roots, World};
@@ -84,7 +85,7 @@ fn copy_slots(heap: &mut Heap, from: Oop, at: u32, to: Oop, start: u32, count: u
     requires few { at + count < 2 ^ 31 }
     requires small { start + count < 2 ^ 31 }
     requires unwatched { is_watched heap.old to.0 ≡ false }
-    ensures { heap.new ≡ record heap.old { objects = copied heap.old.objects from.0 at to.0 start count } }
+    ensures { heap.new ≡ record heap.old { objects = values_copied heap.old.objects from.0 at to.0 start count } }
 {
     for i in 0..count {
         let value = heap.slot(from, at + i);
@@ -96,7 +97,7 @@ fn copy_slots(heap: &mut Heap, from: Oop, at: u32, to: Oop, start: u32, count: u
 #[tactic(auto, using(cs_heap::proofs::Laws::heap_laws))]
 fn bury(heap: &mut Heap, context: Oop)
     requires { 5 < slot_count_of heap.old.objects context.0 }
-    ensures { heap.new ≡ slots_stored heap.old context.0 (buried heap.old.objects context.0) }
+    ensures { heap.new ≡ slots_stored heap.old context.0 (plain_buried heap.old.objects context.0) }
 {
     heap.set_slot(context, SENDER, Oop(BASE));
     heap.set_slot(context, PC, Oop(BASE));
@@ -122,7 +123,7 @@ impl PlainWorld {
     ghost use Rattle.cs_plain.specs.Calling.{CanCall, called_context, called_of};
     ghost use Rattle.cs_plain.specs.Cutting.{AtHome, CanLand, landed_of};
     ghost use Rattle.cs_acts.specs.Opened.{taken_of};
-    ghost use Rattle.cs_plain.specs.View.{birth_at, loaded_kept, stored_of, view_of};
+    ghost use Rattle.cs_plain.specs.View.{oop_birth, plain_stored, plain_view};
 
     /// Opens a loaded image: the active process gives its context to the machine. With no active process no context is
     /// active.
@@ -135,12 +136,12 @@ impl PlainWorld {
         requires running { is_idle (loaded_kept loaded) ≡ false → IsRunning (open_kept (loaded_kept loaded)) }
         requires pcs { (i : ℕ) (c : Context) → object_at (loaded_kept loaded) i ≡ Some (Ctx c) →
             PcLies (loaded_kept loaded) c }
-        ensures view { IfOk result (λ w. view_of w ≡ open_kept (loaded_kept loaded)) }
-        ensures sound { IfOk result (λ w. IsSound (stored_of w) (view_of w)) }
-        ensures limit { IfOk result (λ w. (stored_of w).memory.limit ≡ loaded.heap.limit) }
-        ensures idle { IfOk result (λ w. is_idle (view_of w) ≡ is_idle (loaded_kept loaded)) }
-        ensures shape { IfOk result (λ w. shape_fault (view_of w) ≡ None) }
-        ensures ready { IfOk result (λ w. is_idle (view_of w) ≡ false → IsReady (stored_of w) (view_of w)) }
+        ensures view { IfOk result (λ w. plain_view w ≡ open_kept (loaded_kept loaded)) }
+        ensures sound { IfOk result (λ w. IsSound (plain_stored w) (plain_view w)) }
+        ensures limit { IfOk result (λ w. (plain_stored w).memory.limit ≡ loaded.heap.limit) }
+        ensures idle { IfOk result (λ w. is_idle (plain_view w) ≡ is_idle (loaded_kept loaded)) }
+        ensures shape { IfOk result (λ w. shape_fault (plain_view w) ≡ None) }
+        ensures ready { IfOk result (λ w. is_idle (plain_view w) ≡ false → IsReady (plain_stored w) (plain_view w)) }
     {
         let Loaded {
             heap,
@@ -163,11 +164,11 @@ impl PlainWorld {
     /// Takes the context of the active process, if one is active.
     #[tactic(auto, unfolding(cs_model::specs::Settle::open_kept))]
     fn open(&mut self)
-        requires sound { IsSound (stored_of self.old) (view_of self.old) }
+        requires sound { IsSound (plain_stored self.old) (plain_view self.old) }
         requires closed { self.old.active ≡ None }
-        requires running { is_idle (view_of self.old) ≡ false → IsRunning (open_kept (view_of self.old)) }
-        ensures view { view_of self.new ≡ open_kept (view_of self.old) }
-        ensures sound { IsSound (stored_of self.new) (view_of self.new) }
+        requires running { is_idle (plain_view self.old) ≡ false → IsRunning (open_kept (plain_view self.old)) }
+        ensures view { plain_view self.new ≡ open_kept (plain_view self.old) }
+        ensures sound { IsSound (plain_stored self.new) (plain_view self.new) }
         ensures limit { self.new.heap.limit ≡ self.old.heap.limit }
     {
         let nil = nil(self);
@@ -180,13 +181,13 @@ impl PlainWorld {
 
     /// Takes the context that a process keeps, and leaves nil there.
     fn take_context(&mut self, process: Oop, nil: Oop)
-        requires sound { IsSound (stored_of self.old) (view_of self.old) }
+        requires sound { IsSound (plain_stored self.old) (plain_view self.old) }
         requires closed { self.old.active ≡ None }
-        requires named { IsNamed (stored_of self.old) process }
-        requires nil { Names (stored_of self.old) nil (nil_of (view_of self.old)) }
-        requires running { IsRunning (taken_of (view_of self.old) (name_of (stored_of self.old) process)) }
-        ensures view { view_of self.new ≡ taken_of (view_of self.old) (name_of (stored_of self.old) process) }
-        ensures sound { IsSound (stored_of self.new) (view_of self.new) }
+        requires named { IsNamed (plain_stored self.old) process }
+        requires nil { Names (plain_stored self.old) nil (nil_of (plain_view self.old)) }
+        requires running { IsRunning (taken_of (plain_view self.old) (name_of (plain_stored self.old) process)) }
+        ensures view { plain_view self.new ≡ taken_of (plain_view self.old) (name_of (plain_stored self.old) process) }
+        ensures sound { IsSound (plain_stored self.new) (plain_view self.new) }
         ensures limit { self.new.heap.limit ≡ self.old.heap.limit }
     {
         if let Some(context) = slot(self, process, PROCESS_SLOTS, SUSPENDED_CONTEXT) {
@@ -197,7 +198,7 @@ impl PlainWorld {
 
     /// The active context.
     fn active_context(&self) -> Oop
-        requires { IsReady (stored_of self.now) (view_of self.now) }
+        requires { IsReady (plain_stored self.now) (plain_view self.now) }
         ensures { self.now.active ≡ Some result }
     {
         let Some(context) = self.active else {
@@ -215,17 +216,17 @@ impl PlainWorld {
         args: u32,
         copied: u32,
     ) -> Result<(), Full>
-        requires ready { IsReady (stored_of self.old) (view_of self.old) }
+        requires ready { IsReady (plain_stored self.old) (plain_view self.old) }
         requires sender { self.old.active ≡ Some fields.sender }
-        requires fits { CanCall (stored_of self.old) (view_of self.old) header.0 args copied fields }
-        ensures view { OnOk result (view_of self.new ≡ called_of (view_of self.old) args
-            (called_context (stored_of self.old) (view_of self.old) header.0 args copied fields)) }
-        ensures ready { OnOk result (IsReady (stored_of self.new) (view_of self.new)) }
-        ensures names { OnOk result (KeepsNames (stored_of self.old) (stored_of self.new)) }
+        requires fits { CanCall (plain_stored self.old) (plain_view self.old) header.0 args values_copied fields }
+        ensures view { OnOk result (plain_view self.new ≡ called_of (plain_view self.old) args
+            (called_context (plain_stored self.old) (plain_view self.old) header.0 args values_copied fields)) }
+        ensures ready { OnOk result (IsReady (plain_stored self.new) (plain_view self.new)) }
+        ensures names { OnOk result (KeepsNames (plain_stored self.old) (plain_stored self.new)) }
         ensures limit { self.new.heap.limit ≡ self.old.heap.limit }
-        ensures full { IfErr result (CausesFull (stored_of self.new) None (view_of self.old) 0
-            (called_of (view_of self.old) args
-            (called_context (stored_of self.old) (view_of self.old) header.0 args copied fields))) }
+        ensures full { IfErr result (CausesFull (plain_stored self.new) None (plain_view self.old) 0
+            (called_of (plain_view self.old) args
+            (called_context (plain_stored self.old) (plain_view self.old) header.0 args values_copied fields))) }
     {
         let sender = fields.sender;
         let closure = fields.closure;
@@ -262,9 +263,9 @@ impl PlainWorld {
     /// Makes the active context dead, and its senders, until the home is met: the context of this birth. Answers the
     /// home.
     fn bury_to(&mut self, home: u64) -> Oop
-        requires ready { IsReady (stored_of self.old) (view_of self.old) }
-        requires target { IsSomeAnd (sender_birth (view_of self.old) home) (CanCut (view_of self.old) home) }
-        ensures { IfSome (sender_birth (view_of self.old) home)
+        requires ready { IsReady (plain_stored self.old) (plain_view self.old) }
+        requires target { IsSomeAnd (sender_birth (plain_view self.old) home) (CanCut (plain_view self.old) home) }
+        ensures { IfSome (sender_birth (plain_view self.old) home)
             (λ target. AtHome self.old self.new home target result) }
     {
         let mut context = self.active_context();
@@ -281,15 +282,15 @@ impl PlainWorld {
 
     /// Makes a context dead and its sender active, and pushes a value there.
     fn land(&mut self, dying: Oop, v: Oop)
-        requires sound { IsSound (stored_of self.old) (view_of self.old) }
-        requires named { IsNamed (stored_of self.old) v }
-        requires target { IsSomeAnd (birth_at self.old.heap.objects dying)
-            (λ home. IsSomeAnd (sender_birth (view_of self.old) home) (CanLand (view_of self.old) home)) }
-        ensures view { IfSome (birth_at self.old.heap.objects dying)
-            (λ home. IfSome (sender_birth (view_of self.old) home)
-            (λ target. view_of self.new ≡ landed_of (view_of self.old) home target (name_of (stored_of self.old) v))) }
-        ensures ready { IsReady (stored_of self.new) (view_of self.new) }
-        ensures names { KeepsNames (stored_of self.old) (stored_of self.new) }
+        requires sound { IsSound (plain_stored self.old) (plain_view self.old) }
+        requires named { IsNamed (plain_stored self.old) v }
+        requires target { IsSomeAnd (oop_birth self.old.heap.objects dying)
+            (λ home. IsSomeAnd (sender_birth (plain_view self.old) home) (CanLand (plain_view self.old) home)) }
+        ensures view { IfSome (oop_birth self.old.heap.objects dying)
+            (λ home. IfSome (sender_birth (plain_view self.old) home)
+            (λ target. plain_view self.new ≡ landed_of (plain_view self.old) home target (name_of (plain_stored self.old) v))) }
+        ensures ready { IsReady (plain_stored self.new) (plain_view self.new) }
+        ensures names { KeepsNames (plain_stored self.old) (plain_stored self.new) }
         ensures limit { self.new.heap.limit ≡ self.old.heap.limit }
     {
         let sender = self.heap.slot(dying, SENDER);
@@ -301,13 +302,13 @@ impl PlainWorld {
 
 impl World for PlainWorld {
     ghost use Rattle.std.specs.Prelude.{None};
-    ghost use Rattle.cs_plain.specs.View.{act_of, stored_of, view_of};
+    ghost use Rattle.cs_plain.specs.View.{plain_act, plain_stored, plain_view};
 
-    ghost view = { view_of };
+    ghost view = { plain_view };
 
-    ghost stored = { stored_of };
+    ghost stored = { plain_stored };
 
-    ghost act = { act_of };
+    ghost act = { plain_act };
 
     ghost layout = { λ w. None };
 

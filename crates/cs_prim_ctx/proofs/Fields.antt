@@ -4,7 +4,7 @@ use Rattle.std.specs.Prelude.{◌==◌, slice_get}
 use Rattle.std.proofs.lemmas.Bool.Decides.{nat_tests}
 use Rattle.cs_word.specs.declared.Oop.{Oop}
 use Rattle.cs_word.specs.Word.{natural_of_word}
-use Rattle.cs_model.specs.Ref.{Ref, Small, index_of}
+use Rattle.cs_model.specs.Ref.{Ref, Small, small_index}
 use Rattle.cs_model.specs.Obj.{Context}
 use Rattle.cs_model.specs.State.{Kept}
 use Rattle.cs_model.specs.Context.{context_get, is_context_ref}
@@ -85,4 +85,4 @@ depth_read k s x o n depth is names e f = go (context_at k x) is names.is
     go None i f = absurd (cc)
     go (Some c) i g =
         let is : name_of s o ≡ Small (pos (length c.stack)) = cc in
-        sym (ap Some (f ∙ ap (λ p. unwrap_or p 0) (e ∙ sym (natural_name s o names.sound) ∙ ap index_of is)))
+        sym (ap Some (f ∙ ap (λ p. unwrap_or p 0) (e ∙ sym (natural_name s o names.sound) ∙ ap small_index is)))

@@ -10,7 +10,7 @@ use Rattle.cs_model.specs.Context.{context_get, is_context_ref}
 use Rattle.cs_model.specs.End.{Out, given, looked}
 use Rattle.cs_model.specs.PrimAnswer.{answer, answer_if, argument, fail, receiver, with_count}
 use Rattle.cs_model.specs.PrimContext.{stack_at_prim, stackp_prim}
-use Rattle.cs_model.specs.PrimObject.{answer_field, slot_at, slot_at_prim, slot_index, small_count}
+use Rattle.cs_model.specs.PrimObject.{answer_field, read_slot, slot_at_prim, slot_index, small_count}
 use Rattle.cs_model.specs.PrimTable.{kept_prim}
 use Rattle.cs_acts.specs.Targets.{field_of}
 use Rattle.cs_prim_ctx.specs.Numbers.{reads_context}
@@ -67,12 +67,12 @@ stackp-count k args h = counted k 0 args _ h
 
 slot_at-none : (k : Kept) (x : Ref) → argument k 1 0 ≡ x → slot_index x ≡ None → slot_at_prim k 1 ≡ fail k
 unfolding slot_at_prim
-slot_at-none k x is e = ap (λ o. given o (fail k) (λ i. slot_at k 1 i (object_of k (receiver k 1)))) (ap slot_index is ∙ e)
+slot_at-none k x is e = ap (λ o. given o (fail k) (λ i. read_slot k 1 i (object_of k (receiver k 1)))) (ap slot_index is ∙ e)
 
 pub slot_at-no_index : (k : Kept) (args : ℕ) (x : Ref) → args ≡ 1 → x ≡ argument k 1 0 → None ≡ slot_index x → slot_at_prim k args ≡ fail k
 slot_at-no_index k args x one is e = ap (slot_at_prim k) one ∙ slot_at-none k x (sym is) (sym e)
 
-context_slot : (k : Kept) (i : ℕ) (o : Option Obj) → is_some (context_in o) ≡ true → slot_at k 1 i o ≡ answer_field k 1 i (field_in k (context_in o) i)
+context_slot : (k : Kept) (i : ℕ) (o : Option Obj) → is_some (context_in o) ≡ true → read_slot k 1 i o ≡ answer_field k 1 i (field_in k (context_in o) i)
 context_slot k i None e = absurd (cc)
 context_slot k i (Some (Ptr head slots)) e = absurd (cc)
 context_slot k i (Some (Raw head bytes)) e = absurd (cc)
@@ -82,7 +82,7 @@ context_slot k i (Some (Ctx c)) e = refl
 slot_at-some : (k : Kept) (x : Ref) (i : ℕ) → argument k 1 0 ≡ x → slot_index x ≡ Some i → is_context_ref k (receiver k 1) ≡ true → slot_at_prim k 1 ≡ answer_field k 1 i (field_of k (receiver k 1) i)
 unfolding slot_at_prim
 slot_at-some k x i is e context =
-    ap (λ o. given o (fail k) (λ i. slot_at k 1 i (object_of k (receiver k 1)))) (ap slot_index is ∙ e) ∙ context_slot k i (object_of k (receiver k 1)) context
+    ap (λ o. given o (fail k) (λ i. read_slot k 1 i (object_of k (receiver k 1)))) (ap slot_index is ∙ e) ∙ context_slot k i (object_of k (receiver k 1)) context
 
 pub slot_at-index : (k : Kept) (args : ℕ) (x y : Ref) (i : ℕ) → args ≡ 1 → x ≡ argument k 1 0 → Some i ≡ slot_index x → y ≡ receiver k 1 → is_context_ref k (receiver k args) ≡ true
     → answer_field k 1 i (field_of k y i) ≡ slot_at_prim k args

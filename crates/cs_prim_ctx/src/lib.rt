@@ -22,7 +22,7 @@ ghost use Rattle.cs_acts.specs.Primed.{PrimGives, UnlessFull};
 ghost use Rattle.cs_acts.specs.Ready.{IsReady};
 ghost use Rattle.cs_acts.specs.Targets.{field_of};
 ghost use Rattle.cs_acts.specs.Led.{Leads};
-ghost use Rattle.cs_prim_ctx.specs.Answered.{Performs};
+ghost use Rattle.cs_prim_ctx.specs.Answered.{PerformsOnContexts};
 ghost use Rattle.cs_prim_ctx.specs.Numbers.{reads_context};
 
 use cs_acts::answer::{answer, argument, receiver};
@@ -69,7 +69,7 @@ fn slot_at<W: World>(w: &mut W, args: u32) -> PrimEnd
     requires ready { IsReady (W.stored w.old) (W.view w.old) }
     requires there { args < depth_of (W.view w.old) }
     requires context { is_context_ref (W.view w.old) (receiver (W.view w.old) args) ≡ true }
-    ensures { Performs (W.stored w.old) (W.stored w.new) (W.layout w.old) (W.layout w.new) (W.view w.old) (W.view w.new)
+    ensures { PerformsOnContexts (W.stored w.old) (W.stored w.new) (W.layout w.old) (W.layout w.new) (W.view w.old) (W.view w.new)
         result (slot_at_prim (W.view w.old) args) }
 {
     if args != 1 {
@@ -86,7 +86,7 @@ fn slot_at<W: World>(w: &mut W, args: u32) -> PrimEnd
 fn stack_at<W: World>(w: &mut W, args: u32) -> PrimEnd
     requires ready { IsReady (W.stored w.old) (W.view w.old) }
     requires there { args < depth_of (W.view w.old) }
-    ensures { Performs (W.stored w.old) (W.stored w.new) (W.layout w.old) (W.layout w.new) (W.view w.old) (W.view w.new)
+    ensures { PerformsOnContexts (W.stored w.old) (W.stored w.new) (W.layout w.old) (W.layout w.new) (W.view w.old) (W.view w.new)
         result (stack_at_prim (W.view w.old) args) }
 {
     if args != 1 {
@@ -106,7 +106,7 @@ fn stack_at<W: World>(w: &mut W, args: u32) -> PrimEnd
 fn stack_pointer<W: World>(w: &mut W, args: u32) -> PrimEnd
     requires ready { IsReady (W.stored w.old) (W.view w.old) }
     requires there { args < depth_of (W.view w.old) }
-    ensures { Performs (W.stored w.old) (W.stored w.new) (W.layout w.old) (W.layout w.new) (W.view w.old) (W.view w.new)
+    ensures { PerformsOnContexts (W.stored w.old) (W.stored w.new) (W.layout w.old) (W.layout w.new) (W.view w.old) (W.view w.new)
         result (stackp_prim (W.view w.old) args) }
 {
     if args != 0 {
@@ -139,7 +139,7 @@ fn answer_field<W: World>(w: &mut W, args: u32, ctx: Oop, i: u32) -> PrimEnd
     requires there { args < depth_of (W.view w.old) }
     requires named { IsNamed (W.stored w.old) ctx }
     requires context { is_context_ref (W.view w.old) (name_of (W.stored w.old) ctx) ≡ true }
-    ensures { Performs (W.stored w.old) (W.stored w.new) (W.layout w.old) (W.layout w.new) (W.view w.old) (W.view w.new)
+    ensures { PerformsOnContexts (W.stored w.old) (W.stored w.new) (W.layout w.old) (W.layout w.new) (W.view w.old) (W.view w.new)
         result (answer_field (W.view w.old) args i (field_of (W.view w.old) (name_of (W.stored w.old) ctx) i)) }
 {
     match field(w, ctx, i) {

@@ -14,7 +14,7 @@ use Rattle.cs_model.specs.Words.{bytes_of_words}
 use Rattle.cs_model.specs.SavedFile.{SavedObject, SavedFile, FitsFile, saved_bytes, saved_heap, saved_words, saved_size, saved_sizes, all_saved, birth_words, header_words, halves, hidden_object, free_lists, table_root, table_page, page_address}
 use Rattle.cs_model.proofs.SavedObjects.{sizes-cons}
 use Rattle.cs_model.proofs.SavedFiles.{heap_length}
-use Rattle.cs_save.specs.Filed.{filed, file_of, file_word, page_entries, page_at, places_of, saved_between, saved_births, saved_heap_of, saved_of, saved_page, saved_root}
+use Rattle.cs_save.specs.Filed.{filed, saved_file, file_word, page_entries, page_at, places_of, saved_between, saved_births, saved_heap_of, saved_of, saved_page, saved_root}
 use Rattle.cs_save.proofs.Headers.{length-filed}
 
 flat_mapped : {X Y : Type 0} (g : Y → List ℕ) (f : X → Y) (xs : List X) → flat_map g (map f xs) ≡ flat_map (λ x. g (f x)) xs
@@ -38,13 +38,13 @@ sizes_filed (x ∷ xs) =
 pages_long : (table : FinMap nat_cmp ℕ) → length (map (page_entries table) (range_with_len 0 16)) ≡ 16
 pages_long table = length-map-range_with_len (page_entries table) 0 16
 
-root_same : (xs : List Object) (table : FinMap nat_cmp ℕ) (roots : Roots) → table_root (file_of xs table roots) ≡ hidden_object 2 (map (page_at (used xs)) (range_with_len 0 16))
+root_same : (xs : List Object) (table : FinMap nat_cmp ℕ) (roots : Roots) → table_root (saved_file xs table roots) ≡ hidden_object 2 (map (page_at (used xs)) (range_with_len 0 16))
 root_same xs table roots =
     ap (λ (n : ℕ). hidden_object 2 (map (page_address (map filed xs)) (range_with_len 0 n) ++ replicate (16 - n) base)) (pages_long table)
     ∙ ap (hidden_object 2) (append-nil (map (page_address (map filed xs)) (range_with_len 0 16)))
     ∙ ap (λ (s : ℕ). hidden_object 2 (map (λ k. base + 4 * (s + 22 + 1028 * k + 2)) (range_with_len 0 16))) (sizes_filed xs)
 
-heap_same : (xs : List Object) (table : FinMap nat_cmp ℕ) (roots : Roots) → saved_heap (file_of xs table roots) ≡ saved_heap_of xs table
+heap_same : (xs : List Object) (table : FinMap nat_cmp ℕ) (roots : Roots) → saved_heap (saved_file xs table roots) ≡ saved_heap_of xs table
 unfolding saved_heap all_saved
 heap_same xs table roots =
     flat_map-append saved_words (take 3 (map filed xs) ++ free_lists ∷ table_root f ∷ drop 3 (map filed xs)) (map table_page pages)
@@ -59,7 +59,7 @@ heap_same xs table roots =
     ∙ regroup (saved_between xs 0 3) (saved_words free_lists) (saved_root (used xs)) (saved_between xs 3 (length xs)) (flat_map (saved_page table) (range_with_len 0 16))
   where
     f : SavedFile
-    f = file_of xs table roots
+    f = saved_file xs table roots
 
     pages : List (List ℕ)
     pages = map (page_entries table) (range_with_len 0 16)
@@ -73,13 +73,13 @@ births_same xs next =
     ap₂ (λ (n : ℕ) (bs : List ℕ). halves next ++ (halves n ++ bs)) (length-map xs (λ x. x.birth))
     (flat_mapped halves (λ (x : Object). x.birth) xs ∙ ap (flat_map (λ (x : Object). halves x.birth)) (sym (take_all (length xs - 0) xs (omega arith))))
 
-places_same : (xs : List Object) (table : FinMap nat_cmp ℕ) (roots : Roots) → FitsFile (file_of xs table roots) → header_words (file_of xs table roots) ≡ places_of (used xs) roots
+places_same : (xs : List Object) (table : FinMap nat_cmp ℕ) (roots : Roots) → FitsFile (saved_file xs table roots) → header_words (saved_file xs table roots) ≡ places_of (used xs) roots
 places_same xs table roots fits =
-    let long : 4 * length (saved_heap (file_of xs table roots)) ≡ 4 * (used xs + 16470) =
-    omega (arith, heap_length (file_of xs table roots) fits, sizes_filed xs, pages_long table) in
+    let long : 4 * length (saved_heap (saved_file xs table roots)) ≡ 4 * (used xs + 16470) =
+    omega (arith, heap_length (saved_file xs table roots) fits, sizes_filed xs, pages_long table) in
     ap (λ (n : ℕ). n ∷ base ∷ file_word roots.special.0 ∷ roots.last_hash ∷ []) long
 
-pub saved_is : (xs : List Object) (table : FinMap nat_cmp ℕ) (roots : Roots) → FitsFile (file_of xs table roots)
+pub saved_is : (xs : List Object) (table : FinMap nat_cmp ℕ) (roots : Roots) → FitsFile (saved_file xs table roots)
     → saved_of xs table roots ≡ ((take 8 roots.header ++ bytes_of_words (places_of (used xs) roots) ++ drop 24 roots.header)
     ++ bytes_of_words (saved_heap_of xs table)) ++ bytes_of_words (halves roots.next_birth ++ (halves (length xs) ++ saved_births xs (length xs)))
 unfolding saved_bytes

@@ -6,13 +6,13 @@ use Rattle.std.proofs.lemmas.List.FromFn.{get_or-map-range_with_len, length-map-
 use Rattle.std.proofs.lemmas.Bool.Decides.{nat_tests}
 use Rattle.std.specs.List.{range_with_len}
 use Rattle.std.specs.Option.{option_map_or}
-use Rattle.cs_heap.specs.Object.{format_of, slot_count_of}
+use Rattle.cs_heap.specs.Object.{format_at, slot_count_of, words_at}
 use Rattle.cs_heap.proofs.Laws.{index_of-below}
 use Rattle.cs_model.specs.SavedFile.{SavedObject, saved_bits, saved_words, overflow_words, halves, body_size, hidden_object, free_lists}
-use Rattle.cs_save.specs.Filed.{body_word, file_word, filed_words, referring, hidden_bits, page_entries, entry_word, saved_page, saved_at, saved_root, page_at, words_at}
+use Rattle.cs_save.specs.Filed.{body_word, file_word, filed_words, referring, hidden_bits, page_entries, entry_word, saved_page, saved_at, saved_root, page_at}
 use Rattle.std.specs.Ordering.{nat_cmp}
 use Rattle.std.specs.FinMap.{FinMap}
-use Rattle.cs_heap.specs.Object.{Object, index_of, is_object, is_immutable_at, header_seen, object_at}
+use Rattle.cs_heap.specs.Object.{Object, object_place, is_object, is_immutable_at, header_seen, heap_object}
 use Rattle.cs_word.specs.Header.{flag_bits, header_bits}
 use Rattle.cs_word.specs.declared.header.Flags.{Flags}
 use Rattle.cs_word.specs.declared.header.Header.{Header}
@@ -105,11 +105,11 @@ filed_bits : (x : Object) → saved_bits (filed x) ≡ x.class + 2 ^ 23 * cond (
 unfolding filed
 filed_bits x = ap (λ (n : ℕ). x.class + 2 ^ 23 * cond (flag_bits x.flags % 2 == 1) 1 0 + 2 ^ 24 * x.format + 2 ^ 32 * x.hash + 2 ^ 56 * min 255 n) (length-filed x.format x.words)
 
-pub header_filed : (xs : List Object) (a : ℕ) (h : Header) (flags : Flags) → is_some (object_at xs a) ≡ true → h ≡ header_seen xs a → flag_bits flags ≡ cond (is_immutable_at xs a) 1 0
+pub header_filed : (xs : List Object) (a : ℕ) (h : Header) (flags : Flags) → is_some (heap_object xs a) ≡ true → h ≡ header_seen xs a → flag_bits flags ≡ cond (is_immutable_at xs a) 1 0
     → header_bits (record { class = h.class; flags = flags; format = h.format; hash = h.hash; slots = h.slots }) ≡ filed_bits_at xs a
 header_filed xs a h flags there e f =
     ap (λ (g : Header). header_bits (record { class = g.class; flags = flags; format = g.format; hash = g.hash; slots = g.slots })) e
-    ∙ seen_bits (object_at xs a) (flag_bits flags) there f ∙ same (object_at xs a)
+    ∙ seen_bits (heap_object xs a) (flag_bits flags) there f ∙ same (heap_object xs a)
   where
     same : (r : Option Object)
         → option_map_or (λ (x : Object). x.class + 2 ^ 23 * cond (flag_bits x.flags % 2 == 1) 1 0 + 2 ^ 24 * x.format + 2 ^ 32 * x.hash + 2 ^ 56 * min 255 (length x.words)) r 0
@@ -117,10 +117,10 @@ header_filed xs a h flags there e f =
     same None = refl
     same (Some x) = sym (filed_bits x)
 
-pub saved_at_is : (xs : List Object) (a n bits : ℕ) → is_some (object_at xs a) ≡ true → n ≡ slot_count_of xs a → bits ≡ filed_bits_at xs a
-    → saved_at xs a ≡ (overflow_words n ++ halves bits) ++ map (body_word (format_of xs a) (words_at xs a)) (range_with_len 0 (body_size (slot_count_of xs a)))
+pub saved_at_is : (xs : List Object) (a n bits : ℕ) → is_some (heap_object xs a) ≡ true → n ≡ slot_count_of xs a → bits ≡ filed_bits_at xs a
+    → saved_at xs a ≡ (overflow_words n ++ halves bits) ++ map (body_word (format_at xs a) (words_at xs a)) (range_with_len 0 (body_size (slot_count_of xs a)))
 unfolding filed
-saved_at_is xs a n bits there e f = go (object_at xs a) there e f
+saved_at_is xs a n bits there e f = go (heap_object xs a) there e f
   where
     go : (r : Option Object) → is_some r ≡ true → n ≡ option_map_or (λ (x : Object). length x.words) r 0 → bits ≡ option_map_or (λ (x : Object). saved_bits (filed x)) r 0
         → option_map_or (λ (x : Object). saved_words (filed x)) r []
@@ -160,14 +160,14 @@ lists_are bits e = hidden_are 10 2 bits (0 ∷ 0 ∷ []) refl e refl
 
 -- ---- an object is there
 
-pub there : (xs : List Object) (a : ℕ) → is_object xs a ≡ true → is_some (object_at xs a) ≡ true
-there xs a h = go (index_of xs a) refl h
+pub there : (xs : List Object) (a : ℕ) → is_object xs a ≡ true → is_some (heap_object xs a) ≡ true
+there xs a h = go (object_place xs a) refl h
   where
     get_some : (ys : List Object) (k : ℕ) → k < length ys → is_some (slice_get ys k) ≡ true
     get_some [] k h = absurd (omega (arith, h))
     get_some (y ∷ ys) zero h = refl
     get_some (y ∷ ys) (suc k) h = get_some ys k (omega (arith, h))
 
-    go : (r : Option ℕ) → index_of xs a ≡ r → is_some r ≡ true → is_some (option_and_then (slice_get xs) r) ≡ true
+    go : (r : Option ℕ) → object_place xs a ≡ r → is_some r ≡ true → is_some (option_and_then (slice_get xs) r) ≡ true
     go None e h = absurd (cc)
     go (Some k) e h = get_some xs k (index_of-below xs a k e)

@@ -12,11 +12,11 @@ use Rattle.std.proofs.lemmas.Grind.{flat_map-append}
 use Rattle.std.proofs.lemmas.List.{append-nil, drop-drop, take-append-le, take_all, take_min}
 use Rattle.std.proofs.Math.Seq.{take-append-add}
 use Rattle.cs_shelf.specs.Outside.{AppendsPart, Fault, Rose, save_fault}
-use Rattle.cs_heap.specs.Object.{Object, address_of, is_object, next_of, object_at, used, size, slot_counts}
+use Rattle.cs_heap.specs.Object.{Object, address_of, is_object, next_of, heap_object, used, size, slot_counts}
 use Rattle.cs_heap.proofs.Laws.{address_of-below, address_of-past, index_of-address, next_of-address, object_at-address}
 use Rattle.cs_model.specs.Words.{bytes_of_words}
 use Rattle.cs_model.proofs.SavedNumbers.{bytes_of_words-append}
-use Rattle.cs_save.specs.Writing.{Writing, WentOn, BrokeOff, OthersStay, WroteWords, BrokeWords, writing, written}
+use Rattle.cs_save.specs.Writing.{Gathering, WentOn, BrokeOff, OthersStay, WroteWords, BrokeWords, writing, whole_taken}
 use Rattle.cs_model.specs.SavedFile.{overflow_words, halves}
 
 behind : (t : Option (List ℕ)) (xs ys : List ℕ) → option_map (λ (before : List ℕ). before ++ ys) (option_map (λ (before : List ℕ). before ++ xs) t)
@@ -24,20 +24,20 @@ behind : (t : Option (List ℕ)) (xs ys : List ℕ) → option_map (λ (before :
 behind None xs ys = refl
 behind (Some t) xs ys = ap Some (append_assoc t xs ys)
 
-pub went_then : (a b c : Writing) (xs ys : List ℕ) → WentOn a b xs → WentOn b c ys → WentOn a c (xs ++ ys)
+pub went_then : (a b c : Gathering) (xs ys : List ℕ) → WentOn a b xs → WentOn b c ys → WentOn a c (xs ++ ys)
 went_then a b c xs ys h k = record {
   begun = k.begun ∙ h.begun;
   others = λ other differs. k.others other (rw h.begun differs) ∙ h.others other differs;
   asked = k.asked ∙ h.asked;
   never_falls = omega (arith, h.never_falls, k.never_falls);
   last = k.last ∙ h.last;
-  taken = k.taken ∙ ap (option_map (λ (before : List ℕ). before ++ ys)) h.taken ∙ behind (written a) xs ys;
+  taken = k.taken ∙ ap (option_map (λ (before : List ℕ). before ++ ys)) h.taken ∙ behind (whole_taken a) xs ys;
 }
 
 pub rose_later : (x y z : ℕ) → x ≤ y → Rose y z → Rose x z
 rose_later x y z h r = omega (arith, h, r)
 
-pub broke_then : (a b c : Writing) (xs ys : List ℕ) → WentOn a b xs → BrokeOff b c ys → BrokeOff a c (xs ++ ys)
+pub broke_then : (a b c : Gathering) (xs ys : List ℕ) → WentOn a b xs → BrokeOff b c ys → BrokeOff a c (xs ++ ys)
 broke_then a b c xs ys h k = record {
   begun = k.begun;
   others = λ other differs. k.others other (rw h.begun differs) ∙ h.others other differs;
@@ -45,7 +45,7 @@ broke_then a b c xs ys h k = record {
   never_falls = omega (arith, h.never_falls, k.never_falls);
   rose = rose_later a.faults b.faults c.faults h.never_falls k.rose;
   last = rw (← h.begun) k.last;
-  taken = (k.taken.0, k.taken.1 ∙ part k.taken.0 (written a) (written b) h.taken);
+  taken = (k.taken.0, k.taken.1 ∙ part k.taken.0 (whole_taken a) (whole_taken b) h.taken);
 }
   where
     part : (n : ℕ) (t s : Option (List ℕ)) → s ≡ option_map (λ (before : List ℕ). before ++ xs) t
@@ -54,7 +54,7 @@ broke_then a b c xs ys h k = record {
     part n (Some t) s e = ap (option_map (λ (before : List ℕ). take n (before ++ ys))) e ∙ ap (λ (zs : List ℕ). Some (take n zs)) (append_assoc t xs ys)
 
 -- the first bytes are the first of more
-pub broke_first : (a c : Writing) (xs ys : List ℕ) → BrokeOff a c xs → BrokeOff a c (xs ++ ys)
+pub broke_first : (a c : Gathering) (xs ys : List ℕ) → BrokeOff a c xs → BrokeOff a c (xs ++ ys)
 broke_first a c xs ys k = record {
   begun = k.begun;
   others = k.others;
@@ -62,7 +62,7 @@ broke_first a c xs ys k = record {
   never_falls = k.never_falls;
   rose = k.rose;
   last = k.last;
-  taken = part (written a) k.taken.0 k.taken.1;
+  taken = part (whole_taken a) k.taken.0 k.taken.1;
 }
   where
     shorter : (n : ℕ) (zs : List ℕ) → take (min n (length zs)) (zs ++ ys) ≡ take n zs
@@ -73,21 +73,21 @@ broke_first a c xs ys k = record {
     part None n e = (n, e)
     part (Some t) n e = (min n (length (t ++ xs)), e ∙ ap Some (sym (ap (take (min n (length (t ++ xs)))) (sym (append_assoc t xs ys)) ∙ shorter n (t ++ xs))))
 
-pub went_same : (a b : Writing) (xs ys : List ℕ) → xs ≡ ys → WentOn a b xs → WentOn a b ys
+pub went_same : (a b : Gathering) (xs ys : List ℕ) → xs ≡ ys → WentOn a b xs → WentOn a b ys
 went_same a b xs ys e h = let P : List ℕ → Type 0 = λ zs. WentOn a b zs in subst P e h
 
-pub broke_same : (a b : Writing) (xs ys : List ℕ) → xs ≡ ys → BrokeOff a b xs → BrokeOff a b ys
+pub broke_same : (a b : Gathering) (xs ys : List ℕ) → xs ≡ ys → BrokeOff a b xs → BrokeOff a b ys
 broke_same a b xs ys e h = let P : List ℕ → Type 0 = λ zs. BrokeOff a b zs in subst P e h
 
 -- nothing was written
-pub went_nowhere : (a : Writing) → WentOn a a []
+pub went_nowhere : (a : Gathering) → WentOn a a []
 went_nowhere a = record {
   begun = refl;
   others = λ other differs. refl;
   asked = refl;
   never_falls = omega arith;
   last = refl;
-  taken = none (written a);
+  taken = none (whole_taken a);
 }
   where
     none : (t : Option (List ℕ)) → t ≡ option_map (λ (before : List ℕ). before ++ []) t
@@ -96,23 +96,23 @@ went_nowhere a = record {
 
 -- ---- words
 
-pub goes_then : (a b c : Writing) (xs ys zs : List ℕ) → zs ≡ xs ++ ys → WroteWords a b xs → WroteWords b c ys → WroteWords a c zs
+pub goes_then : (a b c : Gathering) (xs ys zs : List ℕ) → zs ≡ xs ++ ys → WroteWords a b xs → WroteWords b c ys → WroteWords a c zs
 goes_then a b c xs ys zs e h k =
     went_same a c (bytes_of_words xs ++ bytes_of_words ys) (bytes_of_words zs) (sym (ap bytes_of_words e ∙ bytes_of_words-append xs ys))
     (went_then a b c (bytes_of_words xs) (bytes_of_words ys) h k)
 
-pub breaks_first : (a c : Writing) (xs ys zs : List ℕ) → zs ≡ xs ++ ys → BrokeWords a c xs → BrokeWords a c zs
+pub breaks_first : (a c : Gathering) (xs ys zs : List ℕ) → zs ≡ xs ++ ys → BrokeWords a c xs → BrokeWords a c zs
 breaks_first a c xs ys zs e k =
     broke_same a c (bytes_of_words xs ++ bytes_of_words ys) (bytes_of_words zs) (sym (ap bytes_of_words e ∙ bytes_of_words-append xs ys))
     (broke_first a c (bytes_of_words xs) (bytes_of_words ys) k)
 
-pub breaks_then : (a b c : Writing) (xs ys zs : List ℕ) → zs ≡ xs ++ ys → WroteWords a b xs → BrokeWords b c ys → BrokeWords a c zs
+pub breaks_then : (a b c : Gathering) (xs ys zs : List ℕ) → zs ≡ xs ++ ys → WroteWords a b xs → BrokeWords b c ys → BrokeWords a c zs
 breaks_then a b c xs ys zs e h k =
     broke_same a c (bytes_of_words xs ++ bytes_of_words ys) (bytes_of_words zs) (sym (ap bytes_of_words e ∙ bytes_of_words-append xs ys))
     (broke_then a b c (bytes_of_words xs) (bytes_of_words ys) h k)
 
 -- one part of three
-pub breaks_in : (a b c : Writing) (xs ys rest zs : List ℕ) → zs ≡ xs ++ (ys ++ rest) → WroteWords a b xs → BrokeWords b c ys → BrokeWords a c zs
+pub breaks_in : (a b c : Gathering) (xs ys rest zs : List ℕ) → zs ≡ xs ++ (ys ++ rest) → WroteWords a b xs → BrokeWords b c ys → BrokeWords a c zs
 breaks_in a b c xs ys rest zs e h k = breaks_then a b c xs (ys ++ rest) zs e h (breaks_first b c ys rest (ys ++ rest) refl k)
 
 pub on_err : {T E : Type 0} (r : Result T E) (P : Type 0) → P → OnErr r P
@@ -204,7 +204,7 @@ objects_one_more g xs from k end x h l e =
 -- ---- the piece
 
 -- a failed append of the whole piece
-pub flush_broke : (a b : Writing) (bytes : List ℕ) → bytes ≡ a.piece → b.begun ≡ None → OthersStay a b → b.asked ≡ a.asked → a.faults ≤ b.faults → Rose a.faults b.faults
+pub flush_broke : (a b : Gathering) (bytes : List ℕ) → bytes ≡ a.piece → b.begun ≡ None → OthersStay a b → b.asked ≡ a.asked → a.faults ≤ b.faults → Rose a.faults b.faults
     → IfSome a.begun (λ name. b.last ≡ save_fault name) → AppendsPart a.taken b.taken bytes → BrokeOff a b []
 flush_broke a b bytes is begun others asked falls rose last part = record {
   begun = begun;
@@ -246,27 +246,27 @@ halves_are n = ap (λ (k : ℕ). k ∷ n / 4294967296 ∷ []) (sym (and_mask n 3
 
 -- ---- loops over numbers
 
-pub loop_begun : (a : Writing) → WroteWords a a []
+pub loop_begun : (a : Gathering) → WroteWords a a []
 loop_begun a = went_same a a [] (bytes_of_words []) (sym no_bytes) (went_nowhere a)
 
-pub loop_more : (a b c : Writing) (f : ℕ → ℕ) (from i j k w : ℕ) → WroteWords a b (map f (range_with_len from i)) → WroteWords b c (w ∷ [])
+pub loop_more : (a b c : Gathering) (f : ℕ → ℕ) (from i j k w : ℕ) → WroteWords a b (map f (range_with_len from i)) → WroteWords b c (w ∷ [])
     → w ≡ f k → j ≡ i + 1 → k ≡ from + i → WroteWords a c (map f (range_with_len from j))
 loop_more a b c f from i j k w h g e l m =
     goes_then a b c (map f (range_with_len from i)) (w ∷ []) (map f (range_with_len from j))
     (range_one_more f from i j k l m ∙ ap (λ (v : ℕ). map f (range_with_len from i) ++ v ∷ []) (sym e)) h g
 
-pub loop_broke : (a b c : Writing) (f : ℕ → ℕ) (from i n k w : ℕ) → WroteWords a b (map f (range_with_len from i)) → BrokeWords b c (w ∷ [])
+pub loop_broke : (a b c : Gathering) (f : ℕ → ℕ) (from i n k w : ℕ) → WroteWords a b (map f (range_with_len from i)) → BrokeWords b c (w ∷ [])
     → w ≡ f k → i < n → k ≡ from + i → BrokeWords a c (map f (range_with_len from n))
 loop_broke a b c f from i n k w h g e l m =
     breaks_in a b c (map f (range_with_len from i)) (w ∷ []) (map f (range_with_len (k + 1) (n - (i + 1)))) (map f (range_with_len from n))
     (range_parts f from i n k l m ∙ ap (λ (v : ℕ). map f (range_with_len from i) ++ (v ∷ [] ++ map f (range_with_len (k + 1) (n - (i + 1))))) (sym e)) h g
 
-pub pages_more : (a b c : Writing) (f : ℕ → List ℕ) (i : ℕ) → WroteWords a b (flat_map f (range_with_len 0 i)) → WroteWords b c (f i)
+pub pages_more : (a b c : Gathering) (f : ℕ → List ℕ) (i : ℕ) → WroteWords a b (flat_map f (range_with_len 0 i)) → WroteWords b c (f i)
     → WroteWords a c (flat_map f (range_with_len 0 (i + 1)))
 pages_more a b c f i h g =
     goes_then a b c (flat_map f (range_with_len 0 i)) (f i) (flat_map f (range_with_len 0 (i + 1))) (flat_one_more f 0 i (i + 1) i refl (omega arith)) h g
 
-pub pages_broke : (a b c : Writing) (f : ℕ → List ℕ) (i n : ℕ) → WroteWords a b (flat_map f (range_with_len 0 i)) → BrokeWords b c (f i)
+pub pages_broke : (a b c : Gathering) (f : ℕ → List ℕ) (i n : ℕ) → WroteWords a b (flat_map f (range_with_len 0 i)) → BrokeWords b c (f i)
     → i < n → BrokeWords a c (flat_map f (range_with_len 0 n))
 pages_broke a b c f i n h g l =
     breaks_in a b c (flat_map f (range_with_len 0 i)) (f i) (flat_map f (range_with_len (i + 1) (n - (i + 1)))) (flat_map f (range_with_len 0 n))
@@ -279,7 +279,7 @@ pub record AtNumber (xs : List Object) (k a : ℕ) : Type 0 where
   pub below : k < length xs
   pub object : is_object xs a ≡ true
   pub next : next_of xs a ≡ address_of xs (k + 1)
-  pub get : object_at xs a ≡ slice_get xs k
+  pub get : heap_object xs a ≡ slice_get xs k
 
 pub at_number : (xs : List Object) (k a : ℕ) → address_of xs k ≡ Some a → AtNumber xs k a
 at_number xs k a e = record {
@@ -304,8 +304,8 @@ none_at xs k e = go (leb (length xs) k) refl
         let lies : k < length xs = grind (arith, nat_tests, h) in
         absurd (cc (sym (address_of-below xs k lies) ∙ ap is_some e))
 
-pub objects_more : (a b c : Writing) (g : Object → List ℕ) (xs : List Object) (from k end address : ℕ) (ws : List ℕ) → AtNumber xs k address
-    → ((x : Object) → object_at xs address ≡ Some x → ws ≡ g x) → from ≤ k → end ≡ k + 1
+pub objects_more : (a b c : Gathering) (g : Object → List ℕ) (xs : List Object) (from k end address : ℕ) (ws : List ℕ) → AtNumber xs k address
+    → ((x : Object) → heap_object xs address ≡ Some x → ws ≡ g x) → from ≤ k → end ≡ k + 1
     → WroteWords a b (flat_map g (take (k - from) (drop from xs))) → WroteWords b c ws → WroteWords a c (flat_map g (take (end - from) (drop from xs)))
 objects_more a b c g xs from k end address ws at words h l wrote more = go (slice_get xs k) refl (slice_get_there xs k at.below)
   where
@@ -320,8 +320,8 @@ objects_more a b c g xs from k end address ws at words h l wrote more = go (slic
         goes_then a b c (flat_map g (take (k - from) (drop from xs))) ws (flat_map g (take (end - from) (drop from xs)))
         (objects_one_more g xs from k end x h l e ∙ ap (λ (ys : List ℕ). flat_map g (take (k - from) (drop from xs)) ++ ys) (sym (words x (at.get ∙ e)))) wrote more
 
-pub objects_broke : (a b c : Writing) (g : Object → List ℕ) (xs : List Object) (from k end address : ℕ) (ws : List ℕ) → AtNumber xs k address
-    → ((x : Object) → object_at xs address ≡ Some x → ws ≡ g x) → from ≤ k → k < end
+pub objects_broke : (a b c : Gathering) (g : Object → List ℕ) (xs : List Object) (from k end address : ℕ) (ws : List ℕ) → AtNumber xs k address
+    → ((x : Object) → heap_object xs address ≡ Some x → ws ≡ g x) → from ≤ k → k < end
     → WroteWords a b (flat_map g (take (k - from) (drop from xs))) → BrokeWords b c ws → BrokeWords a c (flat_map g (take (end - from) (drop from xs)))
 objects_broke a b c g xs from k end address ws at words h l wrote more = go (slice_get xs k) refl (slice_get_there xs k at.below)
   where
@@ -347,10 +347,10 @@ empty_behind : (t : Option (List ℕ)) → option_map (λ (bytes : List ℕ). by
 empty_behind None = refl
 empty_behind (Some t) = ap Some (append-nil t)
 
-begun_empty : (t : Option (List ℕ)) (a : Writing) → a.taken ≡ option_map (λ (taken : List ℕ). []) t → a.piece ≡ [] → written a ≡ option_map (λ (taken : List ℕ). []) t
+begun_empty : (t : Option (List ℕ)) (a : Gathering) → a.taken ≡ option_map (λ (taken : List ℕ). []) t → a.piece ≡ [] → whole_taken a ≡ option_map (λ (taken : List ℕ). []) t
 begun_empty t a e p = ap (λ (ps : List ℕ). option_map (λ (bytes : List ℕ). bytes ++ ps) a.taken) p ∙ empty_behind a.taken ∙ e
 
-pub whole_taken : (t : Option (List ℕ)) (a b c : Writing) (bytes : List ℕ) → a.taken ≡ option_map (λ (taken : List ℕ). []) t → a.piece ≡ [] → WentOn a b bytes → WentOn b c []
+pub whole_taken : (t : Option (List ℕ)) (a b c : Gathering) (bytes : List ℕ) → a.taken ≡ option_map (λ (taken : List ℕ). []) t → a.piece ≡ [] → WentOn a b bytes → WentOn b c []
     → c.piece ≡ [] → c.taken ≡ option_map (λ (taken : List ℕ). bytes) t
 whole_taken t a b c bytes e p h k q =
     sym (ap (λ (ps : List ℕ). option_map (λ (bs : List ℕ). bs ++ ps) c.taken) q ∙ empty_behind c.taken)
@@ -362,7 +362,7 @@ whole_taken t a b c bytes e p h k q =
     go None = refl
     go (Some t) = ap Some (append-nil bytes)
 
-pub part_taken : (t : Option (List ℕ)) (a c : Writing) (bytes : List ℕ) → a.taken ≡ option_map (λ (taken : List ℕ). []) t → a.piece ≡ [] → BrokeOff a c bytes
+pub part_taken : (t : Option (List ℕ)) (a c : Gathering) (bytes : List ℕ) → a.taken ≡ option_map (λ (taken : List ℕ). []) t → a.piece ≡ [] → BrokeOff a c bytes
     → (n : ℕ) × (c.taken ≡ option_map (λ (taken : List ℕ). take n bytes) t)
 part_taken t a c bytes e p k =
     (k.taken.0, k.taken.1 ∙ ap (option_map (λ (before : List ℕ). take k.taken.0 (before ++ bytes))) (begun_empty t a e p) ∙ go t)
@@ -371,7 +371,7 @@ part_taken t a c bytes e p k =
     go None = refl
     go (Some t) = refl
 
-pub late_part_taken : (t : Option (List ℕ)) (a b c : Writing) (bytes : List ℕ) → a.taken ≡ option_map (λ (taken : List ℕ). []) t → a.piece ≡ [] → WentOn a b bytes → BrokeOff b c []
+pub late_part_taken : (t : Option (List ℕ)) (a b c : Gathering) (bytes : List ℕ) → a.taken ≡ option_map (λ (taken : List ℕ). []) t → a.piece ≡ [] → WentOn a b bytes → BrokeOff b c []
     → (n : ℕ) × (c.taken ≡ option_map (λ (taken : List ℕ). take n bytes) t)
 late_part_taken t a b c bytes e p h k = part_taken t a c bytes e p (broke_same a c (bytes ++ []) bytes (append-nil bytes) (broke_then a b c bytes [] h k))
 
@@ -399,7 +399,7 @@ broke_empty b co k f l t p b₁ co₁ k₁ f₁ l₁ t₁ p₁ bytes e h =
     let s = subst P e h in
     record { begun = s.begun; others = s.others; asked = s.asked; never_falls = s.never_falls; rose = s.rose; last = s.last; taken = s.taken }
 
-pub went_taken : (t : Option (List ℕ)) (a b : Writing) (bytes : List ℕ) → a.taken ≡ option_map (λ (taken : List ℕ). []) t → a.piece ≡ [] → WentOn a b bytes → b.piece ≡ []
+pub went_taken : (t : Option (List ℕ)) (a b : Gathering) (bytes : List ℕ) → a.taken ≡ option_map (λ (taken : List ℕ). []) t → a.piece ≡ [] → WentOn a b bytes → b.piece ≡ []
     → b.taken ≡ option_map (λ (taken : List ℕ). bytes) t
 went_taken t a b bytes e p h q = whole_taken t a b b bytes e p h (went_nowhere b) q
 

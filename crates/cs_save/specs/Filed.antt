@@ -6,9 +6,9 @@ use Rattle.std.specs.List.{range_with_len}
 use Rattle.std.specs.Ordering.{nat_cmp}
 use Rattle.std.specs.FinMap.{FinMap, get}
 use Rattle.cs_word.specs.Header.{flag_bits}
-use Rattle.cs_heap.specs.Format.{is_method, is_pointers}
-use Rattle.cs_heap.specs.Object.{Object, base, object_at, used}
-use Rattle.cs_classes.specs.Meaning.{header_in}
+use Rattle.cs_heap.specs.Format.{is_code, is_pointers}
+use Rattle.cs_heap.specs.Object.{Object, base, heap_object, used}
+use Rattle.cs_classes.specs.Meaning.{method_header}
 use Rattle.cs_classes.specs.declared.Roots.{Roots}
 use Rattle.cs_model.specs.Obj.{literal_count}
 use Rattle.cs_model.specs.SavedFile.{SavedObject, SavedFile, saved_bits, saved_bytes, saved_words, halves, hidden_object, free_lists, table_page}
@@ -26,7 +26,7 @@ file_word word = if word % 4 == 0 then file_address word else word
 -- how many of an object's words may name objects, from the first on: all of a pointer object, and a method's header and literals
 unfoldable pub referring : ℕ → List ℕ → ℕ
 referring format words = if is_pointers format then length words
-    else (if is_method format && nat_lt 0 (length words) then 1 + literal_count (header_in words) else 0)
+    else (if is_code format && nat_lt 0 (length words) then 1 + literal_count (method_header words) else 0)
 
 abbrev pub filed_words : ℕ → List ℕ → List ℕ
 filed_words format words = map file_word (take (referring format words) words) ++ drop (referring format words) words
@@ -51,8 +51,8 @@ abbrev pub page_entries : FinMap nat_cmp ℕ → ℕ → List ℕ
 page_entries table page = map (entry_word table) (range_with_len (1024 * page) 1024)
 
 -- all 16 pages, and the births of all objects
-abbrev pub file_of : List Object → FinMap nat_cmp ℕ → Roots → SavedFile
-file_of objects table roots = record {
+abbrev pub saved_file : List Object → FinMap nat_cmp ℕ → Roots → SavedFile
+saved_file objects table roots = record {
   header = roots.header;
   special = file_word roots.special.0;
   last_hash = roots.last_hash;
@@ -63,7 +63,7 @@ file_of objects table roots = record {
 
 -- the bytes that are saved
 abbrev pub saved_of : List Object → FinMap nat_cmp ℕ → Roots → List ℕ
-saved_of objects table roots = saved_bytes (file_of objects table roots)
+saved_of objects table roots = saved_bytes (saved_file objects table roots)
 
 -- ---- word by word
 
@@ -72,13 +72,9 @@ unfoldable pub body_word : ℕ → List ℕ → ℕ → ℕ
 body_word format words i = if nat_lt i (length words)
     then (if nat_lt i (referring format words) then file_word (slice_index words i) else slice_index words i) else 0
 
--- the words of the object at an address
-abbrev pub words_at : List Object → ℕ → List ℕ
-words_at objects address = option_map_or (λ x. x.words) (object_at objects address) []
-
 -- what is saved of it
 abbrev pub saved_at : List Object → ℕ → List ℕ
-saved_at objects address = option_map_or (λ x. saved_words (filed x)) (object_at objects address) []
+saved_at objects address = option_map_or (λ x. saved_words (filed x)) (heap_object objects address) []
 
 -- what is saved of the objects from one number up to another
 abbrev pub saved_between : List Object → ℕ → ℕ → List ℕ
@@ -116,4 +112,4 @@ hidden_bits format slots = 16 + 2 ^ 24 * format + 2 ^ 56 * min 255 slots
 
 -- the header of the object at an address
 abbrev pub filed_bits_at : List Object → ℕ → ℕ
-filed_bits_at objects address = option_map_or (λ x. saved_bits (filed x)) (object_at objects address) 0
+filed_bits_at objects address = option_map_or (λ x. saved_bits (filed x)) (heap_object objects address) 0

@@ -18,7 +18,7 @@ ghost use Rattle.cs_heap.specs.Object.{used as used_of};
 ghost use Rattle.cs_model.specs.SavedFile.{FitsFile};
 ghost use Rattle.cs_model.specs.Words.{bytes_of_words};
 ghost use Rattle.cs_shelf.specs.Outside.{Rose, save_fault};
-ghost use Rattle.cs_save.specs.Filed.{file_of, places_of, saved_heap_of, saved_of};
+ghost use Rattle.cs_save.specs.Filed.{saved_file, places_of, saved_heap_of, saved_of};
 ghost use Rattle.cs_save.specs.Writing.{BrokeOff, BrokeWords, WentOn, WroteWords, writing};
 
 use crate::births::put_births;
@@ -163,7 +163,7 @@ fn put_all<S: Shelf>(
     piece: &mut Piece,
 ) -> Result<(), Failed>
     requires three { 3 ≤ length heap.now.objects }
-    requires fits { FitsFile (file_of heap.now.objects classes.now roots.now) }
+    requires fits { FitsFile (saved_file heap.now.objects classes.now roots.now) }
     requires begun { IsSome (S.begun shelf.old) }
     ensures ok { OnOk result (WentOn
         (writing (S.begun shelf.old) (S.content shelf.old) (S.asked shelf.old) (S.fault_count shelf.old)
@@ -193,7 +193,7 @@ fn put_file<S: Shelf>(
     shelf: &mut S,
 ) -> Result<(), Failed>
     requires three { 3 ≤ length heap.now.objects }
-    requires fits { FitsFile (file_of heap.now.objects classes.now roots.now) }
+    requires fits { FitsFile (saved_file heap.now.objects classes.now roots.now) }
     requires begun { IsSome (S.begun shelf.old) }
     ensures ok { OnOk result (WentOn
         (writing (S.begun shelf.old) (S.content shelf.old) (S.asked shelf.old) (S.fault_count shelf.old)
@@ -227,7 +227,7 @@ pub fn save<S: Shelf>(
 ) -> Result<(), Failed>
     requires name { length name.now ≤ 4096 }
     requires three { 3 ≤ length heap.now.objects }
-    requires fits { FitsFile (file_of heap.now.objects classes.now roots.now) }
+    requires fits { FitsFile (saved_file heap.now.objects classes.now roots.now) }
 
     // Where the shelf tells what it takes, the name holds these bytes.
     ensures saved { OnOk result (S.content shelf.new name.now ≡ option_map

@@ -3,14 +3,14 @@
 ghost use Rattle.std.specs.Prelude.{◌≡◌, ◌*◌, ◌^◌, ◌<◌, ◌≤◌, ◌++◌, [], ◌∷◌, IfOk, IsSome, IsTrue, OnErr, OnOk, length};
 ghost use Rattle.std.specs.Prelude.{map, option_map, unwrap_or};
 ghost use Rattle.std.specs.List.{range_with_len};
-ghost use Rattle.cs_heap.specs.Object.{address_of, format_of, is_object, slot_count_of};
+ghost use Rattle.cs_heap.specs.Object.{address_of, format_at, is_object, slot_count_of, words_at};
 ghost use Rattle.cs_model.specs.SavedFile.{body_size as body_size_of, halves, overflow_words};
 ghost use Rattle.cs_save.specs.Filed.{body_word as body_word_of, file_word as file_word_of, filed_bits_at};
 ghost use Rattle.std.specs.Prelude.{if◌then◌else◌};
 ghost use Rattle.cs_classes.specs.Meaning.{count_of};
 ghost use Rattle.cs_word.specs.Header.{flag_bits};
 ghost use Rattle.cs_model.specs.Obj.{literal_count as literal_count_of};
-ghost use Rattle.cs_save.specs.Filed.{referring as referring_of, saved_at, saved_between, words_at};
+ghost use Rattle.cs_save.specs.Filed.{referring as referring_of, saved_at, saved_between};
 ghost use Rattle.cs_save.specs.Writing.{BrokeWords, WroteWords, writing};
 
 use crate::piece::{Piece, put_long, put_word};
@@ -60,7 +60,7 @@ fn literal_count(header: Oop) -> u32
 #[tactic(auto, unfolding(crate::specs::Filed::referring))]
 fn referring(heap: &Heap, o: Oop) -> u32
     requires { IsTrue (is_object heap.now.objects o.0) }
-    ensures { result ≡ referring_of (format_of heap.now.objects o.0) (words_at heap.now.objects o.0) }
+    ensures { result ≡ referring_of (format_at heap.now.objects o.0) (words_at heap.now.objects o.0) }
 {
     match heap.format(o) {
         0..=5 => heap.slot_count(o),
@@ -73,8 +73,8 @@ fn referring(heap: &Heap, o: Oop) -> u32
 #[tactic(auto, unfolding(crate::specs::Filed::body_word))]
 fn body_word(heap: &Heap, o: Oop, referring: u32, i: u32) -> u32
     requires object { IsTrue (is_object heap.now.objects o.0) }
-    requires referring { referring ≡ referring_of (format_of heap.now.objects o.0) (words_at heap.now.objects o.0) }
-    ensures { result ≡ body_word_of (format_of heap.now.objects o.0) (words_at heap.now.objects o.0) i }
+    requires referring { referring ≡ referring_of (format_at heap.now.objects o.0) (words_at heap.now.objects o.0) }
+    ensures { result ≡ body_word_of (format_at heap.now.objects o.0) (words_at heap.now.objects o.0) i }
 {
     if i >= heap.slot_count(o) {
         0
@@ -102,14 +102,14 @@ fn put_body<S: Shelf>(heap: &Heap, o: Oop, shelf: &mut S, piece: &mut Piece) -> 
         (S.last_fault shelf.old) (S.taken shelf.old) piece.old.items)
         (writing (S.begun shelf.new) (S.content shelf.new) (S.asked shelf.new) (S.fault_count shelf.new)
         (S.last_fault shelf.new) (S.taken shelf.new) piece.new.items)
-        (map (body_word_of (format_of heap.now.objects o.0) (words_at heap.now.objects o.0))
+        (map (body_word_of (format_at heap.now.objects o.0) (words_at heap.now.objects o.0))
         (range_with_len 0 (body_size_of (slot_count_of heap.now.objects o.0))))) }
     ensures err { OnErr result (BrokeWords
         (writing (S.begun shelf.old) (S.content shelf.old) (S.asked shelf.old) (S.fault_count shelf.old)
         (S.last_fault shelf.old) (S.taken shelf.old) piece.old.items)
         (writing (S.begun shelf.new) (S.content shelf.new) (S.asked shelf.new) (S.fault_count shelf.new)
         (S.last_fault shelf.new) (S.taken shelf.new) piece.new.items)
-        (map (body_word_of (format_of heap.now.objects o.0) (words_at heap.now.objects o.0))
+        (map (body_word_of (format_at heap.now.objects o.0) (words_at heap.now.objects o.0))
         (range_with_len 0 (body_size_of (slot_count_of heap.now.objects o.0))))) }
 {
     let referring = referring(heap, o);

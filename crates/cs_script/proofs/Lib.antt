@@ -1,4 +1,3 @@
-pub mod NumberLemmas
 pub mod LineLemmas
 pub mod Readings
 pub mod Sizes

@@ -3,7 +3,7 @@ use Rattle.std.proofs.Common.{◌≡◌, ◌∙◌, ℕ, ◌+◌, ◌<◌, ◌�
 use Rattle.std.proofs.lemmas.List.{append-nil, drop_all}
 use Rattle.std.specs.Borrow.{Bor}
 use Rattle.cs_model.specs.declared.event.Event.{Event}
-use Rattle.cs_model.specs.Script.{ScriptFault, event_in, first_fault, line_fault}
+use Rattle.cs_model.specs.Script.{ScriptFault, event_in, first_fault, event_line_fault}
 use Rattle.cs_model.specs.Text.{parts_of}
 use Rattle.cs_script.specs.Reading.{line_readings, script_in, texts}
 
@@ -23,7 +23,7 @@ pub AreRead-none : (lines : List (Bor (List ℕ))) → AreRead lines 0 0 []
 AreRead-none lines = record { fault = refl; events = refl }
 
 fault_in-cons : (number above : ℕ) (line : Bor (List ℕ)) (lines : List (Bor (List ℕ))) (e : Event)
-    → event_in (parts_of line.now) ≡ Some e → line_fault number above (Some e) ≡ None
+    → event_in (parts_of line.now) ≡ Some e → event_line_fault number above (Some e) ≡ None
     → fault_in number above (line ∷ lines) ≡ fault_in (number + 1) e.before lines
 fault_in-cons number above line lines e read none = rw (read, none) refl
 
@@ -32,12 +32,12 @@ events_in-cons : (line : Bor (List ℕ)) (lines : List (Bor (List ℕ))) (e : Ev
 events_in-cons line lines e read = rw read refl
 
 fault_in-fault : (number above : ℕ) (line : Bor (List ℕ)) (lines : List (Bor (List ℕ))) (f : ScriptFault)
-    → line_fault number above (event_in (parts_of line.now)) ≡ Some f → fault_in number above (line ∷ lines) ≡ Some f
+    → event_line_fault number above (event_in (parts_of line.now)) ≡ Some f → fault_in number above (line ∷ lines) ≡ Some f
 fault_in-fault number above line lines f is = rw is refl
 
 -- one line more
 pub AreRead-next : (lines : List (Bor (List ℕ))) (i above : ℕ) (events : List Event) (d : Bor (List ℕ)) (e : Event)
-    → i < length lines → event_in (parts_of (get_or lines i d).now) ≡ Some e → line_fault (i + 1) above (Some e) ≡ None
+    → i < length lines → event_in (parts_of (get_or lines i d).now) ≡ Some e → event_line_fault (i + 1) above (Some e) ≡ None
     → AreRead lines i above events → AreRead lines (i + 1) e.before (events ++ e ∷ [])
 AreRead-next lines i above events d e h read none so_far =
     let first : drop i lines ≡ get_or lines i d ∷ drop (i + 1) lines = rw (add-one, drop-cons lines i d) refl in
@@ -48,7 +48,7 @@ AreRead-next lines i above events d e h read none so_far =
 
 -- a line with a fault
 pub AreRead-fault : (lines : List (Bor (List ℕ))) (i above : ℕ) (events : List Event) (d : Bor (List ℕ)) (f : ScriptFault)
-    → i < length lines → line_fault (i + 1) above (event_in (parts_of (get_or lines i d).now)) ≡ Some f
+    → i < length lines → event_line_fault (i + 1) above (event_in (parts_of (get_or lines i d).now)) ≡ Some f
     → AreRead lines i above events → script_in (texts lines) ≡ Err f
 AreRead-fault lines i above events d f h is so_far =
     let first : drop i lines ≡ get_or lines i d ∷ drop (i + 1) lines = rw (add-one, drop-cons lines i d) refl in

@@ -22,12 +22,12 @@ script_in lines = script_unless (first_fault 1 0 (line_readings lines)) (filter_
 
 -- The answer is Ok exactly where the script has no fault, and then has its events; or it tells the first fault. Want of
 -- memory is free.
-abbrev pub Tells : Result (List Event) ScriptFault → Result (List Event) ScriptError → Type 0
-Tells told (Ok events) = told ≡ Ok events
-Tells told (Err error.TooMany) = told ≡ Err script.TooMany
-Tells told (Err (error.BadLine number)) = told ≡ Err (script.BadLine number)
-Tells told (Err (error.NotRising number)) = told ≡ Err (script.NotRising number)
-Tells told (Err error.NoMemory) = ⊤
+abbrev pub TellsScript : Result (List Event) ScriptFault → Result (List Event) ScriptError → Type 0
+TellsScript told (Ok events) = told ≡ Ok events
+TellsScript told (Err error.TooMany) = told ≡ Err script.TooMany
+TellsScript told (Err (error.BadLine number)) = told ≡ Err (script.BadLine number)
+TellsScript told (Err (error.NotRising number)) = told ≡ Err (script.NotRising number)
+TellsScript told (Err error.NoMemory) = ⊤
 
 -- The same of one line, which has this fault or none, and this reading. It takes no memory.
 abbrev pub Judged : Option ScriptFault → Option Event → Result Event ScriptError → Type 0

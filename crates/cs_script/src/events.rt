@@ -1,8 +1,8 @@
 //! Scripts as lists of events.
 
 ghost use Rattle.std.specs.Prelude.{◌≡◌, ◌<◌, ◌≤◌, ◌==◌, length, get_or};
-ghost use Rattle.cs_model.specs.Script.{line_fault, script_of};
-ghost use Rattle.cs_script.specs.Reading.{Judged, Tells, script_in, texts};
+ghost use Rattle.cs_model.specs.Script.{event_line_fault, script_of};
+ghost use Rattle.cs_script.specs.Reading.{Judged, TellsScript, script_in, texts};
 
 use crate::error::ScriptError;
 use crate::line::read_line;
@@ -66,7 +66,7 @@ impl Script {
 /// free. The form is this machine's own.
 #[tactic(auto, using(crate::proofs::Sizes::sizes))]
 pub fn read_script(alloc: Global, bytes: &[u8]) -> Result<Script, ScriptError>
-    ensures { Tells (script_of bytes.now) result }
+    ensures { TellsScript (script_of bytes.now) result }
 {
     if bytes.len() > MOST_BYTES {
         return Err(ScriptError::TooMany);
@@ -81,7 +81,7 @@ pub fn read_script(alloc: Global, bytes: &[u8]) -> Result<Script, ScriptError>
 /// The events of lines, or their first fault.
 fn read_lines(alloc: Global, lines: &[&[u8]]) -> Result<Script, ScriptError>
     requires most { length lines.now ≤ 262144 }
-    ensures { Tells (script_in (texts lines.now)) result }
+    ensures { TellsScript (script_in (texts lines.now)) result }
 {
     let mut events = Vec::new(alloc);
     let mut number = 0u32;
@@ -98,7 +98,7 @@ fn read_lines(alloc: Global, lines: &[&[u8]]) -> Result<Script, ScriptError>
 
 /// The event of the line of this number, if it has one that doesn't come before the one above.
 fn judge(number: u32, above: u64, reading: Option<Event>) -> Result<Event, ScriptError>
-    ensures { Judged (line_fault number above reading) reading result }
+    ensures { Judged (event_line_fault number above reading) reading result }
 {
     let Some(event) = reading else {
         return Err(ScriptError::BadLine { number });

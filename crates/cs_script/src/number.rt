@@ -1,7 +1,7 @@
 //! Numbers in decimal digits.
 
 ghost use Rattle.std.specs.Prelude.{◌≡◌, ◌≤◌, IfSome, option_and_then};
-ghost use Rattle.cs_model.specs.Line.{at_most, most_steps, number_in};
+ghost use Rattle.cs_model.specs.Line.{at_most, most_steps, decimal_number};
 ghost use Rattle.cs_model.specs.Text.{number_between};
 
 /// The number that a word is in decimal digits without leading zeros, where it lies between these two. The word may be
@@ -19,10 +19,10 @@ pub(crate) fn number_between(lowest: u64, highest: u64, word: &[u8]) -> Option<u
 }
 
 /// The number that a word is, where it is at most the highest.
-#[tactic(auto, using(crate::proofs::NumberLemmas::numbers))]
+#[tactic(auto, using(cs_model::proofs::Digits::numbers))]
 fn number_up_to(highest: u64, word: &[u8]) -> Option<u64>
     requires small { highest ≤ most_steps }
-    ensures value { result ≡ option_and_then (at_most highest) (number_in word.now) }
+    ensures value { result ≡ option_and_then (at_most highest) (decimal_number word.now) }
     ensures bound { IfSome result (λ number. number ≤ highest) }
 {
     if word.is_empty() || (word[0] == b'0' && word.len() > 1) {

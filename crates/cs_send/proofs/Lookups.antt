@@ -2,8 +2,8 @@
 use Rattle.std.proofs.Common.{◌≡◌, Bool, true, false, refl, sym, subst, ◌∙◌}
 use Rattle.std.specs.Prelude.{◌&&◌}
 use Rattle.cs_word.specs.declared.Oop.{Oop}
-use Rattle.cs_heap.specs.Format.{is_method}
-use Rattle.cs_heap.specs.Object.{Memory, format_of, is_object}
+use Rattle.cs_heap.specs.Format.{is_code}
+use Rattle.cs_heap.specs.Object.{Memory, format_at, is_object}
 use Rattle.cs_classes.specs.Meaning.{ref_of}
 use Rattle.cs_classes.proofs.Refs.{is_reference-object}
 use Rattle.cs_model.specs.State.{Kept}
@@ -33,7 +33,7 @@ found_method s k h f e holds found = go f (subst (λ (m : Memory). FindsMethod m
   where
     go : (f : Found) → FindsMethod s.memory.objects f → LooksUpMethod s k f
     go (Method m) is =
-        let named : IsNamed s m = is_reference-object s.memory.objects m.0 (first (is_object s.memory.objects m.0) (is_method (format_of s.memory.objects m.0)) is) in
+        let named : IsNamed s m = is_reference-object s.memory.objects m.0 (first (is_object s.memory.objects m.0) (is_code (format_at s.memory.objects m.0)) is) in
         record { named = named; method = sym (method_read s k s.memory m refl holds named) ∙ is }
     go Missing is = tt
     go Loop is = tt

@@ -22,7 +22,7 @@ use Rattle.cs_acts.specs.Ready.{IsReady}
 use Rattle.cs_acts.specs.Targets.{CanEnter}
 use Rattle.cs_acts.specs.Reading.{IsMethodNamed}
 use Rattle.cs_send.specs.Resolved.{Offered, Plain, Stops}
-use Rattle.cs_send.specs.Sent.{Enters, Halts, IsPlain, Offers, Refuses, found, sent, stopped}
+use Rattle.cs_send.specs.Sent.{Enters, Halts, IsPlainMethod, Offers, RefusesSend, found, message_sent, stopped}
 use Rattle.cs_send.proofs.Sends.{offered-fits, offered-number, plain-fits, send-offered, send-plain, send-stops}
 
 -- ---- entering
@@ -45,7 +45,7 @@ module _ (k v : Kept) (x : Ref) (args : ℕ) (skip : Bool) where
   enters old new before after (Err e) closed state exact laid contexts ready names = tt
 
 pub refuses : {A : Type 0} (k : Kept) (x : Ref) (args : ℕ) (skip : Bool) (new : Store) (before : Option Layout) (r : Result A Full)
-    → IfErr r (CausesFull new before k 0 (enter_of k x args skip)) → IfErr r (Refuses new before k (enter_out k x args skip))
+    → IfErr r (CausesFull new before k 0 (enter_of k x args skip)) → IfErr r (RefusesSend new before k (enter_out k x args skip))
 refuses k x args skip new before (Ok a) cause = tt
 refuses k x args skip new before (Err e) cause =
     record { end = enter-end k x args skip; cause = subst (λ t. CausesFull new before k 0 t e) (sym (enter-state k x args skip)) cause }
@@ -69,11 +69,11 @@ module _ (k : Kept) (m : Message) (births : k.rest.next ≤ 4611686018427387896)
         enters = record { method = method.method; count = f.takes; there = f.below; marked = λ yes none. none-some number (sym none ∙ is); births = omega (arith, births) };
       }
 
-pub sent_plain : (k : Kept) (m : Message) (x : Ref) → found k m ≡ Plain x → enter_out k x m.args false ≡ sent k m
+pub sent_plain : (k : Kept) (m : Message) (x : Ref) → found k m ≡ Plain x → enter_out k x m.args false ≡ message_sent k m
 sent_plain k m x e = sym (send-plain k m.selector m.args m.above x e)
 
-pub is_plain : (k : Kept) (m : Message) (x : Ref) → Plain x ≡ found k m → IsPlain (found k m)
-is_plain k m x e = subst IsPlain e tt
+pub is_plain : (k : Kept) (m : Message) (x : Ref) → Plain x ≡ found k m → IsPlainMethod (found k m)
+is_plain k m x e = subst IsPlainMethod e tt
 
 pub halts : (k : Kept) (m : Message) (reason : Reason) → Stops reason ≡ found k m → Halts k m reason
 halts k m reason e = stopped (sym e) (send-stops k m.selector m.args m.above reason (sym e))

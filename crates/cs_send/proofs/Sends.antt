@@ -14,7 +14,7 @@ use Rattle.cs_model.specs.Lookup as sought
 use Rattle.cs_model.specs.End.{Out, out, stop}
 use Rattle.cs_model.specs.End as ends
 use Rattle.cs_model.specs.Send.{begins_at, enter_out, invoke, look_from, not_understood, offer, send, send_found}
-use Rattle.cs_send.specs.Resolved.{Resolved, Offered, Plain, Missing, Stops, resolve_found, resolve_method, resolve_of, tried}
+use Rattle.cs_send.specs.Resolved.{Resolved, Offered, Plain, Missing, Stops, resolve_found, resolve_method, resolve_of, resolved_as}
 
 -- what becomes of a send
 abbrev pub resolved_out : Kept → Ref → ℕ → Resolved → Out
@@ -23,7 +23,7 @@ resolved_out k selector args (Plain method) = enter_out k method args false
 resolved_out k selector args Missing = not_understood k selector args
 resolved_out k selector args (Stops reason) = stop reason k
 
-offer-resolved : (k : Kept) (selector method : Ref) (args : ℕ) (number : Option ℕ) → offer k method args number ≡ resolved_out k selector args (tried method number)
+offer-resolved : (k : Kept) (selector method : Ref) (args : ℕ) (number : Option ℕ) → offer k method args number ≡ resolved_out k selector args (resolved_as method number)
 offer-resolved k selector method args None = refl
 offer-resolved k selector method args (Some number) = refl
 
@@ -34,7 +34,7 @@ invoke-resolved k selector method args = go (argument_count (header_in (object_o
     number : Option ℕ
     number = primitive_number (header_in (object_of k method)) (bytecodes_in (object_of k method))
 
-    go : (b : Bool) → (if b then offer k method args number else stop why.BadArgs k) ≡ resolved_out k selector args (if b then tried method number else Stops why.BadArgs)
+    go : (b : Bool) → (if b then offer k method args number else stop why.BadArgs k) ≡ resolved_out k selector args (if b then resolved_as method number else Stops why.BadArgs)
     go true = offer-resolved k selector method args number
     go false = refl
 
@@ -97,12 +97,12 @@ fits : (k : Kept) (selector : Ref) (args : ℕ) (above : Option Ref) → FitsFou
 unfolding resolve_of
 fits k selector args above = deep (nat_lt args (depth_of k)) refl (look_from k selector (begins_at k args above))
   where
-    is_tried : (method : Ref) (number : Option ℕ) → number_of k method ≡ number → Fits k args method → FitsFound k args (tried method number)
+    is_tried : (method : Ref) (number : Option ℕ) → number_of k method ≡ number → Fits k args method → FitsFound k args (resolved_as method number)
     is_tried method None e f = f
     is_tried method (Some number) e f = (f, e)
 
     takes : (method : Ref) (b : Bool) → (argument_count (header_in (object_of k method)) == args) ≡ b → nat_lt args (depth_of k) ≡ true
-        → FitsFound k args (if b then tried method (number_of k method) else Stops why.BadArgs)
+        → FitsFound k args (if b then resolved_as method (number_of k method) else Stops why.BadArgs)
     takes method true e h =
         is_tried method (number_of k method) refl (record { takes = eqb-true (argument_count (header_in (object_of k method))) args e; below = less args (depth_of k) h })
     takes method false e h = tt

@@ -23,14 +23,14 @@ pub data Resolved : Type 0 where
   Missing : Resolved
   Stops : (reason : Stop) → Resolved
 
-abbrev pub tried : Ref → Option ℕ → Resolved
-tried method None = Plain method
-tried method (Some number) = Offered method number
+abbrev pub resolved_as : Ref → Option ℕ → Resolved
+resolved_as method None = Plain method
+resolved_as method (Some number) = Offered method number
 
 -- a method takes its number of arguments, which is looked at before its primitive
 abbrev pub resolve_method : Kept → Ref → ℕ → Resolved
 resolve_method k method args =
-    if argument_count (header_in (object_of k method)) == args then tried method (primitive_number (header_in (object_of k method)) (bytecodes_in (object_of k method)))
+    if argument_count (header_in (object_of k method)) == args then resolved_as method (primitive_number (header_in (object_of k method)) (bytecodes_in (object_of k method)))
     else Stops why.BadArgs
 
 abbrev pub resolve_found : Kept → ℕ → Sought → Resolved
@@ -52,11 +52,11 @@ resolved_by s found.Missing = Missing
 resolved_by s (found.Stop reason) = Stops reason
 
 -- the words that are answered name methods of the state
-abbrev pub FindsMethod : Store → Kept → Found → Type 0
-FindsMethod s k (found.Primitive method number) = IsMethodNamed s k method
-FindsMethod s k (found.Plain method) = IsMethodNamed s k method
-FindsMethod s k found.Missing = Unit {0}
-FindsMethod s k (found.Stop reason) = Unit {0}
+abbrev pub FindsMethodNamed : Store → Kept → Found → Type 0
+FindsMethodNamed s k (found.Primitive method number) = IsMethodNamed s k method
+FindsMethodNamed s k (found.Plain method) = IsMethodNamed s k method
+FindsMethodNamed s k found.Missing = Unit {0}
+FindsMethodNamed s k (found.Stop reason) = Unit {0}
 
 -- and so does what a lookup answers
 abbrev pub LooksUpMethod : Store → Kept → Lookup → Type 0

@@ -30,12 +30,12 @@ pub record Finds : Type 0 where
   pub full : ℕ
 
 -- the last value of the count, at which it stands
-abbrev pub greatest_count : ℕ
-greatest_count = 2 ^ 64 - 1
+abbrev pub most_counted : ℕ
+most_counted = 2 ^ 64 - 1
 
-abbrev pub counted : Bool → Finds → Finds
-counted false f = f
-counted true f = record { full = min (f.full + 1) greatest_count }
+abbrev pub lookup_counted : Bool → Finds → Finds
+lookup_counted false f = f
+lookup_counted true f = record { full = min (f.full + 1) most_counted }
 
 -- a send looks a method up where the stack holds the receiver below its arguments and there is a class to begin at
 abbrev pub looks_up : Kept → ℕ → Option Ref → Bool
@@ -47,18 +47,18 @@ looks_up k args above = nat_lt args (depth_of k) && is_some (begins_at k args ab
 abbrev pub message_of : Store → Oop → ℕ → Option Oop → Message
 message_of s selector args above = record { selector = name_of s selector; args = args; above = option_map (λ o. name_of s o) above }
 
-abbrev pub sent : Kept → Message → Out
-sent k m = send k m.selector m.args m.above
+abbrev pub message_sent : Kept → Message → Out
+message_sent k m = send k m.selector m.args m.above
 
 abbrev pub found : Kept → Message → Resolved
 found k m = resolve_of k m.selector m.args m.above
 
 -- a method without a primitive is found
-abbrev pub IsPlain : Resolved → Type 0
-IsPlain (Offered method number) = ⊥
-IsPlain (Plain method) = Unit {0}
-IsPlain Missing = ⊥
-IsPlain (Stops reason) = ⊥
+abbrev pub IsPlainMethod : Resolved → Type 0
+IsPlainMethod (Offered method number) = ⊥
+IsPlainMethod (Plain method) = Unit {0}
+IsPlainMethod Missing = ⊥
+IsPlainMethod (Stops reason) = ⊥
 
 -- A method is entered in the model, the view keeps the state that is left, and is it where the world tells no layout; the world is
 -- ready again, what had a name has it still, the new context stands above the active one or alone on a page, and no other context was made
@@ -73,28 +73,28 @@ pub record Enters (old new : Store) (before after : Option Layout) (k v : Kept) 
   pub contexts : MakesAtMost (made_by_entering k before) before old new
 
 -- a method would be entered in the model, and the world has no room for its context
-pub record Refuses (new : Store) (before : Option Layout) (k : Kept) (o : Out) (why : Why) : Type 0 where
+pub record RefusesSend (new : Store) (before : Option Layout) (k : Kept) (o : Out) (why : Why) : Type 0 where
   pub end : o.end ≡ ends.Entered
   pub cause : CausesFull new before k 0 o.state why
 
 -- the primitive of a method is to be tried; where it fails the method may be entered behind it
 pub record Offers (s : Store) (k : Kept) (m : Message) (o : Oop) (number : ℕ) : Type 0 where
   pub found : found k m ≡ Offered (name_of s o) number
-  pub is : sent k m ≡ out (ends.Primitive (name_of s o) number) k
+  pub is : message_sent k m ≡ out (ends.Primitive (name_of s o) number) k
   pub method : IsMethodNamed s k o
   pub enters : CanEnter k (name_of s o) m.args true
 
 -- the lookup finds nothing, which isn't built; or it stops as in the model
 pub data Halts (k : Kept) (m : Message) (reason : Reason) : Type 0 where
   unbuilt : found k m ≡ Missing → reason ≡ why.NotBuilt → Halts k m reason
-  stopped : found k m ≡ Stops reason → sent k m ≡ stop reason k → Halts k m reason
+  stopped : found k m ≡ Stops reason → message_sent k m ≡ stop reason k → Halts k m reason
 
 -- a send of the message to the state k, with the stored parts and the layouts before and behind it, and the view behind it
 abbrev pub Sends : Store → Store → Option Layout → Option Layout → Kept → Kept → Message → SendEnd → Type 0
-Sends old new before after k v m Entered = IsPlain (found k m) × Enters old new before after k v (sent k m)
+Sends old new before after k v m Entered = IsPlainMethod (found k m) × Enters old new before after k v (message_sent k m)
 Sends old new before after k v m (Primitive method number) = Offers new k m method number
 Sends old new before after k v m (Stop reason) = Halts k m reason
-Sends old new before after k v m (Full why) = IsPlain (found k m) × Refuses new before k (sent k m) why
+Sends old new before after k v m (Full why) = IsPlainMethod (found k m) × RefusesSend new before k (message_sent k m) why
 
 -- where nothing is entered, this holds of the world
 abbrev pub Still : SendEnd → Type 0 → Type 0

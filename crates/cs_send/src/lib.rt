@@ -13,8 +13,8 @@ ghost use Rattle.cs_acts.specs.Reading.{IsMethodNamed};
 ghost use Rattle.cs_acts.specs.Ready.{IsReady, IsSound};
 ghost use Rattle.cs_acts.specs.Targets.{CanEnter};
 ghost use Rattle.cs_lookup.specs.Found.{sought_of};
-ghost use Rattle.cs_send.specs.Resolved.{FindsMethod, LooksUpMethod, resolve_method, resolve_of, resolved_by};
-ghost use Rattle.cs_send.specs.Sent.{Enters, Finds, Refuses, Sends, Still, counted, looks_up, message_of};
+ghost use Rattle.cs_send.specs.Resolved.{FindsMethodNamed, LooksUpMethod, resolve_method, resolve_of, resolved_by};
+ghost use Rattle.cs_send.specs.Sent.{Enters, Finds, RefusesSend, Sends, Still, lookup_counted, looks_up, message_of};
 
 use cs_acts::answer::receiver;
 use cs_acts::method::{argument_count, primitive};
@@ -105,7 +105,7 @@ impl Sender {
             (W.view w.new) (message_of (W.stored w.old) selector args above) result }
         ensures limit { (W.stored w.new).memory.limit ≡ (W.stored w.old).memory.limit }
         ensures still { Still result (w.new ≡ w.old) }
-        ensures count { self.new ≡ counted
+        ensures count { self.new ≡ lookup_counted
             (looks_up (W.view w.old) args (option_map (λ o. name_of (W.stored w.old) o) above)) self.old }
     {
         match self.resolve(w, selector, args, above) {
@@ -126,8 +126,8 @@ impl Sender {
         requires above { IfSome above (λ o. IsNamed (W.stored w.now) o) }
         ensures found { resolved_by (W.stored w.now) result ≡ resolve_of (W.view w.now)
             (name_of (W.stored w.now) selector) args (option_map (λ o. name_of (W.stored w.now) o) above) }
-        ensures method { FindsMethod (W.stored w.now) (W.view w.now) result }
-        ensures count { self.new ≡ counted
+        ensures method { FindsMethodNamed (W.stored w.now) (W.view w.now) result }
+        ensures count { self.new ≡ lookup_counted
             (looks_up (W.view w.now) args (option_map (λ o. name_of (W.stored w.now) o) above)) self.old }
     {
         if w.depth() <= args {
@@ -151,7 +151,7 @@ impl Sender {
         ensures lookup { sought_of (W.stored w.now).memory.objects result ≡ lookup (W.view w.now)
             (name_of (W.stored w.now) class) (name_of (W.stored w.now) selector) }
         ensures method { LooksUpMethod (W.stored w.now) (W.view w.now) result }
-        ensures count { self.new ≡ counted true self.old }
+        ensures count { self.new ≡ lookup_counted true self.old }
     {
         self.full_finds = self.full_finds.saturating_add(1);
         find(w.heap(), class, selector)
@@ -167,7 +167,7 @@ pub fn enter<W: World>(w: &mut W, method: Oop, args: u32, skip: bool) -> Result<
     requires fits { CanEnter (W.view w.old) (name_of (W.stored w.old) method) args skip }
     ensures enters { OnOk result (Enters (W.stored w.old) (W.stored w.new) (W.layout w.old) (W.layout w.new)
         (W.view w.old) (W.view w.new) (enter_out (W.view w.old) (name_of (W.stored w.old) method) args skip)) }
-    ensures full { IfErr result (Refuses (W.stored w.new) (W.layout w.old) (W.view w.old)
+    ensures full { IfErr result (RefusesSend (W.stored w.new) (W.layout w.old) (W.view w.old)
         (enter_out (W.view w.old) (name_of (W.stored w.old) method) args skip)) }
     ensures limit { (W.stored w.new).memory.limit ≡ (W.stored w.old).memory.limit }
 {
@@ -194,7 +194,7 @@ fn resolve_method<W: World>(w: &W, method: Oop, args: u32) -> Found
     requires method { IsMethodNamed (W.stored w.now) (W.view w.now) method }
     ensures found { resolved_by (W.stored w.now) result ≡ resolve_method (W.view w.now)
         (name_of (W.stored w.now) method) args }
-    ensures method { FindsMethod (W.stored w.now) (W.view w.now) result }
+    ensures method { FindsMethodNamed (W.stored w.now) (W.view w.now) result }
 {
     if argument_count(w, method) != args {
         return Found::Stop(Stop::BadArgs);

@@ -9,7 +9,7 @@ use Rattle.std.proofs.lemmas.Slice.Eq.{bytes_eq-Decides}
 use Rattle.std.proofs.lemmas.Bool.{false_from_ne_true}
 use Rattle.std.proofs.lemmas.List.{length-map}
 use Rattle.std.proofs.lemmas.Option.{cond_some, get_or_from_slice_get, same_Some, slice_get-get_or, slice_get_within, slice_get-map}
-use Rattle.cs_shelf.specs.Memory.{AreKept, EntryView, NamesDiffer, content_of, names_of, new_entry, place_of, put_at}
+use Rattle.cs_shelf.specs.Memory.{AreKept, EntryView, NamesDiffer, content_of, names_of, new_entry, entry_place, put_at}
 
 -- a new shelf has the names that it was given
 pub names_of-new : (room : ℕ) (names : List (List ℕ)) → names_of (map (new_entry room) names) ≡ names
@@ -134,7 +134,7 @@ roomy_at room es k kept =
     omega arith)
 
 -- the name at the place of a name
-pub named_place : (es : List EntryView) (name : List ℕ) (k : ℕ) → place_of es name ≡ Some k → slice_get (names_of es) k ≡ Some name
+pub named_place : (es : List EntryView) (name : List ℕ) (k : ℕ) → entry_place es name ≡ Some k → slice_get (names_of es) k ≡ Some name
 named_place es name k is =
     let has : EntryView → Bool = λ e. bytes_eq e.name name in
     let first = position_or_len has es in

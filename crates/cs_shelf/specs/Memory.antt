@@ -81,8 +81,8 @@ abbrev pub content_of : List EntryView → List ℕ → Option (List ℕ)
 content_of entries name = option_and_then (λ e. e.content) (find (λ e. bytes_eq e.name name) entries)
 
 -- the place of a name
-abbrev pub place_of : List EntryView → List ℕ → Option ℕ
-place_of entries name = position (λ e. bytes_eq e.name name) entries
+abbrev pub entry_place : List EntryView → List ℕ → Option ℕ
+entry_place entries name = position (λ e. bytes_eq e.name name) entries
 
 -- the name at a place
 abbrev pub name_at : List EntryView → Option ℕ → Option (List ℕ)

@@ -2,7 +2,7 @@
 
 ghost use Rattle.std.specs.Prelude.{◌≡◌, ◌≤◌, Some, IfOk, find, length, option_map, string_bytes};
 ghost use Rattle.std.specs.Str.{bytes_eq};
-ghost use Rattle.cs_shelf.specs.Memory.{content_of, new_entry, place_of};
+ghost use Rattle.cs_shelf.specs.Memory.{content_of, new_entry, entry_place};
 
 use std::alloc::{AllocError, Global};
 use std::marker::Model;
@@ -89,7 +89,7 @@ fn entry_named<'a>(entries: &'a [Entry], name: &str) -> Option<&'a Entry>
 
 /// The place of the first entry of a name.
 pub(crate) fn place_named(entries: &[Entry], name: &str) -> Option<usize>
-    ensures { result ≡ place_of entries.now name.now }
+    ensures { result ≡ entry_place entries.now name.now }
 {
     entries.iter().position(|entry| entry.has_name(name))
 }

@@ -4,7 +4,7 @@ ghost use Rattle.std.specs.Prelude.{◌≡◌, ◌≢◌, ◌↔◌, ◌⊎◌, 
 ghost use Rattle.std.specs.Prelude.{IfSome, OnErr, IsErr, IsNone, IsSome, OnOk, drop, false, length, map, max, min};
 ghost use Rattle.std.specs.Prelude.{slice_get, string_bytes, string_len, take};
 ghost use Rattle.cs_shelf.specs.Memory.{IsFullFor, IsListed, NamesDiffer, content_of, failed, grown, name_at};
-ghost use Rattle.cs_shelf.specs.Memory.{new_calls, new_entry, none_taken, passed, place_of, put_at, room_left};
+ghost use Rattle.cs_shelf.specs.Memory.{new_calls, new_entry, none_taken, passed, entry_place, put_at, room_left};
 ghost use Rattle.cs_shelf.specs.Outside.{Rose, read_fault, save_fault};
 
 use crate::calls::Calls;
@@ -190,9 +190,9 @@ impl Shelf for MemShelf {
 
     fn start(&mut self, name: &str) -> Result<(), Failed>
         requires name { length name.now ≤ 4096 }
-        ensures fails { IsErr result ↔ (IsListed self.old.calls ⊎ IsNone (place_of self.old.entries name.now)) }
+        ensures fails { IsErr result ↔ (IsListed self.old.calls ⊎ IsNone (entry_place self.old.entries name.now)) }
         ensures ok { OnOk result (self.new ≡ record self.old {
-          begun = place_of self.old.entries name.now;
+          begun = entry_place self.old.entries name.now;
           taken = none_taken self.old.taken.room;
           calls = passed self.old.calls;
         }) }

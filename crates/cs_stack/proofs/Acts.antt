@@ -9,8 +9,8 @@ use Rattle.std.proofs.lemmas.List.Folds.{list_any_at}
 use Rattle.std.proofs.lemmas.List.{get_or-set_other, get_or-set_same, length-map, length-set}
 use Rattle.cs_word.specs.Word.{small_word}
 use Rattle.cs_word.specs.declared.Oop.{Oop}
-use Rattle.cs_heap.specs.Object.{Object, birth_of, is_object, object_at, slot_count_of, slot_of}
-use Rattle.cs_classes.specs.Meaning.{context_of, count_of, depth_in, is_context, obj_of, objects_of, ref_of}
+use Rattle.cs_heap.specs.Object.{Object, birth_at, is_object, heap_object, slot_count_of, slot_of}
+use Rattle.cs_classes.specs.Meaning.{context_of, count_of, depth_in, is_heap_context, obj_of, objects_of, ref_of}
 use Rattle.cs_classes.specs.Sound.{is_reference}
 use Rattle.cs_classes.proofs.Heaps.{birth_of-object_at, is_object-object_at, stands}
 use Rattle.cs_classes.proofs.Objects.{get-objects_of-element}
@@ -20,7 +20,7 @@ use Rattle.cs_classes.proofs.Sorts.{obj_of-context}
 use Rattle.cs_classes.proofs.Sounds.{IsWholeContext, sound_at, whole_context}
 use Rattle.cs_frame.specs.declared.FrameRef.{FrameRef}
 use Rattle.cs_frame.specs.Frame.{Frame, nil}
-use Rattle.cs_frame.specs.Page.{IsBase, IsFrame, caller_of, frame, frames_of, index_of, nth, top, used}
+use Rattle.cs_frame.specs.Page.{IsBase, IsFrame, caller_of, frame, frames_of, frame_index, nth, top, frames_used}
 use Rattle.cs_frame.specs.Page as page
 use Rattle.cs_frame.proofs.PageLaws.{page_in, top-nth}
 use Rattle.cs_marriage.specs.Agree as agree
@@ -35,7 +35,7 @@ use Rattle.cs_acts.specs.Names.{Names}
 use Rattle.cs_acts.specs.Targets.{method_in}
 use Rattle.cs_acts.specs.declared.act.Act.TheVariants as act
 use Rattle.cs_stack.specs.declared.parts.Parts.{Parts}
-use Rattle.cs_stack.specs.View.{act_of, active_in, bare, birth_from, birth_in, dead_words, first_of, frame_context, frame_sender, has_context, is_linked, is_married, stored_of, unframed, view_of}
+use Rattle.cs_stack.specs.View.{act_of, active_in, bare, birth_from, object_birth, dead_words, first_frames, frame_context, frame_sender, has_context, is_linked, is_married, stored_of, unframed, view_of}
 use Rattle.cs_stack.specs.Moved.{field_at}
 use Rattle.cs_model.specs.Context.{closure_class, context_get}
 use Rattle.cs_stack.specs.Good.{FrameFits, FramesFit, IsGood, Lacks, LinkFits, SenderFits}
@@ -52,18 +52,18 @@ pub record Begins (fs : List Frame) (at : ℕ) : Type 0 where
   pub gs : List Frame
   pub on : IsOn f gs fs
   pub at_is : f.at ≡ at
-  pub nth_is : nth fs (index_of fs at) ≡ f
-  pub count : length fs ≡ suc (index_of fs at + length gs)
-  pub next_is : nth fs (suc (index_of fs at)) ≡ top gs
+  pub nth_is : nth fs (frame_index fs at) ≡ f
+  pub count : length fs ≡ suc (frame_index fs at + length gs)
+  pub next_is : nth fs (suc (frame_index fs at)) ≡ top gs
   pub birth : birth_from fs at ≡ Some f.birth
 
-pub begins : (fs : List Frame) (at : ℕ) → index_of fs at < length fs → Begins fs at
+pub begins : (fs : List Frame) (at : ℕ) → frame_index fs at < length fs → Begins fs at
 begins [] at h = absurd (omega (arith, h))
 begins (f ∷ fs) at h = elim (eqb_tells f.at at) [ inl e ↦ found e.0 e.1 | inr e ↦ later e.0 (λ l. begins fs at l) ]
   where
     found : (f.at == at) ≡ true → f.at ≡ at → Begins (f ∷ fs) at
     found e is =
-        let i : index_of (f ∷ fs) at ≡ 0 = ap (λ b. if b then 0 else suc (index_of fs at)) e in
+        let i : frame_index (f ∷ fs) at ≡ 0 = ap (λ b. if b then 0 else suc (frame_index fs at)) e in
         record {
           f = f;
           gs = fs;
@@ -75,9 +75,9 @@ begins (f ∷ fs) at h = elim (eqb_tells f.at at) [ inl e ↦ found e.0 e.1 | in
           birth = ap (λ b. if b then Some f.birth else birth_from fs at) e;
         }
 
-    later : (f.at == at) ≡ false → (index_of fs at < length fs → Begins fs at) → Begins (f ∷ fs) at
+    later : (f.at == at) ≡ false → (frame_index fs at < length fs → Begins fs at) → Begins (f ∷ fs) at
     later e rest =
-        let i : index_of (f ∷ fs) at ≡ suc (index_of fs at) = ap (λ b. if b then 0 else suc (index_of fs at)) e in
+        let i : frame_index (f ∷ fs) at ≡ suc (frame_index fs at) = ap (λ b. if b then 0 else suc (frame_index fs at)) e in
         let s = rest (omega (arith, h, i)) in
         record {
           f = s.f;
@@ -91,19 +91,19 @@ begins (f ∷ fs) at h = elim (eqb_tells f.at at) [ inl e ↦ found e.0 e.1 | in
         }
 
 -- a birth is answered where a frame begins
-begun : (fs : List Frame) (at : ℕ) → IsSome (birth_from fs at) → index_of fs at < length fs
+begun : (fs : List Frame) (at : ℕ) → IsSome (birth_from fs at) → frame_index fs at < length fs
 begun [] at h = absurd (cc)
 begun (f ∷ fs) at h = elim (eqb_tells f.at at) [
-  | inl e ↦ let i : index_of (f ∷ fs) at ≡ 0 = ap (λ b. if b then 0 else suc (index_of fs at)) e.0 in omega (arith, i)
+  | inl e ↦ let i : frame_index (f ∷ fs) at ≡ 0 = ap (λ b. if b then 0 else suc (frame_index fs at)) e.0 in omega (arith, i)
   | inr e ↦
-      let i : index_of (f ∷ fs) at ≡ suc (index_of fs at) = ap (λ b. if b then 0 else suc (index_of fs at)) e.0 in
+      let i : frame_index (f ∷ fs) at ≡ suc (frame_index fs at) = ap (λ b. if b then 0 else suc (frame_index fs at)) e.0 in
       let some : IsSome (birth_from fs at) = sym (ap (λ b. is_some (if b then Some f.birth else birth_from fs at)) e.0) ∙ h in
       omega (arith, i, begun fs at some)
 ]
 
 -- the last frame of the first of these pages is the active one
-pub first_birth : (ps : List (List Frame)) (recent : List ℕ) (r : FrameRef) → 0 < length recent → r ≡ page.ref_of (slice_index recent 0) (top (frames_of ps (slice_index recent 0)))
-    → (frames_of ps (slice_index recent 0) ≡ [] → ⊥) → birth_from (frames_of ps r.page) r.at ≡ active_in (first_of ps recent)
+pub first_birth : (ps : List (List Frame)) (recent : List ℕ) (r : FrameRef) → 0 < length recent → r ≡ page.frame_ref (slice_index recent 0) (top (frames_of ps (slice_index recent 0)))
+    → (frames_of ps (slice_index recent 0) ≡ [] → ⊥) → birth_from (frames_of ps r.page) r.at ≡ active_in (first_frames ps recent)
 first_birth ps [] r some is there = absurd (omega (arith, some))
 first_birth ps (p ∷ qs) r some is there = go (frames_of ps p) refl
   where
@@ -116,23 +116,23 @@ first_birth ps (p ∷ qs) r some is there = go (frames_of ps p) refl
         ∙ ap (λ b. if b then Some g.birth else birth_from gs g.at) (eq-eqb g.at g.at refl) ∙ sym (ap active_in e)
 
 -- frames below end before a frame begins
-ends_below : {f : Frame} {gs fs : List Frame} (os : List Object) (next : ℕ) → IsOn f gs fs → FramesFit os next fs → f.at + 10 ≤ used fs
+ends_below : {f : Frame} {gs fs : List Frame} (os : List Object) (next : ℕ) → IsOn f gs fs → FramesFit os next fs → f.at + 10 ≤ frames_used fs
 ends_below os next here h = omega (arith, h.0.stands)
 ends_below {f = f} os next (above e es on) h = omega (arith, ends_below os next on h.1)
 
 -- a frame of a page is found by its place
 pub record IsPlaced (f : Frame) (fs : List Frame) : Type 0 where
-  pub within : index_of fs f.at < length fs
-  pub is : nth fs (index_of fs f.at) ≡ f
+  pub within : frame_index fs f.at < length fs
+  pub is : nth fs (frame_index fs f.at) ≡ f
 
 pub placed_on : {f : Frame} {gs fs : List Frame} (os : List Object) (next : ℕ) → IsOn f gs fs → FramesFit os next fs → IsPlaced f fs
 placed_on {f = f} {gs = gs} os next here h =
-    let i : index_of (f ∷ gs) f.at ≡ 0 = ap (λ b. if b then 0 else suc (index_of gs f.at)) (eq-eqb f.at f.at refl) in
+    let i : frame_index (f ∷ gs) f.at ≡ 0 = ap (λ b. if b then 0 else suc (frame_index gs f.at)) (eq-eqb f.at f.at refl) in
     record { within = omega (arith, i); is = ap (nth (f ∷ gs)) i }
 placed_on {f = f} os next (above e es on) h = elim (eqb_tells e.at f.at) [
   | inl s ↦ absurd (omega (arith, s.1, ends_below os next on h.1, h.0.stands))
   | inr s ↦
-      let i : index_of (e ∷ es) f.at ≡ suc (index_of es f.at) = ap (λ b. if b then 0 else suc (index_of es f.at)) s.0 in
+      let i : frame_index (e ∷ es) f.at ≡ suc (frame_index es f.at) = ap (λ b. if b then 0 else suc (frame_index es f.at)) s.0 in
       let r = placed_on os next on h.1 in
       record { within = omega (arith, i, r.within); is = ap (nth (e ∷ es)) i ∙ r.is }
 ]
@@ -153,7 +153,7 @@ pub record FrameAct (w : Parts) (p at : ℕ) : Type 0 where
   pub answers : act_of w (act.Frame p at) ≡ Some begins_at.f.birth
   pub found : state.object_at (view_of w) begins_at.f.birth ≡ Some (Ctx (frame_context w.heap.objects begins_at.f begins_at.gs))
   pub fits : FrameFits w.heap.objects w.roots.next_birth begins_at.f begins_at.gs
-  pub agrees : agree.FrameFits w.heap.objects (record { page = p; at = at }) begins_at.f
+  pub agrees : agree.FrameAgrees w.heap.objects (record { page = p; at = at }) begins_at.f
 
 pub frame_there : (w : Parts) (p at : ℕ) → IsGood w → IsFrame w.frames (record { page = p; at = at }) → FrameAct w p at
 frame_there w p at good within =
@@ -165,7 +165,7 @@ frame_there w p at good within =
       answers = b.birth;
       found = onto_frame w.heap.objects w.roots.next_birth w.frames (objects_of (bare w.heap.objects)) p (all_fit w good) b.on;
       fits = fits_on w.heap.objects w.roots.next_birth b.on (good.frames p);
-      agrees = subst (agree.FrameFits w.heap.objects (record { page = p; at = at })) b.nth_is (good.agree.frames (record { page = p; at = at }) within);
+      agrees = subst (agree.FrameAgrees w.heap.objects (record { page = p; at = at })) b.nth_is (good.agree.frames (record { page = p; at = at }) within);
     }
 
 pub frame_act : (w : Parts) (p at : ℕ) → IsGood w → IsSome (act_of w (act.Frame p at)) → FrameAct w p at
@@ -216,13 +216,13 @@ married_body a (q ∷ qs) h = go (λ m. married_body a qs m) (has_context a q) r
 -- ---- a context of the heap that no frame hides
 
 -- a frame that has the birth of an object has that object for a context
-body_by_birth : {f : Frame} {gs : List Frame} (w : Parts) (a p : ℕ) (x : Object) → IsGood w → object_at w.heap.objects a ≡ Some x → IsOn f gs (frames_of w.frames p) → x.birth ≡ f.birth → f.context ≡ a
+body_by_birth : {f : Frame} {gs : List Frame} (w : Parts) (a p : ℕ) (x : Object) → IsGood w → heap_object w.heap.objects a ≡ Some x → IsOn f gs (frames_of w.frames p) → x.birth ≡ f.birth → f.context ≡ a
 body_by_birth {f = f} {gs = gs} w a p x good there on same =
     let os = w.heap.objects in
     let fit : FrameFits os w.roots.next_birth f gs = fits_on os w.roots.next_birth on (good.frames p) in
     let placed = placed_on os w.roots.next_birth on (good.frames p) in
-    let tie : agree.FrameFits os (record { page = p; at = f.at }) f =
-    subst (agree.FrameFits os (record { page = p; at = f.at })) placed.is (good.agree.frames (record { page = p; at = f.at }) placed.within) in
+    let tie : agree.FrameAgrees os (record { page = p; at = f.at }) f =
+    subst (agree.FrameAgrees os (record { page = p; at = f.at })) placed.is (good.agree.frames (record { page = p; at = f.at }) placed.within) in
     let s = stands os a x there in
     elim (cases_eq f.context nil) [
       | inl e ↦
@@ -238,22 +238,22 @@ lacks_all : (i : ℕ) (fs : List Frame) → ((f : Frame) (gs : List Frame) → I
 lacks_all i [] h = tt
 lacks_all i (f ∷ fs) h = (h f fs here, lacks_all i fs (λ g gs on. h g gs (above f fs on)))
 
-pub free_lacks : (w : Parts) (a : ℕ) (x : Object) → IsGood w → object_at w.heap.objects a ≡ Some x → is_married a w.frames ≡ false → (p : ℕ) → Lacks x.birth (frames_of w.frames p)
+pub free_lacks : (w : Parts) (a : ℕ) (x : Object) → IsGood w → heap_object w.heap.objects a ≡ Some x → is_married a w.frames ≡ false → (p : ℕ) → Lacks x.birth (frames_of w.frames p)
 free_lacks w a x good there free p = lacks_all x.birth (frames_of w.frames p) (λ f gs on same.
     let body : HasBody a w.frames = record { p = p; f = f; gs = gs; on = on; is = body_by_birth w a p x good there on same } in
     let no : true ≡ false = sym (body_married a w.frames body) ∙ free in absurd (cc))
 
 pub record ContextAct (w : Parts) (a : ℕ) : Type 0 where
   pub x : Object
-  pub there : object_at w.heap.objects a ≡ Some x
-  pub context : is_context x ≡ true
+  pub there : heap_object w.heap.objects a ≡ Some x
+  pub context : is_heap_context x ≡ true
   pub free : is_married a w.frames ≡ false
   pub found : state.object_at (view_of w) x.birth ≡ Some (Ctx (context_of (ref_of w.heap.objects) (unframed x).hash (unframed x).words))
   pub whole : IsWholeContext w.heap.objects x
   pub sender : SenderFits w.heap.objects x
   pub links : is_linked x ≡ true → LinkFits x
 
-pub context_there : (w : Parts) (a : ℕ) (x : Object) → IsGood w → object_at w.heap.objects a ≡ Some x → is_context x ≡ true → is_married a w.frames ≡ false → ContextAct w a
+pub context_there : (w : Parts) (a : ℕ) (x : Object) → IsGood w → heap_object w.heap.objects a ≡ Some x → is_heap_context x ≡ true → is_married a w.frames ≡ false → ContextAct w a
 context_there w a x good there context free =
     let os = w.heap.objects in
     let s = stands os a x there in
@@ -270,16 +270,16 @@ context_there w a x good there context free =
     }
 
 pub context_act : (w : Parts) (o : Oop) → IsGood w → IsSome (act_of w (act.Context o)) → ContextAct w o.0
-context_act w o good some = go (is_married o.0 w.frames) refl (object_at w.heap.objects o.0) refl some
+context_act w o good some = go (is_married o.0 w.frames) refl (heap_object w.heap.objects o.0) refl some
   where
-    is : (x : Object) (c : Bool) → is_context x ≡ c → object_at w.heap.objects o.0 ≡ Some x → is_married o.0 w.frames ≡ false → IsSome (if c then Some x.birth else None) → ContextAct w o.0
+    is : (x : Object) (c : Bool) → is_heap_context x ≡ c → heap_object w.heap.objects o.0 ≡ Some x → is_married o.0 w.frames ≡ false → IsSome (if c then Some x.birth else None) → ContextAct w o.0
     is x false k e free s = absurd (cc)
     is x true k e free s = context_there w o.0 x good e k free
 
-    go : (h : Bool) → is_married o.0 w.frames ≡ h → (y : Option Object) → object_at w.heap.objects o.0 ≡ y → IsSome (if h then None else birth_in y) → ContextAct w o.0
+    go : (h : Bool) → is_married o.0 w.frames ≡ h → (y : Option Object) → heap_object w.heap.objects o.0 ≡ y → IsSome (if h then None else object_birth y) → ContextAct w o.0
     go true free y e s = absurd (cc)
     go false free None e s = absurd (cc)
-    go false free (Some x) e s = is x (is_context x) refl e free s
+    go false free (Some x) e s = is x (is_heap_context x) refl e free s
 
 -- what its words are where no frame hides it: all but the first three stay
 pub word_kept : (x : Object) (i : ℕ) → 3 ≤ i → slice_index (unframed x).words i ≡ slice_index x.words i
@@ -328,14 +328,14 @@ depth_kept x l fits = go (is_linked x) refl
 module _ {w : Parts} {a : ℕ} (c : ContextAct w a) where
   pub answers : (o : Oop) → o.0 ≡ a → act_of w (act.Context o) ≡ Some c.x.birth
   answers o e =
-      ap (λ n. if is_married n w.frames then None else birth_in (object_at w.heap.objects n)) e
-      ∙ ap (λ h. if h then None else birth_in (object_at w.heap.objects a)) c.free
-      ∙ ap birth_in c.there ∙ ap (λ b. if b then Some c.x.birth else None) c.context
+      ap (λ n. if is_married n w.frames then None else object_birth (heap_object w.heap.objects n)) e
+      ∙ ap (λ h. if h then None else object_birth (heap_object w.heap.objects a)) c.free
+      ∙ ap object_birth c.there ∙ ap (λ b. if b then Some c.x.birth else None) c.context
 
   pub object : is_object w.heap.objects a ≡ true
   object = is_object-object_at w.heap.objects a c.x c.there
 
-  pub birth_is : birth_of w.heap.objects a ≡ c.x.birth
+  pub birth_is : birth_at w.heap.objects a ≡ c.x.birth
   birth_is = birth_of-object_at w.heap.objects a c.x c.there
 
   pub slots_are : slot_count_of w.heap.objects a ≡ length c.x.words
@@ -424,17 +424,17 @@ module _ {w : Parts} {p at : ℕ} (good : IsGood w) (a : FrameAct w p at) where
     pub h : Frame
     pub hs : List Frame
     pub above_it : a.begins_at.gs ≡ h ∷ hs
-    pub ref_is : g ≡ page.ref_of p h
+    pub ref_is : g ≡ page.frame_ref p h
     pub there : IsFrame w.frames g
     pub stands : act_of w (act.Frame g.page g.at) ≡ Some h.birth
     pub found : state.object_at (view_of w) h.birth ≡ Some (Ctx (frame_context w.heap.objects h hs))
 
-  below_of : (hs : List Frame) → gs ≡ hs → (IsBase w.frames (record { page = p; at = at }) → ⊥) → (g : FrameRef) → g ≡ page.ref_of p (caller_of w.frames (record { page = p; at = at })) → Below g
+  below_of : (hs : List Frame) → gs ≡ hs → (IsBase w.frames (record { page = p; at = at }) → ⊥) → (g : FrameRef) → g ≡ page.frame_ref p (caller_of w.frames (record { page = p; at = at })) → Below g
   below_of [] e upper g is = absurd (upper (omega (arith, a.begins_at.count, ap length e)))
   below_of (h ∷ hs) e upper g is =
       let on : IsOn h hs (frames_of w.frames p) = below_on (subst (λ es. IsOn f es (frames_of w.frames p)) e a.begins_at.on) in
       let caller : caller_of w.frames (record { page = p; at = at }) ≡ h = a.begins_at.next_is ∙ ap top e in
-      let there : g ≡ page.ref_of p h = is ∙ ap (λ c. page.ref_of p c) caller in
+      let there : g ≡ page.frame_ref p h = is ∙ ap (λ c. page.frame_ref p c) caller in
       let placed = placed_on w.heap.objects w.roots.next_birth on (good.frames p) in
       record {
         h = h;
@@ -446,14 +446,14 @@ module _ {w : Parts} {p at : ℕ} (good : IsGood w) (a : FrameAct w p at) where
         found = onto_frame w.heap.objects w.roots.next_birth w.frames (objects_of (bare w.heap.objects)) p (all_fit w good) on;
       }
 
-  pub frame_below : (IsBase w.frames (record { page = p; at = at }) → ⊥) → (g : FrameRef) → g ≡ page.ref_of p (caller_of w.frames (record { page = p; at = at })) → Below g
+  pub frame_below : (IsBase w.frames (record { page = p; at = at }) → ⊥) → (g : FrameRef) → g ≡ page.frame_ref p (caller_of w.frames (record { page = p; at = at })) → Below g
   frame_below = below_of gs refl
 
   pub sender_below : {g : FrameRef} (b : Below g) → (frame_context w.heap.objects a.begins_at.f a.begins_at.gs).sender ≡ ref.Obj b.h.birth
   unfolding frame_context
   sender_below b = ap (λ es. frame_sender w.heap.objects f es) b.above_it
 
-  pub caller_act : (IsBase w.frames (record { page = p; at = at }) → ⊥) → (g : FrameRef) → g ≡ page.ref_of p (caller_of w.frames (record { page = p; at = at }))
+  pub caller_act : (IsBase w.frames (record { page = p; at = at }) → ⊥) → (g : FrameRef) → g ≡ page.frame_ref p (caller_of w.frames (record { page = p; at = at }))
       → (act_of w (act.Frame g.page g.at) ≡ sender_birth (view_of w) f.birth) × (is_some (act_of w (act.Frame g.page g.at)) ≡ true)
   caller_act upper g is =
       let b = frame_below upper g is in

@@ -19,10 +19,10 @@ use Rattle.cs_marriage.proofs.Laws.{agree_on_page, fits_above, page_fits}
 use Rattle.cs_model.specs.Obj.{Context, Ctx}
 use Rattle.cs_model.specs.State.{Kept, put, with_rest}
 use Rattle.cs_model.specs.Operation.{activate, with_next}
-use Rattle.cs_pages.specs.Order.{IsSound, Order}
+use Rattle.cs_pages.specs.Order.{IsSoundOrder, Order}
 use Rattle.cs_pages.proofs.Lists.{lacks_not}
 use Rattle.cs_stack.specs.declared.parts.Parts.{Parts}
-use Rattle.cs_stack.specs.View.{active_in, active_page, bare, births_of, first_of, frame_context, frames_onto, laid_pages, layout_of, pages_onto, view_of}
+use Rattle.cs_stack.specs.View.{active_in, active_page, bare, births_of, first_frames, frame_context, frames_onto, laid_pages, layout_of, pages_onto, view_of}
 use Rattle.cs_stack.specs.Good.{AreApart, FrameFits, FramesFit, IsChain, IsGood, Lacks, base_of}
 use Rattle.cs_stack.proofs.Maps.{Objects}
 use Rattle.cs_stack.proofs.Framed.{front}
@@ -75,7 +75,7 @@ later_whole os table roots whole = record {
 -- ---- pages behind the first
 
 -- a page that stands first stands nowhere else
-pub behind : (order : Order) (p : ℕ) (rest : List ℕ) → IsSound order → order.recent ≡ p ∷ rest → (q : ℕ) → Contains rest q → q ≢ p
+pub behind : (order : Order) (p : ℕ) (rest : List ℕ) → IsSoundOrder order → order.recent ≡ p ∷ rest → (q : ℕ) → Contains rest q → q ≢ p
 behind order p rest sound is q in_rest e =
     lacks_not p rest (IsDistinct-head nat_eq p rest (subst (λ ps. IsDistinct nat_eq ps) is sound.distinct)) (subst (Contains rest) e in_rest)
 
@@ -131,9 +131,9 @@ pub record CanAdd (w : Parts) (m : ℕ) (new : Frame) (order : Order) : Type 0 w
   pub births : w.roots.next_birth < 4611686018427387904
   pub fresh : new.birth ≡ w.roots.next_birth
   pub fits : FrameFits w.heap.objects (w.roots.next_birth + 1) new (frames_of w.frames m)
-  pub married : marriage.FrameFits w.heap.objects (record { page = m; at = new.at }) new
+  pub married : marriage.FrameAgrees w.heap.objects (record { page = m; at = new.at }) new
   pub total : order.total ≡ w.pages.total
-  pub sound : IsSound order
+  pub sound : IsSoundOrder order
   pub rest : List ℕ
   pub recent : order.recent ≡ m ∷ rest
   pub others : (q : ℕ) → q ≢ m → Contains order.recent q ↔ Contains w.pages.recent q
@@ -221,7 +221,7 @@ module _ (w : Parts) (good : IsGood w) (m : ℕ) (new : Frame) (order : Order) (
       ∙ ap (λ n. insert n next (Ctx (frame_context os new (frames_of ps m)))) (sym (front os next ps map m (record { frames = good.frames; apart = good.apart }) can.within))
 
   active : active_in (active_page (added_parts w m new order)) ≡ Some next
-  active = ap (λ rs. active_in (first_of ss rs)) can.recent ∙ ap active_in added_here ∙ ap (λ b. Some b) can.fresh
+  active = ap (λ rs. active_in (first_frames ss rs)) can.recent ∙ ap active_in added_here ∙ ap (λ b. Some b) can.fresh
 
   pub added_view : view_of (added_parts w m new order) ≡ begun_kept (view_of w) (frame_context os new (frames_of ps m))
   unfolding put

@@ -4,10 +4,10 @@ use Rattle.std.specs.Prelude.{◌&&◌, ◌==◌, ◌||◌, ◌≤◌, ◌-◌, 
 use Rattle.std.specs.List.{AllPass}
 use Rattle.std.proofs.lemmas.List.Elements.{All-cons}
 use Rattle.std.proofs.lemmas.Bool.{eq-eqb, eqb-true, or_left, or_right}
-use Rattle.cs_heap.specs.Object.{Object, class_of, is_object, with_object}
+use Rattle.cs_heap.specs.Object.{Object, class_at, is_object, with_object}
 use Rattle.cs_heap.proofs.Laws.{field_of-old, is_object-old, is_object-with_object}
 use Rattle.cs_classes.specs.Meaning.{count_of}
-use Rattle.cs_classes.specs.Sound.{is_closure_address, is_reference, is_reference_kind, is_sender, is_sender_kind, nil_of}
+use Rattle.cs_classes.specs.Sound.{is_closure_address, is_reference, is_reference_kind, is_sender, is_sender_kind, nil_word}
 use Rattle.cs_classes.proofs.Heaps.{IsEdit}
 use Rattle.cs_classes.proofs.Refs.{both_true, either_true, is_nil_or_closure, is_reference-object, is_sender-context, is_sender-nil, class_of-with_object}
 use Rattle.cs_classes.proofs.Sounds.{IsContextWrite, IsWholeContext}
@@ -21,55 +21,55 @@ use Rattle.cs_stack.specs.Good.{SenderFits, is_nil_or}
 -- ---- what it names
 
 pub nil_or_there : (class : ℕ) (os : List Object) (v : ℕ) → is_nil_or class os v ≡ true → is_object os v ≡ true
-nil_or_there class os v h = (both_true (is_object os v) (v == nil || class_of os v == class) h).0
+nil_or_there class os v h = (both_true (is_object os v) (v == nil || class_at os v == class) h).0
 
 pub nil_or_named : (class : ℕ) (os : List Object) (v : ℕ) → is_nil_or class os v ≡ true → is_reference os v ≡ true
 nil_or_named class os v h = is_reference-object os v (nil_or_there class os v h)
 
-pub nil_or_which : (class : ℕ) (os : List Object) (v : ℕ) → is_nil_or class os v ≡ true → ((v == nil) ≡ true) ⊎ ((class_of os v == class) ≡ true)
-nil_or_which class os v h = either_true (v == nil) (class_of os v == class) (both_true (is_object os v) (v == nil || class_of os v == class) h).1
+pub nil_or_which : (class : ℕ) (os : List Object) (v : ℕ) → is_nil_or class os v ≡ true → ((v == nil) ≡ true) ⊎ ((class_at os v == class) ≡ true)
+nil_or_which class os v h = either_true (v == nil) (class_at os v == class) (both_true (is_object os v) (v == nil || class_at os v == class) h).1
 
 pub nil_or_nil : (class : ℕ) (os : List Object) → is_object os nil ≡ true → is_nil_or class os nil ≡ true
-nil_or_nil class os there = ap (λ b. b && (nil == nil || class_of os nil == class)) there ∙ or_left (nil == nil) (class_of os nil == class) (eq-eqb nil nil refl)
+nil_or_nil class os there = ap (λ b. b && (nil == nil || class_at os nil == class)) there ∙ or_left (nil == nil) (class_at os nil == class) (eq-eqb nil nil refl)
 
-pub nil_or_of : (class : ℕ) (os : List Object) (v : ℕ) → is_object os v ≡ true → class_of os v ≡ class → is_nil_or class os v ≡ true
-nil_or_of class os v there e = ap (λ b. b && (v == nil || class_of os v == class)) there ∙ or_right (v == nil) (class_of os v == class) (eq-eqb (class_of os v) class e)
+pub nil_or_of : (class : ℕ) (os : List Object) (v : ℕ) → is_object os v ≡ true → class_at os v ≡ class → is_nil_or class os v ≡ true
+nil_or_of class os v there e = ap (λ b. b && (v == nil || class_at os v == class)) there ∙ or_right (v == nil) (class_at os v == class) (eq-eqb (class_at os v) class e)
 
 -- a closure, as a sound context has it
-pub closure_sound : (os : List Object) (v : ℕ) → nil_of os ≡ nil → is_nil_or closure_class os v ≡ true → is_nil_or_closure os v ≡ true
+pub closure_sound : (os : List Object) (v : ℕ) → nil_word os ≡ nil → is_nil_or closure_class os v ≡ true → is_nil_or_closure os v ≡ true
 closure_sound os v e h =
-    let s = both_true (is_object os v) (v == nil || class_of os v == closure_class) h in
-    go s.0 (either_true (v == nil) (class_of os v == closure_class) s.1)
+    let s = both_true (is_object os v) (v == nil || class_at os v == closure_class) h in
+    go s.0 (either_true (v == nil) (class_at os v == closure_class) s.1)
   where
-    go : is_object os v ≡ true → ((v == nil) ≡ true) ⊎ ((class_of os v == closure_class) ≡ true) → is_nil_or_closure os v ≡ true
-    go there (inl is) = or_left (v == nil_of os) (is_closure_address os v) (ap (λ n. v == n) e ∙ is)
-    go there (inr is) = or_right (v == nil_of os) (is_closure_address os v) (ap₂ (λ a b. a && b) there is)
+    go : is_object os v ≡ true → ((v == nil) ≡ true) ⊎ ((class_at os v == closure_class) ≡ true) → is_nil_or_closure os v ≡ true
+    go there (inl is) = or_left (v == nil_word os) (is_closure_address os v) (ap (λ n. v == n) e ∙ is)
+    go there (inr is) = or_right (v == nil_word os) (is_closure_address os v) (ap₂ (λ a b. a && b) there is)
 
-pub closure_from : (os : List Object) (v : ℕ) → nil_of os ≡ nil → is_object os nil ≡ true → is_nil_or_closure os v ≡ true → is_nil_or closure_class os v ≡ true
-closure_from os v e there h = go (either_true (v == nil_of os) (is_closure_address os v) h)
+pub closure_from : (os : List Object) (v : ℕ) → nil_word os ≡ nil → is_object os nil ≡ true → is_nil_or_closure os v ≡ true → is_nil_or closure_class os v ≡ true
+closure_from os v e there h = go (either_true (v == nil_word os) (is_closure_address os v) h)
   where
-    both : is_object os v ≡ true → (v == nil || class_of os v == closure_class) ≡ true → is_nil_or closure_class os v ≡ true
+    both : is_object os v ≡ true → (v == nil || class_at os v == closure_class) ≡ true → is_nil_or closure_class os v ≡ true
     both a b = ap₂ (λ c d. c && d) a b
 
-    go : ((v == nil_of os) ≡ true) ⊎ (is_closure_address os v ≡ true) → is_nil_or closure_class os v ≡ true
+    go : ((v == nil_word os) ≡ true) ⊎ (is_closure_address os v ≡ true) → is_nil_or closure_class os v ≡ true
     go (inl is) =
         let same : (v == nil) ≡ true = ap (λ n. v == n) (sym e) ∙ is in
-        both (ap (is_object os) (eqb-true v nil same) ∙ there) (or_left (v == nil) (class_of os v == closure_class) same)
+        both (ap (is_object os) (eqb-true v nil same) ∙ there) (or_left (v == nil) (class_at os v == closure_class) same)
     go (inr is) =
-        let s = both_true (is_object os v) (class_of os v == closure_class) is in
-        both s.0 (or_right (v == nil) (class_of os v == closure_class) s.1)
+        let s = both_true (is_object os v) (class_at os v == closure_class) is in
+        both s.0 (or_right (v == nil) (class_at os v == closure_class) s.1)
 
 -- a sender, as a sound context has it
-pub sender_sound : (os : List Object) (v : ℕ) → nil_of os ≡ nil → is_nil_or context_class os v ≡ true → is_sender os v ≡ true
+pub sender_sound : (os : List Object) (v : ℕ) → nil_word os ≡ nil → is_nil_or context_class os v ≡ true → is_sender os v ≡ true
 sender_sound os v e h =
-    let s = both_true (is_object os v) (v == nil || class_of os v == context_class) h in
-    go s.0 (either_true (v == nil) (class_of os v == context_class) s.1)
+    let s = both_true (is_object os v) (v == nil || class_at os v == context_class) h in
+    go s.0 (either_true (v == nil) (class_at os v == context_class) s.1)
   where
-    go : is_object os v ≡ true → ((v == nil) ≡ true) ⊎ ((class_of os v == context_class) ≡ true) → is_sender os v ≡ true
+    go : is_object os v ≡ true → ((v == nil) ≡ true) ⊎ ((class_at os v == context_class) ≡ true) → is_sender os v ≡ true
     go there (inl is) =
-        let same : nil_of os ≡ v = e ∙ sym (eqb-true v nil is) in
+        let same : nil_word os ≡ v = e ∙ sym (eqb-true v nil is) in
         subst (λ n. is_sender os n ≡ true) same (is_sender-nil os (ap (is_object os) same ∙ there))
-    go there (inr is) = is_sender-context os v there (eqb-true (class_of os v) context_class is)
+    go there (inr is) = is_sender-context os v there (eqb-true (class_at os v) context_class is)
 
 -- ---- a word of a context
 
@@ -143,7 +143,7 @@ write_sender os x v h = record {
   closure = λ e. absurd (omega (arith, e));
 }
 
-pub write_pc : (os : List Object) (x : Object) (v : ℕ) → is_reference os v ≡ true → IsTrue (v == nil_of os || is_some (count_of v)) → IsContextWrite os x 1 v
+pub write_pc : (os : List Object) (x : Object) (v : ℕ) → is_reference os v ≡ true → IsTrue (v == nil_word os || is_some (count_of v)) → IsContextWrite os x 1 v
 write_pc os x v named h = record {
   reference = λ e. named;
   sender = λ e. absurd (omega (arith, e));
@@ -154,7 +154,7 @@ write_pc os x v named h = record {
   closure = λ e. absurd (omega (arith, e));
 }
 
-pub write_stackp : (os : List Object) (x : Object) (v : ℕ) → is_reference os v ≡ true → IsTrue (v == nil_of os || is_some (count_of v))
+pub write_stackp : (os : List Object) (x : Object) (v : ℕ) → is_reference os v ≡ true → IsTrue (v == nil_word os || is_some (count_of v))
     → unwrap_or (count_of v) 0 ≤ length x.words - 6 → IsContextWrite os x 2 v
 write_stackp os x v named h few = record {
   reference = λ e. named;

@@ -4,7 +4,7 @@ use Rattle.std.proofs.lemmas.Bool.{cases_eq}
 use Rattle.cs_frame.specs.Frame.{Frame}
 use Rattle.cs_frame.specs.Page.{frames_of, on_page, top}
 use Rattle.cs_frame.proofs.PageLaws.{frames_of-on_page, frames_of-on_page_other}
-use Rattle.cs_stack.specs.View.{active_in, births_of, first_of, laid_pages}
+use Rattle.cs_stack.specs.View.{active_in, births_of, first_frames, laid_pages}
 use Rattle.cs_stack.specs.Good.{AreApart, IsChain, Lacks, base_of}
 
 pub record AlikePages (fs gs : List Frame) : Type 0 where
@@ -62,7 +62,7 @@ active_alike [] (g ∷ gs) e = absurd (cc)
 active_alike (f ∷ fs) [] e = absurd (cc)
 active_alike (f ∷ fs) (g ∷ gs) e = cc
 
-pub first_alike : (ps qs : List (List Frame)) → Alike ps qs → (rs : List ℕ) → active_in (first_of ps rs) ≡ active_in (first_of qs rs)
+pub first_alike : (ps qs : List (List Frame)) → Alike ps qs → (rs : List ℕ) → active_in (first_frames ps rs) ≡ active_in (first_frames qs rs)
 first_alike ps qs h [] = refl
 first_alike ps qs h (r ∷ rs) = active_alike (frames_of ps r) (frames_of qs r) (h r).births
 

@@ -3,11 +3,12 @@ use Rattle.std.proofs.Common.{◌≡◌, ◌∙◌, inr, ℕ, zero, suc, ◌+◌
 use Rattle.std.specs.Prelude.{◌==◌, if◌then◌else◌}
 use Rattle.std.specs.FinMap.{get}
 use Rattle.std.proofs.lemmas.List.{length-replicate}
+use Rattle.cs_model.specs.Words.{unused_bytes}
 use Rattle.cs_word.specs.declared.Oop.{Oop}
-use Rattle.cs_heap.specs.Format.{is_method, is_pointers}
+use Rattle.cs_heap.specs.Format.{is_code, is_pointers}
 use Rattle.cs_heap.specs.Object.{Memory, Object, new_object, next_address, size, used}
 use Rattle.cs_heap.proofs.Laws.{is_object-new, length-new_words, next_address-new, object_at-new, used-pushed}
-use Rattle.cs_classes.specs.Meaning.{is_context, kept_of, objects_of, unused_bytes}
+use Rattle.cs_classes.specs.Meaning.{is_heap_context, kept_of, objects_of}
 use Rattle.cs_classes.specs.Sound.{IsWhole, is_weak}
 use Rattle.cs_classes.proofs.Heaps.{birth_of-object_at}
 use Rattle.cs_classes.proofs.Makings.{Makes, makes-bytes, makes-pointers}
@@ -18,7 +19,7 @@ use Rattle.cs_marriage.proofs.Laws.{agree_grown}
 use Rattle.cs_model.specs.Ref as ref
 use Rattle.cs_model.specs.Obj.{Obj, Raw, words_of, new_head}
 use Rattle.cs_model.specs.State.{Kept, NamesHeld, is_class_index, object_at, put}
-use Rattle.cs_model.specs.Demand.{words_at, words_below, words_in}
+use Rattle.cs_model.specs.Demand.{words_taken, words_below, words_held}
 use Rattle.cs_model.specs.Keeps.{Keeps}
 use Rattle.cs_model.specs.Operation.{add_of, new_pointers, next_ref}
 use Rattle.cs_model.proofs.Objects.{object_at-put_other, object_at-put_same}
@@ -51,25 +52,25 @@ words_below-add : (k : Kept) (o : Obj) (n : ℕ) → n ≤ k.rest.next → words
 unfolding words_below add_of
 words_below-add k o zero below = refl
 words_below-add k o (suc n) below =
-    ap₂ (λ (a b : ℕ). a + b) (words_below-add k o n (omega (arith, below))) (ap words_at (object_at-put_other k k.rest.next n o (λ e. omega (arith, e, below))))
+    ap₂ (λ (a b : ℕ). a + b) (words_below-add k o n (omega (arith, below))) (ap words_taken (object_at-put_other k k.rest.next n o (λ e. omega (arith, e, below))))
 
-words_next : (k : Kept) (o : Obj) (n : ℕ) → n ≡ suc k.rest.next → words_below n (add_of k o) ≡ words_in k + words_of o
+words_next : (k : Kept) (o : Obj) (n : ℕ) → n ≡ suc k.rest.next → words_below n (add_of k o) ≡ words_held k + words_of o
 unfolding words_below add_of
 words_next k o zero e = absurd (omega (arith, e))
 words_next k o (suc n) e =
     let is : n ≡ k.rest.next = omega (arith, e) in
-    ap₂ (λ (a b : ℕ). a + b) (words_below-add k o n (omega (arith, is)) ∙ ap (λ m. words_below m k) is) (ap words_at (ap (object_at (put k k.rest.next o)) is ∙ object_at-put_same k k.rest.next o))
+    ap₂ (λ (a b : ℕ). a + b) (words_below-add k o n (omega (arith, is)) ∙ ap (λ m. words_below m k) is) (ap words_taken (ap (object_at (put k k.rest.next o)) is ∙ object_at-put_same k k.rest.next o))
 
 -- an object more has words more
-pub words-add : (k : Kept) (o : Obj) → words_in (add_of k o) ≡ words_in k + words_of o
+pub words-add : (k : Kept) (o : Obj) → words_held (add_of k o) ≡ words_held k + words_of o
 unfolding add_of
 words-add k o = words_next k o (k.rest.next + 1) (omega arith)
 
 -- what is no context adds none
-pub contexts_push : (os : List Object) (y : Object) → is_context y ≡ false → contexts_in (os ++ y ∷ []) ≡ contexts_in os
+pub contexts_push : (os : List Object) (y : Object) → is_heap_context y ≡ false → contexts_in (os ++ y ∷ []) ≡ contexts_in os
 unfolding contexts_in
 contexts_push [] y other = ap (λ b. 0 + (if b then 1 else 0)) other
-contexts_push (x ∷ xs) y other = ap (λ n. n + (if is_context x then 1 else 0)) (contexts_push xs y other)
+contexts_push (x ∷ xs) y other = ap (λ n. n + (if is_heap_context x then 1 else 0)) (contexts_push xs y other)
 
 -- ---- the world
 
@@ -98,7 +99,7 @@ module _ (w : Parts) (good : IsGood w) (class format slots : ℕ) (fits : CanAll
   other : (class == 36) ≡ false
   other = no_context_class (view_of w) class format slots fits
 
-  no_method : is_method format ≡ false
+  no_method : is_code format ≡ false
   no_method = no_method_format (view_of w) class format slots fits
 
   no_weak : is_weak format ≡ false
@@ -185,7 +186,7 @@ module _ (w : Parts) (good : IsGood w) (class format slots : ℕ) (fits : CanAll
       go true e = ap size (length-replicate slots _)
       go false e = ap size (raw_slots slots (unused_bytes format) _ (few_unused format slots fits.shape e) (some_slot format slots fits.shape e) (length-replicate (4 * slots - unused_bytes format) 0))
 
-  made_words : used os + size slots ≤ words_in made
+  made_words : used os + size slots ≤ words_held made
   made_words = omega (arith, words-add (view_of w) blank, words_heap w good, blank_words)
 
   pub full_made : (h : Memory) → h ≡ w.heap → w.heap.limit < used os + size slots → IsFullHeap (stored_of (record w { heap = h })) (layout_of w) (size slots) made

@@ -6,17 +6,18 @@ use Rattle.std.specs.Ordering.{nat_cmp}
 use Rattle.std.specs.FinMap.{FinMap, entries, from_entries, get}
 use Rattle.std.proofs.lemmas.Bool.{eq-eqb, or_left, or_right}
 use Rattle.std.proofs.lemmas.List.{length-map, length-set, map-append}
+use Rattle.cs_model.specs.Words.{small_value}
 use Rattle.cs_word.specs.declared.Kind.{Kind}
 use Rattle.cs_word.specs.declared.Kind.TheVariants as kind
-use Rattle.cs_word.specs.Word.{kind_of, small_value, small_word}
-use Rattle.cs_heap.specs.Format.{is_method}
-use Rattle.cs_heap.specs.Object.{Object, address_among, address_of, at_index, base, birth_of, class_of, field_of, format_of, index_among, index_of, is_object, object_at, set_word, size, slot_count_of, slot_counts, used, with_object}
+use Rattle.cs_word.specs.Word.{kind_of, small_word}
+use Rattle.cs_heap.specs.Format.{is_code}
+use Rattle.cs_heap.specs.Object.{Object, address_among, address_of, at_index, base, birth_at, class_at, part_at, format_at, index_among, object_place, is_object, heap_object, set_word, size, slot_count_of, slot_counts, used, with_object}
 use Rattle.cs_heap.proofs.Laws.{address_of-below, index_of-address}
 use Rattle.cs_classes.specs.declared.Roots.{Roots}
 use Rattle.cs_classes.specs.declared.Loaded.{Loaded}
 use Rattle.cs_classes.specs.Senders.{SendersStand}
-use Rattle.cs_classes.specs.Meaning.{birth_at, classes_of, context_of, count_of, is_context, kept_of, method_of, obj_of, objects_of, ref_of, ref_of_kind}
-use Rattle.cs_classes.specs.Sound.{IsSound, IsSoundClass, IsSoundObject, IsWhole, is_reference, is_reference_kind, is_sender, is_sender_kind, nil_of}
+use Rattle.cs_classes.specs.Meaning.{nth_birth, classes_of, context_of, count_of, is_heap_context, kept_of, method_meaning, obj_of, objects_of, ref_of, ref_of_kind, loaded_kept}
+use Rattle.cs_classes.specs.Sound.{AreSoundObjects, IsSoundClass, IsSoundObject, IsWhole, is_reference, is_reference_kind, is_sender, is_sender_kind, nil_word}
 use Rattle.cs_classes.proofs.Heaps.{stands}
 use Rattle.cs_classes.proofs.Objects.{AreApart, get-objects_of-element, objects_of-comes}
 use Rattle.cs_classes.proofs.Refs.{count_of-small, is_reference-object, is_reference-small, small_natural}
@@ -30,14 +31,14 @@ use Rattle.cs_model.specs.Ref as ref
 use Rattle.cs_model.specs.Obj.{Obj, context_class}
 use Rattle.cs_model.specs.Obj as obj
 use Rattle.cs_model.specs.State.{Rest}
-use Rattle.cs_stack.specs.View.{bare, dead_words, is_linked, loaded_kept, unframed}
+use Rattle.cs_stack.specs.View.{bare, dead_words, is_linked, unframed}
 use Rattle.cs_stack.proofs.Addresses.{nil_or_nil, sender_sound, write_pc, write_sender, write_stackp}
 
 -- ---- an object and what it means
 
 -- what is no context in the heap is none in the state
-pub no_context : (refer : ℕ → Ref) (x : Object) → is_context x ≡ false → obj.is_context (obj_of refer x) ≡ false
-unfolding method_of
+pub no_context : (refer : ℕ → Ref) (x : Object) → is_heap_context x ≡ false → obj.is_context (obj_of refer x) ≡ false
+unfolding method_meaning
 no_context refer x other = go (sort_of x)
   where
     go : Sort x → obj.is_context (obj_of refer x) ≡ false
@@ -46,18 +47,18 @@ no_context refer x other = go (sort_of x)
     go (AMethod a p m) = ap obj.is_context (obj_of-method refer x a p m)
     go (Bytes a p m) = ap obj.is_context (obj_of-bytes refer x a p m)
 
-pub a_context : (refer : ℕ → Ref) (x : Object) → is_context x ≡ true → obj.is_context (obj_of refer x) ≡ true
+pub a_context : (refer : ℕ → Ref) (x : Object) → is_heap_context x ≡ true → obj.is_context (obj_of refer x) ≡ true
 a_context refer x is = ap obj.is_context (obj_of-context refer x is)
 
 -- and back
-pub no_context_back : (refer : ℕ → Ref) (x : Object) → obj.is_context (obj_of refer x) ≡ false → is_context x ≡ false
-no_context_back refer x other = go (is_context x) refl
+pub no_context_back : (refer : ℕ → Ref) (x : Object) → obj.is_context (obj_of refer x) ≡ false → is_heap_context x ≡ false
+no_context_back refer x other = go (is_heap_context x) refl
   where
-    go : (b : Bool) → is_context x ≡ b → is_context x ≡ false
+    go : (b : Bool) → is_heap_context x ≡ b → is_heap_context x ≡ false
     go true e = absurd (let is = a_context refer x e in cc)
     go false e = e
 
-pub meaning_there : (os : List Object) (a : ℕ) (x : Object) → IsSound os → object_at os a ≡ Some x → get (objects_of os) x.birth ≡ Some (obj_of (ref_of os) x)
+pub meaning_there : (os : List Object) (a : ℕ) (x : Object) → AreSoundObjects os → heap_object os a ≡ Some x → get (objects_of os) x.birth ≡ Some (obj_of (ref_of os) x)
 meaning_there os a x sound there = let s = stands os a x there in get-objects_of-element os s.0 x sound.apart s.1.element
 
 -- ---- one object without its frame
@@ -81,8 +82,8 @@ unframed_class x = unframed_keeps (λ y. y.class) x refl
 pub unframed_format : (x : Object) → (unframed x).format ≡ x.format
 unframed_format x = unframed_keeps (λ y. y.format) x refl
 
-pub unframed_context : (x : Object) → is_context (unframed x) ≡ is_context x
-unframed_context x = unframed_keeps is_context x refl
+pub unframed_context : (x : Object) → is_heap_context (unframed x) ≡ is_heap_context x
+unframed_context x = unframed_keeps is_heap_context x refl
 
 length_dead : (ws : List ℕ) → length (dead_words ws) ≡ length ws
 length_dead ws = length-set _ 2 (small_word (pos 0)) ∙ length-set _ 1 nil ∙ length-set ws 0 nil
@@ -94,7 +95,7 @@ unframed_length x = unframed_keeps (λ y. length y.words) x (length_dead x.words
 pub unlinked : (x : Object) → is_linked x ≡ false → unframed x ≡ x
 unlinked x h = ap (λ b. cond b (dead_object x) x) h
 
-pub plain_unlinked : (x : Object) → is_context x ≡ false → is_linked x ≡ false
+pub plain_unlinked : (x : Object) → is_heap_context x ≡ false → is_linked x ≡ false
 plain_unlinked x h = ap (λ b. b && names_place (slice_index x.words 0)) h
 
 -- ---- all of them
@@ -111,7 +112,7 @@ bare_length os = length-map os unframed
 pub bare_used : (os : List Object) → used (bare os) ≡ used os
 bare_used os = ap (sum_by size) (bare_counts os)
 
-pub bare_index : (os : List Object) (a : ℕ) → index_of (bare os) a ≡ index_of os a
+pub bare_index : (os : List Object) (a : ℕ) → object_place (bare os) a ≡ object_place os a
 bare_index os a = ap (λ (ns : List ℕ). index_among ns base a) (bare_counts os)
 
 pub bare_is_object : (os : List Object) (a : ℕ) → is_object (bare os) a ≡ is_object os a
@@ -123,8 +124,8 @@ bare_get [] k = refl
 bare_get (x ∷ os) zero = refl
 bare_get (x ∷ os) (suc k) = bare_get os k
 
-pub bare_at : (os : List Object) (a : ℕ) → object_at (bare os) a ≡ option_map unframed (object_at os a)
-bare_at os a = ap (option_and_then (slice_get (bare os))) (bare_index os a) ∙ go (index_of os a)
+pub bare_at : (os : List Object) (a : ℕ) → heap_object (bare os) a ≡ option_map unframed (heap_object os a)
+bare_at os a = ap (option_and_then (slice_get (bare os))) (bare_index os a) ∙ go (object_place os a)
   where
     go : (o : Option ℕ) → option_and_then (slice_get (bare os)) o ≡ option_map unframed (option_and_then (slice_get os) o)
     go None = refl
@@ -134,8 +135,8 @@ birth_in_bare : (o : Option Object) → option_map_or (λ x. x.birth) (option_ma
 birth_in_bare None = refl
 birth_in_bare (Some x) = unframed_birth x
 
-pub bare_birth : (os : List Object) (a : ℕ) → birth_of (bare os) a ≡ birth_of os a
-bare_birth os a = ap (λ o. option_map_or (λ (x : Object). x.birth) o 0) (bare_at os a) ∙ birth_in_bare (object_at os a)
+pub bare_birth : (os : List Object) (a : ℕ) → birth_at (bare os) a ≡ birth_at os a
+bare_birth os a = ap (λ o. option_map_or (λ (x : Object). x.birth) o 0) (bare_at os a) ∙ birth_in_bare (heap_object os a)
 
 pub bare_ref : (os : List Object) → ref_of (bare os) ≡ ref_of os
 unfolding ref_of
@@ -179,53 +180,53 @@ bare_apart os apart j k x y p q same =
 
 -- ---- the whole
 
-nil_object : (os : List Object) → 3 ≤ length os → nil_of os ≡ base → is_object os nil ≡ true
+nil_object : (os : List Object) → 3 ≤ length os → nil_word os ≡ base → is_object os nil ≡ true
 nil_object os first is = go (address_of os 0) refl (address_of-below os 0 (omega (arith, first))) is
   where
     go : (o : Option ℕ) → address_of os 0 ≡ o → is_some o ≡ true → unwrap_or o 0 ≡ base → is_object os nil ≡ true
     go None e some at = absurd (cc)
     go (Some a) e some at = ap is_some (index_of-address os nil 0 (e ∙ ap (λ n. Some n) at))
 
-pub dead_sound : (os : List Object) (x : Object) → 3 ≤ length os → nil_of os ≡ base → IsSoundObject os x → is_context x ≡ true → IsSoundObject os (dead_object x)
+pub dead_sound : (os : List Object) (x : Object) → 3 ≤ length os → nil_word os ≡ base → IsSoundObject os x → is_heap_context x ≡ true → IsSoundObject os (dead_object x)
 dead_sound os x first nil_is sound c =
     let there : is_reference os nil ≡ true = is_reference-object os nil (nil_object os first nil_is) in
-    let is_nil : IsTrue (nil == nil_of os || is_some (count_of nil)) = or_left (nil == nil_of os) (is_some (count_of nil)) (eq-eqb nil (nil_of os) (sym nil_is)) in
+    let is_nil : IsTrue (nil == nil_word os || is_some (count_of nil)) = or_left (nil == nil_word os) (is_some (count_of nil)) (eq-eqb nil (nil_word os) (sym nil_is)) in
     let none : count_of (small_word (pos 0)) ≡ Some 0 = count_of-small 0 (omega arith) in
     let sender = sender_sound os nil nil_is (nil_or_nil context_class os (nil_object os first nil_is)) in
     let one = sound-set_context os x 0 nil sound c (write_sender os x nil sender) in
     let two = sound-set_context os (set_word 0 nil x) 1 nil one c (write_pc os (set_word 0 nil x) nil there is_nil) in
     sound-set_context os (set_word 1 nil (set_word 0 nil x)) 2 (small_word (pos 0)) two c
     (write_stackp os (set_word 1 nil (set_word 0 nil x)) (small_word (pos 0)) (is_reference-small os (pos 0) (small_natural 0 (omega arith)))
-    (or_right (small_word (pos 0) == nil_of os) (is_some (count_of (small_word (pos 0)))) (ap is_some none)) (omega (arith, ap (λ o. unwrap_or o 0) none)))
+    (or_right (small_word (pos 0) == nil_word os) (is_some (count_of (small_word (pos 0)))) (ap is_some none)) (omega (arith, ap (λ o. unwrap_or o 0) none)))
 
-linked_context : (x : Object) → is_linked x ≡ true → is_context x ≡ true
-linked_context x h = go (is_context x) refl h
+linked_context : (x : Object) → is_linked x ≡ true → is_heap_context x ≡ true
+linked_context x h = go (is_heap_context x) refl h
   where
-    go : (b : Bool) → is_context x ≡ b → (b && names_place (slice_index x.words 0)) ≡ true → is_context x ≡ true
+    go : (b : Bool) → is_heap_context x ≡ b → (b && names_place (slice_index x.words 0)) ≡ true → is_heap_context x ≡ true
     go true e l = e
     go false e l = absurd (cc)
 
-pub unframed_sound : (os : List Object) (x : Object) → 3 ≤ length os → nil_of os ≡ base → IsSoundObject os x → IsSoundObject os (unframed x)
+pub unframed_sound : (os : List Object) (x : Object) → 3 ≤ length os → nil_word os ≡ base → IsSoundObject os x → IsSoundObject os (unframed x)
 unframed_sound os x first nil_is sound = go (is_linked x) refl
   where
     go : (b : Bool) → is_linked x ≡ b → IsSoundObject os (cond b (dead_object x) x)
     go true e = dead_sound os x first nil_is sound (linked_context x e)
     go false e = sound
 
-bare_nil : (os : List Object) → nil_of (bare os) ≡ nil_of os
+bare_nil : (os : List Object) → nil_word (bare os) ≡ nil_word os
 bare_nil os = ap (λ (ns : List ℕ). unwrap_or (address_among ns base 0) 0) (bare_counts os)
 
-bare_field : (g : Object → ℕ) → ((x : Object) → g (unframed x) ≡ g x) → (os : List Object) (a : ℕ) → field_of g (bare os) a ≡ field_of g os a
-bare_field g same os a = ap (λ o. option_map_or g o 0) (bare_at os a) ∙ go (object_at os a)
+bare_field : (g : Object → ℕ) → ((x : Object) → g (unframed x) ≡ g x) → (os : List Object) (a : ℕ) → part_at g (bare os) a ≡ part_at g os a
+bare_field g same os a = ap (λ o. option_map_or g o 0) (bare_at os a) ∙ go (heap_object os a)
   where
     go : (o : Option Object) → option_map_or g (option_map unframed o) 0 ≡ option_map_or g o 0
     go None = refl
     go (Some x) = same x
 
-bare_class : (os : List Object) (a : ℕ) → class_of (bare os) a ≡ class_of os a
+bare_class : (os : List Object) (a : ℕ) → class_at (bare os) a ≡ class_at os a
 bare_class = bare_field (λ x. x.class) unframed_class
 
-bare_format : (os : List Object) (a : ℕ) → format_of (bare os) a ≡ format_of os a
+bare_format : (os : List Object) (a : ℕ) → format_at (bare os) a ≡ format_at os a
 bare_format = bare_field (λ x. x.format) unframed_format
 
 bare_count : (os : List Object) (a : ℕ) → slot_count_of (bare os) a ≡ slot_count_of os a
@@ -247,15 +248,15 @@ bare_alike os = record {
   references = bare_reference os;
   nil = bare_nil os;
   senders = bare_sender os;
-  methods = λ i w. w == bare_nil os i || (bare_is_object os w i && is_method (bare_format os w i));
+  methods = λ i w. w == bare_nil os i || (bare_is_object os w i && is_code (bare_format os w i));
   closures = λ i w. w == bare_nil os i || (bare_is_object os w i && bare_class os w i == 37);
 }
 
 -- a class of the table is no context, so it is as it was
-bare_sound_class : (os : List Object) (index a : ℕ) (x : Object) → ((y : Object) → object_at os a ≡ Some y → IsSoundClass index y) → object_at (bare os) a ≡ Some x → IsSoundClass index x
-bare_sound_class os index a x class there = go (object_at os a) refl (sym (bare_at os a) ∙ there)
+bare_sound_class : (os : List Object) (index a : ℕ) (x : Object) → ((y : Object) → heap_object os a ≡ Some y → IsSoundClass index y) → heap_object (bare os) a ≡ Some x → IsSoundClass index x
+bare_sound_class os index a x class there = go (heap_object os a) refl (sym (bare_at os a) ∙ there)
   where
-    go : (o : Option Object) → object_at os a ≡ o → option_map unframed o ≡ Some x → IsSoundClass index x
+    go : (o : Option Object) → heap_object os a ≡ o → option_map unframed o ≡ Some x → IsSoundClass index x
     go None e h = absurd (cc)
     go (Some y) e h =
         let old = class y e in
@@ -298,13 +299,13 @@ bare_whole os table roots whole = record {
   header = whole.header;
 }
 
-bare_birth_at : (os : List Object) (k : ℕ) → birth_at (bare os) k ≡ birth_at os k
+bare_birth_at : (os : List Object) (k : ℕ) → nth_birth (bare os) k ≡ nth_birth os k
 bare_birth_at os k = ap (λ o. option_map_or (λ (x : Object). x.birth) o 0) (bare_get os k) ∙ birth_in_bare (slice_get os k)
 
 bare_classes : (os : List Object) (table : FinMap nat_cmp ℕ) → classes_of (bare os) table ≡ classes_of os table
 unfolding classes_of
 bare_classes os table =
-    let births : birth_of (bare os) ≡ birth_of os = λ i a. bare_birth os a i in
+    let births : birth_at (bare os) ≡ birth_at os = λ i a. bare_birth os a i in
     ap (λ (b : ℕ → ℕ). from_entries {R = nat_cmp} (map (λ (e : ℕ × ℕ). (e.0, b e.1)) (entries table))) births
 
 pub bare_rest : (os : List Object) (table : FinMap nat_cmp ℕ) (roots : Roots) (active : Option ℕ) → (kept_of (bare os) table roots active).rest ≡ (kept_of os table roots active).rest
@@ -328,7 +329,7 @@ bare_rest os table roots active =
     }
 
 -- what stands at a birth, by its object
-pub bare_element : (os : List Object) (k : ℕ) (x : Object) → IsSound os → slice_get os k ≡ Some x → get (objects_of (bare os)) x.birth ≡ Some (obj_of (ref_of os) (unframed x))
+pub bare_element : (os : List Object) (k : ℕ) (x : Object) → AreSoundObjects os → slice_get os k ≡ Some x → get (objects_of (bare os)) x.birth ≡ Some (obj_of (ref_of os) (unframed x))
 bare_element os k x sound e =
     ap (get (objects_of (bare os))) (sym (unframed_birth x))
     ∙ get-objects_of-element (bare os) k (unframed x) (bare_apart os sound.apart) (bare_get os k ∙ ap (option_map unframed) e)
@@ -342,7 +343,7 @@ pub record ComesBare (os : List Object) (i : ℕ) (o : Obj) : Type 0 where
   pub birth : object.birth ≡ i
   pub meaning : obj_of (ref_of os) (unframed object) ≡ o
 
-pub comes_bare : (os : List Object) (i : ℕ) (o : Obj) → IsSound os → get (objects_of (bare os)) i ≡ Some o → ComesBare os i o
+pub comes_bare : (os : List Object) (i : ℕ) (o : Obj) → AreSoundObjects os → get (objects_of (bare os)) i ≡ Some o → ComesBare os i o
 comes_bare os i o sound h =
     let from = objects_of-comes (bare os) i o (bare_apart os sound.apart) h in
     let b = behind os from.place from.object from.element in
@@ -355,22 +356,22 @@ comes_bare os i o sound h =
     }
 
 -- what is no context means the same
-pub bare_plain : (os : List Object) (i : ℕ) (o : Obj) → IsSound os → get (objects_of os) i ≡ Some o → obj.is_context o ≡ false → get (objects_of (bare os)) i ≡ Some o
+pub bare_plain : (os : List Object) (i : ℕ) (o : Obj) → AreSoundObjects os → get (objects_of os) i ≡ Some o → obj.is_context o ≡ false → get (objects_of (bare os)) i ≡ Some o
 bare_plain os i o sound h other =
     let from = objects_of-comes os i o sound.apart h in
-    let plain : is_context from.object ≡ false = no_context_back (ref_of os) from.object (ap obj.is_context from.meaning ∙ other) in
+    let plain : is_heap_context from.object ≡ false = no_context_back (ref_of os) from.object (ap obj.is_context from.meaning ∙ other) in
     ap (get (objects_of (bare os))) (sym from.birth) ∙ bare_element os from.place from.object sound from.element
     ∙ ap (λ z. Some (obj_of (ref_of os) z)) (unlinked from.object (plain_unlinked from.object plain)) ∙ ap (λ p. Some p) from.meaning
 
-pub plain_bare : (os : List Object) (i : ℕ) (o : Obj) → IsSound os → get (objects_of (bare os)) i ≡ Some o → obj.is_context o ≡ false → get (objects_of os) i ≡ Some o
+pub plain_bare : (os : List Object) (i : ℕ) (o : Obj) → AreSoundObjects os → get (objects_of (bare os)) i ≡ Some o → obj.is_context o ≡ false → get (objects_of os) i ≡ Some o
 plain_bare os i o sound h other =
     let from = comes_bare os i o sound h in
-    let plain : is_context from.object ≡ false =
+    let plain : is_heap_context from.object ≡ false =
     sym (unframed_context from.object) ∙ no_context_back (ref_of os) (unframed from.object) (ap obj.is_context from.meaning ∙ other) in
     ap (get (objects_of os)) (sym from.birth) ∙ get-objects_of-element os from.place from.object sound.apart from.element
     ∙ ap (λ z. Some (obj_of (ref_of os) z)) (sym (unlinked from.object (plain_unlinked from.object plain))) ∙ ap (λ p. Some p) from.meaning
 
-pub bare_none : (os : List Object) (i : ℕ) → IsSound os → get (objects_of os) i ≡ None → get (objects_of (bare os)) i ≡ None
+pub bare_none : (os : List Object) (i : ℕ) → AreSoundObjects os → get (objects_of os) i ≡ None → get (objects_of (bare os)) i ≡ None
 bare_none os i sound h = go (get (objects_of (bare os)) i) refl
   where
     go : (o : Option Obj) → get (objects_of (bare os)) i ≡ o → get (objects_of (bare os)) i ≡ None
@@ -381,7 +382,7 @@ bare_none os i sound h = go (get (objects_of (bare os)) i) refl
         ap (get (objects_of os)) (sym from.birth) ∙ get-objects_of-element os from.place from.object sound.apart from.element in
         absurd (cc)
 
-pub none_bare : (os : List Object) (i : ℕ) → IsSound os → get (objects_of (bare os)) i ≡ None → get (objects_of os) i ≡ None
+pub none_bare : (os : List Object) (i : ℕ) → AreSoundObjects os → get (objects_of (bare os)) i ≡ None → get (objects_of os) i ≡ None
 none_bare os i sound h = go (get (objects_of os) i) refl
   where
     go : (o : Option Obj) → get (objects_of os) i ≡ o → get (objects_of os) i ≡ None
@@ -402,7 +403,7 @@ bare_at_index (y ∷ os) zero x f g e same =
     ap (λ (z : Object). z ∷ map unframed os) (subst (λ z. unframed (f z) ≡ g (unframed z)) is same)
 bare_at_index (y ∷ os) (suc k) x f g e same = ap (λ (zs : List Object). unframed y ∷ zs) (bare_at_index os k x f g e same)
 
-pub bare_with_object : (os : List Object) (a : ℕ) (x : Object) (f g : Object → Object) → object_at os a ≡ Some x → unframed (f x) ≡ g (unframed x) → bare (with_object os a f) ≡ with_object (bare os) a g
+pub bare_with_object : (os : List Object) (a : ℕ) (x : Object) (f g : Object → Object) → heap_object os a ≡ Some x → unframed (f x) ≡ g (unframed x) → bare (with_object os a f) ≡ with_object (bare os) a g
 bare_with_object os a x f g there same =
     let s = stands os a x there in
     ap (λ (o : Option ℕ). bare (option_map_or (λ (j : ℕ). at_index j f os) o os)) s.1.index
@@ -428,9 +429,9 @@ bare_loaded l whole stand = bare_same l.heap.objects none
     small word h = ap (ref_of_kind l.heap.objects) (place_small word h)
 
     none : (k : ℕ) (x : Object) → slice_get l.heap.objects k ≡ Some x → is_linked x ≡ false
-    none k x e = go (is_linked x) refl (is_context x) refl (names_place (slice_index x.words 0)) refl
+    none k x e = go (is_linked x) refl (is_heap_context x) refl (names_place (slice_index x.words 0)) refl
       where
-        go : (b : Bool) → is_linked x ≡ b → (c : Bool) → is_context x ≡ c → (d : Bool) → names_place (slice_index x.words 0) ≡ d → is_linked x ≡ false
+        go : (b : Bool) → is_linked x ≡ b → (c : Bool) → is_heap_context x ≡ c → (d : Bool) → names_place (slice_index x.words 0) ≡ d → is_linked x ≡ false
         go false p c q d r = p
         go true p false q d r = absurd (let no = plain_unlinked x q in cc)
         go true p true q false r = absurd (let no : is_linked x ≡ false = ap₂ (λ (m n : Bool). m && n) q r in cc)

@@ -8,7 +8,7 @@ use Rattle.std.specs.Cmp.{nat_cmp_total}
 use Rattle.std.proofs.lemmas.Bool.{cases_eq, ne_eqb}
 use Rattle.std.proofs.lemmas.List.Elements.{All-cons, All-take}
 use Rattle.std.proofs.lemmas.Map.Keys.{IsDistinct-cons}
-use Rattle.cs_heap.specs.Object.{Object, birth_of, class_of, hash_of, object_at, slot_count_of, slot_of, with_object}
+use Rattle.cs_heap.specs.Object.{Object, birth_at, class_at, hash_at, heap_object, slot_count_of, slot_of, with_object, words_at}
 use Rattle.cs_heap.proofs.Laws.{field_of-with_object_kept}
 use Rattle.cs_word.specs.Word.{small_word}
 use Rattle.cs_classes.specs.Meaning.{context_of, count_of, depth_in, kept_of, meaning_at, obj_of, objects_of, ref_of}
@@ -21,7 +21,7 @@ use Rattle.cs_frame.specs.declared.FrameRef.{FrameRef}
 use Rattle.cs_frame.specs.Frame.{Frame, nil}
 use Rattle.cs_frame.specs.Page.{frames_of, on_page}
 use Rattle.cs_frame.proofs.PageLaws.{frames_of-on_page, frames_of-on_page_other, length-on_page}
-use Rattle.cs_marriage.specs.Marriage.{base_frame, linked, stack_words, words_at, words_if}
+use Rattle.cs_marriage.specs.Marriage.{base_frame, linked, stack_words, words_if}
 use Rattle.cs_marriage.specs.Place.{names_place}
 use Rattle.cs_marriage.proofs.Agreeing.{size_some}
 use Rattle.cs_marriage.proofs.Based.{agree_based, deep, stack_long}
@@ -35,7 +35,7 @@ use Rattle.cs_model.specs.Operation.{edit_found, edit_object}
 use Rattle.cs_model.proofs.Objects.{object_at-put_other}
 use Rattle.cs_acts.specs.Made.{contexts_in}
 use Rattle.cs_acts.specs.Names.{KeepsNames}
-use Rattle.cs_pages.specs.Order.{IsFree, IsSound}
+use Rattle.cs_pages.specs.Order.{IsFree, IsSoundOrder}
 use Rattle.cs_stack.specs.declared.parts.Parts.{Parts}
 use Rattle.cs_stack.specs.View.{active_in, active_page, bare, births_of, dead_words, frame_context, is_linked, laid_pages, layout_of, pages_onto, stored_of, unframed, view_of}
 use Rattle.cs_stack.specs.Good.{AreApart, FramesFit, IsChain, IsGood, Lacks, is_nil_or}
@@ -117,7 +117,7 @@ module _ {u : Parts} (good : IsGood u) (closed : u.pages.recent ≡ []) (s : ℕ
   words_are = ap words_if at.there
 
   not_nil : s ≢ nil
-  not_nil e = good.agree.nil_class (ap (class_of os) (sym e) ∙ (live_context good.whole at good.pcs good.births).class)
+  not_nil e = good.agree.nil_class (ap (class_at os) (sym e) ∙ (live_context good.whole at good.pcs good.births).class)
 
   kept_count : slot_count_of us s ≡ slot_count_of os s
   kept_count = field_of-with_object_kept (λ y. length y.words) os s s (linked r) (linked_edit r).slots (linked_edit r).slots
@@ -167,7 +167,7 @@ module _ {u : Parts} (good : IsGood u) (closed : u.pages.recent ≡ []) (s : ℕ
   recent_is : page ∷ u.pages.recent ≡ page ∷ []
   recent_is = ap (λ ns. page ∷ ns) closed
 
-  order : IsSound (record u.pages { recent = page ∷ u.pages.recent })
+  order : IsSoundOrder (record u.pages { recent = page ∷ u.pages.recent })
   order = record {
     distinct = subst (λ ns. IsDistinct nat_eq (page ∷ ns)) (sym closed) (IsDistinct-cons nat_eq page [] tt (subst (λ ns. IsDistinct nat_eq ns) closed good.order.distinct));
     in_range = All-cons (λ p. p < u.pages.total) page u.pages.recent free.0 good.order.in_range;
@@ -223,28 +223,28 @@ module _ {u : Parts} (good : IsGood u) (closed : u.pages.recent ≡ []) (s : ℕ
   bare_is : bare us ≡ with_object (bare os) s widowed
   bare_is = bare_with_object os s x (linked r) widowed at.there (unframed_linked (linked r x) linked_now ∙ sym (ap widowed (unlinked x at.single)))
 
-  bare_there : object_at (bare os) s ≡ Some (unframed x)
+  bare_there : heap_object (bare os) s ≡ Some (unframed x)
   bare_there = bare_at os s ∙ ap (option_map unframed) at.there
 
   abbrev ghost_of : Obj → Obj
   ghost_of o = obj_of (ref_of (bare os)) (widowed (unframed x))
 
-  kept_is : (active : Option ℕ) → kept_of (bare us) u.classes u.roots active ≡ edit_object (kept_of (bare os) u.classes u.roots active) (ref.Obj (birth_of (bare os) s)) ghost_of
+  kept_is : (active : Option ℕ) → kept_of (bare us) u.classes u.roots active ≡ edit_object (kept_of (bare os) u.classes u.roots active) (ref.Obj (birth_at (bare os) s)) ghost_of
   kept_is active = ap (λ ys. kept_of ys u.classes u.roots active) bare_is
       ∙ kept_of-with_object (bare os) u.classes u.roots active s (unframed x) widowed ghost_of widowed_edit (bare_whole os u.classes u.roots good.whole).heap bare_there refl
 
   rest_is : (active : Option ℕ) → (kept_of (bare us) u.classes u.roots active).rest ≡ (kept_of (bare os) u.classes u.roots active).rest
-  rest_is active = ap (λ (k : Kept). k.rest) (kept_is active) ∙ edit_rest (kept_of (bare os) u.classes u.roots active) (birth_of (bare os) s) ghost_of
+  rest_is active = ap (λ (k : Kept). k.rest) (kept_is active) ∙ edit_rest (kept_of (bare os) u.classes u.roots active) (birth_at (bare os) s) ghost_of
 
-  other_is : (i : ℕ) → i ≢ birth_of os s → get (objects_of (bare us)) i ≡ get (objects_of (bare os)) i
-  other_is i ne = ap (λ (k : Kept). state.object_at k i) (kept_is None) ∙ edit_other (kept_of (bare os) u.classes u.roots None) (birth_of (bare os) s) i ghost_of (λ e. ne (e ∙ bare_birth os s))
+  other_is : (i : ℕ) → i ≢ birth_at os s → get (objects_of (bare us)) i ≡ get (objects_of (bare os)) i
+  other_is i ne = ap (λ (k : Kept). state.object_at k i) (kept_is None) ∙ edit_other (kept_of (bare os) u.classes u.roots None) (birth_at (bare os) s) i ghost_of (λ e. ne (e ∙ bare_birth os s))
 
   base_context : frame_context us f [] ≡ context_of (ref_of os) x.hash x.words
   unfolding frame_context context_of
   base_context =
       let slot = live_slot good.whole at good.pcs good.births in
       λ i. record {
-        hash = (ap (λ b. if b then 0 else hash_of us s) (ne_eqb s nil not_nil) ∙ field_of-with_object_kept (λ y. y.hash) os s s (linked r) (linked_edit r).slots (λ y. refl)
+        hash = (ap (λ b. if b then 0 else hash_at us s) (ne_eqb s nil not_nil) ∙ field_of-with_object_kept (λ y. y.hash) os s s (linked r) (linked_edit r).slots (λ y. refl)
             ∙ ap (λ (o : Option Object). option_map_or (λ (y : Object). y.hash) o 0) at.there) i;
         sender = (ap (λ q. q (slot_of os s 0)) refers ∙ ap (ref_of os) (slot 0)) i;
         pc = ap count_of (slot 1) i;
@@ -255,23 +255,23 @@ module _ {u : Parts} (good : IsGood u) (closed : u.pages.recent ≡ []) (s : ℕ
         size = (size_some us f not_nil ∙ ap (λ n. n - 6) (kept_count ∙ live_count good.whole at good.pcs good.births)) i;
       }
 
-  found : get (objects_of (bare os)) (birth_of os s) ≡ Some (Ctx (context_of (ref_of os) x.hash x.words))
+  found : get (objects_of (bare os)) (birth_at os s) ≡ Some (Ctx (context_of (ref_of os) x.hash x.words))
   found =
       let k = stands os s x at.there in
       ap (get (objects_of (bare os))) (live_birth good.whole at good.pcs good.births) ∙ bare_element os k.0 x good.whole.heap k.1.element
       ∙ ap (λ y. Some (obj_of (ref_of os) y)) (unlinked x at.single) ∙ ap (λ o. Some o) (obj_of-context (ref_of os) x at.context)
 
-  base_here : get (pages_onto us ps (objects_of (bare us))) (birth_of os s) ≡ get (objects_of (bare os)) (birth_of os s)
+  base_here : get (pages_onto us ps (objects_of (bare us))) (birth_at os s) ≡ get (objects_of (bare os)) (birth_at os s)
   base_here = onto_frame us u.roots.next_birth ps (objects_of (bare us)) page all (subst (IsOn f []) (sym page_here) here) ∙ ap (λ c. Some (Ctx c)) base_context ∙ sym found
 
-  lacking : (i : ℕ) → i ≢ birth_of os s → (q : ℕ) → Lacks i (frames_of ps q)
+  lacking : (i : ℕ) → i ≢ birth_at os s → (q : ℕ) → Lacks i (frames_of ps q)
   lacking i ne q = elim (cases_eq q page) [
     | inl e ↦ subst (λ n. Lacks i (frames_of ps n)) (sym e) (subst (Lacks i) (sym page_here) (ne, tt))
     | inr off ↦ subst (Lacks i) (sym (page_other q off)) tt
   ]
 
   objects_are : pages_onto us ps (objects_of (bare us)) ≡ (view_of u).objects
-  objects_are = same_map nat_cmp_total nat_cmp-IsAntisymmetric _ _ (λ i. elim (cases_eq i (birth_of os s)) [
+  objects_are = same_map nat_cmp_total nat_cmp-IsAntisymmetric _ _ (λ i. elim (cases_eq i (birth_at os s)) [
     | inl e ↦ ap (get (pages_onto us ps (objects_of (bare us)))) e ∙ base_here ∙ ap (get (objects_of (bare os))) (sym e)
     | inr ne ↦ onto_bare us ps (objects_of (bare us)) i (lacking i ne) ∙ other_is i ne
   ]) ∙ sym (bare_objects good closed)
@@ -280,11 +280,11 @@ module _ {u : Parts} (good : IsGood u) (closed : u.pages.recent ≡ []) (s : ℕ
   page_is = page_here
 
   -- nothing changes but that the context is active
-  pub based_view : view_of (based_parts page s u) ≡ record (view_of u) { rest = record (view_of u).rest { active = Some (birth_of os s) } }
+  pub based_view : view_of (based_parts page s u) ≡ record (view_of u) { rest = record (view_of u).rest { active = Some (birth_at os s) } }
   based_view =
       ap (λ a. record (kept_of (bare us) u.classes u.roots a) { objects = pages_onto us ps (objects_of (bare us)) }) (ap active_in page_is)
-      ∙ ap (λ m. record (kept_of (bare us) u.classes u.roots (Some (birth_of os s))) { objects = m }) objects_are
-      ∙ ap (λ q. record (view_of u) { rest = q }) (rest_is (Some (birth_of os s)))
+      ∙ ap (λ m. record (kept_of (bare us) u.classes u.roots (Some (birth_at os s))) { objects = m }) objects_are
+      ∙ ap (λ q. record (view_of u) { rest = q }) (rest_is (Some (birth_at os s)))
 
   pub based_names : KeepsNames (stored_of u) (stored_of (based_parts page s u))
   based_names = λ o h. record { sound = ap (λ q. q o.0) references ∙ h; is = ap (λ q. q o.0) refers }
@@ -292,6 +292,6 @@ module _ {u : Parts} (good : IsGood u) (closed : u.pages.recent ≡ []) (s : ℕ
   pub based_contexts : contexts_in (based_parts page s u).heap.objects ≡ contexts_in u.heap.objects
   based_contexts = contexts_kept os s (linked r) (linked_edit r)
 
-  pub based_layout : layout_of (based_parts page s u) ≡ Some (record { most = u.pages.total; pages = (birth_of os s ∷ []) ∷ [] })
+  pub based_layout : layout_of (based_parts page s u) ≡ Some (record { most = u.pages.total; pages = (birth_at os s ∷ []) ∷ [] })
   based_layout = ap (λ ns. Some (record { most = u.pages.total; pages = laid_pages ps ns })) recent_is
       ∙ ap (λ fs. Some (record { most = u.pages.total; pages = births_of fs ∷ [] })) page_here

@@ -11,8 +11,8 @@ use Rattle.cs_classes.specs.Meaning.{ref_of}
 use Rattle.cs_classes.proofs.Refs.{ref_of-object}
 use Rattle.cs_frame.specs.declared.FrameRef.{FrameRef}
 use Rattle.cs_frame.specs.declared.NewFrame.{NewFrame}
-use Rattle.cs_frame.specs.Frame.{Frame, cut, nil, with_caller, with_saved_pc, with_stack}
-use Rattle.cs_frame.specs.Page.{IsBase, IsFrame, IsTop, called, fresh, frame, frames_of, index_of, nth, on_frame, on_page, on_top, top, used}
+use Rattle.cs_frame.specs.Frame.{Frame, call_cut, nil, with_caller, with_saved_pc, with_values}
+use Rattle.cs_frame.specs.Page.{IsBase, IsFrame, IsTop, called, fresh, frame, frames_of, frame_index, nth, on_frame, on_page, on_top, top, frames_used}
 use Rattle.cs_frame.specs.Page as page
 use Rattle.cs_frame.proofs.PageLaws.{frames_of-on_page, frames_of-on_page_other, length-on_page, on_page-on_page_other}
 use Rattle.cs_marriage.specs.Agree.{AreMarried}
@@ -23,7 +23,7 @@ use Rattle.cs_model.specs.Obj.{context_class}
 use Rattle.cs_model.specs.Read.{active_birth}
 use Rattle.cs_acts.specs.Layout.{LaidBy, entered, page_words}
 use Rattle.cs_acts.specs.Ready.{IsReady}
-use Rattle.cs_pages.specs.Order.{IsFree, IsSound, Order}
+use Rattle.cs_pages.specs.Order.{IsFree, IsSoundOrder, Order}
 use Rattle.cs_pages.proofs.Lists.{lacks_from_not}
 use Rattle.cs_stack.specs.declared.parts.Parts.{Parts}
 use Rattle.cs_stack.specs.View.{active_page, births_of, frame_sender, laid_pages, layout_of, stored_of, view_of}
@@ -56,7 +56,7 @@ free_other o p free e = free.1 (subst (λ ps. Contains ps p) (sym o.recent) (0, 
 abbrev pub taken_order : Order → ℕ → Order
 taken_order order p = record order { recent = p ∷ order.recent }
 
-taken_sound : (order : Order) (p : ℕ) → IsSound order → IsFree order p → IsSound (taken_order order p)
+taken_sound : (order : Order) (p : ℕ) → IsSoundOrder order → IsFree order p → IsSoundOrder (taken_order order p)
 taken_sound order p sound free = record {
   distinct = IsDistinct-cons nat_eq p order.recent (lacks_from_not p order.recent free.1) sound.distinct;
   in_range = All-cons (λ q. q < order.total) p order.recent free.0 sound.in_range;
@@ -72,7 +72,7 @@ taken_others order p q other = (back, λ h. (suc h.0, omega (arith, h.1), h.2))
 -- ---- a caller that is married
 
 module _ (w : Parts) (good : IsGood w) (o : Opened w) (some : o.f.context ≢ nil) where
-  married : AreMarried w.heap.objects (page.ref_of o.p o.f) o.f
+  married : AreMarried w.heap.objects (page.frame_ref o.p o.f) o.f
   married = married_on w good o.p (subst (IsOn o.f o.fs) (sym o.is) here) some
 
   spouse_there : is_object w.heap.objects o.f.context ≡ true
@@ -93,7 +93,7 @@ module _ {w : Parts} (good : IsGood w) (ready : IsReady (stored_of w) (view_of w
   next = w.roots.next_birth
 
   abbrev caller : Frame
-  caller = cut new.args o.f
+  caller = call_cut new.args o.f
 
   abbrev made : Frame
   made = callee os new pc.0 copies 0 sender o.f
@@ -132,8 +132,8 @@ module _ {w : Parts} (good : IsGood w) (ready : IsReady (stored_of w) (view_of w
   begun_is =
       let word : ℕ → Frame → Frame = λ a f. callee os new pc.0 copies 0 a f in
       ap (λ ss. record (given_birth w) { pages = order; frames = ss })
-      (ap (λ n. on_page (on_page w.frames n (on_top (cut new.args))) p (λ _. word sender (top (frames_of w.frames n)) ∷ [])) (number_is o)
-      ∙ ap (λ (fs : List Frame). on_page (on_page w.frames o.p (λ _. on_top (cut new.args) fs)) p (λ _. word sender (top fs) ∷ [])) o.is
+      (ap (λ n. on_page (on_page w.frames n (on_top (call_cut new.args))) p (λ _. word sender (top (frames_of w.frames n)) ∷ [])) (number_is o)
+      ∙ ap (λ (fs : List Frame). on_page (on_page w.frames o.p (λ _. on_top (call_cut new.args) fs)) p (λ _. word sender (top fs) ∷ [])) o.is
       ∙ ap (λ (fs : List Frame). on_page w1.frames p (λ _. made ∷ fs)) (sym still_empty))
 
   inside : p < length w1.frames
@@ -185,10 +185,10 @@ module _ {w : Parts} (good : IsGood w) (ready : IsReady (stored_of w) (view_of w
   cut_stay : Stay w.frames w1.frames o.qs
   cut_stay q h = frames_of-on_page_other w.frames o.p q (λ _. caller ∷ o.fs) (behind w.pages o.p o.qs good.order o.recent q h)
 
-  pub begun_layout : 4096 < used (active_page w) + 66 → LaidBy (entered (view_of w) next) (layout_of w) (layout_of (begun_parts p sender new pc.0 copies w))
+  pub begun_layout : 4096 < frames_used (active_page w) + 66 → LaidBy (entered (view_of w) next) (layout_of w) (layout_of (begun_parts p sender new pc.0 copies w))
   unfolding can_add
   begun_layout full =
-      let tight : nat_le (page_words (view_of w) (births_of (o.f ∷ o.fs)) + 66) 4096 ≡ false = ap (λ n. nat_le (n + 66) 4096) (words_used w good o ∙ ap used (sym o.page_is)) ∙ at_least _ _ full in
+      let tight : nat_le (page_words (view_of w) (births_of (o.f ∷ o.fs)) + 66) 4096 ≡ false = ap (λ n. nat_le (n + 66) 4096) (words_used w good o ∙ ap frames_used (sym o.page_is)) ∙ at_least _ _ full in
       let most : ℕ = w.pages.total in
       ap layout_of begun_is
       ∙ added_layout w1 (cut_edited w good o new.args).good p made order can_add
@@ -208,7 +208,7 @@ pub record Stage (ps : List (List Frame)) (p : ℕ) (ss : List (List Frame)) (r 
   pub at : g.at ≡ 0
 
 module _ {ps : List (List Frame)} {p : ℕ} {ss : List (List Frame)} {r : FrameRef} {g : Frame} (s : Stage ps p ss r g) where
-  ref_is : r ≡ page.ref_of p g
+  ref_is : r ≡ page.frame_ref p g
   ref_is = s.ref ∙ ap (λ n. record { page = p; at = n }) (sym s.at)
 
   page_is : r.page ≡ p
@@ -223,8 +223,8 @@ module _ {ps : List (List Frame)} {p : ℕ} {ss : List (List Frame)} {r : FrameR
   pub stage_top : IsTop ss r
   stage_top = subst (λ qs. IsTop qs r) (sym s.is) (subst (IsTop (alone ps p g)) (sym ref_is) (alone_top ps p s.within g))
 
-  pub stage_used : used (frames_of ss r.page) ≡ 10 + length g.stack
-  stage_used = omega (arith, ap used frames_are)
+  pub stage_used : frames_used (frames_of ss r.page) ≡ 10 + length g.stack
+  stage_used = omega (arith, ap frames_used frames_are)
 
   pub stage_other : (q : ℕ) → q ≢ p → frames_of ss q ≡ frames_of ps q
   stage_other q other = ap (λ qs. frames_of qs q) s.is ∙ frames_of-on_page_other ps p q (λ _. g ∷ []) other
@@ -238,30 +238,30 @@ module _ {ps : List (List Frame)} {p : ℕ} {ss : List (List Frame)} {r : FrameR
   }
 
   -- so many values more on its stack
-  pub stage_longer : (qs : List (List Frame)) (ys : List ℕ) → qs ≡ longer ss r.page ys → Stage ps p qs r (with_stack (g.stack ++ ys) g)
+  pub stage_longer : (qs : List (List Frame)) (ys : List ℕ) → qs ≡ longer ss r.page ys → Stage ps p qs r (with_values (g.stack ++ ys) g)
   stage_longer qs ys made = record {
     within = s.within;
     is = made
-        ∙ ap (λ (fs : List Frame). on_page ss r.page (on_top (with_stack ((top fs).stack ++ ys)))) frames_are
-        ∙ ap₂ (λ ts n. on_page ts n (on_top (with_stack (g.stack ++ ys)))) s.is page_is
-        ∙ alone_on_top ps p s.within g (with_stack (g.stack ++ ys));
+        ∙ ap (λ (fs : List Frame). on_page ss r.page (on_top (with_values ((top fs).stack ++ ys)))) frames_are
+        ∙ ap₂ (λ ts n. on_page ts n (on_top (with_values (g.stack ++ ys)))) s.is page_is
+        ∙ alone_on_top ps p s.within g (with_values (g.stack ++ ys));
     ref = s.ref;
     at = s.at;
   }
 
 pub stage_built : (ps : List (List Frame)) (p : ℕ) (ss : List (List Frame)) (r : FrameRef) (new : NewFrame) → p < length ps → frames_of ps p ≡ [] → ss ≡ on_page ps p (called new)
-    → r ≡ page.ref_of p (top (frames_of ss p)) → Stage ps p ss r (fresh new 0 new.receiver.0 [])
+    → r ≡ page.frame_ref p (top (frames_of ss p)) → Stage ps p ss r (fresh new 0 new.receiver.0 [])
 stage_built ps p ss r new within empty made at =
     let whole : ss ≡ alone ps p (fresh new 0 new.receiver.0 []) = made ∙ ap (λ (fs : List Frame). on_page ps p (λ _. called new fs)) empty in
     record {
       within = within;
       is = whole;
-      ref = at ∙ ap (λ (fs : List Frame). page.ref_of p (top fs)) (ap (λ qs. frames_of qs p) whole ∙ alone_frames ps p within (fresh new 0 new.receiver.0 []));
+      ref = at ∙ ap (λ (fs : List Frame). page.frame_ref p (top fs)) (ap (λ qs. frames_of qs p) whole ∙ alone_frames ps p within (fresh new 0 new.receiver.0 []));
       at = refl;
     }
 
 module _ {w : Parts} (o : Opened w) (p : ℕ) (other : p ≢ o.p) {ss : List (List Frame)} {r : FrameRef} {g : Frame} (s : Stage w.frames p ss r g)
-    (c : FrameRef) (place : c ≡ page.ref_of (active_number w) (top (active_page w))) where
+    (c : FrameRef) (place : c ≡ page.frame_ref (active_number w) (top (active_page w))) where
   caller_page : c.page ≡ o.p
   caller_page = ap (λ (q : FrameRef). q.page) (top_ref o c place)
 
@@ -269,23 +269,23 @@ module _ {w : Parts} (o : Opened w) (p : ℕ) (other : p ≢ o.p) {ss : List (Li
   caller_frames = ap (frames_of ss) caller_page ∙ stage_other s o.p (λ e. other (sym e)) ∙ o.is
 
   pub caller_same : frame ss c ≡ o.f
-  caller_same = ap (λ (fs : List Frame). nth fs (index_of fs c.at)) (caller_frames ∙ sym (ap (frames_of w.frames) caller_page ∙ o.is)) ∙ top_frame o c place
+  caller_same = ap (λ (fs : List Frame). nth fs (frame_index fs c.at)) (caller_frames ∙ sym (ap (frames_of w.frames) caller_page ∙ o.is)) ∙ top_frame o c place
 
   pub caller_stands : IsFrame ss c
-  caller_stands = subst (λ (fs : List Frame). index_of fs c.at < length fs) (sym (caller_frames ∙ sym (ap (frames_of w.frames) caller_page ∙ o.is))) (top_is_frame o c place)
+  caller_stands = subst (λ (fs : List Frame). frame_index fs c.at < length fs) (sym (caller_frames ∙ sym (ap (frames_of w.frames) caller_page ∙ o.is))) (top_is_frame o c place)
 
   pub caller_top : IsTop ss c
   caller_top = (omega (arith, ap length caller_frames), ap (λ (q : FrameRef). q.at) (top_ref o c place) ∙ sym (ap (λ (fs : List Frame). (top fs).at) caller_frames))
 
   -- receiver and arguments leave it
-  pub stage_cut : (qs : List (List Frame)) (args : ℕ) → qs ≡ shorter ss c.page (args + 1) → qs ≡ on_page (on_page w.frames (active_number w) (on_top (cut args))) p (λ _. g ∷ [])
+  pub stage_cut : (qs : List (List Frame)) (args : ℕ) → qs ≡ shorter ss c.page (args + 1) → qs ≡ on_page (on_page w.frames (active_number w) (on_top (call_cut args))) p (λ _. g ∷ [])
   stage_cut qs args made =
       made
       ∙ ap (λ (fs : List Frame). on_page ss c.page (λ _. shorter_page (args + 1) fs)) caller_frames
-      ∙ ap₂ (λ ts n. on_page ts n (λ _. cut args o.f ∷ o.fs)) s.is caller_page
-      ∙ on_page-on_page_other w.frames p o.p (λ _. g ∷ []) (λ _. cut args o.f ∷ o.fs) other
-      ∙ ap (λ (fs : List Frame). on_page (on_page w.frames o.p (λ _. on_top (cut args) fs)) p (λ _. g ∷ [])) (sym o.is)
-      ∙ ap (λ n. on_page (on_page w.frames n (on_top (cut args))) p (λ _. g ∷ [])) (sym (number_is o))
+      ∙ ap₂ (λ ts n. on_page ts n (λ _. call_cut args o.f ∷ o.fs)) s.is caller_page
+      ∙ on_page-on_page_other w.frames p o.p (λ _. g ∷ []) (λ _. call_cut args o.f ∷ o.fs) other
+      ∙ ap (λ (fs : List Frame). on_page (on_page w.frames o.p (λ _. on_top (call_cut args) fs)) p (λ _. g ∷ [])) (sym o.is)
+      ∙ ap (λ n. on_page (on_page w.frames n (on_top (call_cut args))) p (λ _. g ∷ [])) (sym (number_is o))
 
 -- ---- the frame, part by part
 
@@ -311,24 +311,24 @@ module _ {w : Parts} (good : IsGood w) (ready : IsReady (stored_of w) (view_of w
     stack = xs;
   }
 
-  pub begun_empty : (ps qs ss : List (List Frame)) (r : FrameRef) → ps ≡ on_page w.frames p (called (record new { args = 0; fill = 0 })) → r ≡ page.ref_of p (top (frames_of ps p))
+  pub begun_empty : (ps qs ss : List (List Frame)) (r : FrameRef) → ps ≡ on_page w.frames p (called (record new { args = 0; fill = 0 })) → r ≡ page.frame_ref p (top (frames_of ps p))
       → qs ≡ on_frame ps r (with_caller sender) → ss ≡ on_frame qs r (with_saved_pc pc.0) → Stage w.frames p ss r (holding [])
   begun_empty ps qs ss r built at sent saved =
       let alone : NewFrame = record new { args = 0; fill = 0 } in
       let first = stage_built w.frames p ps r alone (omega (arith, free.0, good.total)) (free_empty w good p free) built at in
       stage_on_frame (stage_on_frame first qs (with_caller sender) refl sent) ss (with_saved_pc pc.0) refl saved
 
-  module _ {ss : List (List Frame)} {r : FrameRef} (c : FrameRef) (place : c ≡ page.ref_of (active_number w) (top (active_page w))) where
+  module _ {ss : List (List Frame)} {r : FrameRef} (c : FrameRef) (place : c ≡ page.frame_ref (active_number w) (top (active_page w))) where
     pub begun_arguments : Stage w.frames p ss r (holding []) → (qs : List (List Frame))
-        → qs ≡ on_page ss r.page (on_top (with_stack ((top (frames_of ss r.page)).stack ++ drop (length (frame ss c).stack - new.args) (frame ss c).stack)))
+        → qs ≡ on_page ss r.page (on_top (with_values ((top (frames_of ss r.page)).stack ++ drop (length (frame ss c).stack - new.args) (frame ss c).stack)))
         → Stage w.frames p qs r (holding arguments)
     begun_arguments s qs pushed =
         stage_longer s qs arguments (pushed ∙ ap (λ (f : Frame). longer ss r.page (drop (length f.stack - new.args) f.stack)) (caller_same o p (free_other o p free) s c place))
 
     pub begun_made : Stage w.frames p ss r (holding ((arguments ++ replicate new.fill nil) ++ copied)) → (qs : List (List Frame)) → qs ≡ shorter ss c.page (new.args + 1)
-        → qs ≡ on_page (on_page w.frames (active_number w) (on_top (cut new.args))) p (λ _. callee w.heap.objects new pc.0 copies 0 sender (top (frames_of w.frames (active_number w))) ∷ [])
+        → qs ≡ on_page (on_page w.frames (active_number w) (on_top (call_cut new.args))) p (λ _. callee w.heap.objects new pc.0 copies 0 sender (top (frames_of w.frames (active_number w))) ∷ [])
     begun_made s qs dropped =
         let active : top (frames_of w.frames (active_number w)) ≡ o.f = ap (λ (fs : List Frame). top fs) (ap (frames_of w.frames) (number_is o) ∙ o.is) in
         stage_cut o p (free_other o p free) s c place qs new.args dropped
-        ∙ ap (λ (xs : List ℕ). on_page (on_page w.frames (active_number w) (on_top (cut new.args))) p (λ _. holding xs ∷ [])) (append_assoc arguments (replicate new.fill nil) copied)
-        ∙ ap (λ (f : Frame). on_page (on_page w.frames (active_number w) (on_top (cut new.args))) p (λ _. callee w.heap.objects new pc.0 copies 0 sender f ∷ [])) (sym active)
+        ∙ ap (λ (xs : List ℕ). on_page (on_page w.frames (active_number w) (on_top (call_cut new.args))) p (λ _. holding xs ∷ [])) (append_assoc arguments (replicate new.fill nil) copied)
+        ∙ ap (λ (f : Frame). on_page (on_page w.frames (active_number w) (on_top (call_cut new.args))) p (λ _. callee w.heap.objects new pc.0 copies 0 sender f ∷ [])) (sym active)

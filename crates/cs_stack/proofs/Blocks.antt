@@ -10,7 +10,7 @@ use Rattle.cs_word.specs.declared.Kind.{Kind}
 use Rattle.cs_word.specs.declared.Kind.TheVariants as kind
 use Rattle.cs_word.specs.declared.Oop.{Oop}
 use Rattle.cs_word.specs.Word.{kind_of}
-use Rattle.cs_heap.specs.Object.{Object, birth_of, class_of, is_object, slot_count_of, slot_of}
+use Rattle.cs_heap.specs.Object.{Object, birth_at, class_at, is_object, slot_count_of, slot_of}
 use Rattle.cs_model.proofs.Bools.{and_five}
 use Rattle.cs_classes.specs.Meaning.{context_of, count_of, count_of_kind, objects_of, ref_of, ref_of_kind}
 use Rattle.cs_classes.specs.Sound.{is_reference, is_reference_kind}
@@ -20,7 +20,7 @@ use Rattle.cs_classes.proofs.Sounds.{IsWholeContext, sound_at, whole_context}
 use Rattle.cs_frame.specs.declared.NewFrame.{NewFrame}
 use Rattle.cs_frame.specs.Frame.{nil}
 use Rattle.cs_marriage.specs.Agree.{AreMarried}
-use Rattle.cs_model.specs.Ref.{Ref, index_of}
+use Rattle.cs_model.specs.Ref.{Ref, small_index}
 use Rattle.cs_model.specs.Ref as ref
 use Rattle.cs_model.specs.Obj.{Context, context_in, context_size, header_in, is_method}
 use Rattle.cs_model.specs.State.{Kept, is_nil, object_of}
@@ -44,11 +44,11 @@ use Rattle.cs_stack.proofs.Copies.{HasSlots, closure_there, count_is, slot_named
 use Rattle.cs_stack.proofs.Methods.{Begins}
 
 -- a word and its reference are the same index
-index_word : (os : List Object) (v : ℕ) → is_reference os v ≡ true → index_of (ref_of os v) ≡ count_of v
+index_word : (os : List Object) (v : ℕ) → is_reference os v ≡ true → small_index (ref_of os v) ≡ count_of v
 unfolding ref_of count_of is_reference
 index_word os v named = by_kind (kind_of v) named
   where
-    by_kind : (n : Kind) → is_reference_kind os n ≡ true → index_of (ref_of_kind os n) ≡ count_of_kind n
+    by_kind : (n : Kind) → is_reference_kind os n ≡ true → small_index (ref_of_kind os n) ≡ count_of_kind n
     by_kind (kind.Small value) h = refl
     by_kind (kind.Character code) h = refl
     by_kind (kind.Object address) h = refl
@@ -82,7 +82,7 @@ outer_read w good a named some = go (is_married a.0 w.frames) refl
     there : is_object os a.0 ≡ true
     there = is_object-object_at os a.0 n.x n.there
 
-    name_is : ref_of os a.0 ≡ ref.Obj (birth_of os a.0)
+    name_is : ref_of os a.0 ≡ ref.Obj (birth_at os a.0)
     name_is = ref_of-object os a.0 there
 
     slot_is : (i : ℕ) → slot_of os a.0 i ≡ slice_index n.x.words i
@@ -107,10 +107,10 @@ outer_read w good a named some = go (is_married a.0 w.frames) refl
 
     framed : HasBody a.0 w.frames → Outer w a.0
     framed b =
-        let apart : b.f.context ≢ nil = λ e. good.agree.nil_class (ap (class_of os) (sym (sym b.is ∙ e)) ∙ (context_stands w good a named (sym (context_known w good a named) ∙ some)).class) in
+        let apart : b.f.context ≢ nil = λ e. good.agree.nil_class (ap (class_at os) (sym (sym b.is ∙ e)) ∙ (context_stands w good a named (sym (context_known w good a named) ∙ some)).class) in
         let m : AreMarried os (record { page = b.p; at = b.f.at }) b.f = married_on w good b.p b.on apart in
         let found = onto_frame os w.roots.next_birth w.frames (objects_of (bare os)) b.p (all_fit w good) b.on in
-        let birth : birth_of os a.0 ≡ b.f.birth = ap (birth_of os) (sym b.is) ∙ m.birth in
+        let birth : birth_at os a.0 ≡ b.f.birth = ap (birth_at os) (sym b.is) ∙ m.birth in
         read (frame_context os b.f b.gs)
         (ap (λ r. context_in (object_of (view_of w) r)) (name_is ∙ ap (λ i. ref.Obj i) birth) ∙ ap context_in found)
         (ap (λ c. ref_of os (slot_of os c 3)) (sym b.is) ∙ ap (ref_of os) m.method)
@@ -120,7 +120,7 @@ outer_read w good a named some = go (is_married a.0 w.frames) refl
     go true e = framed (married_body a.0 w.frames e)
     go false e =
         let c = context_there w a.0 n.x good n.there n.context e in
-        let birth : birth_of os a.0 ≡ c.x.birth = birth_of-object_at os a.0 c.x c.there in
+        let birth : birth_at os a.0 ≡ c.x.birth = birth_of-object_at os a.0 c.x c.there in
         read (context_of (ref_of os) (unframed c.x).hash (unframed c.x).words)
         (ap (λ r. context_in (object_of (view_of w) r)) (name_is ∙ ap (λ i. ref.Obj i) birth) ∙ ap context_in c.found)
         (ap (ref_of os) (kept_word c 3 (slot_of os a.0 3) (omega arith) refl))
@@ -133,7 +133,7 @@ record Evaluates (k : Kept) (x : Ref) : Type 0 where
   slots : 3 ≤ length (closure_slots (object_of k x))
   outer : is_some (outer_context k x) ≡ true
   method : is_method (object_of k (closure_method k x)) ≡ true
-  lies : lies_if_index (object_of k (closure_method k x)) (index_of (closure_slot k x 1)) ≡ true
+  lies : lies_if_index (object_of k (closure_method k x)) (small_index (closure_slot k x 1)) ≡ true
 
 less : (a b : ℕ) → nat_le a b ≡ true → a ≤ b
 less a b h = grind (arith, nat_tests, h)
@@ -202,8 +202,8 @@ module _ {w : Parts} (good : IsGood w) (ready : IsReady (stored_of w) (view_of w
       receiver_is : name_of (stored_of w) receiver ≡ receiver_in_context (nil_of k) (outer_context k x)
       receiver_is = ap (ref_of os) receiver_word ∙ outer_there.receiver ∙ sym (ap (receiver_in_context (nil_of k)) outer_is_there)
 
-      pc_is : count_of pc.0 ≡ index_of (closure_slot k x 1)
-      pc_is = sym (index_word os pc.0 (ap (is_reference os) pc_word ∙ field_named 1 (omega arith))) ∙ ap index_of (ap (ref_of os) pc_word ∙ slot_reads 1 (omega arith))
+      pc_is : count_of pc.0 ≡ small_index (closure_slot k x 1)
+      pc_is = sym (index_word os pc.0 (ap (is_reference os) pc_word ∙ field_named 1 (omega arith))) ∙ ap small_index (ap (ref_of os) pc_word ∙ slot_reads 1 (omega arith))
 
       all : copies ≡ length (copied_values k x)
       all = omega (arith, counted, count_is h, length-drop 3 (closure_slots (object_of k x)))

@@ -7,11 +7,11 @@ use Rattle.std.specs.List.{AllByRecursion, AllPass}
 use Rattle.std.specs.FinMap.{get}
 use Rattle.std.proofs.lemmas.List.{length-set}
 use Rattle.cs_word.specs.Word.{small_word}
-use Rattle.cs_heap.specs.Object.{Object, class_of, is_object}
-use Rattle.cs_classes.specs.Meaning.{context_of, count_of, is_context, kept_of, meaning_at, obj_of, objects_of, ref_of}
+use Rattle.cs_heap.specs.Object.{Object, class_at, is_object}
+use Rattle.cs_classes.specs.Meaning.{context_of, count_of, is_heap_context, kept_of, meaning_at, obj_of, objects_of, ref_of}
 use Rattle.cs_classes.specs.Kinds.{ContextKinds, KindsStand}
 use Rattle.cs_classes.specs.Senders.{SenderStands}
-use Rattle.cs_classes.specs.Sound.{is_method_address, is_reference, nil_of}
+use Rattle.cs_classes.specs.Sound.{is_method_address, is_reference, nil_word}
 use Rattle.cs_classes.proofs.Fields.{nil_or_closure_named, nil_or_method_named}
 use Rattle.cs_classes.proofs.Makings.{ref_of-nil}
 use Rattle.cs_classes.proofs.Objects.{get-objects_of-element, objects_of-comes}
@@ -35,7 +35,7 @@ use Rattle.cs_acts.proofs.ContextKinds.{KindsGrow, context_kinds-grow}
 use Rattle.cs_marriage.specs.Place.{names_place}
 use Rattle.cs_marriage.proofs.Objects.{method_there as method_there_at}
 use Rattle.cs_stack.specs.declared.parts.Parts.{Parts}
-use Rattle.cs_stack.specs.View.{active_in, active_page, bare, dead_words, first_of, frame_context, is_linked, stored_of, unframed, view_of}
+use Rattle.cs_stack.specs.View.{active_in, active_page, bare, dead_words, first_frames, frame_context, is_linked, stored_of, unframed, view_of}
 use Rattle.cs_stack.specs.Good.{FrameFits, HasSender, IsGood, PcFits, is_nil_or}
 use Rattle.cs_stack.proofs.Addresses.{closure_sound, nil_or_named, nil_or_nil, nil_or_there, nil_or_which, sender_single}
 use Rattle.cs_stack.proofs.Lives.{Lives, lives, lives_if_live}
@@ -140,7 +140,7 @@ module _ (w : Parts) (good : IsGood w) where
           let is : f.birth ≡ i = cc in
           ap is_some (ap (object_at view) (sym is) ∙ found f gs p (subst (IsOn f gs) (sym e) here))
 
-      go : (recent : List ℕ) → active_in (first_of w.frames recent) ≡ Some i → IsSome (object_at view i)
+      go : (recent : List ℕ) → active_in (first_frames w.frames recent) ≡ Some i → IsSome (object_at view i)
       go [] h = absurd (cc)
       go (p ∷ qs) h = top_held p (frames_of w.frames p) refl h
 
@@ -172,7 +172,7 @@ module _ (w : Parts) (good : IsGood w) where
       go (Framed p f gs on is) = absurd (let no : true ≡ false = ap obj.is_context (framed_is i o p f gs h on is) ∙ other in cc)
       go (Bare l) = plain_bare os i o good.whole.heap (sym (onto_bare os w.frames (objects_of (bare os)) i l) ∙ h) other
 
-  context_there : (j : ℕ) (x : Object) → slice_get os j ≡ Some x → is_context x ≡ true → is_context_at (object_at view x.birth) ≡ true
+  context_there : (j : ℕ) (x : Object) → slice_get os j ≡ Some x → is_heap_context x ≡ true → is_context_at (object_at view x.birth) ≡ true
   context_there j x e is = go (which x.birth w.frames)
     where
       go : Which x.birth w.frames → is_context_at (object_at view x.birth) ≡ true
@@ -203,7 +203,7 @@ module _ (w : Parts) (good : IsGood w) where
   unfolding context_of
   context_lies x fit pc e = lies_there (slice_index x.words 3) (count_of (slice_index x.words 1)) pc (lives_if_live os (slice_index x.words 3) (count_of (slice_index x.words 1)) pc fit e) e
 
-  unframed_lies : (j : ℕ) (x : Object) → slice_get os j ≡ Some x → is_context x ≡ true → PcLies view (context_of (ref_of os) (unframed x).hash (unframed x).words)
+  unframed_lies : (j : ℕ) (x : Object) → slice_get os j ≡ Some x → is_heap_context x ≡ true → PcLies view (context_of (ref_of os) (unframed x).hash (unframed x).words)
   unfolding context_of
   unframed_lies j x element is pc e = go (is_linked x) refl
     where
@@ -256,13 +256,13 @@ module _ (w : Parts) (good : IsGood w) where
       go None e h = absurd (cc)
       go (Some o) e h =
           let from = objects_of-comes os i o good.whole.heap.apart e in
-          let is : is_context from.object ≡ true = context_back from.object (ap obj.is_context from.meaning ∙ h) in
+          let is : is_heap_context from.object ≡ true = context_back from.object (ap obj.is_context from.meaning ∙ h) in
           subst (λ n. is_context_at (object_at view n) ≡ true) from.birth (context_there from.place from.object from.element is)
         where
-          context_back : (x : Object) → obj.is_context (obj_of (ref_of os) x) ≡ true → is_context x ≡ true
-          context_back x h = both (is_context x) refl
+          context_back : (x : Object) → obj.is_context (obj_of (ref_of os) x) ≡ true → is_heap_context x ≡ true
+          context_back x h = both (is_heap_context x) refl
             where
-              both : (b : Bool) → is_context x ≡ b → is_context x ≡ true
+              both : (b : Bool) → is_heap_context x ≡ b → is_heap_context x ≡ true
               both true e = e
               both false e = absurd (let no : false ≡ true = sym (no_context (ref_of os) x e) ∙ h in cc)
 
@@ -280,14 +280,14 @@ module _ (w : Parts) (good : IsGood w) where
       there : is_object os v ≡ true
       there = nil_or_there context_class os v h
 
-      go : ((v == nil) ≡ true) ⊎ ((class_of os v == context_class) ≡ true) → (is_nil view (ref_of os v) || is_context_at (object_of view (ref_of os v))) ≡ true
+      go : ((v == nil) ≡ true) ⊎ ((class_at os v == context_class) ≡ true) → (is_nil view (ref_of os v) || is_context_at (object_of view (ref_of os v))) ≡ true
       go (inl e) = or_left (is_nil view (ref_of os v)) (is_context_at (object_of view (ref_of os v)))
           (ap (λ n. is_nil view (ref_of os n)) (eqb-true v nil e) ∙ ap (is_nil view) (ref_of-nil os w.classes w.roots good.whole)
           ∙ eq-eqb whole_heap.rest.nil view.rest.nil same_nil)
       go (inr e) = or_right (is_nil view (ref_of os v)) (is_context_at (object_of view (ref_of os v)))
           (let x = object_there os v there in
           let s = stands os v x.0 x.1 in
-          let is : is_context x.0 ≡ true = sym (ap (λ (o : Option Object). option_map_or (λ (y : Object). y.class) o 0 == context_class) x.1) ∙ e in
+          let is : is_heap_context x.0 ≡ true = sym (ap (λ (o : Option Object). option_map_or (λ (y : Object). y.class) o 0 == context_class) x.1) ∙ e in
           ap (λ r. is_context_at (object_of view r)) (ref_of-object os v there ∙ ap (λ n. ref.Obj n) (birth_of-object_at os v x.0 x.1)) ∙ context_there s.0 x.0 s.1.element is)
 
   -- a context with these fields
@@ -308,14 +308,14 @@ module _ (w : Parts) (good : IsGood w) where
       let h = fits f gs p on in
       let m = (agreed w good p on).method in
       let address : is_method_address os f.method ≡ true = ap₂ (λ a b. a && b) (method_there_at os f.method m) m.format in
-      fields_stand (frame_context os f gs) f.method f.closure refl refl (or_right (f.method == nil_of os) (is_method_address os f.method) address)
+      fields_stand (frame_context os f gs) f.method f.closure refl refl (or_right (f.method == nil_word os) (is_method_address os f.method) address)
       (closure_sound os f.closure good.whole.nil h.names.closure) (sender gs on h.sender)
     where
       sender : (hs : List Frame) → IsOn f hs (frames_of w.frames p) → HasSender os f hs → SenderStands view (frame_context os f hs)
       sender [] on h = sender_stands f.caller h
       sender (g ∷ hs) on h = or_right (is_nil view (ref.Obj g.birth)) (is_context_at (object_at view g.birth)) (ap is_context_at (found g hs p (below_on on)))
 
-  unframed_kinds : (j : ℕ) (x : Object) → slice_get os j ≡ Some x → is_context x ≡ true → ContextKinds view (context_of (ref_of os) (unframed x).hash (unframed x).words)
+  unframed_kinds : (j : ℕ) (x : Object) → slice_get os j ≡ Some x → is_heap_context x ≡ true → ContextKinds view (context_of (ref_of os) (unframed x).hash (unframed x).words)
   unfolding context_of
   unframed_kinds j x element is =
       let sound = (good.whole.heap.each j x element).context is in

@@ -7,7 +7,7 @@ use Rattle.std.proofs.lemmas.Bool.{eqb-true}
 use Rattle.std.proofs.lemmas.List.{drop-map, get_or-drop, length-map, take_more}
 use Rattle.std.proofs.lemmas.List.Elements.{All-drop, All-get_or, All-take}
 use Rattle.cs_word.specs.declared.Oop.{Oop}
-use Rattle.cs_heap.specs.Object.{Object, object_at, slot_count_of, slot_of}
+use Rattle.cs_heap.specs.Object.{Object, heap_object, slot_count_of, slot_of, words_at}
 use Rattle.cs_classes.specs.Meaning.{ref_of}
 use Rattle.cs_classes.specs.Sound.{is_reference}
 use Rattle.cs_classes.proofs.Sorts.{AContext, AMethod, Bytes, Pointers, Sort, obj_of-bytes, obj_of-method, obj_of-pointers, references-pointers, sort_of}
@@ -23,19 +23,19 @@ use Rattle.cs_acts.specs.Ready.{Holds}
 use Rattle.cs_acts.specs.Reading.{object_named}
 use Rattle.cs_acts.proofs.Held.{Says, says}
 use Rattle.cs_acts.proofs.Methods.{at_word}
-use Rattle.cs_stack.specs.Moved.{copied_at, words_at}
+use Rattle.cs_stack.specs.Moved.{copied_at}
 
 -- ---- words
 
 pub slot_word : (os : List Object) (a i : ℕ) → slot_of os a i ≡ slice_index (words_at os a) i
-slot_word os a i = go (object_at os a)
+slot_word os a i = go (heap_object os a)
   where
     go : (p : Option Object) → option_map_or (λ (x : Object). slice_index x.words i) p 0 ≡ slice_index (option_map_or (λ (x : Object). x.words) p []) i
     go None = refl
     go (Some x) = refl
 
 pub words_counted : (os : List Object) (a : ℕ) → slot_count_of os a ≡ length (words_at os a)
-words_counted os a = go (object_at os a)
+words_counted os a = go (heap_object os a)
   where
     go : (p : Option Object) → option_map_or (λ (x : Object). length x.words) p 0 ≡ length (option_map_or (λ (x : Object). x.words) p [])
     go None = refl
@@ -53,7 +53,7 @@ copied_more os a i there =
 -- the object of the heap that has these slots
 pub record HasSlots (os : List Object) (slots : List Ref) (a : ℕ) : Type 0 where
   pub object : Object
-  pub there : object_at os a ≡ Some object
+  pub there : heap_object os a ≡ Some object
   pub class : object.class ≡ closure_class
   pub are : slots ≡ map (ref_of os) object.words
   pub named : AllPass (is_reference os) object.words
@@ -79,11 +79,11 @@ closure_there s k o holds named some = go (object_named s.memory.objects o.0) re
     none : closure_slots found ≡ [] → ⊥
     none e = omega (arith, some, ap length e)
 
-    chosen : (x : Object) (b : Bool) → (x.class == 37 && x.format == 3) ≡ b → object_at os o.0 ≡ Some x → AllPass (is_reference os) x.words → closure_slots found ≡ (if b then map (ref_of os) x.words else []) → HasSlots os (closure_slots found) o.0
+    chosen : (x : Object) (b : Bool) → (x.class == 37 && x.format == 3) ≡ b → heap_object os o.0 ≡ Some x → AllPass (is_reference os) x.words → closure_slots found ≡ (if b then map (ref_of os) x.words else []) → HasSlots os (closure_slots found) o.0
     chosen x true is there named e = record { object = x; there = there; class = eqb-true x.class 37 (both_true (x.class == 37) (x.format == 3) is).0; are = e; named = named }
     chosen x false is there named e = absurd (none e)
 
-    by_sort : (x : Object) → object_at os o.0 ≡ Some x → Says (ref_of os) (Some x) found → Sort x → HasSlots os (closure_slots found) o.0
+    by_sort : (x : Object) → heap_object os o.0 ≡ Some x → Says (ref_of os) (Some x) found → Sort x → HasSlots os (closure_slots found) o.0
     by_sort x there said (AContext c) = absurd (none (no_slots found (said.1 c)))
     by_sort x there said (Pointers other p) =
         chosen x (x.class == 37 && x.format == 3) refl there (subst (AllPass (is_reference os)) (references-pointers x other p) (sound_at os o.0 x holds.whole.heap there).references)

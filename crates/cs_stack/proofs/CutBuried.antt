@@ -6,10 +6,10 @@ use Rattle.std.proofs.lemmas.Bool.{and_right, cases_eq}
 use Rattle.std.proofs.lemmas.Bool.Decides.{eqb_tells}
 use Rattle.cs_word.specs.Word.{small_word}
 use Rattle.cs_word.specs.declared.Oop.{Oop}
-use Rattle.cs_heap.specs.Object.{Memory, Object, at_index, birth_of, object_at, set_word, with_object, with_slot}
+use Rattle.cs_heap.specs.Object.{Memory, Object, at_index, birth_at, heap_object, set_word, with_object, slot_set}
 use Rattle.cs_heap.specs.Writes.{slots_stored}
 use Rattle.cs_heap.proofs.Laws.{field_of-with_object_kept, is_object-with_object, object_at-with_object_other, object_at-with_object_same, used-with_object}
-use Rattle.cs_classes.specs.Meaning.{context_of, count_of, is_context, kept_of, meaning_at, obj_of, objects_of, ref_of}
+use Rattle.cs_classes.specs.Meaning.{context_of, count_of, is_heap_context, kept_of, meaning_at, obj_of, objects_of, ref_of}
 use Rattle.cs_classes.specs.Sound.{IsSoundObject, IsWhole, is_reference}
 use Rattle.cs_classes.proofs.Contexts.{by_six}
 use Rattle.cs_classes.proofs.Heaps.{IsEdit, slice_get-at_index_other, slice_get-at_index_same, stands, with_object-stands, with_object-twice}
@@ -35,7 +35,7 @@ use Rattle.cs_acts.proofs.Firsts.{nil_names}
 use Rattle.cs_stack.specs.declared.parts.Parts.{Parts}
 use Rattle.cs_stack.specs.Cuts.{Dies, Fades, Stays}
 use Rattle.cs_stack.specs.Good.{FramesFit, IsGood, LinkFits, PcFits, SenderFits}
-use Rattle.cs_stack.specs.View.{act_of, active_in, active_page, bare, birth_in, dead_words, is_linked, is_married, pages_onto, stored_of, unframed, view_of}
+use Rattle.cs_stack.specs.View.{act_of, active_in, active_page, bare, object_birth, dead_words, is_linked, is_married, pages_onto, stored_of, unframed, view_of}
 use Rattle.cs_stack.proofs.Acts.{ContextAct, answers, birth_is, context_act, nil_counts}
 use Rattle.cs_stack.proofs.Bare.{bare_at, bare_birth, bare_element, bare_whole, bare_with_object, dead_sound, unlinked}
 use Rattle.cs_stack.proofs.Based.{edit_other, edit_rest}
@@ -68,7 +68,7 @@ two_edit = record { slots = λ x. length-set (set x.words 0 nil) 1 nil ∙ lengt
 
 buried_one : (os : List Object) (a : ℕ) → buried os a ≡ with_object os a entomb
 buried_one os a =
-    ap (λ us. with_slot us a 2 (small_word (pos 0))) (with_object-twice os a (set_word 0 nil) (set_word 1 nil) (word_edit 0 nil))
+    ap (λ us. slot_set us a 2 (small_word (pos 0))) (with_object-twice os a (set_word 0 nil) (set_word 1 nil) (word_edit 0 nil))
     ∙ with_object-twice os a (λ x. set_word 1 nil (set_word 0 nil x)) (set_word 2 (small_word (pos 0))) two_edit
 
 dead_twice : (ws : List ℕ) → 6 ≤ length ws → dead_words (dead_words ws) ≡ dead_words ws
@@ -80,7 +80,7 @@ dead_context refer hash n ws h is =
     by_six (λ us. context_of refer hash (dead_words us) ≡ record (context_of refer hash us) { sender = refer nil; pc = None; stack = [] }) (λ a b c d e f rest. refl) ws h
     ∙ ap (λ r. record (context_of refer hash ws) { sender = r; pc = None; stack = [] }) is
 
-context_lies : (refer : ℕ → Ref) (y : Object) (pc : ℕ) → is_context y ≡ true → lies_in (Some (obj_of refer y)) pc ≡ false
+context_lies : (refer : ℕ → Ref) (y : Object) (pc : ℕ) → is_heap_context y ≡ true → lies_in (Some (obj_of refer y)) pc ≡ false
 context_lies refer y pc c = ap (λ o. lies_in (Some o) pc) (obj_of-context refer y c)
 
 -- ---- the heap
@@ -116,19 +116,19 @@ module _ {u : Parts} (good : IsGood u) (closed : u.pages.recent ≡ []) {a : ℕ
   references : is_reference us ≡ is_reference os
   references = is_reference-with_object os a entomb entomb_edit
 
-  entombed_here : object_at us a ≡ Some (entomb x)
+  entombed_here : heap_object us a ≡ Some (entomb x)
   entombed_here = object_at-with_object_same os a entomb entomb_edit.slots ∙ ap (option_map entomb) c.there
 
-  entombed_other : (m : ℕ) → m ≢ a → object_at us m ≡ object_at os m
+  entombed_other : (m : ℕ) → m ≢ a → heap_object us m ≡ heap_object os m
   entombed_other m apart = object_at-with_object_other os a m entomb entomb_edit.slots (λ e. apart (sym e))
 
   alone : is_linked (entomb x) ≡ false
-  alone = and_right (is_context (entomb x)) (names_place (slice_index (dead_words x.words) 0)) (ap names_place (dead_sender x.words long))
+  alone = and_right (is_heap_context (entomb x)) (names_place (slice_index (dead_words x.words) 0)) (ap names_place (dead_sender x.words long))
 
   -- pcs lie where they lay
   lies_kept : (m pc : ℕ) → lies_in (meaning_at us m) pc ≡ lies_in (meaning_at os m) pc
-  lies_kept m pc = ap (λ q. lies_in (option_map (obj_of q) (object_at us m)) pc) refers ∙ elim (cases_eq m a) [
-    | inl e ↦ ap (λ n. lies_in (option_map (obj_of (ref_of os)) (object_at us n)) pc) e ∙ ap (λ y. lies_in (option_map (obj_of (ref_of os)) y) pc) entombed_here
+  lies_kept m pc = ap (λ q. lies_in (option_map (obj_of q) (heap_object us m)) pc) refers ∙ elim (cases_eq m a) [
+    | inl e ↦ ap (λ n. lies_in (option_map (obj_of (ref_of os)) (heap_object us n)) pc) e ∙ ap (λ y. lies_in (option_map (obj_of (ref_of os)) y) pc) entombed_here
         ∙ context_lies (ref_of os) (entomb x) pc c.context
         ∙ sym (ap (λ n. lies_in (meaning_at os n) pc) e ∙ ap (λ y. lies_in (option_map (obj_of (ref_of os)) y) pc) c.there ∙ context_lies (ref_of os) x pc c.context)
     | inr ne ↦ ap (λ y. lies_in (option_map (obj_of (ref_of os)) y) pc) (entombed_other m ne)
@@ -151,7 +151,7 @@ module _ {u : Parts} (good : IsGood u) (closed : u.pages.recent ≡ []) {a : ℕ
         | inr apart ↦ inr (sym (slice_get-at_index_other s.0 j entomb os apart) ∙ got)
       ]
 
-  pcs : (j : ℕ) (y : Object) → slice_get us j ≡ Some y → is_context y ≡ true → PcFits us y
+  pcs : (j : ℕ) (y : Object) → slice_get us j ≡ Some y → is_heap_context y ≡ true → PcFits us y
   pcs j y h is = elim (cases j y h) [
     | inl e ↦ subst (PcFits us) e (ap (λ w. lies_if_live (meaning_at us (slice_index (entomb x).words 3)) (count_of w)) (dead_pc x.words long)
         ∙ ap (lies_if_live (meaning_at us (slice_index (entomb x).words 3))) nil_counts)
@@ -164,7 +164,7 @@ module _ {u : Parts} (good : IsGood u) (closed : u.pages.recent ≡ []) {a : ℕ
     | inr old ↦ good.links j y old is
   ]
 
-  senders : (j : ℕ) (y : Object) → slice_get us j ≡ Some y → is_context y ≡ true → SenderFits us y
+  senders : (j : ℕ) (y : Object) → slice_get us j ≡ Some y → is_heap_context y ≡ true → SenderFits us y
   senders j y h is = elim (cases j y h) [
     | inl e ↦ subst (SenderFits us) e (sender_fits-nil us (entomb x) (is_object-with_object os a nil entomb entomb_edit.slots ∙ good.agree.nil_there) (dead_sender x.words long))
     | inr old ↦ sender_fits-with_object os a entomb y entomb_edit (good.senders j y old is)
@@ -211,20 +211,20 @@ module _ {u : Parts} (good : IsGood u) (closed : u.pages.recent ≡ []) {a : ℕ
   bare_is : bare us ≡ with_object (bare os) a entomb
   bare_is = bare_with_object os a x entomb entomb c.there entomb_unframed
 
-  bare_there : object_at (bare os) a ≡ Some (unframed x)
+  bare_there : heap_object (bare os) a ≡ Some (unframed x)
   bare_there = bare_at os a ∙ ap (option_map unframed) c.there
 
   abbrev ghost_of : Obj → Obj
   ghost_of o = obj_of (ref_of (bare os)) (entomb (unframed x))
 
-  kept_is : (active : Option ℕ) → kept_of (bare us) u.classes u.roots active ≡ edit_object (kept_of (bare os) u.classes u.roots active) (ref.Obj (birth_of (bare os) a)) ghost_of
+  kept_is : (active : Option ℕ) → kept_of (bare us) u.classes u.roots active ≡ edit_object (kept_of (bare os) u.classes u.roots active) (ref.Obj (birth_at (bare os) a)) ghost_of
   kept_is active = ap (λ ys. kept_of ys u.classes u.roots active) bare_is
       ∙ kept_of-with_object (bare os) u.classes u.roots active a (unframed x) entomb ghost_of entomb_edit (bare_whole os u.classes u.roots good.whole).heap bare_there refl
 
   rest_is : (active : Option ℕ) → (kept_of (bare us) u.classes u.roots active).rest ≡ (kept_of (bare os) u.classes u.roots active).rest
-  rest_is active = ap (λ (k : Kept). k.rest) (kept_is active) ∙ edit_rest (kept_of (bare os) u.classes u.roots active) (birth_of (bare os) a) ghost_of
+  rest_is active = ap (λ (k : Kept). k.rest) (kept_is active) ∙ edit_rest (kept_of (bare os) u.classes u.roots active) (birth_at (bare os) a) ghost_of
 
-  birth_is_x : birth_of (bare os) a ≡ x.birth
+  birth_is_x : birth_at (bare os) a ≡ x.birth
   birth_is_x = bare_birth os a ∙ birth_is c
 
   onto : (w : List Object) (i : ℕ) → get (pages_onto w u.frames (objects_of (bare w))) i ≡ get (objects_of (bare w)) i
@@ -233,7 +233,7 @@ module _ {u : Parts} (good : IsGood u) (closed : u.pages.recent ≡ []) {a : ℕ
   other : (i : ℕ) → i ≢ x.birth → state.object_at (view_of v) i ≡ state.object_at (view_of u) i
   other i ne =
       onto us i ∙ ap (λ (k : Kept). state.object_at k i) (kept_is None)
-      ∙ edit_other (kept_of (bare os) u.classes u.roots None) (birth_of (bare os) a) i ghost_of (λ e. ne (e ∙ birth_is_x)) ∙ sym (onto os i)
+      ∙ edit_other (kept_of (bare os) u.classes u.roots None) (birth_at (bare os) a) i ghost_of (λ e. ne (e ∙ birth_is_x)) ∙ sym (onto os i)
 
   abbrev before : Context
   before = context_of (ref_of os) (unframed x).hash (unframed x).words
@@ -272,7 +272,7 @@ module _ {u : Parts} (good : IsGood u) (closed : u.pages.recent ≡ []) {a : ℕ
   act_kept (act.Frame p at) j ne h = h
   act_kept (act.Context o) j ne h = elim (cases_eq o.0 a) [
     | inl e ↦ absurd (let is : Some x.birth ≡ Some j = sym (answers c o e) ∙ h in let same : x.birth ≡ j = cc in ne same)
-    | inr off ↦ ap (λ y. if is_married o.0 u.frames then None else birth_in y) (entombed_other o.0 off) ∙ h
+    | inr off ↦ ap (λ y. if is_married o.0 u.frames then None else object_birth y) (entombed_other o.0 off) ∙ h
   ]
   act_kept act.Gone j ne h = absurd (cc)
 

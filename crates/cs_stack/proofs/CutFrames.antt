@@ -4,10 +4,10 @@ use Rattle.std.specs.Prelude.{◌||◌, if◌then◌else◌}
 use Rattle.std.specs.List.{filter}
 use Rattle.std.proofs.lemmas.Bool.{cases_eq}
 use Rattle.std.proofs.lemmas.Bool.Decides.{eqb_tells}
-use Rattle.cs_heap.specs.Object.{object_at}
+use Rattle.cs_heap.specs.Object.{heap_object}
 use Rattle.cs_frame.specs.declared.FrameRef.{FrameRef}
 use Rattle.cs_frame.specs.Frame.{Frame}
-use Rattle.cs_frame.specs.Page.{IsBase, frames_of, on_page, ref_of, rest_of, top}
+use Rattle.cs_frame.specs.Page.{IsBase, frames_of, on_page, frame_ref, rest_of, top}
 use Rattle.cs_pages.specs.Order.{Order}
 use Rattle.cs_model.specs.State as state
 use Rattle.cs_model.specs.State.{Rest}
@@ -21,7 +21,7 @@ use Rattle.cs_stack.specs.declared.parts.Parts.{Parts}
 use Rattle.cs_stack.specs.Cuts.{Dies, Fades, IsDead, Stays}
 use Rattle.cs_stack.specs.Good.{IsGood}
 use Rattle.cs_stack.specs.Moved.{Unwound, active_number}
-use Rattle.cs_stack.specs.View.{act_of, active_page, birth_from, birth_in, births_of, is_married, laid_pages, stored_of, view_of}
+use Rattle.cs_stack.specs.View.{act_of, active_page, birth_from, object_birth, births_of, is_married, laid_pages, stored_of, view_of}
 use Rattle.cs_stack.proofs.Acts.{HasBody, body_married, married_body}
 use Rattle.cs_stack.proofs.CutWays.{among_not}
 use Rattle.cs_stack.proofs.Dropping.{gone_here, gone_other}
@@ -95,10 +95,10 @@ module _ {w : Parts} (good : IsGood w) (ready : IsReady (stored_of w) (view_of w
   act_kept pages (act.Context c) j ne h = go (is_married c.0 w.frames) refl
     where
       go : (b : Bool) → is_married c.0 w.frames ≡ b → act_of (record w { frames = fewer; pages = pages }) (act.Context c) ≡ Some j
-      go true e = absurd (let no : ◌≡◌ {A = Option ℕ} None (Some j) = sym (ap (λ b. if b then None else birth_in (object_at w.heap.objects c.0)) e) ∙ h in cc)
+      go true e = absurd (let no : ◌≡◌ {A = Option ℕ} None (Some j) = sym (ap (λ b. if b then None else object_birth (heap_object w.heap.objects c.0)) e) ∙ h in cc)
       go false e =
-          ap (λ b. if b then None else birth_in (object_at w.heap.objects c.0)) (still_free c.0 e)
-          ∙ sym (ap (λ b. if b then None else birth_in (object_at w.heap.objects c.0)) e) ∙ h
+          ap (λ b. if b then None else object_birth (heap_object w.heap.objects c.0)) (still_free c.0 e)
+          ∙ sym (ap (λ b. if b then None else object_birth (heap_object w.heap.objects c.0)) e) ∙ h
   act_kept pages act.Gone j ne h = absurd (cc)
 
   -- ---- the state
@@ -177,7 +177,7 @@ module _ {w : Parts} (good : IsGood w) (ready : IsReady (stored_of w) (view_of w
 
   -- ---- what a call sees
 
-  module _ (g : Next w) (r : FrameRef) (at_top : r ≡ ref_of (active_number w) (top (active_page w))) (ps : List (List Frame)) (ps_is : ps ≡ on_page w.frames r.page rest_of) where
+  module _ (g : Next w) (r : FrameRef) (at_top : r ≡ frame_ref (active_number w) (top (active_page w))) (ps : List (List Frame)) (ps_is : ps ≡ on_page w.frames r.page rest_of) where
     is_fewer : ps ≡ on_page w.frames o.p rest_of
     is_fewer = ps_is ∙ ap (λ p. on_page w.frames p rest_of) (page_is o r at_top)
 

@@ -5,7 +5,7 @@ use Rattle.std.specs.List.{AllByRecursion, filter, list_any}
 use Rattle.std.specs.FinMap.{get}
 use Rattle.std.proofs.lemmas.Bool.{eqb-false}
 use Rattle.cs_word.specs.declared.Oop.{Oop}
-use Rattle.cs_heap.specs.Object.{birth_of}
+use Rattle.cs_heap.specs.Object.{birth_at}
 use Rattle.cs_classes.specs.Meaning.{context_of, count_of, objects_of, ref_of}
 use Rattle.cs_classes.specs.Sound.{is_reference}
 use Rattle.cs_frame.specs.Frame.{Frame, nil}
@@ -17,7 +17,7 @@ use Rattle.cs_model.specs.Ref.{Ref}
 use Rattle.cs_model.specs.Obj.{Context, Ctx, context_in, dead}
 use Rattle.cs_model.specs.Keeps.{Keeps}
 use Rattle.cs_model.specs.State.{IsHeld, Kept, Rest, object_at}
-use Rattle.cs_model.specs.Read.{active_birth, active_context, blank, depth_of, size_of}
+use Rattle.cs_model.specs.Read.{active_birth, active_context, blank_context, depth_of, size_of}
 use Rattle.cs_model.specs.Operation.{activate, cut_to_of, push_of}
 use Rattle.cs_model.specs.Return.{context_birth, has_room, is_among, is_live, sender_birth}
 use Rattle.cs_acts.specs.declared.act.Act.{Act}
@@ -30,7 +30,7 @@ use Rattle.cs_acts.specs.Targets.{CanCut, dying_in, dying_to}
 use Rattle.cs_acts.proofs.Firsts.{nil_names}
 use Rattle.cs_acts.proofs.Held.{named_held}
 use Rattle.cs_stack.specs.declared.parts.Parts.{Parts}
-use Rattle.cs_stack.specs.Cuts.{Arrives, CutPast, Dies, IsFirst, IsWay, Leads, ahead, spared}
+use Rattle.cs_stack.specs.Cuts.{Arrives, CutPast, Dies, IsFirst, IsWay, LeadsDownTo, ahead, spared}
 use Rattle.cs_stack.specs.Good.{AreApart, IsGood}
 use Rattle.cs_stack.specs.Moved.{Takes, based_parts}
 use Rattle.cs_stack.specs.View.{act_of, bare, births_of, frame_context, laid_pages, stored_of, unframed, view_of}
@@ -92,7 +92,7 @@ module _ {w : Parts} {home : Act} (ready : IsReady (stored_of w) (view_of w)) (g
   pub same_target : (b : ℕ) (a : Act) → IfSome (act_of w home) (λ birth. act_of w a ≡ sender_birth (view_of w) birth) → act_of w a ≡ Some b → g.t ≡ b
   same_target b a told is = some_same _ _ (sym g.target_is ∙ sym (subst (λ o. IfSome o (λ birth. act_of w a ≡ sender_birth (view_of w) birth)) g.home_is told) ∙ is)
 
-  abbrev pub leads : (b : ℕ) → g.t ≡ b → Leads w b
+  abbrev pub leads : (b : ℕ) → g.t ≡ b → LeadsDownTo w b
   leads b same = record {
     dying = dying_to (view_of w) g.h;
     way = subst (λ n. IsWay (view_of w) n (dying_to (view_of w) g.h)) same past.way;
@@ -229,7 +229,7 @@ module _ {w v : Parts} {dying : List ℕ} {t : ℕ} {a : Act} (ended : Arrives w
       pub to_context : CutPast w (based_parts page s v) dying t
       to_context =
           let view = based_view ended.good none s target_live page unused nil_named in
-          let at_birth : birth_of v.heap.objects s ≡ t = birth_is c ∙ birth in
+          let at_birth : birth_at v.heap.objects s ≡ t = birth_is c ∙ birth in
           let based = based_names ended.good none s target_live page unused nil_named in
           record {
             good = based_good ended.good none s target_live page unused nil_named;
@@ -304,7 +304,7 @@ module _ {w v : Parts} {home : Act} (ready : IsReady (stored_of w) (view_of w)) 
 
   context_is : active_context (view_of v) ≡ target_is.0
   unfolding active_context
-  context_is = ap (λ o. unwrap_or (context_in (object_at (view_of v) (unwrap_or o (view_of v).rest.nil))) blank) active_is ∙ ap (λ o. unwrap_or (context_in o) blank) there_now
+  context_is = ap (λ o. unwrap_or (context_in (object_at (view_of v) (unwrap_or o (view_of v).rest.nil))) blank_context) active_is ∙ ap (λ o. unwrap_or (context_in o) blank_context) there_now
 
   pub cut_fits : depth_of (view_of v) < size_of (view_of v)
   cut_fits =

@@ -9,7 +9,7 @@ use Rattle.cs_acts.specs.declared.act.Act.{Act}
 use Rattle.cs_acts.specs.declared.act.Act.TheVariants as act
 use Rattle.cs_acts.specs.Ready.{IsReady}
 use Rattle.cs_stack.specs.declared.parts.Parts.{Parts}
-use Rattle.cs_stack.specs.Cuts.{Arrives, Dies, Fades, IsFirst, IsWay, Leads, Stays, Stepped, Steps, ahead, spared}
+use Rattle.cs_stack.specs.Cuts.{Arrives, Dies, Fades, IsFirst, IsWay, LeadsDownTo, Stays, Stepped, Steps, ahead, spared}
 use Rattle.cs_stack.specs.Good.{IsGood, Lacks}
 use Rattle.cs_stack.specs.View.{act_of, birth_from, stored_of, view_of}
 use Rattle.cs_stack.proofs.Acts.{answers, context_act, free_lacks}
@@ -71,7 +71,7 @@ pub record Going (w v : Parts) (dying : List ℕ) (t n : ℕ) (a : Act) : Type 0
   pub stands : act_of v a ≡ Some (ahead t rest)
   pub first : IsFirst v a
 
-pub begin : (w : Parts) (t : ℕ) (a : Act) → IsGood w → (g : Leads w t) → act_of w a ≡ (view_of w).rest.active → Going w w g.dying t 0 a
+pub begin : (w : Parts) (t : ℕ) (a : Act) → IsGood w → (g : LeadsDownTo w t) → act_of w a ≡ (view_of w).rest.active → Going w w g.dying t 0 a
 begin w t a good g is = record {
   good = good;
   stays = stays_none w;

@@ -6,9 +6,9 @@ use Rattle.std.specs.Ordering.{nat_cmp}
 use Rattle.std.specs.FinMap.{FinMap, get}
 use Rattle.std.proofs.lemmas.Bool.{ne_eqb}
 use Rattle.cs_word.specs.Word.{small_word}
-use Rattle.cs_heap.specs.Object.{Object, hash_of, object_at, slot_count_of, slot_of}
+use Rattle.cs_heap.specs.Object.{Object, hash_at, heap_object, slot_count_of, slot_of}
 use Rattle.cs_classes.specs.declared.Roots.{Roots}
-use Rattle.cs_classes.specs.Meaning.{context_of, count_of, depth_in, is_context, obj_of, objects_of, ref_of}
+use Rattle.cs_classes.specs.Meaning.{context_of, count_of, depth_in, is_heap_context, obj_of, objects_of, ref_of}
 use Rattle.cs_classes.specs.Sound.{IsWhole}
 use Rattle.cs_classes.proofs.Refs.{count_of-small}
 use Rattle.cs_classes.proofs.Sorts.{obj_of-context}
@@ -55,7 +55,7 @@ none_counts = refl
 
 -- ---- the context of a frame
 
-pub linked_is : (x : Object) → is_context x ≡ true → names_place (slice_index x.words 0) ≡ true → is_linked x ≡ true
+pub linked_is : (x : Object) → is_heap_context x ≡ true → names_place (slice_index x.words 0) ≡ true → is_linked x ≡ true
 linked_is x c named = ap (λ b. b && names_place (slice_index x.words 0)) c ∙ named
 
 pub unframed_linked : (x : Object) → is_linked x ≡ true → unframed x ≡ record x { words = dead_words x.words }
@@ -68,10 +68,10 @@ module _ {os : List Object} {table : FinMap nat_cmp ℕ} {roots : Roots} (heap :
   abbrev x : Object
   x = the_spouse.object
 
-  there : object_at os f.context ≡ Some x
+  there : heap_object os f.context ≡ Some x
   there = the_spouse.there
 
-  class : is_context x ≡ true
+  class : is_heap_context x ≡ true
   class = the_spouse.context
 
   slot_is : (i : ℕ) → slot_of os f.context i ≡ slice_index x.words i
@@ -87,7 +87,7 @@ module _ {os : List Object} {table : FinMap nat_cmp ℕ} {roots : Roots} (heap :
   linked = linked_is x class (ap names_place (sym (slot_is 0) ∙ m.place) ∙ link_names r)
 
   hash_is : frame_hash os f ≡ x.hash
-  hash_is = ap (λ b. if b then 0 else hash_of os f.context) (ne_eqb f.context nil ne) ∙ ap (λ (o : Option Object). option_map_or (λ (y : Object). y.hash) o 0) there
+  hash_is = ap (λ b. if b then 0 else hash_at os f.context) (ne_eqb f.context nil ne) ∙ ap (λ (o : Option Object). option_map_or (λ (y : Object). y.hash) o 0) there
 
   size_is : frame_size os f ≡ length (dead_words x.words) - 6
   size_is = size_some os f ne ∙ ap (λ n. n - 6) (count_is ∙ sym (dead_long x.words whole.fields))

@@ -15,7 +15,7 @@ use Rattle.cs_frame.specs.declared.FrameRef.{FrameRef}
 use Rattle.cs_frame.specs.Frame.{Frame}
 use Rattle.cs_frame.specs.Frame as frames
 use Rattle.cs_frame.specs.Page as page
-use Rattle.cs_frame.specs.Page.{IsFrame, frames_of, on_frame, on_page, on_top, used}
+use Rattle.cs_frame.specs.Page.{IsFrame, frames_of, on_frame, on_page, on_top, frames_used}
 use Rattle.cs_marriage.specs.Agree.{Agree, frame_size}
 use Rattle.cs_marriage.proofs.Laws.{KeepsTies, agree_on_frame, agree_popped, agree_pushed, ties_saved_pc, ties_slot}
 use Rattle.cs_model.specs.Ref.{Ref}
@@ -41,17 +41,17 @@ use Rattle.cs_stack.proofs.Changes.{context_pc, context_popped, context_pushed, 
 
 -- the reference to the last frame of the most recent page
 abbrev pub active_ref : Parts → FrameRef
-active_ref w = page.ref_of (active_number w) (page.top (active_page w))
+active_ref w = page.frame_ref (active_number w) (page.top (active_page w))
 
 module _ {w : Parts} (good : IsGood w) (o : Opened w) where
   -- ---- the last frame by its place
 
-  pub top_ref : (r : FrameRef) → r ≡ active_ref w → r ≡ page.ref_of o.p o.f
-  top_ref r is = is ∙ ap₂ (λ rs fs. page.ref_of (slice_index rs 0) (page.top fs)) o.recent o.page_is
+  pub top_ref : (r : FrameRef) → r ≡ active_ref w → r ≡ page.frame_ref o.p o.f
+  top_ref r is = is ∙ ap₂ (λ rs fs. page.frame_ref (slice_index rs 0) (page.top fs)) o.recent o.page_is
 
-  here : page.index_in w.frames (page.ref_of o.p o.f) ≡ 0
-  here = ap (λ fs. page.index_of fs o.f.at) o.is ∙ elim (eqb_tells o.f.at o.f.at) [
-    | inl e ↦ ap (λ b. if b then 0 else suc (page.index_of o.fs o.f.at)) e.0
+  here : page.index_in w.frames (page.frame_ref o.p o.f) ≡ 0
+  here = ap (λ fs. page.frame_index fs o.f.at) o.is ∙ elim (eqb_tells o.f.at o.f.at) [
+    | inl e ↦ ap (λ b. if b then 0 else suc (page.frame_index o.fs o.f.at)) e.0
     | inr e ↦ absurd (e.1 refl)
   ]
 
@@ -145,36 +145,36 @@ module _ {w : Parts} (good : IsGood w) (o : Opened w) where
       (fits_pc w.heap.objects w.roots.next_birth o.f v o.fs o.fits there)
       (context_pc w.heap.objects w.roots.next_birth o.f v o.fs ∙ ap (λ p. obj.with_pc p (frame_context w.heap.objects o.f o.fs)) count)
 
-  push_agree : (v : Oop) (r : FrameRef) (ps : List (List Frame)) → depth_of (view_of w) < size_of (view_of w) → r ≡ active_ref w → ps ≡ on_page w.frames r.page (on_top (frames.pushed v.0)) → Agree w.heap.objects ps
+  push_agree : (v : Oop) (r : FrameRef) (ps : List (List Frame)) → depth_of (view_of w) < size_of (view_of w) → r ≡ active_ref w → ps ≡ on_page w.frames r.page (on_top (frames.value_pushed v.0)) → Agree w.heap.objects ps
   push_agree v r ps room is new =
       let at : r.page ≡ o.p = ap (λ (q : FrameRef). q.page) (top_ref r is) in
-      subst (Agree w.heap.objects) (ap (λ n. on_page w.frames n (on_top (frames.pushed v.0))) (sym at) ∙ sym new)
+      subst (Agree w.heap.objects) (ap (λ n. on_page w.frames n (on_top (frames.value_pushed v.0))) (sym at) ∙ sym new)
       (agree_pushed w.heap.objects w.frames o.p v.0 good.agree o.within (good_stacked w good o.p)
       (subst (λ fs. length (page.top fs).stack < frame_size w.heap.objects (page.top fs)) (sym o.is) (omega (arith, depth_read, size_read, room))))
 
-  pop_agree : (r : FrameRef) (ps : List (List Frame)) → r ≡ active_ref w → ps ≡ on_page w.frames r.page (on_top frames.popped) → Agree w.heap.objects ps
+  pop_agree : (r : FrameRef) (ps : List (List Frame)) → r ≡ active_ref w → ps ≡ on_page w.frames r.page (on_top frames.top_popped) → Agree w.heap.objects ps
   pop_agree r ps is new =
       let at : r.page ≡ o.p = ap (λ (q : FrameRef). q.page) (top_ref r is) in
-      subst (Agree w.heap.objects) (ap (λ n. on_page w.frames n (on_top frames.popped)) (sym at) ∙ sym new)
+      subst (Agree w.heap.objects) (ap (λ n. on_page w.frames n (on_top frames.top_popped)) (sym at) ∙ sym new)
       (agree_popped w.heap.objects w.frames o.p good.agree o.within (good_stacked w good o.p))
 
   pub push_edited : (v : Oop) (r : FrameRef) (ps : List (List Frame)) → IsNamed (stored_of w) v → depth_of (view_of w) < size_of (view_of w)
-      → r ≡ active_ref w → ps ≡ on_page w.frames r.page (on_top (frames.pushed v.0)) → Edited w (with_frames w ps) (obj.pushed (name_of (stored_of w) v))
+      → r ≡ active_ref w → ps ≡ on_page w.frames r.page (on_top (frames.value_pushed v.0)) → Edited w (with_frames w ps) (obj.pushed (name_of (stored_of w) v))
   push_edited v r ps named room is new =
-      edited w good o (frames.pushed v.0 o.f) (obj.pushed (name_of (stored_of w) v)) ps (new ∙ page_changed r (frames.pushed v.0) is) refl refl refl refl
+      edited w good o (frames.value_pushed v.0 o.f) (obj.pushed (name_of (stored_of w) v)) ps (new ∙ page_changed r (frames.value_pushed v.0) is) refl refl refl refl
       (push_agree v r ps room is new)
       (fits_stack w.heap.objects w.roots.next_birth o.f (o.f.stack ++ v.0 ∷ []) o.fs o.fits
       (All-push (λ (u : ℕ). is_reference w.heap.objects u ≡ true) o.f.stack v.0 o.fits.names.stack named)
       (omega (arith, length-append o.f.stack (v.0 ∷ []), depth_read, size_read, room)))
       (context_pushed w.heap.objects w.roots.next_birth o.f v.0 o.fs)
 
-  pub push_room : (r : FrameRef) → r ≡ active_ref w → depth_of (view_of w) < size_of (view_of w) → used (frames_of w.frames r.page) < 4096
-  push_room r is room = subst (λ p. used p < 4096) (sym (page_top r is))
+  pub push_room : (r : FrameRef) → r ≡ active_ref w → depth_of (view_of w) < size_of (view_of w) → frames_used (frames_of w.frames r.page) < 4096
+  push_room r is room = subst (λ p. frames_used p < 4096) (sym (page_top r is))
       (room_free w good o.p top_on (omega (arith, depth_read, size_read, room)))
 
-  pub pop_edited : (r : FrameRef) (ps : List (List Frame)) → r ≡ active_ref w → ps ≡ on_page w.frames r.page (on_top frames.popped) → Edited w (with_frames w ps) (obj.popped 1)
+  pub pop_edited : (r : FrameRef) (ps : List (List Frame)) → r ≡ active_ref w → ps ≡ on_page w.frames r.page (on_top frames.top_popped) → Edited w (with_frames w ps) (obj.popped 1)
   pop_edited r ps is new =
-      edited w good o (frames.popped o.f) (obj.popped 1) ps (new ∙ page_changed r frames.popped is) refl refl refl refl
+      edited w good o (frames.top_popped o.f) (obj.popped 1) ps (new ∙ page_changed r frames.top_popped is) refl refl refl refl
       (pop_agree r ps is new)
       (fits_stack w.heap.objects w.roots.next_birth o.f (take (length o.f.stack - 1) o.f.stack) o.fs o.fits
       (All-take (λ (u : ℕ). is_reference w.heap.objects u ≡ true) (length o.f.stack - 1) o.f.stack o.fits.names.stack)
@@ -182,10 +182,10 @@ module _ {w : Parts} (good : IsGood w) (o : Opened w) where
       (context_popped w.heap.objects w.roots.next_birth o.f o.fs)
 
   pub stack_edited : (i : ℕ) (v : Oop) (r : FrameRef) (ps : List (List Frame)) → IsNamed (stored_of w) v
-      → r ≡ active_ref w → ps ≡ on_frame w.frames r (frames.with_slot i v.0) → Edited w (with_frames w ps) (obj.stored i (name_of (stored_of w) v))
+      → r ≡ active_ref w → ps ≡ on_frame w.frames r (frames.with_value i v.0) → Edited w (with_frames w ps) (obj.stored i (name_of (stored_of w) v))
   stack_edited i v r ps named is new =
-      edited w good o (frames.with_slot i v.0 o.f) (obj.stored i (name_of (stored_of w) v)) ps (new ∙ top_changed r (frames.with_slot i v.0) is) refl refl refl refl
-      (agree_changed r (frames.with_slot i v.0) ps (ties_slot i v.0) is new)
+      edited w good o (frames.with_value i v.0 o.f) (obj.stored i (name_of (stored_of w) v)) ps (new ∙ top_changed r (frames.with_value i v.0) is) refl refl refl refl
+      (agree_changed r (frames.with_value i v.0) ps (ties_slot i v.0) is new)
       (fits_stack w.heap.objects w.roots.next_birth o.f (slice_set o.f.stack i v.0) o.fs o.fits
       (All-set (λ (u : ℕ). is_reference w.heap.objects u ≡ true) o.f.stack i v.0 named o.fits.names.stack)
       (omega (arith, length-set o.f.stack i v.0, o.fits.fits)))

@@ -15,8 +15,8 @@ use Rattle.cs_classes.specs.Sound.{is_reference, is_reference_kind}
 use Rattle.cs_classes.proofs.Objects.{get-objects_of-fresh}
 use Rattle.cs_classes.proofs.Wholes.{next_is_fresh}
 use Rattle.cs_frame.specs.declared.NewFrame.{NewFrame}
-use Rattle.cs_frame.specs.Frame.{Frame, IsPc, IsValue, cut, nil}
-use Rattle.cs_frame.specs.Page.{HoldsValues, IsStacked, frames_of, on_page, used}
+use Rattle.cs_frame.specs.Frame.{Frame, IsPc, IsValue, call_cut, nil}
+use Rattle.cs_frame.specs.Page.{HoldsValues, AreStacked, frames_of, on_page, frames_used}
 use Rattle.cs_marriage.specs.Agree as marriage
 use Rattle.cs_marriage.specs.Agree.{header_at}
 use Rattle.cs_marriage.proofs.Based.{number_pc}
@@ -58,22 +58,22 @@ reference_value os w named link = let no : is_reference_kind os (kind_of w) ≡ 
 
 -- ---- the caller, once receiver and arguments have left it
 
-cut_context : (os : List Object) (n : ℕ) (f : Frame) (fs : List Frame) → frame_context os (cut n f) fs ≡ obj.popped (n + 1) (frame_context os f fs)
+cut_context : (os : List Object) (n : ℕ) (f : Frame) (fs : List Frame) → frame_context os (call_cut n f) fs ≡ obj.popped (n + 1) (frame_context os f fs)
 unfolding frame_context
 cut_context os n f fs = context fs ∙ ap (λ zs. obj.with_stack zs (frame_context os f fs)) taken
   where
     taken : map (ref_of os) (take (length f.stack - (n + 1)) f.stack) ≡ take (length (map (ref_of os) f.stack) - (n + 1)) (map (ref_of os) f.stack)
     taken = sym (take-map (ref_of os) (length f.stack - (n + 1)) f.stack) ∙ ap (λ m. take (m - (n + 1)) (map (ref_of os) f.stack)) (sym (length-map f.stack (ref_of os)))
 
-    context : (gs : List Frame) → frame_context os (cut n f) gs ≡ obj.with_stack (map (ref_of os) (take (length f.stack - (n + 1)) f.stack)) (frame_context os f gs)
+    context : (gs : List Frame) → frame_context os (call_cut n f) gs ≡ obj.with_stack (map (ref_of os) (take (length f.stack - (n + 1)) f.stack)) (frame_context os f gs)
     context [] = refl
     context (g ∷ gs) = refl
 
-cut_sender : (os : List Object) (n : ℕ) (f : Frame) (fs : List Frame) → HasSender os f fs → HasSender os (cut n f) fs
+cut_sender : (os : List Object) (n : ℕ) (f : Frame) (fs : List Frame) → HasSender os f fs → HasSender os (call_cut n f) fs
 cut_sender os n f [] h = h
 cut_sender os n f (g ∷ gs) h = tt
 
-pub cut_fits : (os : List Object) (next n : ℕ) (f : Frame) (fs : List Frame) → FrameFits os next f fs → FrameFits os next (cut n f) fs
+pub cut_fits : (os : List Object) (next n : ℕ) (f : Frame) (fs : List Frame) → FrameFits os next f fs → FrameFits os next (call_cut n f) fs
 cut_fits os next n f fs fits = record {
   names = record {
     closure = fits.names.closure;
@@ -90,16 +90,16 @@ cut_fits os next n f fs fits = record {
   alone = fits.alone;
 }
 
-cut_page : (os : List Object) (p n : ℕ) (f : Frame) (fs : List Frame) → IsStacked (f ∷ fs) → PageFits os p (f ∷ fs) → PageFits os p (cut n f ∷ fs)
+cut_page : (os : List Object) (p n : ℕ) (f : Frame) (fs : List Frame) → AreStacked (f ∷ fs) → PageFits os p (f ∷ fs) → PageFits os p (call_cut n f ∷ fs)
 cut_page os p n f fs stand fits =
     let top = fits_top os p f fs fits in
-    fits_above os p (cut n f) fs
+    fits_above os p (call_cut n f) fs
     (fits_stack os (record { page = p; at = f.at }) f (take (length f.stack - (n + 1)) f.stack) (omega (arith, top.stack, length-take (length f.stack - (n + 1)) f.stack)) top)
     (fits_below os p f fs stand fits)
 
 -- the world in which they have left it
 abbrev pub cut_frames : (w : Parts) → Opened w → ℕ → List (List Frame)
-cut_frames w o args = on_page w.frames o.p (λ _. cut args o.f ∷ o.fs)
+cut_frames w o args = on_page w.frames o.p (λ _. call_cut args o.f ∷ o.fs)
 
 abbrev pub cut_parts : (w : Parts) → Opened w → ℕ → Parts
 cut_parts w o args = with_frames w (cut_frames w o args)
@@ -108,8 +108,8 @@ pub cut_edited : (w : Parts) (good : IsGood w) (o : Opened w) (args : ℕ) → E
 cut_edited w good o args =
     let os = w.heap.objects in
     let next = w.roots.next_birth in
-    edited w good o (cut args o.f) (obj.popped (args + 1)) (cut_frames w o args) refl refl refl refl refl
-    (agree_on_page os w.frames o.p (λ _. cut args o.f ∷ o.fs) good.agree o.within
+    edited w good o (call_cut args o.f) (obj.popped (args + 1)) (cut_frames w o args) refl refl refl refl refl
+    (agree_on_page os w.frames o.p (λ _. call_cut args o.f ∷ o.fs) good.agree o.within
     (cut_page os o.p args o.f o.fs (stacked os next (o.f ∷ o.fs) (o.fits, o.rest)) (subst (PageFits os o.p) o.is (page_fits os w.frames o.p good.agree))))
     (cut_fits os next args o.f o.fs o.fits) (cut_context os args o.f o.fs)
 
@@ -132,8 +132,8 @@ module _ {w : Parts} (o : Opened w) where
       sym (ap (λ (xs : List Ref). unwrap_or (slice_get xs i) d) stack_read
       ∙ ap (λ x. unwrap_or x d) (slice_get-map (ref_of w.heap.objects) o.f.stack i ∙ ap (option_map (ref_of w.heap.objects)) got))
 
-pub words_used : (w : Parts) → IsGood w → (o : Opened w) → page_words (view_of w) (births_of (o.f ∷ o.fs)) ≡ used (o.f ∷ o.fs)
-words_used w good o = ap (λ (fs : List Frame). page_words (view_of w) (births_of fs)) (sym o.is) ∙ laid.words_used w good o.p ∙ ap used o.is
+pub words_used : (w : Parts) → IsGood w → (o : Opened w) → page_words (view_of w) (births_of (o.f ∷ o.fs)) ≡ frames_used (o.f ∷ o.fs)
+words_used w good o = ap (λ (fs : List Frame). page_words (view_of w) (births_of fs)) (sym o.is) ∙ laid.words_used w good o.p ∙ ap frames_used o.is
 
 pub pages_are : (w : Parts) (o : Opened w) → laid_pages w.frames w.pages.recent ≡ births_of (o.f ∷ o.fs) ∷ laid_pages w.frames o.qs
 pages_are w o = ap (laid_pages w.frames) o.recent ∙ ap (λ (fs : List Frame). births_of fs ∷ laid_pages w.frames o.qs) o.is
@@ -211,7 +211,7 @@ module _ {w : Parts} (good : IsGood w) (ready : IsReady (stored_of w) (view_of w
   size_fits : length values ≤ context_size (header_at os new.method.0)
   size_fits = subst (λ h. length values ≤ context_size h) (sym code.header_is) (omega (arith, long, can.fits))
 
-  pub new_fits : (at sender : ℕ) (gs : List Frame) → at ≡ used gs → at + 66 ≤ 4096 → Lacks w.roots.next_birth gs → HasSender os (entered at sender) gs
+  pub new_fits : (at sender : ℕ) (gs : List Frame) → at ≡ frames_used gs → at + 66 ≤ 4096 → Lacks w.roots.next_birth gs → HasSender os (entered at sender) gs
       → FrameFits os (w.roots.next_birth + 1) (entered at sender) gs
   new_fits at sender gs stands room apart from = record {
     names = record {
@@ -232,7 +232,7 @@ module _ {w : Parts} (good : IsGood w) (ready : IsReady (stored_of w) (view_of w
     alone = λ _. ap (get (objects_of os)) can.birth ∙ get-objects_of-fresh os w.roots.next_birth (next_is_fresh os w.classes w.roots good.whole);
   }
 
-  pub new_married : (p at sender : ℕ) → at < 4096 → marriage.FrameFits os (record { page = p; at = at }) (entered at sender)
+  pub new_married : (p at sender : ℕ) → at < 4096 → marriage.FrameAgrees os (record { page = p; at = at }) (entered at sender)
   new_married p at sender within = record {
     within = within;
     method = code.method;

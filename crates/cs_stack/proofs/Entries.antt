@@ -6,9 +6,9 @@ use Rattle.std.proofs.lemmas.Bool.Decides.{nat_tests}
 use Rattle.std.proofs.lemmas.List.{length-map}
 use Rattle.cs_word.specs.declared.Oop.{Oop}
 use Rattle.std.specs.Option.{option_map_or}
-use Rattle.cs_heap.specs.Format.{is_method}
-use Rattle.cs_heap.specs.Object.{Object, is_object, object_at}
-use Rattle.cs_classes.specs.Meaning.{code_in, header_in, literals_in, meaning_at, obj_of, ref_of, used_bytes, head_of}
+use Rattle.cs_heap.specs.Format.{is_code}
+use Rattle.cs_heap.specs.Object.{Object, is_object, heap_object}
+use Rattle.cs_classes.specs.Meaning.{code_in, method_header, literal_words, meaning_at, obj_of, ref_of, used_bytes, head_of}
 use Rattle.cs_classes.proofs.Heaps.{is_object-object_at}
 use Rattle.cs_classes.proofs.Makings.{nil_is_object}
 use Rattle.cs_classes.proofs.Refs.{either_true, is_reference-object, same_births}
@@ -60,7 +60,7 @@ method_named s k o holds named is = go (object_named s.memory.objects o.0) refl 
     no_bytes : (head : Head) (bytes : List ℕ) → found ≡ Some (Raw head bytes) → ⊥
     no_bytes head bytes e = let no : false ≡ true = sym (ap obj.is_method e) ∙ is in absurd (cc)
 
-    by_sort : (x : Object) → object_at os o.0 ≡ Some x → Says (ref_of os) (Some x) found → Sort x → IsMethodAt os found o.0
+    by_sort : (x : Object) → heap_object os o.0 ≡ Some x → Says (ref_of os) (Some x) found → Sort x → IsMethodAt os found o.0
     by_sort x there said (AContext c) = absurd (context_no_method found (said.1 c) is)
     by_sort x there said (Pointers other p) = absurd (no_pointers (head_of x) (map (ref_of os) x.words) (said.0 other ∙ ap (λ y. Some y) (obj_of-pointers (ref_of os) x other p)))
     by_sort x there said (Bytes other b m) = absurd (no_bytes (head_of x) (used_bytes x.format x.words) (said.0 other ∙ ap (λ y. Some y) (obj_of-bytes (ref_of os) x other b m)))
@@ -113,11 +113,11 @@ closure_word s k o sound named kind = elim (either_true (is_nil k (name_of s o))
         let first = address_of-object os nil k.rest.nil (is_reference-object os nil nil_there) (nil_names s k (record { 0 = nil }) sound refl).is in
         same_births os o.0 nil sound.holds.whole.heap is.0 first.0 (is.1 ∙ sym first.1)
 
-    of_class : (x : Object) → object_at os o.0 ≡ Some x → (x.class == closure_class) ≡ true → is_nil_or closure_class os o.0 ≡ true
+    of_class : (x : Object) → heap_object os o.0 ≡ Some x → (x.class == closure_class) ≡ true → is_nil_or closure_class os o.0 ≡ true
     of_class x there e = nil_or_of closure_class os o.0 (is_object-object_at os o.0 x there)
         (ap (λ (p : Option Object). option_map_or (λ (y : Object). y.class) p 0) there ∙ eqb-true x.class closure_class e)
 
-    by_sort : has_class_index closure_class found ≡ true → (x : Object) → object_at os o.0 ≡ Some x → Says (ref_of os) (Some x) found → Sort x → is_nil_or closure_class os o.0 ≡ true
+    by_sort : has_class_index closure_class found ≡ true → (x : Object) → heap_object os o.0 ≡ Some x → Says (ref_of os) (Some x) found → Sort x → is_nil_or closure_class os o.0 ≡ true
     by_sort is x there said (AContext c) = absurd (context_no_closure found (said.1 c) is)
     by_sort is x there said (Pointers other p) =
         of_class x there (sym (ap (has_class_index closure_class) (said.0 other ∙ ap (λ y. Some y) (obj_of-pointers (ref_of os) x other p))) ∙ is)
@@ -166,7 +166,7 @@ code_there s k o holds named is =
     record {
       header_is = header_is os found o.0 m ∙ sym (ap obj.header_in m.means);
       method = record {
-        format = ap (λ p. is_method (option_map_or (λ (x : Object). x.format) p 0)) m.there ∙ m.format;
+        format = ap (λ p. is_code (option_map_or (λ (x : Object). x.format) p 0)) m.there ∙ m.format;
         header = omega (arith, slots_fit os found o.0 m);
       };
       means = ap (option_map (obj_of (ref_of os))) m.there ∙ ap (λ y. Some y) (obj_of-method (ref_of os) m.object (method_other os m.object m.sound m.format) (not_pointers m.object.format m.format) m.format) ∙ sym m.means;
@@ -202,12 +202,12 @@ entry s k o args skip holds named can =
     let found = object_of k (name_of s o) in
     let m = method_named s k o holds named can.method in
     let words = m.object.words in
-    let header = header_in words in
+    let header = method_header words in
     let valid =
     and_three (nat_lt header (2 ^ 30)) (nat_le (argument_count header) (temporary_count header)) (nat_le (temporary_count header) (context_size header)) (m.sound.method m.format).valid in
     let model : obj.header_in found ≡ header = ap obj.header_in m.means in
     let literals : length (obj.literals_in found) ≡ literal_count header =
-    ap (λ p. length (obj.literals_in p)) m.means ∙ length-map (literals_in words) (ref_of os) ∙ length-literals os found o.0 m in
+    ap (λ p. length (obj.literals_in p)) m.means ∙ length-map (literal_words words) (ref_of os) ∙ length-literals os found o.0 m in
     let takes : argument_count header ≡ args = sym (ap argument_count model) ∙ can.count in
     let bytes : List ℕ = used_bytes m.object.format (code_in words) in
     let enough : skip ≡ true → 3 ≤ length bytes = λ e. marked_bytes header bytes
@@ -221,6 +221,6 @@ entry s k o args skip holds named can =
       fits = less (temporary_count header) (context_size header) valid.2;
       pc = ap (λ n. 4 * (n + 1) + 1 + (if skip then 3 else 0)) literals;
       lies = ap (λ p. lies_in p (entry_of header skip)) m.means
-          ∙ ap (λ n. nat_le (4 * (n + 1) + 1) (entry_of header skip) && nat_le (entry_of header skip) (4 * (n + 1) + 1 + length bytes)) (length-map (literals_in words) (ref_of os) ∙ length-literals os found o.0 m)
+          ∙ ap (λ n. nat_le (4 * (n + 1) + 1) (entry_of header skip) && nat_le (entry_of header skip) (4 * (n + 1) + 1 + length bytes)) (length-map (literal_words words) (ref_of os) ∙ length-literals os found o.0 m)
           ∙ entry_lies (literal_count header) (length bytes) skip enough;
     }

@@ -12,7 +12,7 @@ use Rattle.cs_word.specs.declared.Oop.{Oop}
 use Rattle.cs_word.specs.Word.{kind_of, small_word}
 use Rattle.cs_heap.specs.Object.{Object, slot_of}
 use Rattle.cs_classes.specs.Meaning.{context_of, count_of, count_of_kind, depth_in, ref_of, ref_of_kind}
-use Rattle.cs_classes.specs.Sound.{is_reference, is_reference_kind, nil_of as heap_nil}
+use Rattle.cs_classes.specs.Sound.{is_reference, is_reference_kind, nil_word as heap_nil}
 use Rattle.cs_frame.specs.declared.FrameRef.{FrameRef}
 use Rattle.cs_frame.specs.Page.{IsBase}
 use Rattle.cs_classes.proofs.Refs.{is_reference-object, is_reference-small, ref_of-small, small_natural}

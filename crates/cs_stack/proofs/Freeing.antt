@@ -4,14 +4,14 @@ use Rattle.std.specs.Prelude.{Contains, IfSome, slice_index, if◌then◌else◌
 use Rattle.std.specs.FinMap.{get}
 use Rattle.std.proofs.lemmas.Bool.{eq-eqb}
 use Rattle.std.proofs.lemmas.List.{nil_from_length}
-use Rattle.cs_heap.specs.Object.{Object, birth_of, is_object}
+use Rattle.cs_heap.specs.Object.{Object, birth_at, is_object}
 use Rattle.cs_classes.specs.Meaning.{objects_of}
 use Rattle.cs_classes.specs.Sound.{is_reference}
 use Rattle.cs_frame.specs.declared.FrameRef.{FrameRef}
 use Rattle.cs_frame.specs.Frame.{Frame, nil}
-use Rattle.cs_frame.specs.Page.{IsBase, IsFrame, frame, frames_of, index_in, index_of, nth, on_page, ref_of, rest_of, top}
+use Rattle.cs_frame.specs.Page.{IsBase, IsFrame, frame, frames_of, index_in, frame_index, nth, on_page, frame_ref, rest_of, top}
 use Rattle.cs_marriage.specs.Marriage.{CanBase}
-use Rattle.cs_pages.specs.Order.{IsFree, IsSound, Order, without}
+use Rattle.cs_pages.specs.Order.{IsFree, IsSoundOrder, Order, without}
 use Rattle.cs_model.specs.Obj.{Context, Ctx, context_in}
 use Rattle.cs_model.specs.Read.{active_birth}
 use Rattle.cs_model.specs.Return.{sender_birth}
@@ -34,7 +34,7 @@ pub record Frees (old new : Order) (p : ℕ) : Type 0 where
   pub freed : new ≡ record old { recent = without p old.recent }
   pub free : IsFree new p
   pub others : (q : ℕ) → q ≢ p → Contains new.recent q ↔ Contains old.recent q
-  pub sound : IsSound new
+  pub sound : IsSoundOrder new
 
 module _ {w : Parts} (good : IsGood w) (ready : IsReady (stored_of w) (view_of w)) (o : Opened w) (g : Target w) (alone : o.fs ≡ []) (pages : Order) (free : Frees w.pages pages o.p) where
   abbrev os : List Object
@@ -61,7 +61,7 @@ module _ {w : Parts} (good : IsGood w) (ready : IsReady (stored_of w) (view_of w
     live : is_some g.c.pc ≡ true
     live = sym (ap (λ p. is_some (option_and_then (λ (c : Context). c.pc) (context_in p))) g.sends.there) ∙ g.arrives.live
 
-    sender : (is_object os o.f.caller ≡ true) × (birth_of os o.f.caller ≡ g.t)
+    sender : (is_object os o.f.caller ≡ true) × (birth_at os o.f.caller ≡ g.t)
     sender = sender_at good ready o (next_of g) alone pages free.freed free.free free.others free.sound
 
     pub sender_live : IsLive os o.f.caller
@@ -104,10 +104,10 @@ module _ {w : Parts} (good : IsGood w) (ready : IsReady (stored_of w) (view_of w
 
 -- ---- what a call sees
 
-first_at : (f : Frame) (fs : List Frame) → index_of (f ∷ fs) f.at ≡ 0
-first_at f fs = ap (λ b. if b then 0 else suc (index_of fs f.at)) (eq-eqb f.at f.at refl)
+first_at : (f : Frame) (fs : List Frame) → frame_index (f ∷ fs) f.at ≡ 0
+first_at f fs = ap (λ b. if b then 0 else suc (frame_index fs f.at)) (eq-eqb f.at f.at refl)
 
-module _ {w : Parts} (o : Opened w) (r : FrameRef) (at_top : r ≡ ref_of (active_number w) (top (active_page w))) where
+module _ {w : Parts} (o : Opened w) (r : FrameRef) (at_top : r ≡ frame_ref (active_number w) (top (active_page w))) where
   pub page_is : r.page ≡ o.p
   page_is = ap (λ (q : FrameRef). q.page) at_top ∙ ap (λ ns. slice_index ns 0) o.recent
 
@@ -118,7 +118,7 @@ module _ {w : Parts} (o : Opened w) (r : FrameRef) (at_top : r ≡ ref_of (activ
   frames_are = ap (frames_of w.frames) page_is ∙ o.is
 
   index_is : index_in w.frames r ≡ 0
-  index_is = ap (λ fs. index_of fs r.at) frames_are ∙ ap (index_of (o.f ∷ o.fs)) at_is ∙ first_at o.f o.fs
+  index_is = ap (λ fs. frame_index fs r.at) frames_are ∙ ap (frame_index (o.f ∷ o.fs)) at_is ∙ first_at o.f o.fs
 
   pub top_there : IsFrame w.frames r
   top_there = omega (arith, index_is, ap length frames_are)

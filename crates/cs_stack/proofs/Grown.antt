@@ -5,9 +5,9 @@ use Rattle.std.specs.List.{AllPass}
 use Rattle.std.specs.FinMap.{get, insert}
 use Rattle.std.proofs.lemmas.Bool.{cases_eq, eq-eqb}
 use Rattle.std.proofs.lemmas.List.{length-map}
-use Rattle.cs_heap.specs.Object.{Object, object_at, hash_of}
+use Rattle.cs_heap.specs.Object.{Object, heap_object, hash_at}
 use Rattle.cs_heap.proofs.Laws.{field_of-old, object_at-old}
-use Rattle.cs_classes.specs.Meaning.{code_in, count_of, is_context, literals_in, meaning_at, obj_of, objects_of, ref_of, used_bytes}
+use Rattle.cs_classes.specs.Meaning.{code_in, count_of, is_heap_context, literal_words, meaning_at, obj_of, objects_of, ref_of, used_bytes}
 use Rattle.cs_classes.specs.Sound.{is_reference}
 use Rattle.cs_classes.proofs.Heaps.{is_object-object_at, object_at-push, slice_get-push}
 use Rattle.cs_classes.proofs.Objects.{objects_of-push}
@@ -60,7 +60,7 @@ lies_alike r s x pc = go (sort_of x)
     go (Bytes a p m) = ap (λ o. lies_in (Some o) pc) (obj_of-bytes r x a p m) ∙ sym (ap (λ o. lies_in (Some o) pc) (obj_of-bytes s x a p m))
     go (AMethod a p m) =
         ap (λ o. lies_in (Some o) pc) (obj_of-method r x a p m)
-        ∙ ap (λ n. lies_between (4 * (n + 1) + 1) (length (used_bytes x.format (code_in x.words))) pc) (length-map (literals_in x.words) r ∙ sym (length-map (literals_in x.words) s))
+        ∙ ap (λ n. lies_between (4 * (n + 1) + 1) (length (used_bytes x.format (code_in x.words))) pc) (length-map (literal_words x.words) r ∙ sym (length-map (literal_words x.words) s))
         ∙ sym (ap (λ o. lies_in (Some o) pc) (obj_of-method s x a p m))
 
 module _ (os : List Object) (y : Object) where
@@ -82,23 +82,23 @@ module _ (os : List Object) (y : Object) where
 
   -- ---- contexts of the heap
 
-  pub pcs_grown : PcFits (os ++ y ∷ []) y ⊎ (is_context y ≡ false) → ((j : ℕ) (x : Object) → slice_get os j ≡ Some x → is_context x ≡ true → PcFits os x)
-      → (j : ℕ) (x : Object) → slice_get (os ++ y ∷ []) j ≡ Some x → is_context x ≡ true → PcFits (os ++ y ∷ []) x
+  pub pcs_grown : PcFits (os ++ y ∷ []) y ⊎ (is_heap_context y ≡ false) → ((j : ℕ) (x : Object) → slice_get os j ≡ Some x → is_heap_context x ≡ true → PcFits os x)
+      → (j : ℕ) (x : Object) → slice_get (os ++ y ∷ []) j ≡ Some x → is_heap_context x ≡ true → PcFits (os ++ y ∷ []) x
   pcs_grown new pcs j x e c = elim (slice_get-push os y j x e) [
     | inl old ↦ live_grown (slice_index x.words 3) (count_of (slice_index x.words 1)) (pcs j x old c)
     | inr last ↦ elim new [
       | inl fits ↦ subst (PcFits grown) last.1 fits
-      | inr other ↦ absurd (let no : true ≡ false = sym c ∙ ap is_context (sym last.1) ∙ other in cc)
+      | inr other ↦ absurd (let no : true ≡ false = sym c ∙ ap is_heap_context (sym last.1) ∙ other in cc)
     ]
   ]
 
-  pub senders_grown : SenderFits (os ++ y ∷ []) y ⊎ (is_context y ≡ false) → ((j : ℕ) (x : Object) → slice_get os j ≡ Some x → is_context x ≡ true → SenderFits os x)
-      → (j : ℕ) (x : Object) → slice_get (os ++ y ∷ []) j ≡ Some x → is_context x ≡ true → SenderFits (os ++ y ∷ []) x
+  pub senders_grown : SenderFits (os ++ y ∷ []) y ⊎ (is_heap_context y ≡ false) → ((j : ℕ) (x : Object) → slice_get os j ≡ Some x → is_heap_context x ≡ true → SenderFits os x)
+      → (j : ℕ) (x : Object) → slice_get (os ++ y ∷ []) j ≡ Some x → is_heap_context x ≡ true → SenderFits (os ++ y ∷ []) x
   senders_grown new senders j x e c = elim (slice_get-push os y j x e) [
     | inl old ↦ sender_fits-push os y x (senders j x old c)
     | inr last ↦ elim new [
       | inl fits ↦ subst (SenderFits grown) last.1 fits
-      | inr other ↦ absurd (let no : true ≡ false = sym c ∙ ap is_context (sym last.1) ∙ other in cc)
+      | inr other ↦ absurd (let no : true ≡ false = sym c ∙ ap is_heap_context (sym last.1) ∙ other in cc)
     ]
   ]
 
@@ -118,11 +118,11 @@ module _ (w : Parts) (good : IsGood w) (y : Object) where
   abbrev new : List Object
   new = w.heap.objects ++ y ∷ []
 
-  pub method_grown : {f : Frame} {gs : List Frame} (p : ℕ) → IsOn f gs (frames_of w.frames p) → object_at (w.heap.objects ++ y ∷ []) f.method ≡ object_at w.heap.objects f.method
+  pub method_grown : {f : Frame} {gs : List Frame} (p : ℕ) → IsOn f gs (frames_of w.frames p) → heap_object (w.heap.objects ++ y ∷ []) f.method ≡ heap_object w.heap.objects f.method
   method_grown {f = f} p on = object_at-old old y f.method (method_there old f.method (agreed w good p on).method)
 
   pub spouse_grown : {f : Frame} {gs : List Frame} (p : ℕ) → IsOn f gs (frames_of w.frames p) → f.context ≢ nil
-      → object_at (w.heap.objects ++ y ∷ []) f.context ≡ object_at w.heap.objects f.context
+      → heap_object (w.heap.objects ++ y ∷ []) f.context ≡ heap_object w.heap.objects f.context
   spouse_grown {f = f} p on some = object_at-old old y f.context (context_there old f.context ((agreed w good p on).married some).context)
 
   pub size_grown : {f : Frame} {gs : List Frame} (p : ℕ) → IsOn f gs (frames_of w.frames p) → frame_size (w.heap.objects ++ y ∷ []) f ≡ frame_size w.heap.objects f
@@ -134,7 +134,7 @@ module _ (w : Parts) (good : IsGood w) (y : Object) where
   pub hash_grown : {f : Frame} {gs : List Frame} (p : ℕ) → IsOn f gs (frames_of w.frames p) → frame_hash (w.heap.objects ++ y ∷ []) f ≡ frame_hash w.heap.objects f
   hash_grown {f = f} p on = elim (cases_eq f.context nil) [
     | inl e ↦
-        ap (λ b. if b then 0 else hash_of new f.context) (eq-eqb f.context nil e) ∙ sym (ap (λ b. if b then 0 else hash_of old f.context) (eq-eqb f.context nil e))
+        ap (λ b. if b then 0 else hash_at new f.context) (eq-eqb f.context nil e) ∙ sym (ap (λ b. if b then 0 else hash_at old f.context) (eq-eqb f.context nil e))
     | inr ne ↦ ap (λ n. if f.context == nil then 0 else n)
         (field_of-old (λ x. x.hash) old y f.context (context_there old f.context ((agreed w good p on).married ne).context))
   ]

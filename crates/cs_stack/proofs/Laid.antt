@@ -9,15 +9,15 @@ use Rattle.std.proofs.lemmas.Map.Keys.{IsDistinct-head, IsDistinct-tail}
 use Rattle.std.proofs.lemmas.Bool.{or_from, or_left, or_right}
 use Rattle.cs_classes.specs.Meaning.{objects_of, ref_of}
 use Rattle.cs_frame.specs.Frame.{Frame}
-use Rattle.cs_frame.specs.Page.{frames_of, used}
+use Rattle.cs_frame.specs.Page.{frames_of, frames_used}
 use Rattle.cs_pages.proofs.Lists.{lacks_not, length-le_total}
 use Rattle.cs_model.specs.Ref as ref
 use Rattle.cs_model.specs.Obj.{Context, Ctx, Obj, context_in, is_context_at}
 use Rattle.cs_model.specs.State.{object_at}
 use Rattle.cs_model.specs.Return.{context_birth, sender_birth}
-use Rattle.cs_acts.specs.Layout.{IsApart, IsCalled, IsFresh, IsLaidOut, IsPage, depth_in, first_page, is_frame, is_on, last_frame, page_words}
+use Rattle.cs_acts.specs.Layout.{IsApart, IsCalled, IsFresh, IsLaidOut, IsPage, depth_if, first_page, is_frame, is_on, last_frame, page_words}
 use Rattle.cs_stack.specs.declared.parts.Parts.{Parts}
-use Rattle.cs_stack.specs.View.{active_in, active_page, bare, births_of, first_of, frame_context, laid_pages, layout_of, stored_of, view_of}
+use Rattle.cs_stack.specs.View.{active_in, active_page, bare, births_of, first_frames, frame_context, laid_pages, layout_of, stored_of, view_of}
 use Rattle.cs_stack.specs.Good.{FramesFit, IsGood, Lacks}
 use Rattle.cs_stack.proofs.Bare.{bare_none}
 use Rattle.cs_stack.proofs.Framed.{Bare, Framed, IsOn, Which, above, all_fit, apart_on, here, no_frame, onto_bare, onto_frame, which}
@@ -80,16 +80,16 @@ module _ (w : Parts) (good : IsGood w) where
   contexts p [] within = tt
   contexts p (e ∷ es) within = (ap is_context_at (found e es p (within e es here)), contexts p es (below p e es within))
 
-  words : (p : ℕ) (es : List Frame) → Within p es → page_words (view_of w) (births_of es) ≡ used es
+  words : (p : ℕ) (es : List Frame) → Within p es → page_words (view_of w) (births_of es) ≡ frames_used es
   unfolding page_words frame_context
   words p [] within = refl
   words p (e ∷ es) within =
-      let depth : depth_in (context_in (object_at (view_of w) e.birth)) ≡ length e.stack =
-      ap (λ o. depth_in (context_in o)) (found e es p (within e es here)) ∙ length-map e.stack (ref_of w.heap.objects) in
+      let depth : depth_if (context_in (object_at (view_of w) e.birth)) ≡ length e.stack =
+      ap (λ o. depth_if (context_in o)) (found e es p (within e es here)) ∙ length-map e.stack (ref_of w.heap.objects) in
       ap₂ (λ m n. m + (10 + n)) (words p es (below p e es within)) depth
 
   -- a page has as many words in the state as it uses
-  pub words_used : (p : ℕ) → page_words (view_of w) (births_of (frames_of w.frames p)) ≡ used (frames_of w.frames p)
+  pub words_used : (p : ℕ) → page_words (view_of w) (births_of (frames_of w.frames p)) ≡ frames_used (frames_of w.frames p)
   words_used p = words p (frames_of w.frames p) (λ g gs on. on)
 
   called : (p : ℕ) (es : List Frame) → Within p es → IsCalled (view_of w) (births_of es)
@@ -102,7 +102,7 @@ module _ (w : Parts) (good : IsGood w) where
       let there = found g gs p (within g gs (above e (g ∷ gs) here)) in
       (sender ∙ ap (λ o. option_and_then (λ c. Some g.birth) (context_in o)) there, called p (g ∷ gs) (below p e (g ∷ gs) within))
 
-  few_words : (p : ℕ) (es : List Frame) → Within p es → used es ≤ 4096
+  few_words : (p : ℕ) (es : List Frame) → Within p es → frames_used es ≤ 4096
   few_words p [] within = omega arith
   few_words p (e ∷ es) within = page_few w good p (within e es here)
 
@@ -119,11 +119,11 @@ module _ (w : Parts) (good : IsGood w) where
   Used rs = (p : ℕ) → Contains rs p → Contains w.pages.recent p
 
   behind : (r : ℕ) (rs : List ℕ) → Used (r ∷ rs) → Used rs
-  behind r rs used p (k, within, is) = used p (suc k, omega (arith, within), is)
+  behind r rs frames_used p (k, within, is) = frames_used p (suc k, omega (arith, within), is)
 
   pages : (rs : List ℕ) → Used rs → AllByRecursion (IsPage (view_of w)) (laid_pages w.frames rs)
-  pages [] used = tt
-  pages (r ∷ rs) used = (is_page r ((good.used_pages r).0 (used r (0, omega arith, refl))), pages rs (behind r rs used))
+  pages [] frames_used = tt
+  pages (r ∷ rs) frames_used = (is_page r ((good.used_pages r).0 (frames_used r (0, omega arith, refl))), pages rs (behind r rs frames_used))
 
   -- the births of a part of a page, and of other pages
   apart_page : (p : ℕ) (es : List Frame) (ys : List ℕ) → Within p es → FramesFit w.heap.objects w.roots.next_birth es → IsApart ys
@@ -138,12 +138,12 @@ module _ (w : Parts) (good : IsGood w) where
   apart [] distinct = tt
   apart (r ∷ rs) distinct =
       apart_page r (frames_of w.frames r) (concat (laid_pages w.frames rs)) (λ g gs on. on) (good.frames r) (apart rs (IsDistinct-tail eqb r rs distinct))
-      (λ f gs on. off_laid w.frames rs f.birth (λ p used. apart_on (frames_of w.frames p) on (good.apart r p (other p used))))
+      (λ f gs on. off_laid w.frames rs f.birth (λ p frames_used. apart_on (frames_of w.frames p) on (good.apart r p (other p frames_used))))
     where
       other : (p : ℕ) → Contains rs p → r ≢ p
-      other p used e = lacks_not r rs (IsDistinct-head eqb r rs distinct) (subst (λ n. Contains rs n) (sym e) used)
+      other p frames_used e = lacks_not r rs (IsDistinct-head eqb r rs distinct) (subst (λ n. Contains rs n) (sym e) frames_used)
 
-  active : (rs : List ℕ) (i : ℕ) → active_in (first_of w.frames rs) ≡ Some i → last_frame (first_page (laid_pages w.frames rs)) ≡ Some i
+  active : (rs : List ℕ) (i : ℕ) → active_in (first_frames w.frames rs) ≡ Some i → last_frame (first_page (laid_pages w.frames rs)) ≡ Some i
   active [] i e = e
   active (r ∷ rs) i e = go (frames_of w.frames r) e
     where
@@ -175,7 +175,7 @@ module _ (w : Parts) (good : IsGood w) where
 pub good_laid : (w : Parts) → IsGood w → IsLaidOut (stored_of w) (view_of w) (layout_of w)
 good_laid w good = record {
   few = omega (arith, length_laid w.frames w.pages.recent, length-le_total w.pages.total w.pages.recent good.order.distinct good.order.in_range);
-  pages = pages w good w.pages.recent (λ p used. used);
+  pages = pages w good w.pages.recent (λ p frames_used. frames_used);
   apart = apart w good w.pages.recent good.order.distinct;
   active = active w good w.pages.recent;
   whole = λ i c h. whole w good i c h (which i w.frames);
@@ -197,7 +197,7 @@ fresh_one w few alone = go w.pages.recent few alone
     left true h = refl
     left false h = h
 
-    go : (rs : List ℕ) → length (first_of w.frames rs) ≤ 1 → length rs ≤ 1 → (birth : ℕ) → is_frame birth (laid_pages w.frames rs) ≡ true → active_in (first_of w.frames rs) ≡ Some birth
+    go : (rs : List ℕ) → length (first_frames w.frames rs) ≤ 1 → length rs ≤ 1 → (birth : ℕ) → is_frame birth (laid_pages w.frames rs) ≡ true → active_in (first_frames w.frames rs) ≡ Some birth
     go [] few alone birth h = absurd (cc)
     go (r ∷ []) few alone birth h = one (frames_of w.frames r) few birth (left (is_on birth (births_of (frames_of w.frames r))) h)
     go (r ∷ s ∷ rs) few alone birth h = absurd (omega (arith, alone))

@@ -7,7 +7,7 @@ use Rattle.cs_model.specs.Ref.{Ref}
 use Rattle.cs_model.specs.Obj.{Context, Ctx, context_in}
 use Rattle.cs_model.specs.Keeps.{Keeps}
 use Rattle.cs_model.specs.State.{Kept, Rest, IsHeld, object_at, put}
-use Rattle.cs_model.specs.Read.{active_birth, active_context, blank, depth_of, size_of}
+use Rattle.cs_model.specs.Read.{active_birth, active_context, blank_context, depth_of, size_of}
 use Rattle.cs_model.specs.Operation.{leave_of, push_of}
 use Rattle.cs_model.specs.Return.{has_room, sender_birth}
 use Rattle.cs_acts.specs.Names.{IsNamed, name_of}
@@ -89,7 +89,7 @@ module _ {w v : Parts} (ready : IsReady (stored_of w) (view_of w)) (g : Target w
 
   context_is : active_context (view_of v) ≡ g.c
   unfolding active_context
-  context_is = ap (λ o. unwrap_or (context_in (object_at (view_of v) (unwrap_or o (view_of v).rest.nil))) blank) active_is ∙ ap (λ o. unwrap_or (context_in o) blank) there
+  context_is = ap (λ o. unwrap_or (context_in (object_at (view_of v) (unwrap_or o (view_of v).rest.nil))) blank_context) active_is ∙ ap (λ o. unwrap_or (context_in o) blank_context) there
 
   pub unwound_fits : depth_of (view_of v) < size_of (view_of v)
   unwound_fits =

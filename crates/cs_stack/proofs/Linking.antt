@@ -8,11 +8,11 @@ use Rattle.std.specs.FinMap.{FinMap}
 use Rattle.std.proofs.lemmas.Bool.{cases_eq, false≢true}
 use Rattle.std.proofs.lemmas.List.Elements.{All-append, All-drop, All-replicate, All-take}
 use Rattle.cs_heap.specs.Format.{format_allows, is_pointers}
-use Rattle.cs_heap.specs.Object.{Object, at_index, index_of, object_at, set_word, used, with_object}
+use Rattle.cs_heap.specs.Object.{Object, at_index, object_place, heap_object, set_word, used, with_object}
 use Rattle.cs_heap.proofs.Laws.{object_at-with_object_other, object_at-with_object_same, used-with_object}
 use Rattle.cs_classes.specs.declared.Roots.{Roots}
-use Rattle.cs_classes.specs.Meaning.{count_of, is_context, meaning_at, obj_of, ref_of}
-use Rattle.cs_classes.specs.Sound.{IsSoundObject, IsWhole, is_reference, is_sender, nil_of}
+use Rattle.cs_classes.specs.Meaning.{count_of, is_heap_context, meaning_at, obj_of, ref_of}
+use Rattle.cs_classes.specs.Sound.{IsSoundObject, IsWhole, is_reference, is_sender, nil_word}
 use Rattle.cs_classes.proofs.Heaps.{IsEdit, slice_get-at_index_other, slice_get-at_index_same, stands, with_object-stands}
 use Rattle.cs_classes.proofs.Refs.{is_nil_or_closure, is_nil_or_method, is_reference-with_object, ref_of-with_object}
 use Rattle.cs_classes.proofs.Sorts.{not_pointers, obj_of-context, references-context}
@@ -65,7 +65,7 @@ module _ (r : FrameRef) (x : Object) (long : 6 ≤ length x.words) where
 
 -- ---- sound objects
 
-sound_cleared : (os : List Object) (z : Object) → IsSoundObject os z → is_context z ≡ true → is_reference os (slice_index z.words 0) ≡ true → is_reference os nil ≡ true → IsSoundObject os (cleared_from 6 z)
+sound_cleared : (os : List Object) (z : Object) → IsSoundObject os z → is_heap_context z ≡ true → is_reference os (slice_index z.words 0) ≡ true → is_reference os nil ≡ true → IsSoundObject os (cleared_from 6 z)
 sound_cleared os z s c place named =
     let old = s.context c in
     let whole = whole_context os z s c in
@@ -88,8 +88,8 @@ sound_cleared os z s c place named =
         format = old.format;
         slots = subst (λ (n : ℕ). IsTrue (n == 22 || n == 62)) (sym slots) old.slots;
         sender = subst (λ (u : ℕ). IsTrue (is_sender os u)) (sym (get_or-cleared 6 z.words 0 (omega arith))) old.sender;
-        pc = subst (λ (u : ℕ). IsTrue (u == nil_of os || is_some (count_of u))) (sym first) old.pc;
-        stackp = subst (λ (u : ℕ). IsTrue (u == nil_of os || is_some (count_of u))) (sym second) old.stackp;
+        pc = subst (λ (u : ℕ). IsTrue (u == nil_word os || is_some (count_of u))) (sym first) old.pc;
+        stackp = subst (λ (u : ℕ). IsTrue (u == nil_word os || is_some (count_of u))) (sym second) old.stackp;
         depth = omega (arith, ap (λ u. unwrap_or (count_of u) 0) second, old.depth, slots);
         method = subst (λ (u : ℕ). IsTrue (is_nil_or_method os u)) (sym (get_or-cleared 6 z.words 3 (omega arith))) old.method;
         closure = subst (λ (u : ℕ). IsTrue (is_nil_or_closure os u)) (sym (get_or-cleared 6 z.words 4 (omega arith))) old.closure;
@@ -97,10 +97,10 @@ sound_cleared os z s c place named =
       method = λ m. absurd (false≢true (sym (not_pointers z.format m) ∙ pointers));
     }
 
-nil_passes : (os : List Object) → nil_of os ≡ nil → (nil == nil_of os || is_some (count_of nil)) ≡ true
+nil_passes : (os : List Object) → nil_word os ≡ nil → (nil == nil_word os || is_some (count_of nil)) ≡ true
 nil_passes os e = ap (λ n. nil == n || is_some (count_of nil)) e
 
-pub sound_linked : (os : List Object) (r : FrameRef) (x : Object) → IsSoundObject os x → is_context x ≡ true → is_reference os nil ≡ true → nil_of os ≡ nil → IsSoundObject os (linked r x)
+pub sound_linked : (os : List Object) (r : FrameRef) (x : Object) → IsSoundObject os x → is_heap_context x ≡ true → is_reference os nil ≡ true → nil_word os ≡ nil → IsSoundObject os (linked r x)
 sound_linked os r x s c named at_base =
     let place : ℕ = link_word r in
     let link : is_reference os (link_word r) ≡ true = place_reference os (link_word r) (link_names r) in
@@ -121,10 +121,10 @@ contexts_at : (f : Object → Object) → IsEdit f → (k : ℕ) (os : List Obje
 unfolding contexts_in at_index
 contexts_at f edit k [] = refl
 contexts_at f edit zero (x ∷ os) = ap (λ (n : ℕ). contexts_in os + (if n == 36 then 1 else 0)) (edit.class x)
-contexts_at f edit (suc k) (x ∷ os) = ap (λ n. n + (if is_context x then 1 else 0)) (contexts_at f edit k os)
+contexts_at f edit (suc k) (x ∷ os) = ap (λ n. n + (if is_heap_context x then 1 else 0)) (contexts_at f edit k os)
 
 pub contexts_kept : (os : List Object) (a : ℕ) (f : Object → Object) → IsEdit f → contexts_in (with_object os a f) ≡ contexts_in os
-contexts_kept os a f edit = go (index_of os a)
+contexts_kept os a f edit = go (object_place os a)
   where
     go : (o : Option ℕ) → contexts_in (option_map_or (λ k. at_index k f os) o os) ≡ contexts_in os
     go None = refl
@@ -132,10 +132,10 @@ contexts_kept os a f edit = go (index_of os a)
 
 -- ---- the heap
 
-context_lies : (refer : ℕ → Ref) (y : Object) (pc : ℕ) → is_context y ≡ true → lies_in (Some (obj_of refer y)) pc ≡ false
+context_lies : (refer : ℕ → Ref) (y : Object) (pc : ℕ) → is_heap_context y ≡ true → lies_in (Some (obj_of refer y)) pc ≡ false
 context_lies refer y pc c = ap (λ o. lies_in (Some o) pc) (obj_of-context refer y c)
 
-module _ {os : List Object} {table : FinMap nat_cmp ℕ} {roots : Roots} (a : ℕ) (x : Object) (r : FrameRef) (heap : IsWhole os table roots) (there : object_at os a ≡ Some x) (c : is_context x ≡ true)
+module _ {os : List Object} {table : FinMap nat_cmp ℕ} {roots : Roots} (a : ℕ) (x : Object) (r : FrameRef) (heap : IsWhole os table roots) (there : heap_object os a ≡ Some x) (c : is_heap_context x ≡ true)
     (named : is_reference os nil ≡ true) where
   abbrev us : List Object
   us = with_object os a (linked r)
@@ -155,16 +155,16 @@ module _ {os : List Object} {table : FinMap nat_cmp ℕ} {roots : Roots} (a : �
   pub linked_words : used us ≡ used os
   linked_words = used-with_object os a (linked r) (linked_edit r).slots
 
-  linked_other : (m : ℕ) → m ≢ a → object_at us m ≡ object_at os m
+  linked_other : (m : ℕ) → m ≢ a → heap_object us m ≡ heap_object os m
   linked_other m apart = object_at-with_object_other os a m (linked r) (linked_edit r).slots (λ e. apart (sym e))
 
-  pub linked_here : object_at us a ≡ Some (linked r x)
+  pub linked_here : heap_object us a ≡ Some (linked r x)
   linked_here = object_at-with_object_same os a (linked r) (linked_edit r).slots ∙ ap (option_map (linked r)) there
 
   -- pcs lie where they lay
   lies_kept : (m pc : ℕ) → lies_in (meaning_at us m) pc ≡ lies_in (meaning_at os m) pc
-  lies_kept m pc = ap (λ q. lies_in (option_map (obj_of q) (object_at us m)) pc) linked_refers ∙ elim (cases_eq m a) [
-    | inl e ↦ ap (λ n. lies_in (option_map (obj_of (ref_of os)) (object_at us n)) pc) e ∙ ap (λ y. lies_in (option_map (obj_of (ref_of os)) y) pc) linked_here
+  lies_kept m pc = ap (λ q. lies_in (option_map (obj_of q) (heap_object us m)) pc) linked_refers ∙ elim (cases_eq m a) [
+    | inl e ↦ ap (λ n. lies_in (option_map (obj_of (ref_of os)) (heap_object us n)) pc) e ∙ ap (λ y. lies_in (option_map (obj_of (ref_of os)) y) pc) linked_here
         ∙ context_lies (ref_of os) (linked r x) pc c
         ∙ sym (ap (λ n. lies_in (meaning_at os n) pc) e ∙ ap (λ y. lies_in (option_map (obj_of (ref_of os)) y) pc) there ∙ context_lies (ref_of os) x pc c)
     | inr ne ↦ ap (λ y. lies_in (option_map (obj_of (ref_of os)) y) pc) (linked_other m ne)
@@ -187,14 +187,14 @@ module _ {os : List Object} {table : FinMap nat_cmp ℕ} {roots : Roots} (a : �
         | inr apart ↦ inr (sym (slice_get-at_index_other s.0 j (linked r) os apart) ∙ got)
       ]
 
-  pub linked_pcs : ((j : ℕ) (y : Object) → slice_get os j ≡ Some y → is_context y ≡ true → PcFits os y) → (j : ℕ) (y : Object) → slice_get us j ≡ Some y → is_context y ≡ true → PcFits us y
+  pub linked_pcs : ((j : ℕ) (y : Object) → slice_get os j ≡ Some y → is_heap_context y ≡ true → PcFits os y) → (j : ℕ) (y : Object) → slice_get us j ≡ Some y → is_heap_context y ≡ true → PcFits us y
   linked_pcs pcs j y h is = elim (cases j y h) [
     | inl e ↦ subst (PcFits us) e (ap (λ w. lies_if_live (meaning_at us (slice_index (linked r x).words 3)) (count_of w)) (linked_pc r x long)
         ∙ ap (lies_if_live (meaning_at us (slice_index (linked r x).words 3))) nil_counts)
     | inr old ↦ live_kept (slice_index y.words 3) (count_of (slice_index y.words 1)) ∙ pcs j y old is
   ]
 
-  pub linked_senders : ((j : ℕ) (y : Object) → slice_get os j ≡ Some y → is_context y ≡ true → SenderFits os y) → (j : ℕ) (y : Object) → slice_get us j ≡ Some y → is_context y ≡ true → SenderFits us y
+  pub linked_senders : ((j : ℕ) (y : Object) → slice_get os j ≡ Some y → is_heap_context y ≡ true → SenderFits os y) → (j : ℕ) (y : Object) → slice_get us j ≡ Some y → is_heap_context y ≡ true → SenderFits us y
   linked_senders senders j y h is = elim (cases j y h) [
     | inl e ↦ subst (SenderFits us) e (sender_fits-place us (linked r x) (ap names_place (linked_place r x long) ∙ link_names r))
     | inr old ↦ sender_fits-with_object os a (linked r) y (linked_edit r) (senders j y old is)

@@ -1,8 +1,8 @@
 -- A word and a pc that lies in the method that the word names.
 use Rattle.std.proofs.Common.{◌≡◌, ℕ, true, false, refl, ap, Option, Some, None, List, option_map}
-use Rattle.cs_heap.specs.Format.{is_method}
-use Rattle.cs_heap.specs.Object.{Object, object_at}
-use Rattle.cs_classes.specs.Meaning.{is_context, meaning_at, method_of, obj_of, ref_of}
+use Rattle.cs_heap.specs.Format.{is_code}
+use Rattle.cs_heap.specs.Object.{Object, heap_object}
+use Rattle.cs_classes.specs.Meaning.{is_heap_context, meaning_at, method_meaning, obj_of, ref_of}
 use Rattle.cs_classes.proofs.Sorts.{AContext, AMethod, Bytes, Pointers, Sort, obj_of-bytes, obj_of-context, obj_of-pointers, sort_of}
 use Rattle.cs_model.specs.Obj.{lies_in}
 use Rattle.cs_model.specs.Context.{lies_if_index, lies_if_live}
@@ -12,22 +12,22 @@ pub record Lives (os : List Object) (m : ℕ) (at : Option ℕ) : Type 0 where
   pub at_is : at ≡ Some pc
   pub lies : lies_in (meaning_at os m) pc ≡ true
   pub object : Object
-  pub there : object_at os m ≡ Some object
-  pub other : is_context object ≡ false
-  pub format : is_method object.format ≡ true
+  pub there : heap_object os m ≡ Some object
+  pub other : is_heap_context object ≡ false
+  pub format : is_code object.format ≡ true
 
 -- only a method has a place where a pc lies
-sort_lies : (os : List Object) (x : Object) (pc : ℕ) → Sort x → lies_in (Some (obj_of (ref_of os) x)) pc ≡ true → (is_context x ≡ false) × (is_method x.format ≡ true)
-unfolding method_of
+sort_lies : (os : List Object) (x : Object) (pc : ℕ) → Sort x → lies_in (Some (obj_of (ref_of os) x)) pc ≡ true → (is_heap_context x ≡ false) × (is_code x.format ≡ true)
+unfolding method_meaning
 sort_lies os x pc (AContext c) h = absurd (let e : lies_in (Some (obj_of (ref_of os) x)) pc ≡ false = ap (λ y. lies_in (Some y) pc) (obj_of-context (ref_of os) x c) in cc)
 sort_lies os x pc (Pointers a p) h = absurd (let e : lies_in (Some (obj_of (ref_of os) x)) pc ≡ false = ap (λ y. lies_in (Some y) pc) (obj_of-pointers (ref_of os) x a p) in cc)
 sort_lies os x pc (Bytes a p m) h = absurd (let e : lies_in (Some (obj_of (ref_of os) x)) pc ≡ false = ap (λ y. lies_in (Some y) pc) (obj_of-bytes (ref_of os) x a p m) in cc)
 sort_lies os x pc (AMethod a p m) h = (a, m)
 
 pub lives_at : (os : List Object) (m : ℕ) (at : Option ℕ) (pc : ℕ) → at ≡ Some pc → lies_in (meaning_at os m) pc ≡ true → Lives os m at
-lives_at os m at pc is h = go (object_at os m) refl h
+lives_at os m at pc is h = go (heap_object os m) refl h
   where
-    go : (o : Option Object) → object_at os m ≡ o → lies_in (option_map (obj_of (ref_of os)) o) pc ≡ true → Lives os m at
+    go : (o : Option Object) → heap_object os m ≡ o → lies_in (option_map (obj_of (ref_of os)) o) pc ≡ true → Lives os m at
     go None e l = absurd (cc)
     go (Some x) e l =
         let s = sort_lies os x pc (sort_of x) l in

@@ -9,13 +9,13 @@ use Rattle.std.specs.Cmp.{nat_cmp_total}
 use Rattle.std.proofs.lemmas.Bool.{cases_eq, eq-eqb, ne_eqb, or_right}
 use Rattle.std.proofs.lemmas.List.{length-replicate}
 use Rattle.std.proofs.lemmas.List.Elements.{All-cons, All-replicate}
-use Rattle.cs_heap.specs.Format.{format_allows, is_method}
+use Rattle.cs_heap.specs.Format.{format_allows, is_code}
 use Rattle.cs_classes.specs.declared.Roots.{Roots}
 use Rattle.cs_word.specs.declared.Oop.{Oop}
-use Rattle.cs_heap.specs.Object.{Memory, Object, birth_of, class_of, format_of, hash_of, index_of as place_of, is_object, next_address, object_at, size, used}
+use Rattle.cs_heap.specs.Object.{Memory, Object, birth_at, class_at, format_at, hash_at, object_place as place_of, is_object, next_address, heap_object, size, used}
 use Rattle.cs_heap.proofs.Laws.{field_of-new, field_of-old, is_object-new, is_object-old, is_object-pushed, no_object-next, object_at-old, used-pushed}
-use Rattle.cs_classes.specs.Meaning.{birth_at, classes_of, count_of, is_context, kept_of, meaning_at, obj_of, objects_of, ref_of}
-use Rattle.cs_classes.specs.Sound.{IsSound, IsSoundObject, IsWhole, is_method_address, is_reference, nil_of}
+use Rattle.cs_classes.specs.Meaning.{nth_birth, classes_of, count_of, is_heap_context, kept_of, meaning_at, obj_of, objects_of, ref_of}
+use Rattle.cs_classes.specs.Sound.{AreSoundObjects, IsSoundObject, IsWhole, is_method_address, is_reference, nil_word}
 use Rattle.cs_classes.proofs.Heaps.{birth_of-push, object_at-push, slice_get-push}
 use Rattle.cs_classes.proofs.Objects.{IsFresh, get-objects_of-element, objects_of-push}
 use Rattle.cs_classes.proofs.Refs.{both_true, is_reference-object, is_reference-push, nil_of-push, ref_of-object, ref_of-push}
@@ -43,7 +43,7 @@ use Rattle.cs_acts.specs.Full.{IsFullHeap}
 use Rattle.cs_acts.specs.Made.{contexts_in}
 use Rattle.cs_acts.specs.Names.{KeepsNames, Names}
 use Rattle.cs_stack.specs.declared.parts.Parts.{Parts}
-use Rattle.cs_stack.specs.View.{act_of, active_in, bare, birth_from, birth_in, births_of, first_of, laid_pages, layout_of, frame_context, frame_hash, frame_sender, frames_onto, has_context, is_linked, is_married, pages_onto, stored_of, unframed, view_of}
+use Rattle.cs_stack.specs.View.{act_of, active_in, bare, birth_from, object_birth, births_of, first_frames, laid_pages, layout_of, frame_context, frame_hash, frame_sender, frames_onto, has_context, is_linked, is_married, pages_onto, stored_of, unframed, view_of}
 use Rattle.cs_stack.specs.Good.{FrameFits, FramesFit, HasSender, IsChain, IsGood, Lacks, LinkFits, PcFits, SenderFits, base_of, is_nil_or}
 use Rattle.cs_stack.proofs.Lives.{lives_at}
 use Rattle.cs_stack.proofs.Maps.{Objects, get_apart}
@@ -76,7 +76,7 @@ births_wed : (b a : ℕ) (fs : List Frame) → births_of (wed_page b a fs) ≡ b
 births_wed b a [] = refl
 births_wed b a (f ∷ fs) = ap₂ (λ (n : ℕ) (ns : List ℕ). n ∷ ns) (wed_keeps (λ g. g.birth) b a f refl) (births_wed b a fs)
 
-used_wed : (b a : ℕ) (fs : List Frame) → page.used (wed_page b a fs) ≡ page.used fs
+used_wed : (b a : ℕ) (fs : List Frame) → page.frames_used (wed_page b a fs) ≡ page.frames_used fs
 used_wed b a [] = refl
 used_wed b a (f ∷ fs) = ap₂ (λ m n. m + (10 + n)) (used_wed b a fs) (wed_keeps (λ g. length g.stack) b a f refl)
 
@@ -112,7 +112,7 @@ wed_nth {f = f} os next a (suc k) (above e es on) fit count =
 -- ---- a new object at the end of the heap
 
 -- a pc that lies in a method lies there still
-lies_pushed : (os : List Object) (y : Object) (m : ℕ) (pc : ℕ) → IsSound os → lies_in (meaning_at os m) pc ≡ true → lies_in (meaning_at (os ++ y ∷ []) m) pc ≡ true
+lies_pushed : (os : List Object) (y : Object) (m : ℕ) (pc : ℕ) → AreSoundObjects os → lies_in (meaning_at os m) pc ≡ true → lies_in (meaning_at (os ++ y ∷ []) m) pc ≡ true
 lies_pushed os y m pc sound h =
     let l = lives_at os m (Some pc) pc refl h in
     let old : meaning_at os m ≡ Some (obj_of (ref_of os) l.object) = ap (option_map (obj_of (ref_of os))) l.there in
@@ -120,15 +120,15 @@ lies_pushed os y m pc sound h =
     ap (option_map (obj_of (ref_of (os ++ y ∷ [])))) (object_at-push os y m l.object l.there) ∙ ap Some (obj_of-push os y l.object (sound_at os m l.object sound l.there)) in
     ap (λ o. lies_in o pc) (new ∙ sym old) ∙ h
 
-live_pushed : (os : List Object) (y : Object) (m : ℕ) (at : Option ℕ) → IsSound os → lies_if_live (meaning_at os m) at ≡ true → lies_if_live (meaning_at (os ++ y ∷ []) m) at ≡ true
+live_pushed : (os : List Object) (y : Object) (m : ℕ) (at : Option ℕ) → AreSoundObjects os → lies_if_live (meaning_at os m) at ≡ true → lies_if_live (meaning_at (os ++ y ∷ []) m) at ≡ true
 live_pushed os y m None sound h = refl
 live_pushed os y m (Some pc) sound h = lies_pushed os y m pc sound h
 
-index_pushed : (os : List Object) (y : Object) (m : ℕ) (at : Option ℕ) → IsSound os → lies_if_index (meaning_at os m) at ≡ true → lies_if_index (meaning_at (os ++ y ∷ []) m) at ≡ true
+index_pushed : (os : List Object) (y : Object) (m : ℕ) (at : Option ℕ) → AreSoundObjects os → lies_if_index (meaning_at os m) at ≡ true → lies_if_index (meaning_at (os ++ y ∷ []) m) at ≡ true
 index_pushed os y m None sound h = absurd (cc)
 index_pushed os y m (Some pc) sound h = lies_pushed os y m pc sound h
 
-birth_at-pushed : (os : List Object) (y : Object) (k : ℕ) → k < length os → birth_at (os ++ y ∷ []) k ≡ birth_at os k
+birth_at-pushed : (os : List Object) (y : Object) (k : ℕ) → k < length os → nth_birth (os ++ y ∷ []) k ≡ nth_birth os k
 birth_at-pushed [] y k h = absurd (omega (arith, h))
 birth_at-pushed (x ∷ os) y zero h = refl
 birth_at-pushed (x ∷ os) y (suc k) h = birth_at-pushed os y k (omega (arith, h))
@@ -137,7 +137,7 @@ classes_pushed : (os : List Object) (y : Object) (table : FinMap nat_cmp ℕ) �
 classes_pushed os y table there = same_map nat_cmp_total nat_cmp-IsAntisymmetric (classes_of (os ++ y ∷ []) table) (classes_of os table)
     (λ q. get-classes_of (os ++ y ∷ []) table q ∙ go q (get table q) refl ∙ sym (get-classes_of os table q))
   where
-    go : (q : ℕ) (o : Option ℕ) → get table q ≡ o → option_map (birth_of (os ++ y ∷ [])) o ≡ option_map (birth_of os) o
+    go : (q : ℕ) (o : Option ℕ) → get table q ≡ o → option_map (birth_at (os ++ y ∷ [])) o ≡ option_map (birth_at os) o
     go q None e = refl
     go q (Some c) e = ap Some (birth_of-push os y c (there q c e))
 
@@ -163,7 +163,7 @@ rest_pushed os y table roots active w =
 
 contexts_pushed : (os : List Object) (y : Object) → contexts_in (os ++ y ∷ []) ≤ contexts_in os + 1
 unfolding contexts_in
-contexts_pushed [] y = one (is_context y)
+contexts_pushed [] y = one (is_heap_context y)
   where
     one : (b : Bool) → 0 + (if b then 1 else 0) ≤ 1
     one true = omega arith
@@ -179,7 +179,7 @@ sizes_allowed header xs e = go (header / 2 ^ 17 % 2 == 1) e
     go true e = subst (λ n. (IsTrue (format_allows 3 n)) × (IsTrue (n == 22 || n == 62))) (sym e) (refl, refl)
     go false e = subst (λ n. (IsTrue (format_allows 3 n)) × (IsTrue (n == 22 || n == 62))) (sym e) (refl, refl)
 
-spouse_sound : (us : List Object) (r : FrameRef) (f : Frame) (header : ℕ) → nil_of us ≡ nil → is_reference us nil ≡ true → is_method_address us f.method ≡ true → is_nil_or closure_class us f.closure ≡ true
+spouse_sound : (us : List Object) (r : FrameRef) (f : Frame) (header : ℕ) → nil_word us ≡ nil → is_reference us nil ≡ true → is_method_address us f.method ≡ true → is_nil_or closure_class us f.closure ≡ true
     → is_reference us f.receiver ≡ true → IsSoundObject us (new_spouse r (context_size header) f)
 spouse_sound us r f header nil_is nil_named method closure receiver =
     let named : ℕ → Type 0 = λ v. is_reference us v ≡ true in
@@ -195,7 +195,7 @@ spouse_sound us r f header nil_is nil_named method closure receiver =
       references =
           All-cons named nil (nil ∷ f.method ∷ f.closure ∷ f.receiver ∷ rest) nil_named
           (All-cons named nil (f.method ∷ f.closure ∷ f.receiver ∷ rest) nil_named
-          (All-cons named f.method (f.closure ∷ f.receiver ∷ rest) (is_reference-object us f.method (both_true (is_object us f.method) (is_method (format_of us f.method)) method).0)
+          (All-cons named f.method (f.closure ∷ f.receiver ∷ rest) (is_reference-object us f.method (both_true (is_object us f.method) (is_code (format_at us f.method)) method).0)
           (All-cons named f.closure (f.receiver ∷ rest) (nil_or_named closure_class us f.closure closure)
           (All-cons named f.receiver rest receiver (All-replicate named (context_size header) nil nil_named)))));
       context = λ _. record {
@@ -203,10 +203,10 @@ spouse_sound us r f header nil_is nil_named method closure receiver =
         format = refl;
         slots = allowed.1;
         sender = place_sender us (link_word r) (link_names r);
-        pc = ap (λ b. b || is_some (count_of nil)) (eq-eqb nil (nil_of us) (sym nil_is));
-        stackp = ap (λ b. b || is_some (count_of nil)) (eq-eqb nil (nil_of us) (sym nil_is));
+        pc = ap (λ b. b || is_some (count_of nil)) (eq-eqb nil (nil_word us) (sym nil_is));
+        stackp = ap (λ b. b || is_some (count_of nil)) (eq-eqb nil (nil_word us) (sym nil_is));
         depth = omega (arith, ap (λ n. unwrap_or n 0) nil_counts);
-        method = or_right (f.method == nil_of us) (is_method_address us f.method) method;
+        method = or_right (f.method == nil_word us) (is_method_address us f.method) method;
         closure = closure_sound us f.closure nil_is closure;
       };
       method = λ m. absurd (cc);
@@ -309,10 +309,10 @@ module _ (w : Parts) (good : IsGood w) (r : FrameRef) (is : IsFrame w.frames r) 
   Same f g = (frame_size us g ≡ frame_size os f) × (frame_hash us g ≡ frame_hash os f)
 
   hash_none : (xs : List Object) (f : Frame) → f.context ≡ nil → frame_hash xs f ≡ 0
-  hash_none xs f e = ap (λ c. if c then 0 else hash_of xs f.context) (eq-eqb f.context nil e)
+  hash_none xs f e = ap (λ c. if c then 0 else hash_at xs f.context) (eq-eqb f.context nil e)
 
-  hash_some : (xs : List Object) (f : Frame) → f.context ≢ nil → frame_hash xs f ≡ hash_of xs f.context
-  hash_some xs f ne = ap (λ c. if c then 0 else hash_of xs f.context) (ne_eqb f.context nil ne)
+  hash_some : (xs : List Object) (f : Frame) → f.context ≢ nil → frame_hash xs f ≡ hash_at xs f.context
+  hash_some xs f ne = ap (λ c. if c then 0 else hash_at xs f.context) (ne_eqb f.context nil ne)
 
   other_same : {f : Frame} {gs : List Frame} (p : ℕ) → IsOn f gs (frames_of w.frames p) → Same f f
   other_same {f = f} p on = elim (cases_eq f.context nil) [
@@ -425,16 +425,16 @@ module _ (w : Parts) (good : IsGood w) (r : FrameRef) (is : IsFrame w.frames r) 
   abbrev pub wedded : Parts
   wedded = record w { heap = record w.heap { objects = us }; frames = qs }
 
-  active_same : (rs : List ℕ) → active_in (first_of qs rs) ≡ active_in (first_of w.frames rs)
+  active_same : (rs : List ℕ) → active_in (first_frames qs rs) ≡ active_in (first_frames w.frames rs)
   active_same [] = refl
   active_same (p ∷ rs) = active_alike (frames_of qs p) (frames_of w.frames p) (page_births p)
 
   pub view_wedded : view_of wedded ≡ view_of w
   view_wedded =
       ap₂ (λ (m : Objects) (t : Rest). record { objects = m; rest = t }) objects_same
-      (bare_rest us w.classes w.roots (active_in (first_of qs w.pages.recent)) ∙ rest_pushed os y w.classes w.roots (active_in (first_of qs w.pages.recent)) good.whole
+      (bare_rest us w.classes w.roots (active_in (first_frames qs w.pages.recent)) ∙ rest_pushed os y w.classes w.roots (active_in (first_frames qs w.pages.recent)) good.whole
       ∙ ap (λ o. (kept_of os w.classes w.roots o).rest) (active_same w.pages.recent)
-      ∙ sym (bare_rest os w.classes w.roots (active_in (first_of w.frames w.pages.recent))))
+      ∙ sym (bare_rest os w.classes w.roots (active_in (first_frames w.frames w.pages.recent))))
 
   laid_same : (rs : List ℕ) → laid_pages qs rs ≡ laid_pages w.frames rs
   laid_same [] = refl
@@ -467,28 +467,28 @@ module _ (w : Parts) (good : IsGood w) (r : FrameRef) (is : IsFrame w.frames r) 
       pages_have (p ∷ ps) [] len each = absurd (omega (arith, len))
       pages_have (p ∷ ps) (t ∷ ts) len each = ap₂ (λ s u. s || u) (each 0) (pages_have ps ts (omega (arith, len)) (λ q. each (suc q)))
 
-  no_birth : (c : Bool) (o : Option Object) → birth_in o ≡ None → (if c then None else birth_in o) ≡ None
+  no_birth : (c : Bool) (o : Option Object) → object_birth o ≡ None → (if c then None else object_birth o) ≡ None
   no_birth true o e = refl
   no_birth false o e = e
 
-  nil_no_birth : (xs : List Object) → class_of xs nil ≢ context_class → birth_in (object_at xs nil) ≡ None
-  nil_no_birth xs ne = go (object_at xs nil) refl
+  nil_no_birth : (xs : List Object) → class_at xs nil ≢ context_class → object_birth (heap_object xs nil) ≡ None
+  nil_no_birth xs ne = go (heap_object xs nil) refl
     where
-      go : (o : Option Object) → object_at xs nil ≡ o → birth_in o ≡ None
+      go : (o : Option Object) → heap_object xs nil ≡ o → object_birth o ≡ None
       go None e = refl
       go (Some x) e = ap (λ c. if c then Some x.birth else None) (ne_eqb x.class context_class (λ s. ne (ap (λ (o : Option Object). option_map_or (λ (z : Object). z.class) o 0) e ∙ s)))
 
-  not_object : (xs : List Object) (c : ℕ) → is_object xs c ≡ false → object_at xs c ≡ None
+  not_object : (xs : List Object) (c : ℕ) → is_object xs c ≡ false → heap_object xs c ≡ None
   not_object xs c e = go (place_of xs c) e
     where
       go : (o : Option ℕ) → is_some o ≡ false → option_and_then (slice_get xs) o ≡ None
       go None h = refl
       go (Some k) h = absurd (cc)
 
-  object_same : (c : ℕ) → c ≢ a → object_at us c ≡ object_at os c
+  object_same : (c : ℕ) → c ≢ a → heap_object us c ≡ heap_object os c
   object_same c ne = go (is_object os c) refl (is_object us c) refl
     where
-      go : (s : Bool) → is_object os c ≡ s → (t : Bool) → is_object us c ≡ t → object_at us c ≡ object_at os c
+      go : (s : Bool) → is_object os c ≡ s → (t : Bool) → is_object us c ≡ t → heap_object us c ≡ heap_object os c
       go true e t d = object_at-old os y c e
       go false e false d = not_object us c d ∙ sym (not_object os c e)
       go false e true d = elim (is_object-pushed os y c d) [
@@ -496,17 +496,17 @@ module _ (w : Parts) (good : IsGood w) (r : FrameRef) (is : IsFrame w.frames r) 
         | inr h ↦ absurd (ne (h ∙ sym at_end))
       ]
 
-  context_act_same : (c : ℕ) → (if is_married c qs then None else birth_in (object_at us c)) ≡ (if is_married c w.frames then None else birth_in (object_at os c))
+  context_act_same : (c : ℕ) → (if is_married c qs then None else object_birth (heap_object us c)) ≡ (if is_married c w.frames then None else object_birth (heap_object os c))
   context_act_same c = elim (cases_eq c a) [
     | inl e ↦
-        subst (λ n. (if is_married n qs then None else birth_in (object_at us n)) ≡ (if is_married n w.frames then None else birth_in (object_at os n))) (sym e)
-        (ap (λ t. if t then None else birth_in (object_at us a)) new_body ∙ sym (no_birth (is_married a w.frames) (object_at os a) (ap birth_in (not_object os a not_there))))
+        subst (λ n. (if is_married n qs then None else object_birth (heap_object us n)) ≡ (if is_married n w.frames then None else object_birth (heap_object os n))) (sym e)
+        (ap (λ t. if t then None else object_birth (heap_object us a)) new_body ∙ sym (no_birth (is_married a w.frames) (heap_object os a) (ap object_birth (not_object os a not_there))))
     | inr ne ↦ elim (cases_eq c nil) [
       | inl e ↦
-          subst (λ n. (if is_married n qs then None else birth_in (object_at us n)) ≡ (if is_married n w.frames then None else birth_in (object_at os n))) (sym e)
-          (no_birth (is_married nil qs) (object_at us nil) (nil_no_birth us agrees.nil_class)
-          ∙ sym (no_birth (is_married nil w.frames) (object_at os nil) (nil_no_birth os good.agree.nil_class)))
-      | inr nn ↦ ap₂ (λ (t : Bool) (o : Option Object). if t then None else birth_in o) (married_same c ne nn) (object_same c ne)
+          subst (λ n. (if is_married n qs then None else object_birth (heap_object us n)) ≡ (if is_married n w.frames then None else object_birth (heap_object os n))) (sym e)
+          (no_birth (is_married nil qs) (heap_object us nil) (nil_no_birth us agrees.nil_class)
+          ∙ sym (no_birth (is_married nil w.frames) (heap_object os nil) (nil_no_birth os good.agree.nil_class)))
+      | inr nn ↦ ap₂ (λ (t : Bool) (o : Option Object). if t then None else object_birth o) (married_same c ne nn) (object_same c ne)
     ]
   ]
     where
@@ -547,7 +547,7 @@ module _ (w : Parts) (good : IsGood w) (r : FrameRef) (is : IsFrame w.frames r) 
   -- the method of the frame is one in the new heap
   method_new : is_method_address us fr.method ≡ true
   method_new = let m = (good.agree.frames r is).method in
-      ap₂ (λ (c : Bool) (n : ℕ). c && is_method n) (is_object-old os y fr.method (method_named r.page on_r)) (field_of-old (λ x. x.format) os y fr.method (method_named r.page on_r)) ∙ m.format
+      ap₂ (λ (c : Bool) (n : ℕ). c && is_code n) (is_object-old os y fr.method (method_named r.page on_r)) (field_of-old (λ x. x.format) os y fr.method (method_named r.page on_r)) ∙ m.format
 
   sound_new : IsSoundObject us y
   sound_new =
@@ -596,14 +596,14 @@ module _ (w : Parts) (good : IsGood w) (r : FrameRef) (is : IsFrame w.frames r) 
       indices k x (inl h) = good.whole.indices k x h
       indices k x (inr h) = subst (λ (z : Object). is_some (get w.classes z.class) ≡ true) h.1 good.whole.entries.contexts
 
-  pcs : (k : ℕ) (x : Object) → slice_get us k ≡ Some x → is_context x ≡ true → PcFits us x
+  pcs : (k : ℕ) (x : Object) → slice_get us k ≡ Some x → is_heap_context x ≡ true → PcFits us x
   pcs k x h context = go (slice_get-push os y k x h)
     where
       go : (slice_get os k ≡ Some x) ⊎ ((k ≡ length os) × (y ≡ x)) → PcFits us x
       go (inl e) = live_pushed os y (slice_index x.words 3) (count_of (slice_index x.words 1)) good.whole.heap (good.pcs k x e context)
       go (inr e) = subst (PcFits us) e.1 (ap (lies_if_live (meaning_at us fr.method)) nil_counts)
 
-  senders : (k : ℕ) (x : Object) → slice_get us k ≡ Some x → is_context x ≡ true → SenderFits us x
+  senders : (k : ℕ) (x : Object) → slice_get us k ≡ Some x → is_heap_context x ≡ true → SenderFits us x
   senders k x h context = go (slice_get-push os y k x h)
     where
       go : (slice_get os k ≡ Some x) ⊎ ((k ≡ length os) × (y ≡ x)) → SenderFits us x

@@ -9,13 +9,13 @@ use Rattle.std.proofs.lemmas.List.{length-replicate}
 use Rattle.cs_word.specs.declared.Kind.{Kind}
 use Rattle.cs_word.specs.declared.Kind.TheVariants as kind
 use Rattle.cs_word.specs.Word.{kind_of}
-use Rattle.cs_heap.specs.Object.{Object, address_of, class_of, is_object, object_at as object_of_heap, used}
+use Rattle.cs_heap.specs.Object.{Object, address_of, class_at, is_object, heap_object as object_of_heap, used}
 use Rattle.cs_heap.proofs.Laws.{address_of-below, index_of-address, object_at-address}
 use Rattle.cs_classes.specs.declared.Loaded.{Loaded}
 use Rattle.cs_classes.specs.declared.Roots.{Roots}
-use Rattle.cs_classes.specs.Meaning.{context_of, count_of, is_context, kept_of, meaning_at, objects_of, ref_of, ref_of_kind}
+use Rattle.cs_classes.specs.Meaning.{context_of, count_of, is_heap_context, kept_of, meaning_at, objects_of, ref_of, ref_of_kind, loaded_kept}
 use Rattle.cs_classes.specs.Senders.{SendersStand}
-use Rattle.cs_classes.specs.Sound.{IsSound, IsSoundContext, IsWhole, is_reference, is_reference_kind, is_sender, is_sender_kind, nil_of}
+use Rattle.cs_classes.specs.Sound.{AreSoundObjects, IsSoundContext, IsWhole, is_reference, is_reference_kind, is_sender, is_sender_kind, nil_word}
 use Rattle.cs_classes.proofs.Heaps.{element_within}
 use Rattle.cs_classes.proofs.Objects.{get-objects_of, get-objects_of-element}
 use Rattle.cs_classes.proofs.Sorts.{obj_of-context}
@@ -36,7 +36,7 @@ use Rattle.cs_model.specs.Read.{IsRunning}
 use Rattle.cs_model.specs.Due.{is_idle, is_idle_at}
 use Rattle.cs_model.specs.Settle.{open_if, open_kept}
 use Rattle.cs_stack.specs.declared.parts.Parts.{Parts}
-use Rattle.cs_stack.specs.View.{active_in, bare, first_of, is_linked, loaded_kept, unframed, view_of}
+use Rattle.cs_stack.specs.View.{active_in, bare, first_frames, is_linked, unframed, view_of}
 use Rattle.cs_stack.specs.Good.{AreApart, FramesFit, IsChain, IsGood, LinkFits, PcFits, SenderFits, is_nil_or}
 use Rattle.cs_acts.specs.Opened.{taken_of}
 use Rattle.cs_stack.proofs.Bare.{bare_get, bare_loaded}
@@ -50,7 +50,7 @@ unfolding is_idle open_kept
 runs_taken k p e n running = subst IsRunning (ap (open_if k) e ∙ ap (λ b. if b then k else taken_of k p) n) (running (ap (is_idle_at k) e ∙ n))
 
 -- what a word refers to is what stands at it
-means_there : (os : List Object) (table : FinMap nat_cmp ℕ) (roots : Roots) (m pc : ℕ) → IsSound os → is_reference os m ≡ true
+means_there : (os : List Object) (table : FinMap nat_cmp ℕ) (roots : Roots) (m pc : ℕ) → AreSoundObjects os → is_reference os m ≡ true
     → lies_in (object_of (kept_of os table roots None) (ref_of os m)) pc ≡ true → lies_in (meaning_at os m) pc ≡ true
 unfolding is_reference ref_of
 means_there os table roots m pc sound named lies = go (kind_of m) refl named lies
@@ -65,7 +65,7 @@ means_there os table roots m pc sound named lies = go (kind_of m) refl named lie
 
 pub pcs_fit : (os : List Object) (table : FinMap nat_cmp ℕ) (roots : Roots) → IsWhole os table roots
     → ((i : ℕ) (c : Context) → state.object_at (kept_of os table roots None) i ≡ Some (Ctx c) → PcLies (kept_of os table roots None) c)
-    → (j : ℕ) (x : Object) → slice_get os j ≡ Some x → is_context x ≡ true → PcFits os x
+    → (j : ℕ) (x : Object) → slice_get os j ≡ Some x → is_heap_context x ≡ true → PcFits os x
 unfolding context_of
 pcs_fit os table roots whole pcs j x h is = go (count_of (slice_index x.words 1)) refl
   where
@@ -99,10 +99,10 @@ first_there os table roots whole =
     go (Some a) e h = e ∙ ap Some (sym (ap (λ o. unwrap_or o 0) e) ∙ whole.nil)
 
 nil_apart : (os : List Object) (table : FinMap nat_cmp ℕ) (roots : Roots) → IsWhole os table roots
-    → is_context_at (state.object_at (kept_of os table roots None) (kept_of os table roots None).rest.nil) ≡ false → class_of os nil ≢ context_class
+    → is_context_at (state.object_at (kept_of os table roots None) (kept_of os table roots None).rest.nil) ≡ false → class_at os nil ≢ context_class
 nil_apart os table roots whole other same =
     let n = first_there os table roots whole in
-    let is : is_context n.object ≡ true = eq-eqb _ _ (sym (ap (λ (o : Option Object). option_map_or (λ (y : Object). y.class) o 0) n.there) ∙ same) in
+    let is : is_heap_context n.object ≡ true = eq-eqb _ _ (sym (ap (λ (o : Option Object). option_map_or (λ (y : Object). y.class) o 0) n.there) ∙ same) in
     let found : get (objects_of os) (kept_of os table roots None).rest.nil ≡ Some (Ctx (context_of (ref_of os) n.object.hash n.object.words)) =
     ap (λ (o : Option Object). get (objects_of os) (option_map_or (λ (y : Object). y.birth) o 0)) n.element
     ∙ get-objects_of-element os 0 n.object whole.heap.apart n.element ∙ ap (λ o. Some o) (obj_of-context (ref_of os) n.object is) in
@@ -113,18 +113,18 @@ nil_apart os table roots whole other same =
 -- in a heap that is as it is without frames no context is linked
 no_link : (os : List Object) (table : FinMap nat_cmp ℕ) (roots : Roots) → IsWhole os table roots → bare os ≡ os → (j : ℕ) (x : Object) → slice_get os j ≡ Some x → is_linked x ≡ true → LinkFits x
 no_link os table roots whole same j x h linked = absurd (
-    let is : is_context x ≡ true = context_linked (is_context x) refl linked in
+    let is : is_heap_context x ≡ true = context_linked (is_heap_context x) refl linked in
     let kept : Some (unframed x) ≡ Some x = sym (ap (option_map unframed) h) ∙ sym (bare_get os j) ∙ ap (λ ys. slice_get ys j) same ∙ h in
     let dead : slice_index x.words 0 ≡ nil = sym (unframed_word x kept) ∙ ap (λ (y : Object). slice_index y.words 0) (unframed_linked x linked)
     ∙ dead_sender x.words (whole_context os x (whole.heap.each j x h) is).fields in
     let no : true ≡ false = sym (named is) ∙ ap names_place dead in
     cc)
   where
-    context_linked : (b : Bool) → is_context x ≡ b → is_linked x ≡ true → is_context x ≡ true
+    context_linked : (b : Bool) → is_heap_context x ≡ b → is_linked x ≡ true → is_heap_context x ≡ true
     context_linked true e l = e
     context_linked false e l = absurd (let no : false ≡ true = sym (ap (λ c. c && names_place (slice_index x.words 0)) e) ∙ l in cc)
 
-    named : is_context x ≡ true → names_place (slice_index x.words 0) ≡ true
+    named : is_heap_context x ≡ true → names_place (slice_index x.words 0) ≡ true
     named is = sym (ap (λ c. c && names_place (slice_index x.words 0)) is) ∙ linked
 
     unframed_word : (x : Object) → Some (unframed x) ≡ Some x → slice_index (unframed x).words 0 ≡ slice_index x.words 0
@@ -133,7 +133,7 @@ no_link os table roots whole same j x h linked = absurd (
 -- ---- senders
 
 -- where senders are nil or contexts, their words are the addresses of such
-senders_fit : (l : Loaded) → IsWhole l.heap.objects l.classes l.roots → SendersStand (loaded_kept l) → (j : ℕ) (x : Object) → slice_get l.heap.objects j ≡ Some x → is_context x ≡ true → SenderFits l.heap.objects x
+senders_fit : (l : Loaded) → IsWhole l.heap.objects l.classes l.roots → SendersStand (loaded_kept l) → (j : ℕ) (x : Object) → slice_get l.heap.objects j ≡ Some x → is_heap_context x ≡ true → SenderFits l.heap.objects x
 unfolding context_of is_sender ref_of
 senders_fit l whole stand j x h is =
     or_right (names_place word) (is_nil_or context_class os word) (go (kind_of word) refl sound.sender (stand x.birth (context_of (ref_of os) x.hash x.words) found))
@@ -160,8 +160,8 @@ senders_fit l whole stand j x h is =
     go (kind.Link v) e s n = absurd (let no : false ≡ true = ap (λ q. is_nil k (ref_of_kind os q) || is_context_at (object_of k (ref_of_kind os q))) (sym e) ∙ n in cc)
     go (kind.Object a) e s n =
         let same : a ≡ word = kind_address word a e in
-        let there : (is_object os a && (a == nil_of os || class_of os a == context_class)) ≡ true = ap (is_sender_kind os) (sym e) ∙ s in
-        subst (λ b. is_nil_or context_class os b ≡ true) same (ap (λ n. is_object os a && (a == n || class_of os a == context_class)) (sym whole.nil) ∙ there)
+        let there : (is_object os a && (a == nil_word os || class_at os a == context_class)) ≡ true = ap (is_sender_kind os) (sym e) ∙ s in
+        subst (λ b. is_nil_or context_class os b ≡ true) same (ap (λ n. is_object os a && (a == n || class_at os a == context_class)) (sym whole.nil) ∙ there)
 
 -- ---- the world
 
@@ -193,7 +193,7 @@ module _ (l : Loaded) (n : ℕ) (order : Order) (frames : List (List Frame)) (wh
 
   module _ (few : n ≤ 64) (within : used l.heap.objects ≤ l.heap.limit) (most : l.heap.limit ≤ 67108864) (births : l.roots.next_birth ≤ 4611686018427387904)
       (pcs : (i : ℕ) (c : Context) → state.object_at (loaded_kept l) i ≡ Some (Ctx c) → PcLies (loaded_kept l) c)
-      (plain : is_context_at (state.object_at (loaded_kept l) (loaded_kept l).rest.nil) ≡ false) (sound : pages.IsSound order) where
+      (plain : is_context_at (state.object_at (loaded_kept l) (loaded_kept l).rest.nil) ≡ false) (sound : pages.IsSoundOrder order) where
     pub made_good : IsGood made
     made_good = record {
       whole = whole;
@@ -215,7 +215,7 @@ module _ (l : Loaded) (n : ℕ) (order : Order) (frames : List (List Frame)) (wh
     -- the state is that of the image
     pub made_view : view_of made ≡ loaded_kept l
     made_view =
-        ap (λ ns. record (view_of made) { rest = (kept_of (bare l.heap.objects) l.classes l.roots (active_in (first_of frames ns))).rest }) recent
+        ap (λ ns. record (view_of made) { rest = (kept_of (bare l.heap.objects) l.classes l.roots (active_in (first_frames frames ns))).rest }) recent
         ∙ ap (λ m. record (kept_of (bare l.heap.objects) l.classes l.roots None) { objects = m }) (bare_objects made_good recent)
         ∙ ap (λ os. kept_of os l.classes l.roots None) (bare_loaded l whole senders)
 

@@ -8,7 +8,7 @@ use Rattle.cs_classes.specs.Meaning.{count_of}
 use Rattle.cs_frame.specs.declared.FrameRef.{FrameRef}
 use Rattle.cs_frame.specs.declared.NewFrame.{NewFrame}
 use Rattle.cs_frame.specs.Frame.{Frame}
-use Rattle.cs_frame.specs.Page.{frames_of, ref_of, top, used}
+use Rattle.cs_frame.specs.Page.{frames_of, frame_ref, top, frames_used}
 use Rattle.cs_model.specs.Ref.{Ref}
 use Rattle.cs_model.specs.Ref as ref
 use Rattle.cs_model.specs.Obj.{Context, Ctx, context_size, header_in, is_method, popped}
@@ -22,7 +22,7 @@ use Rattle.cs_model.proofs.Entering.{enter_block_moved}
 use Rattle.cs_model.proofs.Operating.{enter_moved}
 use Rattle.cs_model.proofs.Same.{same}
 use Rattle.cs_acts.proofs.Held.{named_held}
-use Rattle.cs_model.specs.Demand.{words_at, words_below, words_in}
+use Rattle.cs_model.specs.Demand.{words_taken, words_below, words_held}
 use Rattle.cs_acts.specs.declared.act.Act.{Act}
 use Rattle.cs_acts.specs.declared.act.Act.TheVariants as act
 use Rattle.cs_acts.specs.declared.act.Full.{Full}
@@ -50,15 +50,15 @@ module _ (k : Kept) (args : ℕ) (new : Context → Context) (running : IsRunnin
   abbrev t : Kept
   t = enter_with k args new
 
-  same_words : (i : ℕ) → i < k.rest.next → words_at (object_at k i) ≡ words_at (object_at t i)
+  same_words : (i : ℕ) → i < k.rest.next → words_taken (object_at k i) ≡ words_taken (object_at t i)
   unfolding enter_with drop_of put
   same_words i below =
       let cut : Objects = insert k.objects (active_birth k) (Ctx (popped (args + 1) (active_context k))) in
       let apart : object_at t i ≡ get cut i = get_apart cut k.rest.next i (Ctx (new (active_context k))) (λ e. omega (arith, e, below)) in
       elim (eqb_tells i (active_birth k)) [
-        | inl e ↦ ap words_at (ap (object_at k) e.1 ∙ running.found)
-            ∙ sym (ap words_at (apart ∙ ap (get cut) e.1 ∙ get_here k.objects (active_birth k) (Ctx (popped (args + 1) (active_context k)))))
-        | inr e ↦ sym (ap words_at (apart ∙ get_apart k.objects (active_birth k) i (Ctx (popped (args + 1) (active_context k))) e.1))
+        | inl e ↦ ap words_taken (ap (object_at k) e.1 ∙ running.found)
+            ∙ sym (ap words_taken (apart ∙ ap (get cut) e.1 ∙ get_here k.objects (active_birth k) (Ctx (popped (args + 1) (active_context k)))))
+        | inr e ↦ sym (ap words_taken (apart ∙ get_apart k.objects (active_birth k) i (Ctx (popped (args + 1) (active_context k))) e.1))
       ]
 
   same_below : (n : ℕ) → n ≤ k.rest.next → words_below n k ≡ words_below n t
@@ -66,7 +66,7 @@ module _ (k : Kept) (args : ℕ) (new : Context → Context) (running : IsRunnin
   same_below zero le = refl
   same_below (suc n) le = ap₂ (λ a b. a + b) (same_below n (omega (arith, le))) (same_words n (omega (arith, le)))
 
-  pub words_more : words_in k ≤ words_in t
+  pub words_more : words_held k ≤ words_held t
   unfolding enter_with words_below
   words_more =
       let next : k.rest.next + 1 ≡ suc k.rest.next = omega arith in
@@ -76,7 +76,7 @@ module _ (k : Kept) (args : ℕ) (new : Context → Context) (running : IsRunnin
 
 -- ---- why it is refused
 
-pub refused_heap : (s : Store) (l : Option Layout) (k t : Kept) (why : Full) → words_in k ≤ words_in t → (why ≡ full.Heap) × CausesFull s l k 0 k why → CausesFull s l k 0 t why
+pub refused_heap : (s : Store) (l : Option Layout) (k t : Kept) (why : Full) → words_held k ≤ words_held t → (why ≡ full.Heap) × CausesFull s l k 0 k why → CausesFull s l k 0 t why
 refused_heap s l k t why more (is, cause) =
     let c : IsFullHeap s l 0 k = subst (λ y. CausesFull s l k 0 k y) is cause in
     subst (λ y. CausesFull s l k 0 t y) (sym is) (record { words = omega (arith, more, c.words); room = c.room })
@@ -85,16 +85,16 @@ length_laid : (ps : List (List Frame)) (rs : List ℕ) → length (laid_pages ps
 length_laid ps [] = refl
 length_laid ps (r ∷ rs) = ap suc (length_laid ps rs)
 
-pub first_words : (w : Parts) → IsGood w → Opened w → page_words (view_of w) (first_page (laid_pages w.frames w.pages.recent)) ≡ used (active_page w)
-first_words w good o = ap (λ ps. page_words (view_of w) (first_page ps)) (pages_are w o) ∙ words_used w good o ∙ sym (ap used o.page_is)
+pub first_words : (w : Parts) → IsGood w → Opened w → page_words (view_of w) (first_page (laid_pages w.frames w.pages.recent)) ≡ frames_used (active_page w)
+first_words w good o = ap (λ ps. page_words (view_of w) (first_page ps)) (pages_are w o) ∙ words_used w good o ∙ sym (ap frames_used o.page_is)
 
-pub refused_stack : (w : Parts) → IsGood w → Opened w → (s : Store) (t : Kept) → length w.pages.recent ≡ w.pages.total → 4096 < used (active_page w) + 66
+pub refused_stack : (w : Parts) → IsGood w → Opened w → (s : Store) (t : Kept) → length w.pages.recent ≡ w.pages.total → 4096 < frames_used (active_page w) + 66
     → CausesFull s (layout_of w) (view_of w) 0 t full.Stack
 refused_stack w good o s t all room = (length_laid w.frames w.pages.recent ∙ all, subst (λ n. 4096 < n + 66) (sym (first_words w good o)) room)
 
 -- one context is made at most
-pub made_one : (w : Parts) → IsGood w → Opened w → 4096 < used (active_page w) + 66 → made_by_entering (view_of w) (layout_of w) ≡ 1
-made_one w good o room = ap (λ b. if b then 0 else 1) (ap (λ n. nat_le (n + 66) 4096) (first_words w good o) ∙ at_least (used (active_page w) + 66) 4096 room)
+pub made_one : (w : Parts) → IsGood w → Opened w → 4096 < frames_used (active_page w) + 66 → made_by_entering (view_of w) (layout_of w) ≡ 1
+made_one w good o room = ap (λ b. if b then 0 else 1) (ap (λ n. nat_le (n + 66) 4096) (first_words w good o) ∙ at_least (frames_used (active_page w) + 66) 4096 room)
 
 -- ---- the caller is married
 
@@ -164,7 +164,7 @@ module _ {s t : Store} {k l : Kept} (names : KeepsNames s t) (view : l ≡ k) {n
       }))
 
 module _ {w v : Parts} (good : IsGood w) (ready : IsReady (stored_of w) (view_of w)) {r : FrameRef} {a : ℕ} (m : Marries w v r a)
-    (place : r ≡ ref_of (active_number w) (top (active_page w))) where
+    (place : r ≡ frame_ref (active_number w) (top (active_page w))) where
   pub married_ready : IsReady (stored_of v) (view_of v)
   married_ready = ready_again w v m.good ready (ap (λ (k : Kept). k.rest.active) m.view)
 
@@ -182,24 +182,24 @@ module _ {w v : Parts} (good : IsGood w) (ready : IsReady (stored_of w) (view_of
 
   same_at : u.f.at ≡ r.at
   same_at =
-      let is : r ≡ ref_of o.p o.f = top_ref o r place in
+      let is : r ≡ frame_ref o.p o.f = top_ref o r place in
       let page : r.page ≡ u.p = ap (λ (q : FrameRef). q.page) place ∙ sym same_number ∙ number_is u in
       let before : birth_from (frames_of w.frames r.page) r.at ≡ Some o.f.birth =
       ap (λ (q : FrameRef). birth_from (frames_of w.frames q.page) q.at) is ∙ ap (λ (fs : List Frame). birth_from fs o.f.at) o.is ∙ from_here o.f o.fs in
       let now : birth_from (frames_of v.frames r.page) r.at ≡ birth_from (u.f ∷ u.fs) r.at = ap (λ (fs : List Frame). birth_from fs r.at) (ap (frames_of v.frames) page ∙ u.is) in
       from_top u.f u.fs r.at u.fits.apart (sym now ∙ m.acts (act.Frame r.page r.at) ∙ before ∙ ap (λ b. Some b) (sym same_birth))
 
-  pub married_place : r ≡ ref_of (active_number v) (top (active_page v))
+  pub married_place : r ≡ frame_ref (active_number v) (top (active_page v))
   married_place =
       let page : r.page ≡ active_number v = ap (λ (q : FrameRef). q.page) place ∙ sym same_number in
       ap (λ n. record { page = n; at = r.at }) page
       ∙ ap (λ n. record { page = active_number v; at = n }) (sym same_at)
-      ∙ ap (λ (fs : List Frame). ref_of (active_number v) (top fs)) (sym u.page_is)
+      ∙ ap (λ (fs : List Frame). frame_ref (active_number v) (top fs)) (sym u.page_is)
 
   pub married_context : (top (active_page v)).context ≡ a
   married_context = ap (λ (fs : List Frame). (top fs).context) u.page_is ∙ sym (ap (λ (f : Frame). f.context) (top_frame u r married_place)) ∙ m.context.0
 
-  same_used : used (active_page v) ≡ used (active_page w)
+  same_used : frames_used (active_page v) ≡ frames_used (active_page w)
   same_used =
       sym (first_words v m.good u)
       ∙ ap₂ (λ k l. page_words k (first_page (pages_in l))) m.view m.layout
@@ -219,7 +219,7 @@ module _ {w v : Parts} (good : IsGood w) (ready : IsReady (stored_of w) (view_of
           ∙ begun_view m.good married_ready u can_still t.page t.free a married_context m.context.1
           ∙ begun_state_still m.names m.view can
 
-      pub overflowed_layout : 4096 < used (active_page w) + 66 → LaidBy (entered (view_of w) w.roots.next_birth) (layout_of w) (layout_of z)
+      pub overflowed_layout : 4096 < frames_used (active_page w) + 66 → LaidBy (entered (view_of w) w.roots.next_birth) (layout_of w) (layout_of z)
       overflowed_layout full =
           let laid = begun_layout m.good married_ready u can_still t.page t.free a married_context m.context.1 (omega (arith, full, same_used)) in
           subst (λ l. LaidBy (entered (view_of w) w.roots.next_birth) l (layout_of z)) m.layout

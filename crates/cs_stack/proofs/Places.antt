@@ -4,13 +4,13 @@ use Rattle.std.specs.Prelude.{◌==◌, ◌/◌, ◌%◌, if◌then◌else◌, s
 use Rattle.std.specs.Option.{option_map_or}
 use Rattle.std.specs.FinMap.{get}
 use Rattle.std.proofs.lemmas.Bool.{cases_eq, eq-eqb}
-use Rattle.cs_heap.specs.Object.{Object, object_at}
-use Rattle.cs_classes.specs.Meaning.{is_context, obj_of, objects_of, ref_of}
+use Rattle.cs_heap.specs.Object.{Object, heap_object}
+use Rattle.cs_classes.specs.Meaning.{is_heap_context, obj_of, objects_of, ref_of}
 use Rattle.cs_classes.proofs.Heaps.{birth_of-object_at, object_there, stands}
 use Rattle.cs_frame.specs.declared.FrameRef.{FrameRef}
 use Rattle.cs_frame.specs.Frame.{Frame, nil}
 use Rattle.cs_frame.specs.Page as page
-use Rattle.cs_frame.specs.Page.{IsFrame, IsStacked, frame, frames_of, index_in, index_of, nth}
+use Rattle.cs_frame.specs.Page.{IsFrame, AreStacked, frame, frames_of, index_in, frame_index, nth}
 use Rattle.cs_frame.proofs.PageLaws.{index_of-nth}
 use Rattle.cs_marriage.specs.Agree as agree
 use Rattle.cs_marriage.specs.Agree.{AreMarried}
@@ -24,11 +24,11 @@ use Rattle.cs_stack.proofs.Framed.{IsOn, above, fits_on, here}
 use Rattle.cs_stack.proofs.Bare.{a_context, meaning_there}
 
 -- frames that fit lie on each other
-pub stacked : (os : List Object) (next : ℕ) (fs : List Frame) → FramesFit os next fs → IsStacked fs
+pub stacked : (os : List Object) (next : ℕ) (fs : List Frame) → FramesFit os next fs → AreStacked fs
 stacked os next [] fit = tt
 stacked os next (f ∷ fs) fit = (fit.0.stands, stacked os next fs fit.1)
 
-pub good_stacked : (w : Parts) → IsGood w → (p : ℕ) → IsStacked (frames_of w.frames p)
+pub good_stacked : (w : Parts) → IsGood w → (p : ℕ) → AreStacked (frames_of w.frames p)
 good_stacked w good p = stacked w.heap.objects w.roots.next_birth (frames_of w.frames p) (good.frames p)
 
 -- how many frames stand above this one
@@ -43,32 +43,32 @@ above_on (above e es on) = let a = above_on on in record { count = suc a.count; 
 
 -- the frame begins where it says
 pub record BeginsAt (ps : List (List Frame)) (p : ℕ) (f : Frame) : Type 0 where
-  pub there : IsFrame ps (page.ref_of p f)
-  pub is : frame ps (page.ref_of p f) ≡ f
+  pub there : IsFrame ps (page.frame_ref p f)
+  pub is : frame ps (page.frame_ref p f) ≡ f
 
-pub begins_on : {f : Frame} {gs : List Frame} (ps : List (List Frame)) (p : ℕ) → IsStacked (frames_of ps p) → IsOn f gs (frames_of ps p) → BeginsAt ps p f
+pub begins_on : {f : Frame} {gs : List Frame} (ps : List (List Frame)) (p : ℕ) → AreStacked (frames_of ps p) → IsOn f gs (frames_of ps p) → BeginsAt ps p f
 begins_on {f = f} ps p st on =
     let a = above_on on in
-    let index : index_of (frames_of ps p) f.at ≡ a.count =
-    ap (λ (g : Frame). index_of (frames_of ps p) g.at) (sym a.is) ∙ index_of-nth (frames_of ps p) a.count st a.within in
+    let index : frame_index (frames_of ps p) f.at ≡ a.count =
+    ap (λ (g : Frame). frame_index (frames_of ps p) g.at) (sym a.is) ∙ index_of-nth (frames_of ps p) a.count st a.within in
     record { there = omega (arith, index, a.within); is = ap (nth (frames_of ps p)) index ∙ a.is }
 
 -- what heap and frames agree on for a frame
-pub agreed : {f : Frame} {gs : List Frame} (w : Parts) → IsGood w → (p : ℕ) → IsOn f gs (frames_of w.frames p) → agree.FrameFits w.heap.objects (page.ref_of p f) f
+pub agreed : {f : Frame} {gs : List Frame} (w : Parts) → IsGood w → (p : ℕ) → IsOn f gs (frames_of w.frames p) → agree.FrameAgrees w.heap.objects (page.frame_ref p f) f
 agreed {f = f} w good p on =
     let b = begins_on w.frames p (good_stacked w good p) on in
-    subst (agree.FrameFits w.heap.objects (page.ref_of p f)) b.is (good.agree.frames (page.ref_of p f) b.there)
+    subst (agree.FrameAgrees w.heap.objects (page.frame_ref p f)) b.is (good.agree.frames (page.frame_ref p f) b.there)
 
-pub married_on : {f : Frame} {gs : List Frame} (w : Parts) → IsGood w → (p : ℕ) → IsOn f gs (frames_of w.frames p) → f.context ≢ nil → AreMarried w.heap.objects (page.ref_of p f) f
+pub married_on : {f : Frame} {gs : List Frame} (w : Parts) → IsGood w → (p : ℕ) → IsOn f gs (frames_of w.frames p) → f.context ≢ nil → AreMarried w.heap.objects (page.frame_ref p f) f
 married_on w good p on some = (agreed w good p on).married some
 
 -- the object of a context that has a frame
 pub record SpouseOf (os : List Object) (f : Frame) : Type 0 where
   pub place : ℕ
   pub object : Object
-  pub there : object_at os f.context ≡ Some object
+  pub there : heap_object os f.context ≡ Some object
   pub element : slice_get os place ≡ Some object
-  pub context : is_context object ≡ true
+  pub context : is_heap_context object ≡ true
   pub birth : object.birth ≡ f.birth
 
 pub spouse : (os : List Object) (r : FrameRef) (f : Frame) → AreMarried os r f → SpouseOf os f
@@ -91,7 +91,7 @@ pub hidden : {f : Frame} {gs : List Frame} (w : Parts) → IsGood w → (p : ℕ
 hidden {f = f} w good p on o e = elim (cases_eq f.context nil) [
   | inl none ↦ absurd (let no = (fits_on w.heap.objects w.roots.next_birth on (good.frames p)).alone none in cc)
   | inr some ↦
-      let s = spouse w.heap.objects (page.ref_of p f) f (married_on w good p on some) in
+      let s = spouse w.heap.objects (page.frame_ref p f) f (married_on w good p on some) in
       let means : Some (obj_of (ref_of w.heap.objects) s.object) ≡ Some o =
       sym (meaning_there w.heap.objects f.context s.object good.whole.heap s.there) ∙ ap (get (objects_of w.heap.objects)) s.birth ∙ e in
       let is : obj_of (ref_of w.heap.objects) s.object ≡ o = cc in
@@ -125,10 +125,10 @@ size_few {f = f} w good p on = elim (cases_eq f.context nil) [
 ]
 
 -- a stack that isn't full leaves a word free, and the frames of a page have at most its words
-pub room_free : {f : Frame} {gs : List Frame} (w : Parts) → IsGood w → (p : ℕ) → IsOn f gs (frames_of w.frames p) → length f.stack < agree.frame_size w.heap.objects f → page.used (f ∷ gs) < 4096
+pub room_free : {f : Frame} {gs : List Frame} (w : Parts) → IsGood w → (p : ℕ) → IsOn f gs (frames_of w.frames p) → length f.stack < agree.frame_size w.heap.objects f → page.frames_used (f ∷ gs) < 4096
 room_free w good p on short =
     let fits = fits_on w.heap.objects w.roots.next_birth on (good.frames p) in omega (arith, short, size_few w good p on, fits.stands, fits.room)
 
-pub page_few : {f : Frame} {gs : List Frame} (w : Parts) → IsGood w → (p : ℕ) → IsOn f gs (frames_of w.frames p) → page.used (f ∷ gs) ≤ 4096
+pub page_few : {f : Frame} {gs : List Frame} (w : Parts) → IsGood w → (p : ℕ) → IsOn f gs (frames_of w.frames p) → page.frames_used (f ∷ gs) ≤ 4096
 page_few w good p on =
     let fits = fits_on w.heap.objects w.roots.next_birth on (good.frames p) in omega (arith, fits.fits, size_few w good p on, fits.stands, fits.room)

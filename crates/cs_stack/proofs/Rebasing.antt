@@ -6,11 +6,11 @@ use Rattle.std.specs.Ordering.{nat_cmp}
 use Rattle.std.specs.FinMap.{FinMap, get, same_map, nat_cmp-IsAntisymmetric}
 use Rattle.std.specs.Cmp.{nat_cmp_total}
 use Rattle.std.proofs.lemmas.Bool.{eqb-true, or_right}
-use Rattle.cs_heap.specs.Object.{Object, birth_of, is_object, object_at, slot_count_of, slot_of}
-use Rattle.cs_classes.specs.Meaning.{context_of, count_of, is_context, meaning_at, obj_of, objects_of, ref_of}
+use Rattle.cs_heap.specs.Object.{Object, birth_at, is_object, heap_object, slot_count_of, slot_of}
+use Rattle.cs_classes.specs.Meaning.{context_of, count_of, is_heap_context, meaning_at, obj_of, objects_of, ref_of}
 use Rattle.cs_word.specs.Word.{kind_of}
 use Rattle.cs_word.proofs.Words.{kind_of-link}
-use Rattle.cs_heap.specs.Format.{is_method}
+use Rattle.cs_heap.specs.Format.{is_code}
 use Rattle.cs_classes.specs.declared.Roots.{Roots}
 use Rattle.cs_classes.specs.Sound.{IsWhole, is_reference, is_reference_kind}
 use Rattle.cs_classes.proofs.Heaps.{birth_of-object_at, object_there, stands}
@@ -63,14 +63,14 @@ module _ {u : Parts} (good : IsGood u) (closed : u.pages.recent ≡ []) where
 -- a context of the heap that is linked to no frame, and has a pc
 pub record IsLive (os : List Object) (s : ℕ) : Type 0 where
   pub object : Object
-  pub there : object_at os s ≡ Some object
-  pub context : is_context object ≡ true
+  pub there : heap_object os s ≡ Some object
+  pub context : is_heap_context object ≡ true
   pub single : is_linked object ≡ false
   pub sender : is_nil_or context_class os (slice_index object.words 0) ≡ true
   pub live : IsSome (count_of (slice_index object.words 1))
 
 pub live_at : (os : List Object) (table : FinMap nat_cmp ℕ) (roots : Roots) (s t : ℕ) (c : Context) → IsWhole os table roots
-    → ((j : ℕ) (x : Object) → slice_get os j ≡ Some x → is_context x ≡ true → SenderFits os x) → is_object os s ≡ true → birth_of os s ≡ t
+    → ((j : ℕ) (x : Object) → slice_get os j ≡ Some x → is_heap_context x ≡ true → SenderFits os x) → is_object os s ≡ true → birth_at os s ≡ t
     → get (objects_of (bare os)) t ≡ Some (Ctx c) → is_some c.pc ≡ true → IsLive os s
 unfolding context_of
 live_at os table roots s t c heap senders is birth found live =
@@ -79,7 +79,7 @@ live_at os table roots s t c heap senders is birth found live =
     let same : Some (obj_of (ref_of os) (unframed y.0)) ≡ Some (Ctx c) =
     sym (bare_element os k.0 y.0 heap.heap k.1.element) ∙ ap (get (objects_of (bare os))) (sym (birth_of-object_at os s y.0 y.1) ∙ birth) ∙ found in
     let means = context_is (ref_of os) (unframed y.0) c (cc) in
-    let class : is_context y.0 ≡ true = sym (unframed_context y.0) ∙ means.context in
+    let class : is_heap_context y.0 ≡ true = sym (unframed_context y.0) ∙ means.context in
     let pc : count_of (slice_index (unframed y.0).words 1) ≡ c.pc = ap (λ (d : Context). d.pc) means.value in
     let long = (whole_context os y.0 (sound_at os s y.0 heap.heap y.1) class).fields in
     let alone = unlinked_live y.0 long c pc live in
@@ -102,7 +102,7 @@ live_at os table roots s t c heap senders is birth found live =
             let no : is_some c.pc ≡ false = ap is_some none in cc)
 
 module _ {os : List Object} {table : FinMap nat_cmp ℕ} {roots : Roots} {s : ℕ} (heap : IsWhole os table roots) (at : IsLive os s)
-    (pcs : (j : ℕ) (x : Object) → slice_get os j ≡ Some x → is_context x ≡ true → PcFits os x) (few : roots.next_birth ≤ 4611686018427387904) where
+    (pcs : (j : ℕ) (x : Object) → slice_get os j ≡ Some x → is_heap_context x ≡ true → PcFits os x) (few : roots.next_birth ≤ 4611686018427387904) where
   pub live_whole : IsWholeContext os at.object
   live_whole = whole_context os at.object (sound_at os s at.object heap.heap at.there) at.context
 
@@ -112,10 +112,10 @@ module _ {os : List Object} {table : FinMap nat_cmp ℕ} {roots : Roots} {s : �
   pub live_count : slot_count_of os s ≡ length at.object.words
   live_count = ap (λ (o : Option Object). option_map_or (λ (y : Object). length y.words) o 0) at.there
 
-  pub live_birth : birth_of os s ≡ at.object.birth
+  pub live_birth : birth_at os s ≡ at.object.birth
   live_birth = birth_of-object_at os s at.object at.there
 
-  pub live_below : birth_of os s < roots.next_birth
+  pub live_below : birth_at os s < roots.next_birth
   live_below = let k = stands os s at.object at.there in subst (λ n. n < roots.next_birth) (sym live_birth) (heap.births k.0 at.object k.1.element)
 
   pub live_named : (i : ℕ) → i < slot_count_of os s → is_reference os (slot_of os s i) ≡ true
@@ -154,7 +154,7 @@ module _ {os : List Object} {table : FinMap nat_cmp ℕ} {roots : Roots} {s : �
           let l = lives_if_live os (slot_of os s 3) (count_of (slot_of os s 1)) pc live_lies e in
           let method = (sound_at os (slot_of os s 3) l.object heap.heap l.there).method l.format in
           record {
-            format = ap (λ (o : Option Object). is_method (option_map_or (λ (y : Object). y.format) o 0)) l.there ∙ l.format;
+            format = ap (λ (o : Option Object). is_code (option_map_or (λ (y : Object). y.format) o 0)) l.there ∙ l.format;
             header = omega (arith, ap (λ (o : Option Object). option_map_or (λ (y : Object). length y.words) o 0) l.there, method.literals);
           }
 

@@ -1,7 +1,7 @@
 -- A return to a sender, by states alone: a state that lacks the context that died keeps all that the return keeps.
 use Rattle.std.proofs.Common.{◌≡◌, ◌≢◌, ℕ, true, false, refl, sym, ap, subst, ◌∙◌, Option, Some, None, IsSome, is_some, unwrap_or, option_and_then, inl, inr}
 use Rattle.std.proofs.lemmas.Bool.Decides.{eqb_tells}
-use Rattle.cs_model.specs.Ref.{Ref, Small, Char, birth_of}
+use Rattle.cs_model.specs.Ref.{Ref, Small, Char, named_object}
 use Rattle.cs_model.specs.Ref as ref
 use Rattle.cs_model.specs.Obj.{Obj, Context, Ctx, Ptr, Raw, Method, context_in, dead, is_context}
 use Rattle.cs_model.specs.State.{IsHeld, Kept, object_at, put}
@@ -46,7 +46,7 @@ sender_found k t running e =
 
 -- the active context dies, and its sender is active
 abbrev pub back_of : Kept → Kept
-back_of k = resume_of (kill_of k (active_birth k)) (unwrap_or (birth_of (active_context k).sender) k.rest.nil)
+back_of k = resume_of (kill_of k (active_birth k)) (unwrap_or (named_object (active_context k).sender) k.rest.nil)
 
 -- behind that, where the sender has birth t
 pub record Back (k n : Kept) (t : ℕ) : Type 0 where
@@ -59,7 +59,7 @@ unfolding kill_of
 kills k running = ap (λ o. edit_found (dead_object k.rest.nil) (active_birth k) o k) running.found
 
 goes_back : (k : Kept) (t : ℕ) (c : Context) → Sends k (active_context k).sender t c → back_of k ≡ resume_of (kill_of k (active_birth k)) t
-goes_back k t c s = ap (λ r. resume_of (kill_of k (active_birth k)) (unwrap_or (birth_of r) k.rest.nil)) s.is
+goes_back k t c s = ap (λ r. resume_of (kill_of k (active_birth k)) (unwrap_or (named_object r) k.rest.nil)) s.is
 
 pub back : (k : Kept) (t : ℕ) (c : Context) → IsRunning k → Sends k (active_context k).sender t c → Back k (back_of k) t
 unfolding resume_of put
@@ -76,7 +76,7 @@ back_moved k m t c s keeps =
     let there : IsSome (object_at k t) = ap is_some s.there in
     let done = resume_moved killed.keeps (same t (killed.grows.held t there)) in
     let sender : (active_context m).sender ≡ ref.Obj t = ap (λ (d : Context). d.sender) (active_context-kept k m keeps) ∙ s.is in
-    let also : back_of m ≡ resume_of (kill_of m (active_birth m)) t = ap (λ r. resume_of (kill_of m (active_birth m)) (unwrap_or (birth_of r) m.rest.nil)) sender in
+    let also : back_of m ≡ resume_of (kill_of m (active_birth m)) t = ap (λ r. resume_of (kill_of m (active_birth m)) (unwrap_or (named_object r) m.rest.nil)) sender in
     subst (λ n. Keeps (back_of k) n) (sym also) (subst (λ n. Keeps n (resume_of (kill_of m (active_birth m)) t)) (sym (goes_back k t c s)) done.keeps)
 
 -- ---- a state that lacks the context that died

@@ -6,15 +6,16 @@ use Rattle.std.specs.Option.{option_map_or}
 use Rattle.std.specs.FinMap.{get, insert}
 use Rattle.std.proofs.lemmas.List.{length-map}
 use Rattle.std.proofs.lemmas.Bool.Decides.{eqb_tells, nat_tests}
+use Rattle.cs_model.specs.Words.{small_value}
 use Rattle.cs_word.specs.declared.Oop.{Oop}
 use Rattle.cs_word.specs.declared.Kind.{Kind}
 use Rattle.cs_word.specs.declared.Kind.TheVariants as kind
-use Rattle.cs_word.specs.Word.{kind_of, small_value}
-use Rattle.cs_heap.specs.Format.{is_method}
-use Rattle.cs_heap.specs.Object.{Memory, Object, at_index, birth_of, class_of, format_of, index_of, is_object, object_at, set_word, slot_count_of, with_slot}
+use Rattle.cs_word.specs.Word.{kind_of}
+use Rattle.cs_heap.specs.Format.{is_code}
+use Rattle.cs_heap.specs.Object.{Memory, Object, at_index, birth_at, class_at, format_at, object_place, is_object, heap_object, set_word, slot_count_of, slot_set}
 use Rattle.cs_heap.specs.Writes.{slot_stored, slots_stored}
 use Rattle.cs_heap.proofs.Laws.{hash_of-with_slot, object_at-with_object_other, object_at-with_object_same, slot_count_of-with_slot, slot_of-with_slot_other_object, slot_of-with_slot_other_slot, used-with_slot}
-use Rattle.cs_classes.specs.Meaning.{code_in, count_of, header_in, is_context, kept_of, literals_in, meaning_at, method_of, obj_of, objects_of, ref_of, ref_of_kind, used_bytes}
+use Rattle.cs_classes.specs.Meaning.{code_in, count_of, method_header, is_heap_context, kept_of, literal_words, meaning_at, method_meaning, obj_of, objects_of, ref_of, ref_of_kind, used_bytes}
 use Rattle.cs_classes.specs.Sound.{IsWhole, is_reference, is_reference_kind}
 use Rattle.cs_classes.proofs.Edits.{obj_of-set_literal, obj_of-set_word}
 use Rattle.cs_classes.proofs.Heaps.{birth_of-object_at, is_object-object_at, object_there, set_word-IsEdit, slice_get-at_index_other, slice_get-at_index_same, stands, with_object-stands}
@@ -54,13 +55,13 @@ use Rattle.cs_stack.proofs.Addresses.{nil_or-with_object, sender_fits-with_objec
 -- an object that may be stored into, where it stands, and what the store does
 pub record Storable (s : Store) (o : ℕ) (i v : ℕ) : Type 0 where
   pub x : Object
-  pub there : object_at s.memory.objects o ≡ Some x
-  pub other : is_context x ≡ false
+  pub there : heap_object s.memory.objects o ≡ Some x
+  pub other : is_heap_context x ≡ false
   pub within : i < length x.words
-  pub does : is_reference s.memory.objects v ≡ true → Does s.memory.objects (with_slot s.memory.objects o i v) s.table s.roots (λ k. store_of k (ref_of s.memory.objects o) i (ref_of s.memory.objects v))
+  pub does : is_reference s.memory.objects v ≡ true → Does s.memory.objects (slot_set s.memory.objects o i v) s.table s.roots (λ k. store_of k (ref_of s.memory.objects o) i (ref_of s.memory.objects v))
   pub means : obj_of (ref_of s.memory.objects) (set_word i v x) ≡ operation.with_slot i (ref_of s.memory.objects v) (obj_of (ref_of s.memory.objects) x)
   pub lies : (pc : ℕ) → lies_in (Some (obj_of (ref_of s.memory.objects) (set_word i v x))) pc ≡ lies_in (Some (obj_of (ref_of s.memory.objects) x)) pc
-  pub header : is_method x.format ≡ true → 0 < i
+  pub header : is_code x.format ≡ true → 0 < i
 
 -- an address is the word itself
 kind_address : (word a : ℕ) → kind_of word ≡ kind.Object a → a ≡ word
@@ -84,8 +85,8 @@ module _ (s : Store) (k : Kept) (holds : Holds s k) (i v : ℕ) where
   abbrev os : List Object
   os = s.memory.objects
 
-  by_sort : (o : ℕ) (x : Object) → object_at os o ≡ Some x → Sort x → is_storable (Some (obj_of (ref_of os) x)) i ≡ true → Storable s o i v
-  unfolding method_of
+  by_sort : (o : ℕ) (x : Object) → heap_object os o ≡ Some x → Sort x → is_storable (Some (obj_of (ref_of os) x)) i ≡ true → Storable s o i v
+  unfolding method_meaning
   by_sort o x there (AContext c) h = absurd (let e : is_storable (Some (obj_of (ref_of os) x)) i ≡ false = ap (λ y. is_storable (Some y) i) (obj_of-context (ref_of os) x c) in cc)
   by_sort o x there (Bytes a p m) h = absurd (let e : is_storable (Some (obj_of (ref_of os) x)) i ≡ false = ap (λ y. is_storable (Some y) i) (obj_of-bytes (ref_of os) x a p m) in cc)
   by_sort o x there (Pointers a p) h =
@@ -104,13 +105,13 @@ module _ (s : Store) (k : Kept) (holds : Holds s k) (i v : ℕ) where
       }
   by_sort o x there (AMethod a p m) h =
       let is = obj_of-method (ref_of os) x a p m in
-      let lits : List Ref = map (ref_of os) (literals_in x.words) in
+      let lits : List Ref = map (ref_of os) (literal_words x.words) in
       let fits : (nat_lt 0 i && nat_le i (length lits)) ≡ true = ap (λ y. is_storable (Some y) i) (sym is) ∙ h in
-      let few = length-take (literal_count (header_in x.words)) (drop 1 x.words) in
-      let long = length-map (literals_in x.words) (ref_of os) in
+      let few = length-take (literal_count (method_header x.words)) (drop 1 x.words) in
+      let long = length-map (literal_words x.words) (ref_of os) in
       let rest = length-drop 1 x.words in
       let low : 0 < i = grind (arith, nat_tests, fits) in
-      let high : i ≤ literal_count (header_in x.words) = grind (arith, nat_tests, fits, few, long) in
+      let high : i ≤ literal_count (method_header x.words) = grind (arith, nat_tests, fits, few, long) in
       let means = obj_of-set_literal (ref_of os) x i v a m low high in
       record {
         x = x;
@@ -125,14 +126,14 @@ module _ (s : Store) (k : Kept) (holds : Holds s k) (i v : ℕ) where
         header = λ m. low;
       }
 
-  at_address : (o : ℕ) → is_object os o ≡ true → is_storable (state.object_at k (birth_of os o)) i ≡ true → Storable s o i v
+  at_address : (o : ℕ) → is_object os o ≡ true → is_storable (state.object_at k (birth_at os o)) i ≡ true → Storable s o i v
   at_address o there h =
       let x = object_there os o there in
       let at = stands os o x.0 x.1 in
       let birth = birth_of-object_at os o x.0 x.1 in
-      go x.0 x.1 at.0 at.1.element (is_context x.0) refl (subst (λ b. is_storable (state.object_at k b) i ≡ true) birth h)
+      go x.0 x.1 at.0 at.1.element (is_heap_context x.0) refl (subst (λ b. is_storable (state.object_at k b) i ≡ true) birth h)
     where
-      go : (x : Object) → object_at os o ≡ Some x → (j : ℕ) → slice_get os j ≡ Some x → (c : Bool) → is_context x ≡ c → is_storable (state.object_at k x.birth) i ≡ true → Storable s o i v
+      go : (x : Object) → heap_object os o ≡ Some x → (j : ℕ) → slice_get os j ≡ Some x → (c : Bool) → is_heap_context x ≡ c → is_storable (state.object_at k x.birth) i ≡ true → Storable s o i v
       go x e j at true c h = absurd (no_slots _ i (holds.context j x at c) h)
       go x e j at false c h = by_sort o x e (sort_of x) (ap (λ y. is_storable y i) (sym (holds.object j x at c)) ∙ h)
 
@@ -142,17 +143,17 @@ module _ (s : Store) (k : Kept) (holds : Holds s k) (i v : ℕ) where
   by_kind o (kind.Link l) e n h = absurd (cc)
   by_kind o (kind.Object a) e n h =
       let is : a ≡ o = kind_address o a e in
-      at_address o (subst (λ b. is_object os b ≡ true) is n) (subst (λ b. is_storable (state.object_at k (birth_of os b)) i ≡ true) is h)
+      at_address o (subst (λ b. is_object os b ≡ true) is n) (subst (λ b. is_storable (state.object_at k (birth_at os b)) i ≡ true) is h)
 
   pub storable : (o : Oop) → IsNamed s o → is_storable (object_of k (name_of s o)) i ≡ true → Storable s o.0 i v
   unfolding ref_of is_reference
   storable o named h = by_kind o.0 (kind_of o.0) refl named h
 
 -- what is linked is a context
-linked_context : (x : Object) → is_linked x ≡ true → is_context x ≡ true
-linked_context x h = go (is_context x) refl h
+linked_context : (x : Object) → is_linked x ≡ true → is_heap_context x ≡ true
+linked_context x h = go (is_heap_context x) refl h
   where
-    go : (b : Bool) → is_context x ≡ b → (b && names_place (slice_index x.words 0)) ≡ true → is_context x ≡ true
+    go : (b : Bool) → is_heap_context x ≡ b → (b && names_place (slice_index x.words 0)) ≡ true → is_heap_context x ≡ true
     go true e h = e
     go false e h = absurd (cc)
 
@@ -163,7 +164,7 @@ module _ (s : Store) (o i v : ℕ) (can : Storable s o i v) (whole : IsWhole s.m
   old = s.memory.objects
 
   abbrev pub new : List Object
-  new = with_slot s.memory.objects o i v
+  new = slot_set s.memory.objects o i v
 
   pub refers : ref_of new ≡ ref_of old
   refers = ref_of-with_object old o (set_word i v) (set_word-IsEdit i v)
@@ -171,16 +172,16 @@ module _ (s : Store) (o i v : ℕ) (can : Storable s o i v) (whole : IsWhole s.m
   pub sound : is_reference new ≡ is_reference old
   sound = is_reference-with_object old o (set_word i v) (set_word-IsEdit i v)
 
-  here : object_at new o ≡ Some (set_word i v can.x)
+  here : heap_object new o ≡ Some (set_word i v can.x)
   here = object_at-with_object_same old o (set_word i v) (set_word-IsEdit i v).slots ∙ ap (option_map (set_word i v)) can.there
 
-  elsewhere : (m : ℕ) → m ≢ o → object_at new m ≡ object_at old m
+  elsewhere : (m : ℕ) → m ≢ o → heap_object new m ≡ heap_object old m
   elsewhere m apart = object_at-with_object_other old o m (set_word i v) (set_word-IsEdit i v).slots (λ e. apart (sym e))
 
   -- a pc lies where it lay
   pub lies_kept : (m pc : ℕ) → lies_in (meaning_at new m) pc ≡ lies_in (meaning_at old m) pc
-  lies_kept m pc = ap (λ r. lies_in (option_map (obj_of r) (object_at new m)) pc) refers ∙ elim (eqb_tells m o) [
-    | inl e ↦ ap (λ n. lies_in (option_map (obj_of (ref_of old)) (object_at new n)) pc) e.1 ∙ ap (λ y. lies_in (option_map (obj_of (ref_of old)) y) pc) here
+  lies_kept m pc = ap (λ r. lies_in (option_map (obj_of r) (heap_object new m)) pc) refers ∙ elim (eqb_tells m o) [
+    | inl e ↦ ap (λ n. lies_in (option_map (obj_of (ref_of old)) (heap_object new n)) pc) e.1 ∙ ap (λ y. lies_in (option_map (obj_of (ref_of old)) y) pc) here
         ∙ can.lies pc ∙ sym (ap (λ y. lies_in (option_map (obj_of (ref_of old)) y) pc) can.there) ∙ ap (λ n. lies_in (meaning_at old n) pc) (sym e.1)
     | inr e ↦ ap (λ y. lies_in (option_map (obj_of (ref_of old)) y) pc) (elsewhere m e.1)
   ]
@@ -197,9 +198,9 @@ module _ (s : Store) (o i v : ℕ) (can : Storable s o i v) (whole : IsWhole s.m
   pub header_kept : (m : ℕ) (at : Option ℕ) → Lives old m at → header_at new m ≡ header_at old m
   header_kept m at l = ap (λ n. unwrap_or (count_of n) 0) (elim (eqb_tells m o) [
     | inl e ↦
-        let is : Some l.object ≡ Some can.x = sym l.there ∙ ap (object_at old) e.1 ∙ can.there in
+        let is : Some l.object ≡ Some can.x = sym l.there ∙ ap (heap_object old) e.1 ∙ can.there in
         let same : l.object ≡ can.x = cc in
-        let low : 0 < i = can.header (ap (λ (y : Object). is_method y.format) (sym same) ∙ l.format) in
+        let low : 0 < i = can.header (ap (λ (y : Object). is_code y.format) (sym same) ∙ l.format) in
         slot_of-with_slot_other_slot old o i v m 0 (λ e. omega (arith, low, e))
     | inr e ↦ slot_of-with_slot_other_object old o i v m 0 (λ s. e.1 (sym s))
   ])
@@ -237,11 +238,11 @@ module _ (s : Store) (o i v : ℕ) (can : Storable s o i v) (whole : IsWhole s.m
   pages_kept next (q ∷ qs) m fit = onto_kept next q (pages_onto new qs m) (fit 0) ∙ ap (frames_onto old q) (pages_kept next qs m (λ p. fit (suc p)))
 
   -- the heap without frames is written alike
-  bare_new : bare new ≡ with_slot (bare old) o i v
+  bare_new : bare new ≡ slot_set (bare old) o i v
   bare_new = bare_with_object old o can.x (set_word i v) (set_word i v) can.there
       (unlinked (set_word i v can.x) (plain_unlinked (set_word i v can.x) can.other) ∙ ap (set_word i v) (sym (unlinked can.x (plain_unlinked can.x can.other))))
 
-  bare_there : object_at (bare old) o ≡ Some can.x
+  bare_there : heap_object (bare old) o ≡ Some can.x
   bare_there = bare_at old o ∙ ap (option_map unframed) can.there ∙ ap (λ y. Some y) (unlinked can.x (plain_unlinked can.x can.other))
 
   pub bare_objects : objects_of (bare new) ≡ insert (objects_of (bare old)) can.x.birth (obj_of (ref_of old) (set_word i v can.x))
@@ -284,7 +285,7 @@ module _ (s : Store) (o i v : ℕ) (can : Storable s o i v) (whole : IsWhole s.m
       )
 
   -- each context was one before
-  context_old : (j : ℕ) (y : Object) → slice_get new j ≡ Some y → is_context y ≡ true → slice_get old j ≡ Some y
+  context_old : (j : ℕ) (y : Object) → slice_get new j ≡ Some y → is_heap_context y ≡ true → slice_get old j ≡ Some y
   context_old j y e c =
       let at = stands old o can.x can.there in
       let is : slice_get new j ≡ slice_get (at_index at.0 (set_word i v) old) j = ap (λ xs. slice_get xs j) (with_object-stands old o can.x at.0 (set_word i v) at.1) in
@@ -293,14 +294,14 @@ module _ (s : Store) (o i v : ℕ) (can : Storable s o i v) (whole : IsWhole s.m
             let found : Some (set_word i v can.x) ≡ Some y =
             sym (slice_get-at_index_same at.0 (set_word i v) old ∙ ap (option_map (set_word i v)) at.1.element) ∙ ap (slice_get (at_index at.0 (set_word i v) old)) (sym h.1) ∙ sym is ∙ e in
             let same : set_word i v can.x ≡ y = cc in
-            absurd (let no : true ≡ false = sym c ∙ ap is_context (sym same) ∙ can.other in cc)
+            absurd (let no : true ≡ false = sym c ∙ ap is_heap_context (sym same) ∙ can.other in cc)
         | inr h ↦ sym (slice_get-at_index_other at.0 j (set_word i v) old (λ s. h.1 (sym s))) ∙ sym is ∙ e
       ]
 
-  pub pcs_kept : ((j : ℕ) (y : Object) → slice_get old j ≡ Some y → is_context y ≡ true → PcFits old y) → (j : ℕ) (y : Object) → slice_get new j ≡ Some y → is_context y ≡ true → PcFits new y
+  pub pcs_kept : ((j : ℕ) (y : Object) → slice_get old j ≡ Some y → is_heap_context y ≡ true → PcFits old y) → (j : ℕ) (y : Object) → slice_get new j ≡ Some y → is_heap_context y ≡ true → PcFits new y
   pcs_kept pcs j y e c = live_kept (slice_index y.words 3) (count_of (slice_index y.words 1)) ∙ pcs j y (context_old j y e c) c
 
-  pub senders_kept : ((j : ℕ) (y : Object) → slice_get old j ≡ Some y → is_context y ≡ true → SenderFits old y) → (j : ℕ) (y : Object) → slice_get new j ≡ Some y → is_context y ≡ true → SenderFits new y
+  pub senders_kept : ((j : ℕ) (y : Object) → slice_get old j ≡ Some y → is_heap_context y ≡ true → SenderFits old y) → (j : ℕ) (y : Object) → slice_get new j ≡ Some y → is_heap_context y ≡ true → SenderFits new y
   senders_kept senders j y e c = sender_fits-with_object old o (set_word i v) y (set_word-IsEdit i v) (senders j y (context_old j y e c) c)
 
   pub links_kept : ((j : ℕ) (y : Object) → slice_get old j ≡ Some y → is_linked y ≡ true → LinkFits y) → (j : ℕ) (y : Object) → slice_get new j ≡ Some y → is_linked y ≡ true → LinkFits y
@@ -308,11 +309,11 @@ module _ (s : Store) (o i v : ℕ) (can : Storable s o i v) (whole : IsWhole s.m
 
   pub agree_kept : (ps : List (List Frame)) → Agree old ps → Agree new ps
   agree_kept ps agree =
-      let class : class_of old o ≡ can.x.class = ap (λ (y : Option Object). option_map_or (λ (z : Object). z.class) y 0) can.there in
-      let format : format_of old o ≡ can.x.format = ap (λ (y : Option Object). option_map_or (λ (z : Object). z.format) y 0) can.there in
+      let class : class_at old o ≡ can.x.class = ap (λ (y : Option Object). option_map_or (λ (z : Object). z.class) y 0) can.there in
+      let format : format_at old o ≡ can.x.format = ap (λ (y : Option Object). option_map_or (λ (z : Object). z.format) y 0) can.there in
       agree_stored old ps o i v agree
       (λ e. let is : (can.x.class == 36) ≡ true = grind (arith, nat_tests, class, e) in absurd (let no : true ≡ false = sym is ∙ can.other in cc))
-      (λ m z. omega (arith, z, can.header (ap is_method (sym format) ∙ m.format)))
+      (λ m z. omega (arith, z, can.header (ap is_code (sym format) ∙ m.format)))
 
 -- ---- the map behind a store of something that no frame hides
 
@@ -337,10 +338,10 @@ contexts_at_index : (k i v : ℕ) (os : List Object) → contexts_in (at_index k
 unfolding contexts_in at_index
 contexts_at_index k i v [] = refl
 contexts_at_index zero i v (x ∷ xs) = refl
-contexts_at_index (suc k) i v (x ∷ xs) = ap (λ n. n + (if is_context x then 1 else 0)) (contexts_at_index k i v xs)
+contexts_at_index (suc k) i v (x ∷ xs) = ap (λ n. n + (if is_heap_context x then 1 else 0)) (contexts_at_index k i v xs)
 
-contexts_with_slot : (os : List Object) (a i v : ℕ) → contexts_in (with_slot os a i v) ≡ contexts_in os
-contexts_with_slot os a i v = go (index_of os a)
+contexts_with_slot : (os : List Object) (a i v : ℕ) → contexts_in (slot_set os a i v) ≡ contexts_in os
+contexts_with_slot os a i v = go (object_place os a)
   where
     go : (k : Option ℕ) → contexts_in (option_map_or (λ k. at_index k (set_word i v) os) k os) ≡ contexts_in os
     go None = refl

@@ -4,7 +4,7 @@ use Rattle.std.specs.Prelude.{slice_get, nat_le, nat_lt, if◌then◌else◌}
 use Rattle.std.specs.FinMap.{get}
 use Rattle.std.proofs.lemmas.Bool.Decides.{nat_tests}
 use Rattle.cs_word.specs.declared.Oop.{Oop}
-use Rattle.cs_heap.specs.Object.{Object, birth_of, is_object}
+use Rattle.cs_heap.specs.Object.{Object, birth_at, is_object}
 use Rattle.cs_classes.specs.Meaning.{objects_of}
 use Rattle.cs_classes.specs.Sound.{is_reference}
 use Rattle.cs_classes.proofs.Refs.{is_reference-object}
@@ -20,7 +20,7 @@ use Rattle.cs_model.specs.Settle.{context_kept, open_at}
 use Rattle.cs_acts.specs.Names.{KeepsNames, Names, NamesOption, name_of}
 use Rattle.cs_acts.specs.Ready.{is_storable}
 use Rattle.cs_stack.specs.declared.parts.Parts.{Parts}
-use Rattle.cs_stack.specs.View.{active_in, bare, first_of, stored_of, view_of}
+use Rattle.cs_stack.specs.View.{active_in, bare, first_frames, stored_of, view_of}
 use Rattle.cs_stack.specs.Good.{IsGood}
 use Rattle.cs_acts.specs.Opened.{taken_of}
 use Rattle.cs_stack.specs.Moved.{Takes, based_parts}
@@ -60,16 +60,16 @@ record Gives (k : Kept) (p c : Ref) : Type 0 where
 gives : (k : Kept) (p c : Ref) → k.rest.active ≡ None → Some c ≡ context_kept k p → IsRunning (taken_of k p) → Gives k p c
 gives k p c closed kept running = go c refl
   where
-    at : taken_of k p ≡ open_at k p (ref.birth_of c)
-    at = ap (λ o. open_at k p (option_and_then (λ x. ref.birth_of x) o)) (sym kept)
+    at : taken_of k p ≡ open_at k p (ref.named_object c)
+    at = ap (λ o. open_at k p (option_and_then (λ x. ref.named_object x) o)) (sym kept)
 
     idle : taken_of k p ≡ k → ⊥
     idle same = let e : ◌≡◌ {A = Option ℕ} None (Some (active_birth k)) = sym closed ∙ (subst IsRunning same running).known in cc
 
     go : (d : Ref) → c ≡ d → Gives k p c
-    go (Small z) e = absurd (idle (at ∙ ap (λ x. open_at k p (ref.birth_of x)) e))
-    go (Char code) e = absurd (idle (at ∙ ap (λ x. open_at k p (ref.birth_of x)) e))
-    go (ref.Obj i) e = record { i = i; is = e; taken = at ∙ ap (λ x. open_at k p (ref.birth_of x)) e }
+    go (Small z) e = absurd (idle (at ∙ ap (λ x. open_at k p (ref.named_object x)) e))
+    go (Char code) e = absurd (idle (at ∙ ap (λ x. open_at k p (ref.named_object x)) e))
+    go (ref.Obj i) e = record { i = i; is = e; taken = at ∙ ap (λ x. open_at k p (ref.named_object x)) e }
 
 -- ---- the world behind it
 
@@ -85,7 +85,7 @@ module _ (w v : Parts) (closed : w.pages.recent ≡ []) (process nil context : O
   bare_pages = ap (λ (n : Parts). n.pages.recent) same ∙ closed
 
   given : Gives (view_of w) (name_of (stored_of w) process) (name_of (stored_of w) context)
-  given = gives (view_of w) (name_of (stored_of w) process) (name_of (stored_of w) context) (ap (λ ns. active_in (first_of w.frames ns)) closed) kept.is running
+  given = gives (view_of w) (name_of (stored_of w) process) (name_of (stored_of w) context) (ap (λ ns. active_in (first_frames w.frames ns)) closed) kept.is running
 
   taken_is : taken_of (view_of w) (name_of (stored_of w) process) ≡ record (view_of v) { rest = record (view_of v).rest { active = Some given.i } }
   unfolding resume_of
@@ -97,7 +97,7 @@ module _ (w v : Parts) (closed : w.pages.recent ≡ []) (process nil context : O
   runs : IsRunning k
   runs = subst IsRunning taken_is running
 
-  address : (is_object os context.0 ≡ true) × (birth_of os context.0 ≡ given.i)
+  address : (is_object os context.0 ≡ true) × (birth_at os context.0 ≡ given.i)
   address = let still = names context kept.sound in address_of-object os context.0 given.i still.sound (still.is ∙ given.is)
 
   found : get (objects_of (bare os)) given.i ≡ Some (Ctx (active_context k))

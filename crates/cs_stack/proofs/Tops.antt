@@ -11,11 +11,11 @@ use Rattle.cs_frame.proofs.PageLaws.{frames_of-on_page, frames_of-on_page_other,
 use Rattle.cs_marriage.specs.Agree.{Agree}
 use Rattle.cs_model.specs.Obj.{Context, Ctx, context_in, lies_in, context_class}
 use Rattle.cs_model.specs.State.{Rest, object_at, object_of, put}
-use Rattle.cs_model.specs.Read.{active_birth, active_context, blank, method_of, pc_of}
+use Rattle.cs_model.specs.Read.{active_birth, active_context, blank_context, method_of, pc_of}
 use Rattle.cs_model.specs.Operation.{edit_active}
 use Rattle.cs_acts.specs.Ready.{IsReady}
 use Rattle.cs_stack.specs.declared.parts.Parts.{Parts}
-use Rattle.cs_stack.specs.View.{active_in, active_page, bare, first_of, frame_context, frames_onto, layout_of, pages_onto, stored_of, view_of}
+use Rattle.cs_stack.specs.View.{active_in, active_page, bare, first_frames, frame_context, frames_onto, layout_of, pages_onto, stored_of, view_of}
 use Rattle.cs_stack.specs.Good.{AreApart, FrameFits, FramesFit, IsGood}
 use Rattle.cs_stack.proofs.Maps.{Objects, get_here, insert_twice}
 use Rattle.cs_stack.proofs.Lives.{lives}
@@ -48,7 +48,7 @@ pub opened_at : (w : Parts) (i : ℕ) → IsGood w → (view_of w).rest.active �
 unfolding active_context
 opened_at w i good known = go w.pages.recent refl (active_page w) refl known
   where
-    go : (recent : List ℕ) → w.pages.recent ≡ recent → (fs : List Frame) → first_of w.frames recent ≡ fs → active_in fs ≡ Some i → Opened w
+    go : (recent : List ℕ) → w.pages.recent ≡ recent → (fs : List Frame) → first_frames w.frames recent ≡ fs → active_in fs ≡ Some i → Opened w
     go [] e [] is k = absurd (cc)
     go [] e (f ∷ fs) is k = absurd (cc)
     go (p ∷ qs) e [] is k = absurd (cc)
@@ -56,7 +56,7 @@ opened_at w i good known = go w.pages.recent refl (active_page w) refl known
         let os = w.heap.objects in
         let within : p < length w.frames = page_in w.frames p (omega (arith, ap length is)) in
         let fit = subst (FramesFit os w.roots.next_birth) is (good.frames p) in
-        let page_is : active_page w ≡ f ∷ fs = ap (first_of w.frames) e ∙ is in
+        let page_is : active_page w ≡ f ∷ fs = ap (first_frames w.frames) e ∙ is in
         let active : (view_of w).rest.active ≡ Some f.birth = ap active_in page_is in
         let birth : active_birth (view_of w) ≡ f.birth = ap (λ o. unwrap_or o (view_of w).rest.nil) active in
         let found : object_at (view_of w) f.birth ≡ Some (Ctx (frame_context os f fs)) =
@@ -73,7 +73,7 @@ opened_at w i good known = go w.pages.recent refl (active_page w) refl known
           fits = fit.0;
           rest = fit.1;
           objects = front os w.roots.next_birth w.frames (objects_of (bare os)) p (all_fit w good) within ∙ ap (λ es. frames_onto os es (under w p)) is;
-          context = ap (λ b. unwrap_or (context_in (object_at (view_of w) b)) blank) birth ∙ ap (λ o. unwrap_or (context_in o) blank) found;
+          context = ap (λ b. unwrap_or (context_in (object_at (view_of w) b)) blank_context) birth ∙ ap (λ o. unwrap_or (context_in o) blank_context) found;
           birth = birth;
           active = active;
         }

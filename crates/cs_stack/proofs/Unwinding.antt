@@ -5,19 +5,20 @@ use Rattle.std.specs.List.{AllByRecursion, IsDistinct}
 use Rattle.std.specs.FinMap.{get}
 use Rattle.std.proofs.lemmas.Bool.{cases_eq, eq-eqb, eqb-false}
 use Rattle.std.proofs.lemmas.Map.Keys.{IsDistinct-head, IsDistinct-tail}
+use Rattle.cs_model.specs.Words.{small_value}
 use Rattle.cs_word.specs.declared.Kind.{Kind}
 use Rattle.cs_word.specs.declared.Kind.TheVariants as kind
-use Rattle.cs_word.specs.Word.{kind_of, small_value}
-use Rattle.cs_heap.specs.Object.{Object, birth_of, is_object}
+use Rattle.cs_word.specs.Word.{kind_of}
+use Rattle.cs_heap.specs.Object.{Object, birth_at, is_object}
 use Rattle.cs_classes.specs.Meaning.{objects_of, ref_of, ref_of_kind}
 use Rattle.cs_classes.specs.Sound.{is_reference, is_reference_kind}
 use Rattle.cs_frame.specs.Frame.{Frame, nil}
 use Rattle.cs_frame.specs.Page.{frames_of, on_page, rest_of, top}
-use Rattle.cs_frame.specs.Page.{ref_of as ref_of_frame}
+use Rattle.cs_frame.specs.Page.{frame_ref as ref_of_frame}
 use Rattle.cs_frame.proofs.PageLaws.{length-on_page}
 use Rattle.cs_marriage.specs.Agree.{AreMarried}
 use Rattle.cs_marriage.proofs.Laws.{agree_dropped, top_fits}
-use Rattle.cs_pages.specs.Order.{IsFree, IsSound, Order, without}
+use Rattle.cs_pages.specs.Order.{IsFree, IsSoundOrder, Order, without}
 use Rattle.cs_pages.proofs.Lists.{Lacks as Off, without-lacking}
 use Rattle.cs_model.specs.Ref as ref
 use Rattle.cs_model.specs.Obj.{Ctx, context_class, dead}
@@ -28,7 +29,7 @@ use Rattle.cs_acts.specs.Layout.{LaidBy, is_on, left, touched}
 use Rattle.cs_acts.specs.Ready.{IsReady}
 use Rattle.cs_acts.proofs.Firsts.{nil_names}
 use Rattle.cs_stack.specs.declared.parts.Parts.{Parts}
-use Rattle.cs_stack.specs.View.{active_in, active_page, bare, births_of, first_of, frame_context, frame_sender, laid_pages, layout_of, stored_of, view_of}
+use Rattle.cs_stack.specs.View.{active_in, active_page, bare, births_of, first_frames, frame_context, frame_sender, laid_pages, layout_of, stored_of, view_of}
 use Rattle.cs_stack.specs.Good.{AreApart, IsChain, IsGood, Lacks, base_of}
 use Rattle.cs_stack.specs.Good as good_specs
 use Rattle.cs_stack.specs.Moved.{Unwinds, Unwound}
@@ -54,17 +55,17 @@ kind_address w a e = go (w % 2 == 1) (w % 4 == 2) (w % 8 == 0) e
     go false false false h = absurd (cc)
 
 -- a word that names an object is its address
-pub address_of-object : (os : List Object) (word i : ℕ) → is_reference os word ≡ true → ref_of os word ≡ ref.Obj i → (is_object os word ≡ true) × (birth_of os word ≡ i)
+pub address_of-object : (os : List Object) (word i : ℕ) → is_reference os word ≡ true → ref_of os word ≡ ref.Obj i → (is_object os word ≡ true) × (birth_at os word ≡ i)
 unfolding is_reference ref_of
 address_of-object os word i named is = go (kind_of word) refl named is
   where
-    go : (k : Kind) → kind_of word ≡ k → is_reference_kind os k ≡ true → ref_of_kind os k ≡ ref.Obj i → (is_object os word ≡ true) × (birth_of os word ≡ i)
+    go : (k : Kind) → kind_of word ≡ k → is_reference_kind os k ≡ true → ref_of_kind os k ≡ ref.Obj i → (is_object os word ≡ true) × (birth_at os word ≡ i)
     go (kind.Small z) e n s = absurd (cc)
     go (kind.Character code) e n s = absurd (cc)
     go (kind.Link l) e n s = absurd (cc)
     go (kind.Object a) e n s =
         let same : a ≡ word = kind_address word a e in
-        (subst (λ b. is_object os b ≡ true) same n, subst (λ b. birth_of os b ≡ i) same (cc))
+        (subst (λ b. is_object os b ≡ true) same n, subst (λ b. birth_at os b ≡ i) same (cc))
 
 -- ---- the order of the pages
 
@@ -74,7 +75,7 @@ distinct_off w p qs good e = IsDistinct-head _ p qs (subst (λ xs. IsDistinct na
 -- what the order of the pages must be for these frames
 pub record IsOrdered (ps : List (List Frame)) (pages : Order) : Type 0 where
   pub total : pages.total ≡ length ps
-  pub order : IsSound pages
+  pub order : IsSoundOrder pages
   pub used_pages : (p : ℕ) → Contains pages.recent p ↔ (0 < length (frames_of ps p))
   pub chain : IsChain ps pages.recent
 
@@ -188,7 +189,7 @@ module _ {w : Parts} (good : IsGood w) (ready : IsReady (stored_of w) (view_of w
       }
 
       page_is : active_page (dropped w.pages) ≡ d ∷ ds
-      page_is = ap (first_of (on_page w.frames o.p rest_of)) o.recent ∙ stays
+      page_is = ap (first_frames (on_page w.frames o.p rest_of)) o.recent ∙ stays
 
       pub laid_now : layout_of (dropped w.pages) ≡ Some (record { most = w.pages.total; pages = births_of (d ∷ ds) ∷ laid_pages w.frames o.qs })
       laid_now = ap (λ ns. Some (record { most = w.pages.total; pages = laid_pages (on_page w.frames o.p rest_of) ns })) o.recent
@@ -207,7 +208,7 @@ module _ {w : Parts} (good : IsGood w) (ready : IsReady (stored_of w) (view_of w
     -- ---- the page is given back
 
     module _ (alone : o.fs ≡ []) (pages : Order) (freed : pages ≡ record w.pages { recent = without o.p w.pages.recent }) (free : IsFree pages o.p)
-        (others : (q : ℕ) → q ≢ o.p → Contains pages.recent q ↔ Contains w.pages.recent q) (sound : IsSound pages) where
+        (others : (q : ℕ) → q ≢ o.p → Contains pages.recent q ↔ Contains w.pages.recent q) (sound : IsSoundOrder pages) where
       pub recent_is : pages.recent ≡ o.qs
       recent_is =
           ap (λ (n : Order). n.recent) freed ∙ ap (without o.p) o.recent
@@ -247,7 +248,7 @@ module _ {w : Parts} (good : IsGood w) (ready : IsReady (stored_of w) (view_of w
       caller_names : is_reference os o.f.caller ≡ true
       caller_names = nil_or_named context_class os o.f.caller (subst (good_specs.FrameFits os w.roots.next_birth o.f) alone o.fits).sender
 
-      pub sender_at : (is_object os o.f.caller ≡ true) × (birth_of os o.f.caller ≡ g.t)
+      pub sender_at : (is_object os o.f.caller ≡ true) × (birth_at os o.f.caller ≡ g.t)
       sender_at = address_of-object os o.f.caller g.t caller_names (sym (sender_is ∙ ap (frame_sender os o.f) alone))
 
       pub laid_alone : layout_of w ≡ Some (record { most = w.pages.total; pages = (o.f.birth ∷ []) ∷ laid_pages w.frames o.qs })
@@ -265,7 +266,7 @@ module _ {w : Parts} (good : IsGood w) (ready : IsReady (stored_of w) (view_of w
         some = (good.used_pages q).0 (subst (λ ns. Contains ns q) (sym (o.recent ∙ ap (λ ns. o.p ∷ ns) more)) (1, omega arith, refl))
 
         next_is : (top (frames_of w.frames q)).birth ≡ g.t
-        next_is = sym ((top_fits os w.frames q good.agree some).married linked.1).birth ∙ ap (birth_of os) (sym caller_is) ∙ sender_at.1
+        next_is = sym ((top_fits os w.frames q good.agree some).married linked.1).birth ∙ ap (birth_at os) (sym caller_is) ∙ sender_at.1
 
         apart_off : (i : ℕ) (fs gs : List Frame) → AreApart fs gs → 0 < length fs → (top fs).birth ≡ i → is_on i (births_of gs) ≡ false
         apart_off i [] gs h some e = absurd (omega (arith, some))
@@ -289,7 +290,7 @@ module _ {w : Parts} (good : IsGood w) (ready : IsReady (stored_of w) (view_of w
         active_is (f ∷ fs) some e = ap (λ n. Some n) e
 
         page_next : active_page (dropped pages) ≡ frames_of w.frames q
-        page_next = ap (first_of (on_page w.frames o.p rest_of)) (recent_is ∙ more) ∙ gone_other o.p o.f o.fs fit o.is q (λ e. eqb-false o.p q (subst (Off o.p) more off).0 (sym e))
+        page_next = ap (first_frames (on_page w.frames o.p rest_of)) (recent_is ∙ more) ∙ gone_other o.p o.f o.fs fit o.is q (λ e. eqb-false o.p q (subst (Off o.p) more off).0 (sym e))
 
         layout_is : LaidBy (left g.t) (layout_of w) (layout_of (dropped pages))
         layout_is = subst (λ l. LaidBy (left g.t) l (layout_of (dropped pages))) (sym (laid_alone ∙ ap (λ ns. Some (record { most = w.pages.total; pages = (o.f.birth ∷ []) ∷ laid_pages w.frames ns })) more))

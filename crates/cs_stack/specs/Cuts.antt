@@ -92,7 +92,7 @@ pub record Stepped (w v : Parts) (i j : ℕ) (next : Act) : Type 0 where
   pub first : IsFirst v next
 
 -- the way from the active context to the one of birth t, of 1,048,577 contexts at most
-pub record Leads (w : Parts) (t : ℕ) : Type 0 where
+pub record LeadsDownTo (w : Parts) (t : ℕ) : Type 0 where
   pub dying : List ℕ
   pub way : IsWay (view_of w) t dying
   pub active : (view_of w).rest.active ≡ Some (ahead t dying)

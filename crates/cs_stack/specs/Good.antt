@@ -2,17 +2,17 @@
 use Rattle.std.specs.Prelude.{◌≡◌, ◌≢◌, ◌↔◌, ℕ, ◌+◌, ◌<◌, ◌≤◌, ◌==◌, ◌&&◌, ◌||◌, Bool, true, List, [], ◌∷◌, length, slice_index, slice_get, Some, None, Contains}
 use Rattle.std.specs.List.{AllPass}
 use Rattle.std.specs.FinMap.{get}
-use Rattle.cs_heap.specs.Object.{Object, class_of, is_object, used}
-use Rattle.cs_classes.specs.Meaning.{count_of, is_context, meaning_at, objects_of}
+use Rattle.cs_heap.specs.Object.{Object, class_at, is_object, used}
+use Rattle.cs_classes.specs.Meaning.{count_of, is_heap_context, meaning_at, objects_of}
 use Rattle.cs_classes.specs.Sound.{IsWhole, is_reference}
-use Rattle.cs_frame.specs.Frame.{Frame, blank, nil}
+use Rattle.cs_frame.specs.Frame.{Frame, blank_frame, nil}
 use Rattle.cs_frame.specs.Page as page
 use Rattle.cs_frame.specs.Page.{frames_of, top}
 use Rattle.cs_marriage.specs.Agree.{Agree, frame_size}
 use Rattle.cs_marriage.specs.Place.{names_place}
 use Rattle.cs_model.specs.Obj.{context_class}
 use Rattle.cs_model.specs.Context.{closure_class, lies_if_index, lies_if_live}
-use Rattle.cs_pages.specs.Order.{IsSound}
+use Rattle.cs_pages.specs.Order.{IsSoundOrder}
 use Rattle.cs_stack.specs.declared.parts.Parts.{Parts}
 use Rattle.cs_stack.specs.View.{is_linked}
 
@@ -28,7 +28,7 @@ AreApart (f ∷ fs) gs = Lacks f.birth gs × AreApart fs gs
 
 -- a word is the address of nil, or of an object of this class
 abbrev pub is_nil_or : ℕ → List Object → ℕ → Bool
-is_nil_or class os word = is_object os word && (word == nil || class_of os word == class)
+is_nil_or class os word = is_object os word && (word == nil || class_at os word == class)
 
 -- what the frame names is there, and its closure is nil or a closure
 pub record FrameNames (os : List Object) (f : Frame) : Type 0 where
@@ -47,7 +47,7 @@ pub record FrameFits (os : List Object) (next : ℕ) (f : Frame) (fs : List Fram
   pub names : FrameNames os f
   pub lies : lies_if_index (meaning_at os f.method) (count_of f.saved_pc) ≡ true
   pub fits : length f.stack ≤ frame_size os f
-  pub stands : f.at ≡ page.used fs
+  pub stands : f.at ≡ page.frames_used fs
   pub room : f.at + 66 ≤ 4096
   pub birth : f.birth < next
   pub apart : Lacks f.birth fs
@@ -73,7 +73,7 @@ LinkFits x = (slice_index x.words 1 ≡ nil) × (slice_index x.words 2 ≡ nil)
 -- ---- the pages in order
 
 abbrev pub base_of : List Frame → Frame
-base_of [] = blank
+base_of [] = blank_frame
 base_of (f ∷ []) = f
 base_of (f ∷ g ∷ gs) = base_of (g ∷ gs)
 
@@ -89,13 +89,13 @@ pub record IsGood (w : Parts) : Type 0 where
   pub within : used w.heap.objects ≤ w.heap.limit
   pub most : w.heap.limit ≤ 67108864
   pub births : w.roots.next_birth ≤ 4611686018427387904
-  pub pcs : (j : ℕ) (x : Object) → slice_get w.heap.objects j ≡ Some x → is_context x ≡ true → PcFits w.heap.objects x
-  pub senders : (j : ℕ) (x : Object) → slice_get w.heap.objects j ≡ Some x → is_context x ≡ true → SenderFits w.heap.objects x
+  pub pcs : (j : ℕ) (x : Object) → slice_get w.heap.objects j ≡ Some x → is_heap_context x ≡ true → PcFits w.heap.objects x
+  pub senders : (j : ℕ) (x : Object) → slice_get w.heap.objects j ≡ Some x → is_heap_context x ≡ true → SenderFits w.heap.objects x
   pub links : (j : ℕ) (x : Object) → slice_get w.heap.objects j ≡ Some x → is_linked x ≡ true → LinkFits x
   pub agree : Agree w.heap.objects w.frames
   pub frames : (p : ℕ) → FramesFit w.heap.objects w.roots.next_birth (frames_of w.frames p)
   pub apart : (p q : ℕ) → p ≢ q → AreApart (frames_of w.frames p) (frames_of w.frames q)
   pub total : w.pages.total ≡ length w.frames
-  pub order : IsSound w.pages
+  pub order : IsSoundOrder w.pages
   pub used_pages : (p : ℕ) → Contains w.pages.recent p ↔ (0 < length (frames_of w.frames p))
   pub chain : IsChain w.frames w.pages.recent

@@ -2,13 +2,13 @@
 use Rattle.std.specs.Prelude.{◌≡◌, ◌≢◌, ◌⊎◌, ℕ, ◌+◌, ◌-◌, ◌*◌, ◌<◌, ◌≤◌, ◌||◌, Bool, true, if◌then◌else◌, List, [], ◌∷◌, ◌++◌, length, take, drop, replicate, slice_index, Option, Some, None, option_and_then}
 use Rattle.std.specs.Option.{option_map_or}
 use Rattle.cs_word.specs.declared.Oop.{Oop}
-use Rattle.cs_heap.specs.Object.{Object, object_at, with_object}
+use Rattle.cs_heap.specs.Object.{Object, heap_object, with_object, words_at}
 use Rattle.cs_heap.specs.Writes.{slots_stored}
 use Rattle.cs_classes.specs.Meaning.{count_of}
 use Rattle.cs_frame.specs.declared.FrameRef.{FrameRef}
 use Rattle.cs_frame.specs.declared.NewFrame.{NewFrame}
-use Rattle.cs_frame.specs.Frame.{Frame, cut, nil}
-use Rattle.cs_frame.specs.Page.{frame, frames_of, on_page, on_top, top, used}
+use Rattle.cs_frame.specs.Frame.{Frame, call_cut, nil}
+use Rattle.cs_frame.specs.Page.{frame, frames_of, on_page, on_top, top, frames_used}
 use Rattle.cs_marriage.specs.Marriage.{base_frame, linked}
 use Rattle.cs_model.specs.Ref.{Ref}
 use Rattle.cs_model.specs.Ref as ref
@@ -42,10 +42,6 @@ pub record Takes (o : Order) (v : Parts) (make : ℕ → Parts) : Type 0 where
 abbrev pub entry_of : ℕ → Bool → ℕ
 entry_of header skip = 4 * (literal_count header + 1) + 1 + (if skip then 3 else 0)
 
--- the words of the object at an address
-abbrev pub words_at : List Object → ℕ → List ℕ
-words_at os a = option_map_or (λ (x : Object). x.words) (object_at os a) []
-
 -- the first values that the closure at an address has copied, so many
 abbrev pub copied_at : List Object → ℕ → ℕ → List ℕ
 copied_at os closure copies = take copies (drop 3 (words_at os closure))
@@ -72,7 +68,7 @@ callee os new pc copies at caller f = record {
 -- on the page of its caller
 abbrev pub called_page : List Object → NewFrame → ℕ → ℕ → List Frame → List Frame
 called_page os new pc copies [] = []
-called_page os new pc copies (f ∷ fs) = callee os new pc copies (used (cut new.args f ∷ fs)) nil f ∷ cut new.args f ∷ fs
+called_page os new pc copies (f ∷ fs) = callee os new pc copies (frames_used (call_cut new.args f ∷ fs)) nil f ∷ call_cut new.args f ∷ fs
 
 abbrev pub given_birth : Parts → Parts
 given_birth w = record w { roots = record w.roots { next_birth = w.roots.next_birth + 1 } }
@@ -84,7 +80,7 @@ called_parts new pc copies w = record (given_birth w) { frames = on_page w.frame
 abbrev pub begun_parts : ℕ → ℕ → NewFrame → ℕ → ℕ → Parts → Parts
 begun_parts page sender new pc copies w = record (given_birth w) {
   pages = record w.pages { recent = page ∷ w.pages.recent };
-  frames = on_page (on_page w.frames (active_number w) (on_top (cut new.args))) page
+  frames = on_page (on_page w.frames (active_number w) (on_top (call_cut new.args))) page
       (λ _. callee w.heap.objects new pc copies 0 sender (top (frames_of w.frames (active_number w))) ∷ []);
 }
 

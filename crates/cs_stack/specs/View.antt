@@ -5,8 +5,8 @@ use Rattle.std.specs.List.{list_any}
 use Rattle.std.specs.Ordering.{nat_cmp}
 use Rattle.std.specs.FinMap.{FinMap, insert}
 use Rattle.cs_word.specs.Word.{small_word}
-use Rattle.cs_heap.specs.Object.{Object, hash_of, object_at}
-use Rattle.cs_classes.specs.Meaning.{count_of, is_context, kept_of, ref_of}
+use Rattle.cs_heap.specs.Object.{Object, hash_at, heap_object}
+use Rattle.cs_classes.specs.Meaning.{count_of, is_heap_context, kept_of, ref_of}
 use Rattle.cs_classes.specs.declared.Loaded.{Loaded}
 use Rattle.cs_frame.specs.Frame.{Frame, nil}
 use Rattle.cs_frame.specs.Page.{frames_of}
@@ -26,7 +26,7 @@ use Rattle.cs_stack.specs.declared.parts.Parts.{Parts}
 
 -- A context whose sender slot names a place is married or widowed: sender, pc and stack don't stand in its words.
 abbrev pub is_linked : Object → Bool
-is_linked x = is_context x && names_place (slice_index x.words 0)
+is_linked x = is_heap_context x && names_place (slice_index x.words 0)
 
 -- the words of a dead context: sender and pc are nil, and the stack is empty
 abbrev pub dead_words : List ℕ → List ℕ
@@ -43,7 +43,7 @@ bare os = map unframed os
 
 -- without a context it has no hash
 abbrev pub frame_hash : List Object → Frame → ℕ
-frame_hash os f = if f.context == nil then 0 else hash_of os f.context
+frame_hash os f = if f.context == nil then 0 else hash_at os f.context
 
 -- the base frame keeps its sender; any other frame's is the one below
 abbrev pub frame_sender : List Object → Frame → List Frame → Ref
@@ -76,13 +76,13 @@ pages_onto os (p ∷ ps) m = frames_onto os p (pages_onto os ps m)
 -- ---- the state
 
 -- the frames of the first of these pages
-abbrev pub first_of : List (List Frame) → List ℕ → List Frame
-first_of ps [] = []
-first_of ps (p ∷ qs) = frames_of ps p
+abbrev pub first_frames : List (List Frame) → List ℕ → List Frame
+first_frames ps [] = []
+first_frames ps (p ∷ qs) = frames_of ps p
 
 -- the frames of the most recent page
 abbrev pub active_page : Parts → List Frame
-active_page w = first_of w.frames w.pages.recent
+active_page w = first_frames w.frames w.pages.recent
 
 -- its last frame is active
 abbrev pub active_in : List Frame → Option ℕ
@@ -95,18 +95,14 @@ over os ps k = record k { objects = pages_onto os ps k.objects }
 abbrev pub view_of : Parts → Kept
 view_of w = over w.heap.objects w.frames (kept_of (bare w.heap.objects) w.classes w.roots (active_in (active_page w)))
 
--- what a loaded image stands for: no context is active
-abbrev pub loaded_kept : Loaded → Kept
-loaded_kept l = kept_of l.heap.objects l.classes l.roots None
-
 abbrev pub stored_of : Parts → Store
 stored_of w = record { memory = w.heap; table = w.classes; roots = w.roots }
 
 -- ---- acts
 
-abbrev pub birth_in : Option Object → Option ℕ
-birth_in None = None
-birth_in (Some x) = if is_context x then Some x.birth else None
+abbrev pub object_birth : Option Object → Option ℕ
+object_birth None = None
+object_birth (Some x) = if is_heap_context x then Some x.birth else None
 
 -- whether a frame is the body of the context at this address
 abbrev pub has_context : ℕ → List Frame → Bool
@@ -123,7 +119,7 @@ birth_from (f ∷ fs) at = if f.at == at then Some f.birth else birth_from fs at
 -- an act is a frame of a page, or the context at an address that has no frame
 abbrev pub act_of : Parts → Act → Option ℕ
 act_of w (act.Frame page at) = birth_from (frames_of w.frames page) at
-act_of w (act.Context o) = if is_married o.0 w.frames then None else birth_in (object_at w.heap.objects o.0)
+act_of w (act.Context o) = if is_married o.0 w.frames then None else object_birth (heap_object w.heap.objects o.0)
 act_of w act.Gone = None
 
 -- ---- the layout

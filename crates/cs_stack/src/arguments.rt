@@ -2,8 +2,8 @@
 ghost use Rattle.std.specs.Prelude.{◌≡◌, ◌≢◌, ◌≤◌, ◌<◌, ◌+◌, ◌-◌, ◌++◌, ℕ, drop, length, replicate, slice_index, take};
 ghost use Rattle.cs_heap.specs.Object.{slot_count_of, slot_of};
 ghost use Rattle.cs_stack.specs.Moved.{copied_at};
-ghost use Rattle.cs_frame.specs.Frame.{IsValue, nil, with_stack};
-ghost use Rattle.cs_frame.specs.Page.{IsFrame, IsTop, frame, frames_of, on_page, on_top, top, used};
+ghost use Rattle.cs_frame.specs.Frame.{IsValue, nil, with_values};
+ghost use Rattle.cs_frame.specs.Page.{IsFrame, IsTop, frame, frames_of, on_page, on_top, top, frames_used};
 
 use crate::parts::NIL;
 use cs_classes::slots::FIRST_COPIED;
@@ -17,10 +17,10 @@ pub(crate) fn copy_arguments(frames: &mut Frames, caller: FrameRef, callee: Fram
     requires callee { IsTop frames.old callee }
     requires apart { caller.page ≢ callee.page }
     requires there { args ≤ length (frame frames.old caller).stack }
-    requires room { used (frames_of frames.old callee.page) + args ≤ 4096 }
+    requires room { frames_used (frames_of frames.old callee.page) + args ≤ 4096 }
     requires values { (i : ℕ) → i < length (frame frames.old caller).stack
         → IsValue (slice_index (frame frames.old caller).stack i) }
-    ensures copied { frames.new ≡ on_page frames.old callee.page (on_top (with_stack (
+    ensures copied { frames.new ≡ on_page frames.old callee.page (on_top (with_values (
         (top (frames_of frames.old callee.page)).stack
         ++ drop (length (frame frames.old caller).stack - args) (frame frames.old caller).stack))) }
 {
@@ -33,8 +33,8 @@ pub(crate) fn copy_arguments(frames: &mut Frames, caller: FrameRef, callee: Fram
 /// Pushes nil so many times onto the last frame of a page.
 pub(crate) fn push_nils(frames: &mut Frames, f: FrameRef, count: u32)
     requires top { IsTop frames.old f }
-    requires room { used (frames_of frames.old f.page) + count ≤ 4096 }
-    ensures pushed { frames.new ≡ on_page frames.old f.page (on_top (with_stack
+    requires room { frames_used (frames_of frames.old f.page) + count ≤ 4096 }
+    ensures pushed { frames.new ≡ on_page frames.old f.page (on_top (with_values
         ((top (frames_of frames.old f.page)).stack ++ replicate count nil))) }
 {
     for _ in 0..count {
@@ -46,9 +46,9 @@ pub(crate) fn push_nils(frames: &mut Frames, f: FrameRef, count: u32)
 pub(crate) fn push_copied(frames: &mut Frames, f: FrameRef, heap: &Heap, closure: Oop, count: u32)
     requires top { IsTop frames.old f }
     requires there { count ≤ slot_count_of heap.now.objects closure.0 - 3 }
-    requires room { used (frames_of frames.old f.page) + count ≤ 4096 }
+    requires room { frames_used (frames_of frames.old f.page) + count ≤ 4096 }
     requires values { (i : ℕ) → i < count → IsValue (slot_of heap.now.objects closure.0 (3 + i)) }
-    ensures pushed { frames.new ≡ on_page frames.old f.page (on_top (with_stack
+    ensures pushed { frames.new ≡ on_page frames.old f.page (on_top (with_values
         ((top (frames_of frames.old f.page)).stack ++ copied_at heap.now.objects closure.0 count))) }
 {
     for i in 0..count {
@@ -60,7 +60,7 @@ pub(crate) fn push_copied(frames: &mut Frames, f: FrameRef, heap: &Heap, closure
 pub(crate) fn drop_values(frames: &mut Frames, f: FrameRef, count: u32)
     requires top { IsTop frames.old f }
     requires there { count ≤ length (top (frames_of frames.old f.page)).stack }
-    ensures dropped { frames.new ≡ on_page frames.old f.page (on_top (with_stack
+    ensures dropped { frames.new ≡ on_page frames.old f.page (on_top (with_values
         (take (length (top (frames_of frames.old f.page)).stack - count)
         (top (frames_of frames.old f.page)).stack))) }
 {

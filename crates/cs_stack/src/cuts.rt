@@ -14,7 +14,7 @@ ghost use Rattle.cs_acts.specs.Made.{MakesAtMost};
 ghost use Rattle.cs_acts.specs.Names.{IsNamed, KeepsNames, name_of};
 ghost use Rattle.cs_acts.specs.Ready.{IsReady};
 ghost use Rattle.cs_acts.specs.Targets.{CanCut, dying_to};
-ghost use Rattle.cs_stack.specs.Cuts.{Arrives, CutPast, Fades, Leads, Stepped, Steps};
+ghost use Rattle.cs_stack.specs.Cuts.{Arrives, CutPast, Fades, LeadsDownTo, Stepped, Steps};
 ghost use Rattle.cs_stack.specs.Good.{IsGood};
 ghost use Rattle.cs_stack.specs.View.{act_of, layout_of, stored_of, view_of};
 
@@ -76,8 +76,8 @@ impl Parts {
     /// the active frame, or where no frame is left a context of the heap.
     fn kill_to(&mut self, birth: u64) -> Act
         requires good { IsGood self.old }
-        requires way { Leads self.old birth }
-        ensures arrives { (way : Leads self.old birth) → Arrives self.old self.new way.dying birth result }
+        requires way { LeadsDownTo self.old birth }
+        ensures arrives { (way : LeadsDownTo self.old birth) → Arrives self.old self.new way.dying birth result }
     {
         let mut at = self.active();
         for _ in 0..WAY_LIMIT {

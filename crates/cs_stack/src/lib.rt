@@ -7,6 +7,7 @@
 #![tactic(auto)]
 
 ghost use Rattle.std.specs.Prelude.{◌≡◌};
+ghost use Rattle.cs_classes.specs.Meaning.{loaded_kept};
 ghost use Rattle.cs_stack.specs.View.{act_of, layout_of, stored_of, view_of};
 
 mod arguments;
@@ -65,7 +66,7 @@ impl StackWorld {
     ghost use Rattle.cs_acts.specs.Names.{IsNamed, Names, name_of};
     ghost use Rattle.cs_acts.specs.Ready.{IsReady, IsSound};
     ghost use Rattle.cs_acts.specs.Opened.{taken_of};
-    ghost use Rattle.cs_stack.specs.View.{active_page, layout_of, loaded_kept, stored_of, view_of};
+    ghost use Rattle.cs_stack.specs.View.{active_page, layout_of, stored_of, view_of};
 
     /// Opens a loaded image on so many stack pages, 2 to 64 of 4,096 words each: the active process gives its context
     /// to the machine. With no active process none is active. The only error is that memory is refused.

@@ -1,7 +1,7 @@
 //! How activations are entered and left.
 ghost use Rattle.std.specs.Prelude.{◌≡◌, ◌≢◌, ◌≤◌, ◌<◌, ◌+◌, [], IfErr, IfSome, IsSomeAnd, OnOk, Some, length};
 ghost use Rattle.cs_frame.specs.Frame.{nil};
-ghost use Rattle.cs_frame.specs.Page.{IsBase, ref_of, top, used};
+ghost use Rattle.cs_frame.specs.Page.{IsBase, frame_ref, top, frames_used};
 ghost use Rattle.cs_marriage.specs.Marriage.{CanBase};
 ghost use Rattle.cs_model.specs.Enter.{enter_block_of};
 ghost use Rattle.cs_model.specs.Keeps.{Keeps};
@@ -158,7 +158,7 @@ impl Parts {
         requires good { IsGood self.old }
         requires ready { IsReady (stored_of self.old) (view_of self.old) }
         requires can { CanBegin (stored_of self.old) (view_of self.old) new pc copies }
-        requires room { used (active_page self.old) + 66 ≤ 4096 }
+        requires room { frames_used (active_page self.old) + 66 ≤ 4096 }
         ensures made { self.new ≡ called_parts new pc.0 copies self.old }
     {
         let top = self.top();
@@ -173,7 +173,7 @@ impl Parts {
         requires good { IsGood self.old }
         requires ready { IsReady (stored_of self.old) (view_of self.old) }
         requires can { CanBegin (stored_of self.old) (view_of self.old) new pc copies }
-        requires full { 4096 < used (active_page self.old) + 66 }
+        requires full { 4096 < frames_used (active_page self.old) + 66 }
         ensures good { IsGood self.new }
         ensures view { OnOk result (view_of self.new ≡ begun_state (stored_of self.old) (view_of self.old) new pc
             copies) }
@@ -199,7 +199,7 @@ impl Parts {
         requires good { IsGood self.old }
         requires ready { IsReady (stored_of self.old) (view_of self.old) }
         requires can { CanBegin (stored_of self.old) (view_of self.old) new pc copies }
-        requires caller { caller ≡ ref_of (active_number self.old) (top (active_page self.old)) }
+        requires caller { caller ≡ frame_ref (active_number self.old) (top (active_page self.old)) }
         requires sender { (top (active_page self.old)).context ≡ sender.0 }
         requires married { sender.0 ≢ nil }
         requires free { length self.old.pages.recent < self.old.pages.total }
@@ -270,7 +270,7 @@ impl Parts {
         requires ready { IsReady (stored_of self.old) (view_of self.old) }
         requires target { IsSomeAnd (sender_birth (view_of self.old) (active_birth (view_of self.old)))
             (CanArrive (view_of self.old)) }
-        requires top { frame ≡ ref_of (active_number self.old) (top (active_page self.old)) }
+        requires top { frame ≡ frame_ref (active_number self.old) (top (active_page self.old)) }
         requires base { IsBase self.old.frames frame }
         ensures limit { self.new.heap.limit ≡ self.old.heap.limit }
         ensures contexts { MakesAtMost 0 (layout_of self.old) (stored_of self.old) (stored_of self.new) }

@@ -1,7 +1,7 @@
 //! What a world of frames keeps, and how its parts change.
 ghost use Rattle.std.specs.Prelude.{◌≡◌, ◌<◌, ◌≤◌, ◌-◌, length, nat_lt, Some, IfSome, IfErr, IfOk, OnOk, false, IsSome};
 ghost use Rattle.std.specs.Prelude.{is_some, not, true, slice_get, unwrap_or};
-ghost use Rattle.cs_frame.specs.Page.{IsFrame, IsTop, frame, ref_of, top};
+ghost use Rattle.cs_frame.specs.Page.{IsFrame, IsTop, frame, frame_ref, top};
 ghost use Rattle.cs_marriage.specs.Agree.{frame_size as size_of_frame};
 ghost use Rattle.cs_model.specs.Obj.{context_in, lies_in};
 ghost use Rattle.cs_model.specs.Operation.{add_of, next_ref, nil_of, pop_of, push_of, set_pc_of, set_stack_of};
@@ -53,7 +53,7 @@ impl Parts {
     pub(crate) fn top(&self) -> FrameRef
         requires good { IsGood self.now }
         requires ready { IsReady (stored_of self.now) (view_of self.now) }
-        ensures is { result ≡ ref_of (active_number self.now) (top (active_page self.now)) }
+        ensures is { result ≡ frame_ref (active_number self.now) (top (active_page self.now)) }
         ensures last { IsTop self.now.frames result }
     {
         let Some(top) = self.frames.top(self.pages.order(0)) else {

@@ -2,7 +2,7 @@
 
 ghost use Rattle.std.specs.Prelude.{◌≡◌, ◌≢◌, ℕ, ◌<◌, ◌≤◌, ◌+◌, ◌%◌, ◌^◌, length};
 ghost use Rattle.cs_frame.specs.Frame.{IsValue};
-ghost use Rattle.cs_frame.specs.Page.{used, frames_of, IsFrame, IsTop, CanCall};
+ghost use Rattle.cs_frame.specs.Page.{frames_used, frames_of, IsFrame, IsTop, HasArguments};
 
 use cs_frame::{FrameRef, Frames, NewFrame};
 use cs_word::Oop;
@@ -82,7 +82,7 @@ fn call(rt: &impl Abort, frames: &mut Frames, args: u32, fill: u32)
 
 fn look_for_arguments(rt: &impl Abort, frames: &Frames, args: u32)
     requires page { 1 < length frames.now }
-    ensures there { CanCall args (frames_of frames.now 1) }
+    ensures there { HasArguments args (frames_of frames.now 1) }
 {
     match frames.top(1) {
         None => assert!(rt; args == 0),
@@ -93,7 +93,7 @@ fn look_for_arguments(rt: &impl Abort, frames: &Frames, args: u32)
 // A push and then a pop give the pages back, and the value.
 fn push_and_pop(frames: &mut Frames, f: FrameRef, v: Oop) -> Oop
     requires top { IsTop frames.old f }
-    requires room { used (frames_of frames.old f.page) < 4096 }
+    requires room { frames_used (frames_of frames.old f.page) < 4096 }
     requires value { IsValue v.0 }
     ensures value { result.0 ≡ v.0 }
     ensures same { frames.new ≡ frames.old }

@@ -1,9 +1,9 @@
 //! The three states of a context, on a small heap and two pages.
 
 ghost use Rattle.std.specs.Prelude.{◌≡◌, ◌≢◌, ℕ, ◌+◌, ◌<◌, ◌≤◌, true, length};
-ghost use Rattle.cs_heap.specs.Object.{class_of, is_object, slot_count_of, slot_of};
+ghost use Rattle.cs_heap.specs.Object.{class_at, is_object, slot_count_of, slot_of};
 ghost use Rattle.cs_frame.specs.Frame.{IsValue};
-ghost use Rattle.cs_frame.specs.Page.{CanCall, IsFrame, IsStacked, IsTop, frames_of, top, used};
+ghost use Rattle.cs_frame.specs.Page.{HasArguments, IsFrame, AreStacked, IsTop, frames_of, top, frames_used};
 ghost use Rattle.cs_classes.specs.Meaning.{count_of};
 ghost use Rattle.cs_model.specs.Ref.{natural_of};
 ghost use Rattle.cs_marriage.specs.Place.{names_place};
@@ -33,7 +33,7 @@ const STACK: u32 = 6;
 /// Nil, and a method without literals.
 fn begin(rt: &impl Abort, heap: &mut Heap) -> Oop
     ensures nil { is_object heap.new.objects 65536 ≡ true }
-    ensures class { class_of heap.new.objects 65536 ≢ 36 }
+    ensures class { class_at heap.new.objects 65536 ≢ 36 }
 {
     heap.allocate(11, 0, 0, 1).expect(rt, "room for nil");
     let method = heap.allocate(43, 24, 2, 2).expect(rt, "room for a method");
@@ -71,7 +71,7 @@ fn is_widowed(rt: &impl Abort, heap: &Heap, frames: &Frames, context: Oop)
 
 fn can_call(rt: &impl Abort, frames: &Frames)
     requires page { 0 < length frames.now }
-    ensures there { CanCall 0 (frames_of frames.now 0) }
+    ensures there { HasArguments 0 (frames_of frames.now 0) }
 {
     if let Some(f) = frames.top(0) {
         assert!(rt; frames.depth(f) > 0);
@@ -80,8 +80,8 @@ fn can_call(rt: &impl Abort, frames: &Frames)
 
 fn has_room(rt: &impl Abort, frames: &Frames)
     requires page { 0 < length frames.now }
-    ensures room { used (frames_of frames.now 0) + 66 ≤ 4096 }
-    ensures stacked { IsStacked (frames_of frames.now 0) }
+    ensures room { frames_used (frames_of frames.now 0) + 66 ≤ 4096 }
+    ensures stacked { AreStacked (frames_of frames.now 0) }
 {
     assert!(rt; frames.room(0) >= 66);
 }
@@ -209,7 +209,7 @@ fn store(rt: &impl Abort, heap: &mut Heap, o: Oop, i: u32, v: u32) {
 
 fn nil_stands(rt: &impl Abort, heap: &Heap)
     ensures nil { is_object heap.now.objects 65536 ≡ true }
-    ensures class { class_of heap.now.objects 65536 ≢ 36 }
+    ensures class { class_at heap.now.objects 65536 ≢ 36 }
 {
     assert!(rt; heap.is_object(NIL));
     assert!(rt; heap.class_index(NIL) != 36);

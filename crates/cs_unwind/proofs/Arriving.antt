@@ -3,7 +3,7 @@ use Rattle.std.proofs.Common.{◌≡◌, ◌≢◌, ◌∙◌, ℕ, ◌==◌, �
 use Rattle.std.specs.Prelude.{if◌then◌else◌}
 use Rattle.std.proofs.lemmas.Bool.Decides.{nat_tests}
 use Rattle.cs_model.specs.declared.stop.Stop.TheVariants as why
-use Rattle.cs_model.specs.Ref.{Ref, birth_of}
+use Rattle.cs_model.specs.Ref.{Ref, named_object}
 use Rattle.cs_model.specs.Obj.{Context, context_in}
 use Rattle.cs_model.specs.State.{Kept, object_at}
 use Rattle.cs_model.specs.Keeps.{Keeps, SameKept}
@@ -23,7 +23,7 @@ use Rattle.cs_acts.specs.Ready.{IsReady}
 use Rattle.cs_acts.specs.Targets.{CanArrive, CanCut, dying_in, dying_to}
 use Rattle.cs_unwind.specs.Back.{LaidBack, home_birth}
 use Rattle.cs_unwind.specs.Returned.{Returns, arrival_of}
-use Rattle.cs_unwind.specs.Walked.{EndsBefore, HasHome, IsUnmarked, Stands}
+use Rattle.cs_unwind.specs.Walked.{EndsBefore, HasHome, IsUnmarked, ActStands}
 use Rattle.cs_unwind.specs.declared.end.BackEnd.{BackEnd}
 use Rattle.cs_unwind.specs.declared.end.BackEnd.TheVariants as back
 use Rattle.cs_unwind.specs.declared.returns.Arrival.{Arrival}
@@ -101,12 +101,12 @@ alone i j = go (i == j)
     go true = refl
     go false = refl
 
-pub local_decided : (act : Act → Option ℕ) (k : Kept) (value : Ref) (target : Option Act) (dies : Bool) (a : Arrival) → Stands act target (sender_birth k (active_birth k))
-    → ((i : ℕ) → Stands act target (Some i) → dies ≡ (i == active_birth k)) → ((birth : Option ℕ) → Stands act target birth → a ≡ arrival_of k dies birth)
+pub local_decided : (act : Act → Option ℕ) (k : Kept) (value : Ref) (target : Option Act) (dies : Bool) (a : Arrival) → ActStands act target (sender_birth k (active_birth k))
+    → ((i : ℕ) → ActStands act target (Some i) → dies ≡ (i == active_birth k)) → ((birth : Option ℕ) → ActStands act target birth → a ≡ arrival_of k dies birth)
     → Decided k value (active_birth k ∷ []) (sender_birth k (active_birth k)) a
 local_decided act k value target dies a stands same is =
     subst (Decided k value (active_birth k ∷ []) (sender_birth k (active_birth k))) (sym (is (sender_birth k (active_birth k)) stands))
-    (decide k value (active_birth k ∷ []) dies (sender_birth k (active_birth k)) (λ i e. same i (subst (Stands act target) e stands) ∙ alone i (active_birth k)))
+    (decide k value (active_birth k ∷ []) dies (sender_birth k (active_birth k)) (λ i e. same i (subst (ActStands act target) e stands) ∙ alone i (active_birth k)))
 
 pub local_is : (k : Kept) (value : Ref) → local_out k value ≡ arrive k value (active_birth k ∷ []) (sender_birth k (active_birth k))
 unfolding local_out
@@ -124,10 +124,10 @@ can_arrive k value h =
     differ true e f = absurd (cc)
     differ false e f = absurd (cc)
 
-sender_is : (k : Kept) (t : ℕ) → IsRunning k → sender_birth k (active_birth k) ≡ Some t → birth_of (active_context k).sender ≡ Some t
+sender_is : (k : Kept) (t : ℕ) → IsRunning k → sender_birth k (active_birth k) ≡ Some t → named_object (active_context k).sender ≡ Some t
 sender_is k t running e = go (context_at k (active_context k).sender) (ap (λ o. option_and_then (λ (c : Context). context_birth k c.sender) (context_in o)) (sym running.found) ∙ e)
   where
-    go : (o : Option Context) → option_and_then (λ (c : Context). birth_of (active_context k).sender) o ≡ Some t → birth_of (active_context k).sender ≡ Some t
+    go : (o : Option Context) → option_and_then (λ (c : Context). named_object (active_context k).sender) o ≡ Some t → named_object (active_context k).sender ≡ Some t
     go None h = absurd (cc)
     go (Some c) h = h
 
@@ -173,7 +173,7 @@ module _ (act : Act → Option ℕ) (k : Kept) (a : Act) (target : Option Act) (
   dying_is : dying_to k u.home.birth ≡ active_birth k ∷ u.births ++ u.home.birth ∷ []
   dying_is = ap (dying_in (active_birth k) u.home.birth) u.met
 
-  pub nonlocal_decided : (found : Arrival) → ((birth : Option ℕ) → Stands act target birth → found ≡ arrival_of k dies birth)
+  pub nonlocal_decided : (found : Arrival) → ((birth : Option ℕ) → ActStands act target birth → found ≡ arrival_of k dies birth)
       → Decided k value (active_birth k ∷ u.births ++ u.home.birth ∷ []) (sender_birth k u.home.birth) found
   nonlocal_decided found is =
       subst (Decided k value (active_birth k ∷ u.births ++ u.home.birth ∷ []) (sender_birth k u.home.birth)) (sym (is (sender_birth k u.home.birth) u.leads))
@@ -202,8 +202,8 @@ module _ (act : Act → Option ℕ) (k : Kept) (a : Act) (target : Option Act) (
 
 -- ---- whether the target dies
 
-pub dies_is : (act : Act → Option ℕ) (target : Option Act) (active home : ℕ) (births : List ℕ) (passed found : Bool) (i : ℕ) → Stands act target (Some i)
-    → ((j : ℕ) → Stands act target (Some j) → passed ≡ is_among j births) → found ≡ (passed || (i == active) || (i == home)) → found ≡ is_among i (active ∷ births ++ home ∷ [])
+pub dies_is : (act : Act → Option ℕ) (target : Option Act) (active home : ℕ) (births : List ℕ) (passed found : Bool) (i : ℕ) → ActStands act target (Some i)
+    → ((j : ℕ) → ActStands act target (Some j) → passed ≡ is_among j births) → found ≡ (passed || (i == active) || (i == home)) → found ≡ is_among i (active ∷ births ++ home ∷ [])
 dies_is act target active home births passed found i stands met is =
     is ∙ ap (λ (b : Bool). b || (i == active) || (i == home)) (met i stands) ∙ turn (is_among i births) (i == active) (i == home) ∙ ap (λ (b : Bool). (i == active) || b) (sym (among_more i home births))
   where
@@ -214,16 +214,16 @@ dies_is act target active home births passed found i stands met is =
 
 -- ---- the mark that was found
 
-pub unmarked : (act : Act → Option ℕ) (mark : Option Act) (first : Option ℕ) → mark ≡ None → Stands act mark first → first ≡ None
-unmarked act mark first none h = let there : Stands act None first = subst (λ (o : Option Act). Stands act o first) none h in there
+pub unmarked : (act : Act → Option ℕ) (mark : Option Act) (first : Option ℕ) → mark ≡ None → ActStands act mark first → first ≡ None
+unmarked act mark first none h = let there : ActStands act None first = subst (λ (o : Option Act). ActStands act o first) none h in there
 
 pub record MarkAt (act : Act → Option ℕ) (a : Act) (first : Option ℕ) : Type 0 where
   pub birth : ℕ
   pub is : first ≡ Some birth
   pub stands : act a ≡ Some birth
 
-pub mark_at : (act : Act → Option ℕ) (mark : Option Act) (a : Act) (first : Option ℕ) → mark ≡ Some a → Stands act mark first → MarkAt act a first
-mark_at act mark a first some h = go first refl (subst (λ (o : Option Act). Stands act o first) some h)
+pub mark_at : (act : Act → Option ℕ) (mark : Option Act) (a : Act) (first : Option ℕ) → mark ≡ Some a → ActStands act mark first → MarkAt act a first
+mark_at act mark a first some h = go first refl (subst (λ (o : Option Act). ActStands act o first) some h)
   where
     go : (o : Option ℕ) → first ≡ o → (act a ≡ o) × IsSome o → MarkAt act a first
     go None e s = absurd (cc)

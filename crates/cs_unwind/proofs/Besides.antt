@@ -3,7 +3,7 @@ use Rattle.std.proofs.Common.{◌≡◌, ◌∙◌, ℕ, ◌+◌, ◌-◌, ◌<�
 use Rattle.std.specs.Prelude.{◌&&◌, if◌then◌else◌, unwrap_or, slice_get}
 use Rattle.std.proofs.lemmas.Bool.Decides.{eqb_tells}
 use Rattle.cs_word.specs.declared.Oop.{Oop}
-use Rattle.cs_model.specs.Ref.{Ref, Small, Char, index_of}
+use Rattle.cs_model.specs.Ref.{Ref, Small, Char, small_index}
 use Rattle.cs_model.specs.Ref as ref
 use Rattle.cs_model.specs.Obj.{Obj, Context, Ctx, context_in, is_method, with_stack}
 use Rattle.cs_model.specs.State.{Kept, IsHeld, object_at, object_of, put}
@@ -101,13 +101,13 @@ module _ (k : Kept) (f : Context → Context) (running : IsRunning k) (method : 
   pub evaluate_same : (n : ℕ) → can_evaluate t x n ≡ can_evaluate k x n
   unfolding can_evaluate put
   evaluate_same n =
-      ap (λ xs. nat_le 3 (length xs) && is_some (outer_context t x) && is_method (object_of t (closure_method t x)) && lies_if_index (object_of t (closure_method t x)) (index_of (closure_slot t x 1)) && is_count n (index_of (closure_slot t x 2))) (slots_beside (beside k f running method x))
-      ∙ ap (λ b. nat_le 3 (length (closure_slots (object_of k x))) && b && is_method (object_of t (closure_method t x)) && lies_if_index (object_of t (closure_method t x)) (index_of (closure_slot t x 1)) && is_count n (index_of (closure_slot t x 2))) outer_same
-      ∙ ap (λ b. nat_le 3 (length (closure_slots (object_of k x))) && is_some (outer_context k x) && b && lies_if_index (object_of t (closure_method t x)) (index_of (closure_slot t x 1)) && is_count n (index_of (closure_slot t x 2)))
+      ap (λ xs. nat_le 3 (length xs) && is_some (outer_context t x) && is_method (object_of t (closure_method t x)) && lies_if_index (object_of t (closure_method t x)) (small_index (closure_slot t x 1)) && is_count n (small_index (closure_slot t x 2))) (slots_beside (beside k f running method x))
+      ∙ ap (λ b. nat_le 3 (length (closure_slots (object_of k x))) && b && is_method (object_of t (closure_method t x)) && lies_if_index (object_of t (closure_method t x)) (small_index (closure_slot t x 1)) && is_count n (small_index (closure_slot t x 2))) outer_same
+      ∙ ap (λ b. nat_le 3 (length (closure_slots (object_of k x))) && is_some (outer_context k x) && b && lies_if_index (object_of t (closure_method t x)) (small_index (closure_slot t x 1)) && is_count n (small_index (closure_slot t x 2)))
       (is_method_beside (beside k f running method (closure_method t x)) ∙ ap (λ y. is_method (object_of k y)) method_same)
-      ∙ ap (λ b. nat_le 3 (length (closure_slots (object_of k x))) && is_some (outer_context k x) && is_method (object_of k (closure_method k x)) && b && is_count n (index_of (closure_slot t x 2)))
-      (lies_beside (beside k f running method (closure_method t x)) (index_of (closure_slot t x 1)) ∙ ap₂ (λ y z. lies_if_index (object_of k y) (index_of z)) method_same (slot_same 1))
-      ∙ ap (λ z. nat_le 3 (length (closure_slots (object_of k x))) && is_some (outer_context k x) && is_method (object_of k (closure_method k x)) && lies_if_index (object_of k (closure_method k x)) (index_of (closure_slot k x 1)) && is_count n (index_of z)) (slot_same 2)
+      ∙ ap (λ b. nat_le 3 (length (closure_slots (object_of k x))) && is_some (outer_context k x) && is_method (object_of k (closure_method k x)) && b && is_count n (small_index (closure_slot t x 2)))
+      (lies_beside (beside k f running method (closure_method t x)) (small_index (closure_slot t x 1)) ∙ ap₂ (λ y z. lies_if_index (object_of k y) (small_index z)) method_same (slot_same 1))
+      ∙ ap (λ z. nat_le 3 (length (closure_slots (object_of k x))) && is_some (outer_context k x) && is_method (object_of k (closure_method k x)) && lies_if_index (object_of k (closure_method k x)) (small_index (closure_slot k x 1)) && is_count n (small_index z)) (slot_same 2)
 
 -- ---- the block behind the spread
 

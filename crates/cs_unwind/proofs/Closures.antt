@@ -3,7 +3,7 @@ use Rattle.std.proofs.Common.{◌≡◌, ◌∙◌, ℕ, Bool, true, false, refl
 use Rattle.std.specs.Prelude.{◌&&◌}
 use Rattle.std.proofs.lemmas.Bool.{false≢true}
 use Rattle.cs_word.specs.declared.Oop.{Oop}
-use Rattle.cs_model.specs.Ref.{Ref, Small, Char, index_of}
+use Rattle.cs_model.specs.Ref.{Ref, Small, Char, small_index}
 use Rattle.cs_model.specs.Ref as ref
 use Rattle.cs_model.specs.Obj.{Context, context_in, is_method}
 use Rattle.cs_model.specs.State.{Kept, object_at, object_of}
@@ -31,7 +31,7 @@ context_there k (Small a) i e = absurd (cc)
 context_there k (Char a) i e = absurd (cc)
 context_there k (ref.Obj j) i e = go (context_at k (ref.Obj j)) e
   where
-    go : (o : Option Context) → Some i ≡ option_and_then (λ (c : Context). ref.birth_of (ref.Obj j)) o → context_in (object_at k i) ≡ context_in (object_at k j)
+    go : (o : Option Context) → Some i ≡ option_and_then (λ (c : Context). ref.named_object (ref.Obj j)) o → context_in (object_at k i) ≡ context_in (object_at k j)
     go None e = absurd (cc)
     go (Some c) e = let same : i ≡ j = cc in ap (λ n. context_in (object_at k n)) same
 
@@ -40,7 +40,7 @@ birth_there k (Small a) e = absurd (cc)
 birth_there k (Char a) e = absurd (cc)
 birth_there k (ref.Obj i) e = go (context_at k (ref.Obj i)) e
   where
-    go : (o : Option Context) → is_some o ≡ true → is_some (option_and_then (λ (c : Context). ref.birth_of (ref.Obj i)) o) ≡ true
+    go : (o : Option Context) → is_some o ≡ true → is_some (option_and_then (λ (c : Context). ref.named_object (ref.Obj i)) o) ≡ true
     go None e = absurd (cc)
     go (Some c) e = refl
 
@@ -73,14 +73,14 @@ no_method s k x y o m is e at names method =
 -- ---- the whole test
 
 evaluates_by : (k : Kept) (x : Ref) (args : ℕ) → can_evaluate k x args
-    ≡ (is_closure k x && is_some (outer_context k x) && is_method (object_of k (closure_method k x)) && lies_if_index (object_of k (closure_method k x)) (index_of (closure_slot k x 1)) && is_count args (index_of (closure_slot k x 2)))
+    ≡ (is_closure k x && is_some (outer_context k x) && is_method (object_of k (closure_method k x)) && lies_if_index (object_of k (closure_method k x)) (small_index (closure_slot k x 1)) && is_count args (small_index (closure_slot k x 2)))
 unfolding can_evaluate
 evaluates_by k x args = refl
 
 pub no_closure_no_block : (k : Kept) (x : Ref) (args : ℕ) → is_closure k x ≡ false → can_evaluate k x args ≡ false
 no_closure_no_block k x args e =
     evaluates_by k x args
-    ∙ ap (λ a. a && is_some (outer_context k x) && is_method (object_of k (closure_method k x)) && lies_if_index (object_of k (closure_method k x)) (index_of (closure_slot k x 1)) && is_count args (index_of (closure_slot k x 2))) e
+    ∙ ap (λ a. a && is_some (outer_context k x) && is_method (object_of k (closure_method k x)) && lies_if_index (object_of k (closure_method k x)) (small_index (closure_slot k x 1)) && is_count args (small_index (closure_slot k x 2))) e
 
 either_not : (a b c d e : Bool) → (b && c) ≡ false → (a && b && c && d && e) ≡ false
 either_not true true c d e h = ap (λ q. q && d && e) h
@@ -90,18 +90,18 @@ either_not false b c d e h = refl
 pub no_outer_no_block : (k : Kept) (x : Ref) (args : ℕ) → (is_some (outer_context k x) && is_method (object_of k (closure_method k x))) ≡ false → can_evaluate k x args ≡ false
 no_outer_no_block k x args h =
     evaluates_by k x args
-    ∙ either_not (is_closure k x) (is_some (outer_context k x)) (is_method (object_of k (closure_method k x))) (lies_if_index (object_of k (closure_method k x)) (index_of (closure_slot k x 1))) (is_count args (index_of (closure_slot k x 2))) h
+    ∙ either_not (is_closure k x) (is_some (outer_context k x)) (is_method (object_of k (closure_method k x))) (lies_if_index (object_of k (closure_method k x)) (small_index (closure_slot k x 1))) (is_count args (small_index (closure_slot k x 2))) h
 
 all_but : (a b c d e : Bool) → a ≡ true → b ≡ true → c ≡ true → (a && b && c && d && e) ≡ (d && e)
 all_but a b c d e p q r = rw (p, q, r) refl
 
 -- what is left to be told: where it begins, and how many arguments it takes
 pub rest_of : (s : Store) (k : Kept) (x : Ref) (args : ℕ) (m start count : Oop) (lies counts : Bool) → is_closure k x ≡ true → IsMethodOf s k x m → name_of s start ≡ closure_slot k x 1 → name_of s count ≡ closure_slot k x 2
-    → lies ≡ lies_if_index (object_of k (name_of s m)) (index_of (name_of s start)) → counts ≡ is_count args (index_of (name_of s count)) → (lies && counts) ≡ can_evaluate k x args
+    → lies ≡ lies_if_index (object_of k (name_of s m)) (small_index (name_of s start)) → counts ≡ is_count args (small_index (name_of s count)) → (lies && counts) ≡ can_evaluate k x args
 rest_of s k x args m start count lies counts closure method at takes p q =
-    ap₂ (λ (a b : Bool). a && b) (p ∙ ap₂ (λ o i. lies_if_index (object_of k o) (index_of i)) method.is at) (q ∙ ap (λ i. is_count args (index_of i)) takes)
+    ap₂ (λ (a b : Bool). a && b) (p ∙ ap₂ (λ o i. lies_if_index (object_of k o) (small_index i)) method.is at) (q ∙ ap (λ i. is_count args (small_index i)) takes)
     ∙ sym (evaluates_by k x args
-    ∙ all_but (is_closure k x) (is_some (outer_context k x)) (is_method (object_of k (closure_method k x))) (lies_if_index (object_of k (closure_method k x)) (index_of (closure_slot k x 1))) (is_count args (index_of (closure_slot k x 2)))
+    ∙ all_but (is_closure k x) (is_some (outer_context k x)) (is_method (object_of k (closure_method k x))) (lies_if_index (object_of k (closure_method k x)) (small_index (closure_slot k x 1))) (is_count args (small_index (closure_slot k x 2)))
     closure method.outer (ap (λ z. is_method (object_of k z)) (sym method.is) ∙ method.method.method))
 
 -- a closure that can be evaluated is one
@@ -118,9 +118,9 @@ unless_lies true true false d e h = refl
 unless_lies true false c d e h = refl
 unless_lies false b c d e h = refl
 
-pub no_start_no_block : (s : Store) (k : Kept) (x : Ref) (args : ℕ) (m start : Oop) (lies : Bool) → IsMethodOf s k x m → name_of s start ≡ closure_slot k x 1 → lies ≡ lies_if_index (object_of k (name_of s m)) (index_of (name_of s start)) → lies ≡ false
+pub no_start_no_block : (s : Store) (k : Kept) (x : Ref) (args : ℕ) (m start : Oop) (lies : Bool) → IsMethodOf s k x m → name_of s start ≡ closure_slot k x 1 → lies ≡ lies_if_index (object_of k (name_of s m)) (small_index (name_of s start)) → lies ≡ false
     → can_evaluate k x args ≡ false
 no_start_no_block s k x args m start lies method at p e =
     evaluates_by k x args
-    ∙ unless_lies (is_closure k x) (is_some (outer_context k x)) (is_method (object_of k (closure_method k x))) (lies_if_index (object_of k (closure_method k x)) (index_of (closure_slot k x 1))) (is_count args (index_of (closure_slot k x 2)))
-    (sym (sym e ∙ p ∙ ap₂ (λ o i. lies_if_index (object_of k o) (index_of i)) method.is at))
+    ∙ unless_lies (is_closure k x) (is_some (outer_context k x)) (is_method (object_of k (closure_method k x))) (lies_if_index (object_of k (closure_method k x)) (small_index (closure_slot k x 1))) (is_count args (small_index (closure_slot k x 2)))
+    (sym (sym e ∙ p ∙ ap₂ (λ o i. lies_if_index (object_of k o) (small_index i)) method.is at))

@@ -1,7 +1,7 @@
 -- Marks, as the code reads them, and what is known of a birth to which senders led.
 use Rattle.std.proofs.Common.{◌≡◌, ◌∙◌, ℕ, Bool, true, false, refl, sym, ap, Option, Some, None, IfSome, option_and_then}
 use Rattle.std.specs.Prelude.{◌&&◌}
-use Rattle.cs_model.specs.Ref.{Ref, Small, Char, birth_of}
+use Rattle.cs_model.specs.Ref.{Ref, Small, Char, named_object}
 use Rattle.cs_model.specs.Ref as ref
 use Rattle.cs_model.specs.Obj.{Obj, Context, Ptr, Raw, Method, Ctx, context_in, is_context_at, is_method}
 use Rattle.cs_model.specs.State.{Kept, is_nil, object_at, object_of}
@@ -20,7 +20,7 @@ context_named k (Small a) i e = absurd (cc)
 context_named k (Char a) i e = absurd (cc)
 context_named k (ref.Obj j) i e = go (object_at k j) refl e
   where
-    go : (o : Option Obj) → object_at k j ≡ o → option_and_then (λ (c : Context). birth_of (ref.Obj j)) (context_in o) ≡ Some i → is_context_at (object_at k i) ≡ true
+    go : (o : Option Obj) → object_at k j ≡ o → option_and_then (λ (c : Context). named_object (ref.Obj j)) (context_in o) ≡ Some i → is_context_at (object_at k i) ≡ true
     go None f e = absurd (cc)
     go (Some (Ptr head slots)) f e = absurd (cc)
     go (Some (Raw head bytes)) f e = absurd (cc)

@@ -6,7 +6,7 @@ use Rattle.cs_model.specs.Ref.{Ref}
 use Rattle.cs_model.specs.Ref as ref
 use Rattle.cs_model.specs.State.{Kept}
 use Rattle.cs_model.specs.Keeps.{Keeps, SameKept}
-use Rattle.cs_model.specs.Demand.{words_in}
+use Rattle.cs_model.specs.Demand.{words_held}
 use Rattle.cs_model.specs.Operation.{drop_of, nil_of, push_of}
 use Rattle.cs_model.specs.Read.{IsRunning}
 use Rattle.cs_model.specs.End.{Out, looked, stop}
@@ -111,7 +111,7 @@ too_far s l k args m ready e = subst (λ m. Performs s s l l k k k (prim.Stop wh
   contexts = made_none l s;
 })
 
-more_words : (s : Store) (l : Option Layout) (k t u : Kept) (made made' : ℕ) (why : Why) → made ≡ made' → words_in t ≡ words_in u → CausesFull s l k made t why → CausesFull s l k made' u why
+more_words : (s : Store) (l : Option Layout) (k t u : Kept) (made made' : ℕ) (why : Why) → made ≡ made' → words_held t ≡ words_held u → CausesFull s l k made t why → CausesFull s l k made' u why
 more_words s l k t u made made' Stack e words cause = cause
 more_words s l k t u made made' Heap e words cause =
     subst (λ n. CausesFull s l k n u Heap) e (record { words = omega (arith, cause.words, words); room = cause.room })
@@ -123,7 +123,7 @@ refused a b l m k v args (Some i) why running limit heap cause =
     let by = answers_context k args i in
     let o : Out = answer_context k args (Some i) in
     record {
-      gives = (subst (λ w. EndsWithout w o.end) (sym heap) (inl by.end), more_words b l k k o.state 0 o.count.objects why (sym by.objects) (sym (ap words_in by.state ∙ words-answered k (args + 1) (ref.Obj i) running)) cause);
+      gives = (subst (λ w. EndsWithout w o.end) (sym heap) (inl by.end), more_words b l k k o.state 0 o.count.objects why (sym by.objects) (sym (ap words_held by.state ∙ words-answered k (args + 1) (ref.Obj i) running)) cause);
       exact = tt;
       layout = tt;
       limit = limit;

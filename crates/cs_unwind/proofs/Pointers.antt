@@ -5,7 +5,7 @@ use Rattle.std.proofs.lemmas.Bool.{false≢true}
 use Rattle.std.proofs.lemmas.Bool.Decides.{nat_tests}
 use Rattle.std.proofs.lemmas.List.{length-map}
 use Rattle.cs_word.specs.declared.Oop.{Oop}
-use Rattle.cs_heap.specs.Object.{Memory, Object, class_of, format_of, is_object, object_at, slot_count_of}
+use Rattle.cs_heap.specs.Object.{Memory, Object, class_at, format_at, is_object, heap_object, slot_count_of}
 use Rattle.cs_classes.specs.Meaning.{head_of, ref_of}
 use Rattle.cs_classes.proofs.Sorts.{AContext, AMethod, Bytes, Pointers, Sort, sort_of, obj_of-bytes, obj_of-method, obj_of-pointers}
 use Rattle.cs_model.specs.Ref.{Ref}
@@ -29,8 +29,8 @@ pub record IsPointer (s : Store) (k : Kept) (m : Memory) (o : Oop) : Type 0 wher
   pub slots : List Ref
   pub means : object_of k (name_of s o) ≡ Some (Ptr head slots)
   pub there : is_object m.objects o.0 ≡ true
-  pub class_is : class_of m.objects o.0 ≡ head.class
-  pub format_is : format_of m.objects o.0 ≡ head.format
+  pub class_is : class_at m.objects o.0 ≡ head.class
+  pub format_is : format_at m.objects o.0 ≡ head.format
   pub count : slot_count_of m.objects o.0 ≡ length slots
 
 no_slots : (o : Option Obj) → is_context_at o ≡ true → is_some (slots_in o) ≡ true → ⊥
@@ -49,7 +49,7 @@ pointer s k m o e holds named has = subst (λ (n : Memory). IsPointer s k n o) (
     none : object_of k (name_of s o) ≡ None → ⊥
     none f = false≢true (ap (λ p. is_some (slots_in p)) (sym f) ∙ has)
 
-    by : (x : Object) → object_at s.memory.objects o.0 ≡ Some x → is_object s.memory.objects o.0 ≡ true → Says (ref_of s.memory.objects) (Some x) (object_of k (name_of s o)) → Sort x → IsPointer s k s.memory o
+    by : (x : Object) → heap_object s.memory.objects o.0 ≡ Some x → is_object s.memory.objects o.0 ≡ true → Says (ref_of s.memory.objects) (Some x) (object_of k (name_of s o)) → Sort x → IsPointer s k s.memory o
     by x at is says (AContext c) = absurd (no_slots (object_of k (name_of s o)) (says.1 c) has)
     by x at is says (Pointers other pointers) = record {
       head = head_of x;
@@ -125,10 +125,10 @@ no_closure k x e = go (is_closure k x) refl
     go true f = absurd (false≢true (sym e ∙ ap is_some (closure_at_least (object_of k x) f)))
     go false f = refl
 
-pub closure_read : (s : Store) (k : Kept) (m : Memory) (o : Oop) → IsPointer s k m o → is_some (slots_of k 3 (name_of s o)) ≡ true → (class_of m.objects o.0 == 37 && format_of m.objects o.0 == 3) ≡ is_closure k (name_of s o)
+pub closure_read : (s : Store) (k : Kept) (m : Memory) (o : Oop) → IsPointer s k m o → is_some (slots_of k 3 (name_of s o)) ≡ true → (class_at m.objects o.0 == 37 && format_at m.objects o.0 == 3) ≡ is_closure k (name_of s o)
 unfolding slots_of
 closure_read s k m o p e =
-    ap (λ c. c == 37 && format_of m.objects o.0 == 3) p.class_is ∙ ap (λ f. p.head.class == 37 && f == 3) p.format_is
+    ap (λ c. c == 37 && format_at m.objects o.0 == 3) p.class_is ∙ ap (λ f. p.head.class == 37 && f == 3) p.format_is
     ∙ sym (closure_of p.head p.slots (sym (enough 3 p.slots) ∙ ap (λ q. is_some (at_least 3 (slots_in q))) (sym p.means) ∙ e))
     ∙ ap (λ q. nat_le 3 (length (closure_slots q))) (sym p.means)
 
@@ -154,7 +154,7 @@ slot_named s k x i value e less names = let some = names.is ∙ slot_there k x i
 
 -- ---- Arrays
 
-pub array_read : (s : Store) (k : Kept) (m : Memory) (o : Oop) → IsPointer s k m o → (format_of m.objects o.0 == 2) ≡ is_some (array_elements (object_of k (name_of s o)))
+pub array_read : (s : Store) (k : Kept) (m : Memory) (o : Oop) → IsPointer s k m o → (format_at m.objects o.0 == 2) ≡ is_some (array_elements (object_of k (name_of s o)))
 array_read s k m o p =
     ap (λ f. f == 2) p.format_is ∙ go (p.head.format == 2) ∙ ap (λ q. is_some (array_elements q)) (sym p.means)
   where

@@ -11,7 +11,7 @@ use Rattle.cs_model.specs.Ref as ref
 use Rattle.cs_model.specs.Obj.{Context, Ctx, pushed}
 use Rattle.cs_model.specs.State.{Kept, object_at, put}
 use Rattle.cs_model.specs.Keeps.{Keeps, SameKept}
-use Rattle.cs_model.specs.Demand.{words_at, words_below, words_in}
+use Rattle.cs_model.specs.Demand.{words_taken, words_below, words_held}
 use Rattle.cs_model.specs.Read.{IsRunning, active_birth, active_context, depth_of, pc_of, size_of, stack_of}
 use Rattle.cs_model.specs.Operation.{push_of}
 use Rattle.cs_model.specs.Exec.{push_all, push_out}
@@ -96,16 +96,16 @@ words_put : (k : Kept) (i : ℕ) (c d : Context) (n : ℕ) → object_at k i ≡
 unfolding words_below
 words_put k i c d zero there size = refl
 words_put k i c d (suc n) there size = ap₂ (λ (a b : ℕ). a + b) (words_put k i c d n there size) (elim (eqb_tells n i) [
-  | inl e ↦ ap (λ j. words_at (object_at (put k i (Ctx d)) j)) e.1 ∙ ap words_at (object_at-put_same k i (Ctx d)) ∙ ap (λ s. words_at (Some (Ctx (record c { size = s })))) size
-      ∙ ap words_at (sym there) ∙ ap (λ j. words_at (object_at k j)) (sym e.1)
-  | inr e ↦ ap words_at (object_at-put_other k i n (Ctx d) e.1)
+  | inl e ↦ ap (λ j. words_taken (object_at (put k i (Ctx d)) j)) e.1 ∙ ap words_taken (object_at-put_same k i (Ctx d)) ∙ ap (λ s. words_taken (Some (Ctx (record c { size = s })))) size
+      ∙ ap words_taken (sym there) ∙ ap (λ j. words_taken (object_at k j)) (sym e.1)
+  | inr e ↦ ap words_taken (object_at-put_other k i n (Ctx d) e.1)
 ])
 
 next_pushed : (k : Kept) (x : Ref) → (push_of k x).rest.next ≡ k.rest.next
 unfolding push_of put
 next_pushed k x = refl
 
-words_pushed : (k : Kept) (x : Ref) → IsRunning k → words_in (push_of k x) ≡ words_in k
+words_pushed : (k : Kept) (x : Ref) → IsRunning k → words_held (push_of k x) ≡ words_held k
 unfolding push_of
 words_pushed k x running =
     ap (λ n. words_below n (push_of k x)) (next_pushed k x) ∙ words_put k (active_birth k) (active_context k) (pushed x (active_context k)) k.rest.next running.found refl
@@ -116,7 +116,7 @@ abbrev pub with_all : List Ref → Kept → Kept
 with_all [] k = k
 with_all (x ∷ xs) k = with_all xs (push_of k x)
 
-words_all : (xs : List Ref) (k : Kept) → IsRunning k → words_in (with_all xs k) ≡ words_in k
+words_all : (xs : List Ref) (k : Kept) → IsRunning k → words_held (with_all xs k) ≡ words_held k
 words_all [] k running = refl
 words_all (x ∷ xs) k running = words_all xs (push_of k x) (running_pushed k x running) ∙ words_pushed k x running
 
@@ -235,8 +235,8 @@ module _ (k : Kept) (special args : ℕ) (values : List Ref) (local : Bool) wher
         contexts = tt;
       }
     where
-      words : words_in (call_with k special args values).state ≡ words_in k
-      words = ap words_in (call_ends k special args values room).state ∙ words_all (ref.Obj (active_birth k) ∷ values) k running
+      words : words_held (call_with k special args values).state ≡ words_held k
+      words = ap words_held (call_ends k special args values room).state ∙ words_all (ref.Obj (active_birth k) ∷ values) k running
 
       go : (why : Why) → why ≡ Heap → CausesFull b l k 0 k why → CausesFull b l k (call_with k special args values).count.objects (call_with k special args values).state why
       go Stack e f = absurd (cc)

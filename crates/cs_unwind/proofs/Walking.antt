@@ -11,7 +11,7 @@ use Rattle.cs_model.specs.Return as model
 use Rattle.cs_acts.specs.declared.act.Act.{Act}
 use Rattle.cs_unwind.specs.declared.search.Passed.{Passed}
 use Rattle.cs_unwind.proofs.Marked.{if_context, sender_context}
-use Rattle.cs_unwind.specs.Walked.{EndsBefore, HasHome, MeetsHome, SeeksHome, Sees, Stands, Walks, behind}
+use Rattle.cs_unwind.specs.Walked.{EndsBefore, HasHome, MeetsHome, SeeksHome, Sees, ActStands, Walks, found_behind}
 
 pub links_is : links ≡ 1048576
 unfolding links
@@ -69,17 +69,17 @@ module _ (act : Act → Option ℕ) (k : Kept) where
   sought n a b s h e = record { birth = s.birth; stands = s.stands; is = s.is ∙ home_now (links - n) k s.birth (sym (told _ h s.stands) ∙ e) }
 
   pub sought_nowhere : (n : ℕ) (a : Act) (b : Bool) (o : Option Act) → SeeksHome act k n a → IfSome (act a) (λ birth. b ≡ is_nil k (closure_at k birth)) → b ≡ false
-      → IfSome (act a) (λ birth. Stands act o (outer_birth k (closure_at k birth))) → o ≡ None → home k (active_birth k) ≡ NoHome
+      → IfSome (act a) (λ birth. ActStands act o (outer_birth k (closure_at k birth))) → o ≡ None → home k (active_birth k) ≡ NoHome
   sought_nowhere n a b o s h e outer none =
-      let no : outer_birth k (closure_at k s.birth) ≡ None = subst (λ (p : Option Act). Stands act p (outer_birth k (closure_at k s.birth))) none (told _ outer s.stands) in
+      let no : outer_birth k (closure_at k s.birth) ≡ None = subst (λ (p : Option Act). ActStands act p (outer_birth k (closure_at k s.birth))) none (told _ outer s.stands) in
       s.is ∙ home_nowhere (links - n) k s.birth (sym (told _ h s.stands) ∙ e) no
 
   pub seek_on : (n : ℕ) (a next : Act) (b : Bool) (o : Option Act) → SeeksHome act k n a → IfSome (act a) (λ birth. b ≡ is_nil k (closure_at k birth)) → b ≡ false
-      → IfSome (act a) (λ birth. Stands act o (outer_birth k (closure_at k birth))) → o ≡ Some next → n < 1048576 → SeeksHome act k (n + 1) next
+      → IfSome (act a) (λ birth. ActStands act o (outer_birth k (closure_at k birth))) → o ≡ Some next → n < 1048576 → SeeksHome act k (n + 1) next
   seek_on n a next b o s h e outer some few = go (outer_birth k (closure_at k s.birth)) refl at
     where
-      at : Stands act (Some next) (outer_birth k (closure_at k s.birth))
-      at = subst (λ (p : Option Act). Stands act p (outer_birth k (closure_at k s.birth))) some (told _ outer s.stands)
+      at : ActStands act (Some next) (outer_birth k (closure_at k s.birth))
+      at = subst (λ (p : Option Act). ActStands act p (outer_birth k (closure_at k s.birth))) some (told _ outer s.stands)
 
       go : (p : Option ℕ) → outer_birth k (closure_at k s.birth) ≡ p → (act next ≡ p) × IsSome p → SeeksHome act k (n + 1) next
       go None f there = absurd (cc)
@@ -90,10 +90,10 @@ module _ (act : Act → Option ℕ) (k : Kept) where
       }
 
   pub sought_far : (n : ℕ) (a : Act) (b : Bool) (o : Option Act) → SeeksHome act k n a → IfSome (act a) (λ birth. b ≡ is_nil k (closure_at k birth)) → b ≡ false
-      → IfSome (act a) (λ birth. Stands act o (outer_birth k (closure_at k birth))) → is_some o ≡ true → 1048576 ≤ n → home k (active_birth k) ≡ HomeTooFar
+      → IfSome (act a) (λ birth. ActStands act o (outer_birth k (closure_at k birth))) → is_some o ≡ true → 1048576 ≤ n → home k (active_birth k) ≡ HomeTooFar
   sought_far n a b o s h e outer some many = go o some (told _ outer s.stands)
     where
-      go : (p : Option Act) → is_some p ≡ true → Stands act p (outer_birth k (closure_at k s.birth)) → home k (active_birth k) ≡ HomeTooFar
+      go : (p : Option Act) → is_some p ≡ true → ActStands act p (outer_birth k (closure_at k s.birth)) → home k (active_birth k) ≡ HomeTooFar
       go None f there = absurd (cc)
       go (Some x) f there = s.is ∙ ap (λ m. search_home m k s.birth) (no_link n many) ∙ home_far k s.birth (sym (told _ h s.stands) ∙ e) there.1
 
@@ -123,7 +123,7 @@ first_more k number i (x ∷ xs) = go (is_marked k number x) (first_more k numbe
 
 module _ (act : Act → Option ℕ) (k : Kept) (xs : List ℕ) (i : ℕ) where
   -- a mark was found before
-  pub mark_stays : (mark : Option Act) → is_some mark ≡ true → Stands act mark (first_marked k unwind_mark xs) → Stands act mark (first_marked k unwind_mark (xs ++ i ∷ []))
+  pub mark_stays : (mark : Option Act) → is_some mark ≡ true → ActStands act mark (first_marked k unwind_mark xs) → ActStands act mark (first_marked k unwind_mark (xs ++ i ∷ []))
   mark_stays None e h = absurd (cc)
   mark_stays (Some a) e h = subst (λ (o : Option ℕ). (act a ≡ o) × IsSome o) (sym (first_more k unwind_mark i xs ∙ same (first_marked k unwind_mark xs) h.1)) h
     where
@@ -131,40 +131,40 @@ module _ (act : Act → Option ℕ) (k : Kept) (xs : List ℕ) (i : ℕ) where
       same None s = absurd (cc)
       same (Some j) s = refl
 
-  no_mark : (mark : Option Act) → is_some mark ≡ false → Stands act mark (first_marked k unwind_mark xs) → first_marked k unwind_mark (xs ++ i ∷ []) ≡ (if is_marked k unwind_mark i then Some i else None)
+  no_mark : (mark : Option Act) → is_some mark ≡ false → ActStands act mark (first_marked k unwind_mark xs) → first_marked k unwind_mark (xs ++ i ∷ []) ≡ (if is_marked k unwind_mark i then Some i else None)
   no_mark None e h = first_more k unwind_mark i xs ∙ ap (λ (o : Option ℕ). given o (if is_marked k unwind_mark i then Some i else None) (λ j. Some j)) h
   no_mark (Some a) e h = absurd (cc)
 
   -- this one is the first that is marked
   pub mark_found : (mark : Option Act) (a : Act) (b : Bool) → is_some mark ≡ false → act a ≡ Some i → IfSome (act a) (λ birth. b ≡ is_marked k unwind_mark birth) → b ≡ true
-      → Stands act mark (first_marked k unwind_mark xs) → Stands act (Some a) (first_marked k unwind_mark (xs ++ i ∷ []))
+      → ActStands act mark (first_marked k unwind_mark xs) → ActStands act (Some a) (first_marked k unwind_mark (xs ++ i ∷ []))
   mark_found mark a b none at marked e h =
       let now : first_marked k unwind_mark (xs ++ i ∷ []) ≡ Some i = no_mark mark none h ∙ ap (λ (c : Bool). if c then Some i else None) (sym (told _ marked at) ∙ e) in
       subst (λ (o : Option ℕ). (act a ≡ o) × IsSome o) (sym now) (at, refl)
 
   pub mark_missing : (mark : Option Act) (a : Act) (b : Bool) → is_some mark ≡ false → act a ≡ Some i → IfSome (act a) (λ birth. b ≡ is_marked k unwind_mark birth) → b ≡ false
-      → Stands act mark (first_marked k unwind_mark xs) → first_marked k unwind_mark (xs ++ i ∷ []) ≡ None
+      → ActStands act mark (first_marked k unwind_mark xs) → first_marked k unwind_mark (xs ++ i ∷ []) ≡ None
   mark_missing mark a b none at marked e h = no_mark mark none h ∙ ap (λ (c : Bool). if c then Some i else None) (sym (told _ marked at) ∙ e)
 
 -- ---- senders
 
-behind_met : (xs : List ℕ) → behind xs (model.Met []) ≡ model.Met xs
-unfolding behind
+behind_met : (xs : List ℕ) → found_behind xs (model.Met []) ≡ model.Met xs
+unfolding found_behind
 behind_met [] = refl
 behind_met (x ∷ xs) = ap (passing x) (behind_met xs)
 
-behind_ended : (xs : List ℕ) → behind xs (model.Ended []) ≡ model.Ended xs
-unfolding behind
+behind_ended : (xs : List ℕ) → found_behind xs (model.Ended []) ≡ model.Ended xs
+unfolding found_behind
 behind_ended [] = refl
 behind_ended (x ∷ xs) = ap (passing x) (behind_ended xs)
 
-behind_far : (xs : List ℕ) → behind xs model.TooLong ≡ model.TooLong
-unfolding behind
+behind_far : (xs : List ℕ) → found_behind xs model.TooLong ≡ model.TooLong
+unfolding found_behind
 behind_far [] = refl
 behind_far (x ∷ xs) = ap (passing x) (behind_far xs)
 
-behind_more : (xs : List ℕ) (i : ℕ) (s : Search) → behind xs (passing i s) ≡ behind (xs ++ i ∷ []) s
-unfolding behind
+behind_more : (xs : List ℕ) (i : ℕ) (s : Search) → found_behind xs (passing i s) ≡ found_behind (xs ++ i ∷ []) s
+unfolding found_behind
 behind_more [] i s = refl
 behind_more (x ∷ xs) i s = ap (passing x) (behind_more xs i s)
 
@@ -192,8 +192,8 @@ is_other : (i j : ℕ) → i ≢ j → (i == j) ≡ false
 is_other i j e = grind (arith, nat_tests)
 
 module _ (act : Act → Option ℕ) (k : Kept) (goal : ℕ) (target : Option Act) where
-  pub walk : (next : Option Act) → Stands act next (sender_birth k (active_birth k)) → Walks act k goal target 0 next (record { mark = None; target = false })
-  unfolding senders_to behind first_marked
+  pub walk : (next : Option Act) → ActStands act next (sender_birth k (active_birth k)) → Walks act k goal target 0 next (record { mark = None; target = false })
+  unfolding senders_to found_behind first_marked
   walk next h = record {
     births = [];
     now = sender_birth k (active_birth k);
@@ -205,12 +205,12 @@ module _ (act : Act → Option ℕ) (k : Kept) (goal : ℕ) (target : Option Act
 
   pub walk_ends : (n : ℕ) (next : Option Act) (passed : Passed) → Walks act k goal target n next passed → next ≡ None → EndsBefore k goal
   walk_ends n next passed s none =
-      let no : s.now ≡ None = subst (λ (o : Option Act). Stands act o s.now) none s.stands in
-      record { births = s.births; is = s.is ∙ ap (λ (o : Option ℕ). behind s.births (search_senders (links - n) k goal o)) no ∙ ap (behind s.births) (ended_now (links - n) k goal) ∙ behind_ended s.births }
+      let no : s.now ≡ None = subst (λ (o : Option Act). ActStands act o s.now) none s.stands in
+      record { births = s.births; is = s.is ∙ ap (λ (o : Option ℕ). found_behind s.births (search_senders (links - n) k goal o)) no ∙ ap (found_behind s.births) (ended_now (links - n) k goal) ∙ behind_ended s.births }
 
   at_next : (n : ℕ) (next : Option Act) (a : Act) (passed : Passed) (i : ℕ) → (s : Walks act k goal target n next passed) → next ≡ Some a → act a ≡ Some i → s.now ≡ Some i
   at_next n next a passed i s some at =
-      let there : Stands act (Some a) s.now = subst (λ (o : Option Act). Stands act o s.now) some s.stands in
+      let there : ActStands act (Some a) s.now = subst (λ (o : Option Act). ActStands act o s.now) some s.stands in
       sym there.0 ∙ at
 
   pub walk_context : (n : ℕ) (next : Option Act) (a : Act) (passed : Passed) (i : ℕ) → Walks act k goal target n next passed → next ≡ Some a → act a ≡ Some i → IfSome (act a) (λ birth. is_context_at (object_at k birth) ≡ true)
@@ -220,29 +220,29 @@ module _ (act : Act → Option ℕ) (k : Kept) (goal : ℕ) (target : Option Act
       → MeetsHome act k goal target passed
   walk_meets n next a passed i s some at e few = record {
     births = s.births;
-    is = s.is ∙ ap₂ (λ (m : ℕ) (o : Option ℕ). behind s.births (search_senders m k goal o)) (one_link n few) (at_next n next a passed i s some at)
-        ∙ ap (behind s.births) (met_now (links - (n + 1)) k goal i (is_goal i goal e)) ∙ behind_met s.births;
+    is = s.is ∙ ap₂ (λ (m : ℕ) (o : Option ℕ). found_behind s.births (search_senders m k goal o)) (one_link n few) (at_next n next a passed i s some at)
+        ∙ ap (found_behind s.births) (met_now (links - (n + 1)) k goal i (is_goal i goal e)) ∙ behind_met s.births;
     sees = s.sees;
   }
 
   pub walk_on : (n : ℕ) (next : Option Act) (a : Act) (passed more : Passed) (after : Option Act) (i : ℕ) → Walks act k goal target n next passed → next ≡ Some a → act a ≡ Some i → i ≢ goal → n < 1048576
-      → Stands act after (sender_birth k i) → ((births : List ℕ) (birth : ℕ) → act a ≡ Some birth → Sees act k target births passed → Sees act k target (births ++ birth ∷ []) more)
+      → ActStands act after (sender_birth k i) → ((births : List ℕ) (birth : ℕ) → act a ≡ Some birth → Sees act k target births passed → Sees act k target (births ++ birth ∷ []) more)
       → Walks act k goal target (n + 1) after more
   walk_on n next a passed more after i s some at e few stands seen = record {
     births = s.births ++ i ∷ [];
     now = sender_birth k i;
     stands = stands;
     context = λ j f. sender_context k i j f;
-    is = s.is ∙ ap₂ (λ (m : ℕ) (o : Option ℕ). behind s.births (search_senders m k goal o)) (one_link n few) (at_next n next a passed i s some at)
-        ∙ ap (behind s.births) (passed_now (links - (n + 1)) k goal i (is_other i goal e)) ∙ behind_more s.births i (search_senders (links - (n + 1)) k goal (sender_birth k i));
+    is = s.is ∙ ap₂ (λ (m : ℕ) (o : Option ℕ). found_behind s.births (search_senders m k goal o)) (one_link n few) (at_next n next a passed i s some at)
+        ∙ ap (found_behind s.births) (passed_now (links - (n + 1)) k goal i (is_other i goal e)) ∙ behind_more s.births i (search_senders (links - (n + 1)) k goal (sender_birth k i));
     sees = seen s.births i at s.sees;
   }
 
   pub walk_far : (n : ℕ) (next : Option Act) (passed : Passed) → Walks act k goal target n next passed → is_some next ≡ true → 1048576 ≤ n → senders_to k (active_birth k) goal ≡ model.TooLong
   walk_far n next passed s some many = go next some s.now refl s.stands
     where
-      go : (o : Option Act) → is_some o ≡ true → (p : Option ℕ) → s.now ≡ p → Stands act o p → senders_to k (active_birth k) goal ≡ model.TooLong
+      go : (o : Option Act) → is_some o ≡ true → (p : Option ℕ) → s.now ≡ p → ActStands act o p → senders_to k (active_birth k) goal ≡ model.TooLong
       go None e p f there = absurd (cc)
       go (Some a) e None f there = absurd (cc)
       go (Some a) e (Some i) f there =
-          s.is ∙ ap₂ (λ (m : ℕ) (o : Option ℕ). behind s.births (search_senders m k goal o)) (no_link n many) f ∙ ap (behind s.births) (far_now k goal i) ∙ behind_far s.births
+          s.is ∙ ap₂ (λ (m : ℕ) (o : Option ℕ). found_behind s.births (search_senders m k goal o)) (no_link n many) f ∙ ap (found_behind s.births) (far_now k goal i) ∙ behind_far s.births

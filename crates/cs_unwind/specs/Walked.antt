@@ -13,9 +13,9 @@ use Rattle.cs_unwind.specs.declared.search.Way.{Way}
 use Rattle.cs_unwind.specs.declared.search.Way.TheVariants.{Met, Ended, TooLong}
 
 -- an act stands for a context, or there is none
-abbrev pub Stands : (Act → Option ℕ) → Option Act → Option ℕ → Type 0
-Stands act None birth = birth ≡ None
-Stands act (Some a) birth = (act a ≡ birth) × IsSome birth
+abbrev pub ActStands : (Act → Option ℕ) → Option Act → Option ℕ → Type 0
+ActStands act None birth = birth ≡ None
+ActStands act (Some a) birth = (act a ≡ birth) × IsSome birth
 
 -- ---- homes
 
@@ -39,14 +39,14 @@ pub record SeeksHome (act : Act → Option ℕ) (k : Kept) (n : ℕ) (a : Act) :
 -- ---- senders
 
 -- contexts are passed before the rest of a search
-unfoldable pub behind : List ℕ → Search → Search
-behind [] found = found
-behind (i ∷ is) found = passing i (behind is found)
+unfoldable pub found_behind : List ℕ → Search → Search
+found_behind [] found = found
+found_behind (i ∷ is) found = passing i (found_behind is found)
 
 -- what is seen of the contexts that were passed: the first one that is marked, and whether the target is one of them
 pub record Sees (act : Act → Option ℕ) (k : Kept) (target : Option Act) (births : List ℕ) (passed : Passed) : Type 0 where
-  pub mark : Stands act passed.mark (first_marked k unwind_mark births)
-  pub meets : (i : ℕ) → Stands act target (Some i) → passed.target ≡ is_among i births
+  pub mark : ActStands act passed.mark (first_marked k unwind_mark births)
+  pub meets : (i : ℕ) → ActStands act target (Some i) → passed.target ≡ is_among i births
 
 pub record MeetsHome (act : Act → Option ℕ) (k : Kept) (goal : ℕ) (target : Option Act) (passed : Passed) : Type 0 where
   pub births : List ℕ
@@ -66,9 +66,9 @@ FindsWay act k goal target TooLong = senders_to k (active_birth k) goal ≡ mode
 pub record Walks (act : Act → Option ℕ) (k : Kept) (goal : ℕ) (target : Option Act) (n : ℕ) (next : Option Act) (passed : Passed) : Type 0 where
   pub births : List ℕ
   pub now : Option ℕ
-  pub stands : Stands act next now
+  pub stands : ActStands act next now
   pub context : (i : ℕ) → now ≡ Some i → is_context_at (object_at k i) ≡ true
-  pub is : senders_to k (active_birth k) goal ≡ behind births (search_senders (links - n) k goal now)
+  pub is : senders_to k (active_birth k) goal ≡ found_behind births (search_senders (links - n) k goal now)
   pub sees : Sees act k target births passed
 
 -- A home is met behind contexts of which none is marked, its sender is the target, and it is told whether that dies.
@@ -77,5 +77,5 @@ pub record IsUnmarked (act : Act → Option ℕ) (k : Kept) (a : Act) (target : 
   pub births : List ℕ
   pub met : senders_to k (active_birth k) home.birth ≡ model.Met births
   pub unmarked : first_marked k unwind_mark births ≡ None
-  pub leads : Stands act target (sender_birth k home.birth)
+  pub leads : ActStands act target (sender_birth k home.birth)
   pub doomed : (i : ℕ) → sender_birth k home.birth ≡ Some i → dies ≡ is_among i (active_birth k ∷ births ++ home.birth ∷ [])

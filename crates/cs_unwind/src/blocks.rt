@@ -5,7 +5,7 @@ ghost use Rattle.cs_model.specs.Enter.{can_evaluate, closure_slot, copied_values
 ghost use Rattle.cs_model.specs.Obj.{slots_in};
 ghost use Rattle.cs_model.specs.PrimUnwind.{evaluate_array_prim, evaluate_prim};
 ghost use Rattle.cs_model.specs.Read.{depth_of};
-ghost use Rattle.cs_model.specs.Ref.{index_of};
+ghost use Rattle.cs_model.specs.Ref.{small_index};
 ghost use Rattle.cs_model.specs.Send.{array_elements, elements_fitting};
 ghost use Rattle.cs_model.specs.State.{object_of};
 ghost use Rattle.cs_acts.specs.Layout.{IsLaidOut};
@@ -137,7 +137,7 @@ fn lies_at<W: World>(w: &W, method: Oop, pc: Oop) -> bool
     requires method { IsMethodNamed (W.stored w.now) (W.view w.now) method }
     requires named { IsNamed (W.stored w.now) pc }
     ensures { result ≡ lies_if_index (object_of (W.view w.now) (name_of (W.stored w.now) method))
-        (index_of (name_of (W.stored w.now) pc)) }
+        (small_index (name_of (W.stored w.now) pc)) }
 {
     match pc.natural() {
         Some(pc) => lies(w, method, pc),
@@ -148,7 +148,7 @@ fn lies_at<W: World>(w: &W, method: Oop, pc: Oop) -> bool
 /// Whether a word is the number `count`.
 #[tactic(auto, using(cs_acts::proofs::Naturals::natural_name))]
 fn is_count(word: Oop, count: u32) -> bool
-    ensures { (s : Store) → IsNamed s word → result ≡ is_count count (index_of (name_of s word)) }
+    ensures { (s : Store) → IsNamed s word → result ≡ is_count count (small_index (name_of s word)) }
 {
     match word.natural() {
         Some(number) => count == number,

@@ -4,7 +4,7 @@ ghost use Rattle.cs_model.specs.Obj.{is_context_at};
 ghost use Rattle.cs_model.specs.PrimUnwind.{Marked, answer_context, answer_mark, handler_mark_prim, is_end, is_goal};
 ghost use Rattle.cs_model.specs.PrimUnwind.{search_mark, unwind_mark_prim};
 ghost use Rattle.cs_model.specs.Read.{depth_of};
-ghost use Rattle.cs_model.specs.Ref.{birth_of};
+ghost use Rattle.cs_model.specs.Ref.{named_object};
 ghost use Rattle.cs_model.specs.Return.{is_marked, is_number, links, method_primitive};
 ghost use Rattle.cs_model.specs.State.{object_at, object_of};
 ghost use Rattle.cs_acts.specs.Names.{IsNamed, name_of};
@@ -85,7 +85,7 @@ pub(crate) fn handler_mark<W: World>(w: &mut W, args: u32) -> PrimEnd
 fn goal_of<W: World>(w: &W, end: Oop) -> Option<u64>
     requires sound { IsSound (W.stored w.now) (W.view w.now) }
     requires named { IsNamed (W.stored w.now) end }
-    ensures { result ≡ (if is_end (W.view w.now) (name_of (W.stored w.now) end) then birth_of
+    ensures { result ≡ (if is_end (W.view w.now) (name_of (W.stored w.now) end) then named_object
         (name_of (W.stored w.now) end) else None) }
 {
     if is_end(w, end) {

@@ -6,7 +6,7 @@ ghost use Rattle.cs_model.specs.Return.{cannot_return_out, local_out, nonlocal_o
 ghost use Rattle.cs_acts.specs.Names.{IsNamed, name_of};
 ghost use Rattle.cs_acts.specs.Ready.{IsReady, IsSound};
 ghost use Rattle.cs_unwind.specs.Returned.{Returns, arrival_of};
-ghost use Rattle.cs_unwind.specs.Walked.{HasHome, IsUnmarked, Stands};
+ghost use Rattle.cs_unwind.specs.Walked.{HasHome, IsUnmarked, ActStands};
 
 use crate::BackEnd;
 use crate::search::{HomeEnd, Way, active, home, is, sender, senders_to};
@@ -92,7 +92,7 @@ fn dies<W: World>(w: &W, target: Option<Act>, passed: bool, home: Act) -> bool
     requires ready { IsReady (W.stored w.now) (W.view w.now) }
     requires stands { IfSome target (λ t. IsSome (W.act w.now t)) }
     requires home { IsSome (W.act w.now home) }
-    ensures { (i j : ℕ) → Stands (W.act w.now) target (Some i) → W.act w.now home ≡ Some j → result ≡
+    ensures { (i j : ℕ) → ActStands (W.act w.now) target (Some i) → W.act w.now home ≡ Some j → result ≡
         (passed || (i == active_birth (W.view w.now)) || (i == j)) }
 {
     passed || is(w, target, active(w)) || is(w, target, home)
@@ -120,7 +120,7 @@ fn past_home<W: World>(w: &mut W, value: Oop, home: Act, target: Option<Act>, di
 fn may_arrive<W: World>(w: &W, target: Option<Act>, dies: bool) -> Arrival
     requires sound { IsSound (W.stored w.now) (W.view w.now) }
     requires stands { IfSome target (λ t. IsSome (W.act w.now t)) }
-    ensures { (birth : Option ℕ) → Stands (W.act w.now) target birth → result ≡ arrival_of (W.view w.now) dies birth }
+    ensures { (birth : Option ℕ) → ActStands (W.act w.now) target birth → result ≡ arrival_of (W.view w.now) dies birth }
 {
     let Some(target) = target else {
         return Arrival::Never;

@@ -6,7 +6,7 @@ ghost use Rattle.cs_model.specs.Return.{closure_at, first_marked, outer_birth, s
 ghost use Rattle.cs_model.specs.State.{is_nil, object_at};
 ghost use Rattle.cs_acts.specs.Names.{IsNamed, name_of};
 ghost use Rattle.cs_acts.specs.Ready.{IsReady, IsSound};
-ghost use Rattle.cs_unwind.specs.Walked.{FindsHome, FindsWay, Sees, Stands};
+ghost use Rattle.cs_unwind.specs.Walked.{FindsHome, FindsWay, Sees, ActStands};
 
 use crate::marks::{UNWIND_MARK, is_marked};
 use cs_acts::read::{is_context, nil, same, slot_if_any};
@@ -60,7 +60,7 @@ pub(crate) fn active<W: World>(w: &W) -> Act
 pub(crate) fn sender<W: World>(w: &W, a: Act) -> Option<Act>
     requires sound { IsSound (W.stored w.now) (W.view w.now) }
     requires stands { IsSome (W.act w.now a) }
-    ensures { IfSome (W.act w.now a) (λ birth. Stands (W.act w.now) result (sender_birth (W.view w.now) birth)) }
+    ensures { IfSome (W.act w.now a) (λ birth. ActStands (W.act w.now) result (sender_birth (W.view w.now) birth)) }
 {
     match w.sender_act(a) {
         Act::Gone => None,
@@ -73,7 +73,7 @@ pub(crate) fn is<W: World>(w: &W, a: Option<Act>, b: Act) -> bool
     requires sound { IsSound (W.stored w.now) (W.view w.now) }
     requires left { IfSome a (λ x. IsSome (W.act w.now x)) }
     requires right { IsSome (W.act w.now b) }
-    ensures { (i j : ℕ) → Stands (W.act w.now) a (Some i) → W.act w.now b ≡ Some j → result ≡ (i == j) }
+    ensures { (i j : ℕ) → ActStands (W.act w.now) a (Some i) → W.act w.now b ≡ Some j → result ≡ (i == j) }
 {
     match a {
         Some(a) => w.act_birth(a) == w.act_birth(b),
@@ -85,7 +85,7 @@ pub(crate) fn is<W: World>(w: &W, a: Option<Act>, b: Act) -> bool
 fn outer<W: World>(w: &W, closure: Oop) -> Option<Act>
     requires sound { IsSound (W.stored w.now) (W.view w.now) }
     requires named { IsNamed (W.stored w.now) closure }
-    ensures { Stands (W.act w.now) result (outer_birth (W.view w.now) (name_of (W.stored w.now) closure)) }
+    ensures { ActStands (W.act w.now) result (outer_birth (W.view w.now) (name_of (W.stored w.now) closure)) }
 {
     let context = slot_if_any(w, closure, OUTER_CONTEXT)?;
     if is_context(w, context) {
@@ -108,7 +108,7 @@ fn is_home<W: World>(w: &W, a: Act) -> bool
 fn outer_of<W: World>(w: &W, a: Act) -> Option<Act>
     requires sound { IsSound (W.stored w.now) (W.view w.now) }
     requires stands { IsSome (W.act w.now a) }
-    ensures { IfSome (W.act w.now a) (λ birth. Stands (W.act w.now) result
+    ensures { IfSome (W.act w.now a) (λ birth. ActStands (W.act w.now) result
         (outer_birth (W.view w.now) (closure_at (W.view w.now) birth))) }
 {
     outer(w, w.act_closure(a))
@@ -143,8 +143,8 @@ fn first_mark<W: World>(w: &W, mark: Option<Act>, act: Act) -> Option<Act>
     requires sound { IsSound (W.stored w.now) (W.view w.now) }
     requires stands { IsSome (W.act w.now act) }
     requires context { IfSome (W.act w.now act) (λ birth. is_context_at (object_at (W.view w.now) birth) ≡ true) }
-    ensures { (births : List ℕ) (birth : ℕ) → W.act w.now act ≡ Some birth → Stands (W.act w.now) mark
-        (first_marked (W.view w.now) unwind_mark births) → Stands (W.act w.now) result
+    ensures { (births : List ℕ) (birth : ℕ) → W.act w.now act ≡ Some birth → ActStands (W.act w.now) mark
+        (first_marked (W.view w.now) unwind_mark births) → ActStands (W.act w.now) result
         (first_marked (W.view w.now) unwind_mark (births ++ birth ∷ [])) }
 {
     if mark.is_some() {
@@ -161,7 +161,7 @@ fn is_passed<W: World>(w: &W, passed: bool, act: Act, target: Option<Act>) -> bo
     requires sound { IsSound (W.stored w.now) (W.view w.now) }
     requires stands { IsSome (W.act w.now act) }
     requires target { IfSome target (λ t. IsSome (W.act w.now t)) }
-    ensures { (i j : ℕ) → Stands (W.act w.now) target (Some i) → W.act w.now act ≡ Some j → result ≡
+    ensures { (i j : ℕ) → ActStands (W.act w.now) target (Some i) → W.act w.now act ≡ Some j → result ≡
         (passed || (i == j)) }
 {
     passed || is(w, target, act)

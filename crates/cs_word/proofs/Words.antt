@@ -4,9 +4,9 @@ use Rattle.std.proofs.lemmas.Bool.Decides.{nat_tests}
 use Rattle.std.proofs.lemmas.Int.{ints}
 use Rattle.std.proofs.lemmas.Grind.{common_steps}
 use Rattle.cs_model.specs.Ref.{natural_of}
-use Rattle.cs_model.specs.Words.{natural_in_word}
+use Rattle.cs_model.specs.Words.{natural_in_word, small_value}
 use Rattle.cs_word.specs.declared.Kind.TheVariants.{Small, Character, Object, Link}
-use Rattle.cs_word.specs.Word.{IsSmall, kind_of, natural_by_kind, natural_of_word, small_value, word_of, small_word, character_word}
+use Rattle.cs_word.specs.Word.{IsSmall, kind_of, natural_by_kind, natural_of_word, word_of, small_word, character_word}
 
 -- what a word says gives the word back
 pub word_of-kind_of : (word : ℕ) → word < 2 ^ 32 → word_of (kind_of word) ≡ word

@@ -3,14 +3,11 @@ use Rattle.std.specs.Prelude.{ℕ, ℤ, pos, negsuc, neg_ℤ, ◌-ℤ◌, ◌≤
 use Rattle.cs_model.specs.Ref.{natural_of}
 use Rattle.cs_word.specs.declared.Kind.{Kind}
 use Rattle.cs_word.specs.declared.Kind.TheVariants.{Small, Character, Object, Link}
+use Rattle.cs_model.specs.Words.{small_value}
 
 -- a SmallInteger has 31 bits: -2^30 to 2^30 - 1
 abbrev pub IsSmall : ℤ → Type 0
 IsSmall z = (neg_ℤ (pos (2 ^ 30)) ≤ℤ z) × (z <ℤ pos (2 ^ 30))
-
--- the word shifted right by one, as a signed number
-abbrev pub small_value : ℕ → ℤ
-small_value word = if nat_lt word (2 ^ 31) then pos (word / 2) else pos (word / 2) -ℤ pos (2 ^ 31)
 
 -- what the low bits of a word say
 abbrev pub kind_of : ℕ → Kind

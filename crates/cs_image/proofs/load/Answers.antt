@@ -6,7 +6,7 @@ use Rattle.std.proofs.lemmas.Result.{err_from_is_err_and}
 use Rattle.cs_model.specs.ImageFile.{File, births_in, next_birth_in, cut_of, file_of, special_address, visible, words_in}
 use Rattle.cs_model.specs.ImageFault.{ImageFault, bad_object, is_over, is_bad_births}
 use Rattle.cs_model.specs.ImageFault as fault
-use Rattle.cs_model.specs.Image.{at_word, fault_of, when}
+use Rattle.cs_model.specs.Image.{at_word, image_fault, when}
 use Rattle.cs_image.specs.Answer.{header_fault, objects_fault}
 use Rattle.cs_image.proofs.Faults.{fault_of-parts, told_as, after_header, after_objects, after_room, after_all, births_fine, header_is, no_fault}
 use Rattle.cs_image.proofs.Soundness.{sound_file}
@@ -26,13 +26,13 @@ use Rattle.cs_image.proofs.load.Goals as goal
 pub returns-in_err-check_header-clause-fault : goal.returns-in_err-check_header-clause-fault
 returns-in_err-check_header-clause-fault c =
     let p = err_from_is_err_and c.from_residual.result c.from_residual.ensures.1 in
-    told_as {X = Unit {0}} (λ _. ⊤) (λ _. ⊤) (fault_of c.args.bytes.now c.args.limit_words) (header_fault c.args.bytes.now) _
+    told_as {X = Unit {0}} (λ _. ⊤) (λ _. ⊤) (image_fault c.args.bytes.now c.args.limit_words) (header_fault c.args.bytes.now) _
     c.in_err-check_header.field-0.0 p.0 c.from_residual.result (fault_of-parts c.args.bytes.now c.args.limit_words) c.in_err-check_header.ensures p.1 p.2
 
 pub returns-in_err-file-clause-fault : goal.returns-in_err-file-clause-fault
 returns-in_err-file-clause-fault c =
     let p = err_from_is_err_and c.from_residual-in_err-file.result c.from_residual-in_err-file.ensures.1 in
-    told_as (λ file. file ≡ file_of c.args.bytes.now) (λ _. ⊤) (fault_of c.args.bytes.now c.args.limit_words)
+    told_as (λ file. file ≡ file_of c.args.bytes.now) (λ _. ⊤) (image_fault c.args.bytes.now c.args.limit_words)
     (at_word fault.BadObject (bad_object (cut_of (words_in c.args.bytes.now)))) _
     c.in_err-file.field-0.0 p.0 c.from_residual-in_err-file.result (after_header c.args.bytes.now c.args.limit_words c.in_ok-check_header.ensures.0) c.in_err-file.ensures p.1 p.2
 
@@ -40,7 +40,7 @@ pub returns-in_err-addresses-clause-fault : goal.returns-in_err-addresses-clause
 returns-in_err-addresses-clause-fault c =
     let p = err_from_is_err_and c.from_residual-in_err-addresses.result c.from_residual-in_err-addresses.ensures.1 in
     let same : c.in_ok-file.file ≡ file_of c.args.bytes.now = c.in_ok-file.ensures.1 in
-    told_as {X = Vec ℕ Global} (λ v. v.items ≡ addresses_of c.in_ok-file.file.objects 0) (λ _. ⊤) (fault_of c.args.bytes.now c.args.limit_words)
+    told_as {X = Vec ℕ Global} (λ v. v.items ≡ addresses_of c.in_ok-file.file.objects 0) (λ _. ⊤) (image_fault c.args.bytes.now c.args.limit_words)
     (when (is_over c.in_ok-file.file c.args.limit_words) fault.OverLimit) _
     c.in_err-addresses.field-0.0 p.0 c.from_residual-in_err-addresses.result
     (after_objects c.args.bytes.now c.args.limit_words c.in_ok-check_header.ensures.0 c.in_ok-file.ensures.0
@@ -56,7 +56,7 @@ pub returns-in_err-check_objects-clause-fault : goal.returns-in_err-check_object
 returns-in_err-check_objects-clause-fault c =
     let p = err_from_is_err_and c.from_residual-in_err-check_objects.result c.from_residual-in_err-check_objects.ensures.1 in
     let same : c.in_ok-file.file ≡ file_of c.args.bytes.now = c.in_ok-file.ensures.1 in
-    told_as {X = Unit {0}} (λ _. ⊤) (λ _. ⊤) (fault_of c.args.bytes.now c.args.limit_words)
+    told_as {X = Unit {0}} (λ _. ⊤) (λ _. ⊤) (image_fault c.args.bytes.now c.args.limit_words)
     (objects_fault c.in_ok-file.file c.u32_at.result) _
     c.in_err-check_objects.field-0.0 p.0 c.from_residual-in_err-check_objects.result
     (after_room c.args.bytes.now c.args.limit_words c.in_ok-check_header.ensures.0 c.in_ok-file.ensures.0
@@ -79,7 +79,7 @@ returns-in_err-births-clause-fault c =
     ap (λ (f : File). objects_fault f (special_address c.args.bytes.now)) (sym same)
     ∙ ap (λ (special : ℕ). objects_fault c.in_ok-file.file special) (sym c.u32_at.ensures) ∙ c.in_ok-check_objects.ensures.0 in
     told_as {X = Births} (λ b. (b.births.items ≡ births_in c.args.bytes.now c.visible_count.result) × (b.next ≡ next_birth_in c.args.bytes.now c.visible_count.result)) (λ _. ⊤)
-    (fault_of c.args.bytes.now c.args.limit_words) (when (is_bad_births c.args.bytes.now c.visible_count.result) fault.BadBirths) _
+    (image_fault c.args.bytes.now c.args.limit_words) (when (is_bad_births c.args.bytes.now c.visible_count.result) fault.BadBirths) _
     c.in_err-births.field-0.0 p.0 c.from_residual-in_err-births.result
     (after_all c.args.bytes.now c.args.limit_words c.in_ok-check_header.ensures.0 c.in_ok-file.ensures.0
     (room c.in_ok-file.file (file_of c.args.bytes.now) c.args.limit_words same c.in_ok-addresses.ensures.0) fine

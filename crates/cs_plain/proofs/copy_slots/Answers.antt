@@ -1,10 +1,10 @@
 use Rattle.std.proofs.Common.{ap, arith, refl, ◌∙◌}
-use Rattle.cs_plain.specs.Storing.{copied}
+use Rattle.cs_plain.specs.Storing.{values_copied}
 use Rattle.cs_plain.proofs.Copying.{copied-more, count-in}
 use Rattle.cs_plain.proofs.copy_slots.Goals as goal
 
 pub loop-i-init : goal.loop-i-init
-unfolding copied
+unfolding values_copied
 loop-i-init c = refl
 
 pub overflow_add-at : goal.overflow_add-at
@@ -25,4 +25,4 @@ loop-i-preserved c =
 pub returns : goal.returns
 returns c =
     c.loop-i.invariant
-    ∙ ap (λ n. record c.args.heap.now { objects = copied c.args.heap.now.objects c.args.from.0 c.args.at c.args.to.0 c.args.start n }) (omega arith)
+    ∙ ap (λ n. record c.args.heap.now { objects = values_copied c.args.heap.now.objects c.args.from.0 c.args.at c.args.to.0 c.args.start n }) (omega arith)

@@ -2,7 +2,7 @@ use Rattle.std.proofs.Common.{arith, ap, ap₂, sym, ◌∙◌, ◌≡◌, Some,
 use Rattle.std.proofs.lemmas.Int.{ints}
 use Rattle.cs_model.specs.Ref as ref
 use Rattle.cs_model.specs.Number.{computation}
-use Rattle.cs_acts.specs.Arithmetic.{number_of}
+use Rattle.cs_acts.specs.Arithmetic.{primitive_of}
 use Rattle.cs_acts.proofs.Bits.{number-computed}
 use Rattle.cs_acts.proofs.arithmetic.number_result.Goals as goal
 
@@ -15,6 +15,6 @@ returns-in-Some-compute g c =
     record {
       sound = word.sound;
       is = ap (λ r. Some r) (word.is ∙ ap (λ z. ref.Small z) value)
-          ∙ ap (option_map (λ z. ref.Small z)) (c.in-Some-compute.ensures.value ∙ ap₂ (computation (number_of c.args.operation)) left right)
-          ∙ sym (number-computed (g.W.World.view c.args.w.now) (number_of c.args.operation) c.args.a c.args.b _ (sym c.in_default.is ∙ c.compare.ensures));
+          ∙ ap (option_map (λ z. ref.Small z)) (c.in-Some-compute.ensures.value ∙ ap₂ (computation (primitive_of c.args.operation)) left right)
+          ∙ sym (number-computed (g.W.World.view c.args.w.now) (primitive_of c.args.operation) c.args.a c.args.b _ (sym c.in_default.is ∙ c.compare.ensures));
     }

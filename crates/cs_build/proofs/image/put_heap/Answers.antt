@@ -3,7 +3,7 @@ use Rattle.std.proofs.lemmas.List.{take_all}
 use Rattle.std.specs.Prelude.{flat_map}
 use Rattle.std.specs.List.{AllByRecursion}
 use Rattle.cs_model.specs.SavedFile.{saved_words, saved_heap, free_lists, hidden_object, table_page}
-use Rattle.cs_build.specs.Laid.{Laid, FitsLaid, laid_by, saved_by, put_words, root_words, pages_of, file_for}
+use Rattle.cs_build.specs.Laid.{Laid, FitsLaid, laid_by, saved_by, put_words, root_words, table_pages, file_for}
 use Rattle.cs_build.proofs.Putting.{map_take, map_drop, all_take, all_drop, put_next, on_ok}
 use Rattle.cs_build.proofs.Filing.{length-addresses, size_of_file, heap_for}
 use Rattle.cs_build.proofs.image.put_heap.Goals as goal
@@ -44,7 +44,7 @@ returns c =
     let free : List ℕ = saved_words free_lists in
     let root : List ℕ = saved_words (hidden_object 2 (root_words c.args.words (length c.args.table.now / 1024))) in
     let rest : List ℕ = flat_map saved_words (map (saved_by a) (drop 3 ls)) in
-    let pages : List ℕ = flat_map saved_words (map table_page (pages_of a c.args.table.now)) in
+    let pages : List ℕ = flat_map saved_words (map table_page (table_pages a c.args.table.now)) in
     let one : c.put_objects.new.out.items ≡ put_words c.args.out.now.items first =
     c.in_ok-put_objects.ensures ∙ ap (λ (xs : List Laid). put_words c.args.out.now.items (flat_map saved_words (map (saved_by c.args.addresses.now) xs))) (map_take laid_by 3 c.args.objects.now) in
     let two : c.put_free_lists.new.out.items ≡ put_words c.args.out.now.items (first ++ free) =

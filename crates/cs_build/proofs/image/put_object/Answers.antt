@@ -1,6 +1,6 @@
 use Rattle.std.proofs.Common.{◌≡◌, ℕ, ◌-◌, List, ◌++◌, map, replicate, refl, ap, sym, ◌∙◌}
 use Rattle.cs_model.specs.SavedFile.{saved_words, body_size}
-use Rattle.cs_build.specs.Laid.{put_words, ref_by, ref_word, laid_by, saved_by, laid_slots, head_words, byte_words}
+use Rattle.cs_build.specs.Laid.{put_words, reference_by, ref_word, laid_by, saved_by, laid_slots, head_words, byte_words}
 use Rattle.cs_build.proofs.Putting.{put_next, on_ok, saved_as}
 use Rattle.cs_build.specs.declared.object.Reference.{Reference}
 use Rattle.cs_build.proofs.image.put_object.Goals as goal
@@ -9,13 +9,13 @@ pub returns : goal.returns
 returns c =
     let n : ℕ = c.slot_count-slots.result in
     let a : List ℕ = c.args.addresses.now in
-    let refs : List ℕ = map (ref_word a) (map ref_by c.args.object.now.slots.items) in
+    let refs : List ℕ = map (ref_word a) (map reference_by c.args.object.now.slots.items) in
     let words : List ℕ = byte_words c.args.object.now.bytes.items in
     let head : List ℕ = head_words c.args.object.now.class c.args.object.now.format c.args.object.now.hash n in
     let size : laid_slots (laid_by c.args.object.now) ≡ n = sym c.slot_count-slots.ensures in
     let zeros : c.body_size.result - n ≡ body_size n - n = ap (λ (k : ℕ). k - n) c.body_size.ensures in
     let put_refs : c.put_slots.new.out.items ≡ put_words c.put_head.new.out.items refs =
-    c.in_ok-put_slots.ensures ∙ ap (λ (xs : List Reference). put_words c.put_head.new.out.items (map (ref_word a) (map ref_by xs))) c.deref.ensures.value in
+    c.in_ok-put_slots.ensures ∙ ap (λ (xs : List Reference). put_words c.put_head.new.out.items (map (ref_word a) (map reference_by xs))) c.deref.ensures.value in
     let put_rest : c.put_bytes.new.out.items ≡ put_words c.put_slots.new.out.items words =
     c.in_ok-put_bytes.ensures ∙ ap (λ (xs : List ℕ). put_words c.put_slots.new.out.items (byte_words xs)) c.deref-2.ensures.value in
     on_ok c.put_zeros.result (c.put_zeros.new.out.items ≡ put_words c.put_bytes.new.out.items (replicate (c.body_size.result - n) 0))

@@ -1,6 +1,6 @@
 use Rattle.std.proofs.Common.{◌≡◌, ◌∙◌, ℕ, List, IfSome, Err, ap, subst, sym}
+use Rattle.cs_classes.specs.Meaning.{loaded_kept}
 use Rattle.cs_acts.specs.declared.Loaded.{Loaded}
-use Rattle.cs_stack.specs.View.{loaded_kept}
 use Rattle.cs_cli.proofs.Images.{long_content, refused_by, refused_read}
 use Rattle.cs_cli.proofs.top.open.Goals as goal
 

@@ -1,7 +1,7 @@
 use Rattle.std.proofs.Common.{Some, ap, refl, subst, sym, ◌∙◌}
 use Rattle.cs_model.specs.Built.{is_built_number}
 use Rattle.cs_acts.specs.Names.{name_of}
-use Rattle.cs_core.specs.Numbers.{HasNumber}
+use Rattle.cs_core.specs.Numbers.{HasBuiltNumber}
 use Rattle.cs_core.specs.Stepped.{TurnGives, trying, unbuilt}
 use Rattle.cs_core.proofs.step.try_primitive.Goals as goal
 
@@ -10,7 +10,7 @@ returns-in-Add-clause-gives g c =
     let k = g.W.World.view c.args.w.now in
     let x = name_of (g.W.World.stored c.args.w.now) c.args.method in
     let told = g.K.Sink.taken c.args.out.now in
-    subst (λ n. TurnGives (trying k x n) k (g.W.World.layout c.args.w.now) told told (g.W.World.stored c.add_or_enter.new.w) (g.W.World.view c.add_or_enter.new.w) (g.W.World.layout c.add_or_enter.new.w) c.add_or_enter.result) (sym (subst (λ p. HasNumber (g.W.World.view c.args.w.now) c.args.args (Some p) c.args.number) c.in-Add.is c.in-Some.ensures)) (c.add_or_enter.ensures.gives told)
+    subst (λ n. TurnGives (trying k x n) k (g.W.World.layout c.args.w.now) told told (g.W.World.stored c.add_or_enter.new.w) (g.W.World.view c.add_or_enter.new.w) (g.W.World.layout c.add_or_enter.new.w) c.add_or_enter.result) (sym (subst (λ p. HasBuiltNumber (g.W.World.view c.args.w.now) c.args.args (Some p) c.args.number) c.in-Add.is c.in-Some.ensures)) (c.add_or_enter.ensures.gives told)
 
 pub returns-in-Add-clause-cause : goal.returns-in-Add-clause-cause
 returns-in-Add-clause-cause g c = c.add_or_enter.ensures.cause (g.K.Sink.fault_count c.args.out.now)
@@ -19,7 +19,7 @@ pub returns-in-Write-clause-gives : goal.returns-in-Write-clause-gives
 returns-in-Write-clause-gives g c =
     let k = g.W.World.view c.args.w.now in
     let x = name_of (g.W.World.stored c.args.w.now) c.args.method in
-    subst (λ n. TurnGives (trying k x n) k (g.W.World.layout c.args.w.now) (g.K.Sink.taken c.args.out.now) (g.K.Sink.taken c.write_or_enter.new.out) (g.W.World.stored c.write_or_enter.new.w) (g.W.World.view c.write_or_enter.new.w) (g.W.World.layout c.write_or_enter.new.w) c.write_or_enter.result) (sym (subst (λ p. HasNumber (g.W.World.view c.args.w.now) c.args.args (Some p) c.args.number) c.in-Write.is c.in-Some.ensures)) c.write_or_enter.ensures.gives
+    subst (λ n. TurnGives (trying k x n) k (g.W.World.layout c.args.w.now) (g.K.Sink.taken c.args.out.now) (g.K.Sink.taken c.write_or_enter.new.out) (g.W.World.stored c.write_or_enter.new.w) (g.W.World.view c.write_or_enter.new.w) (g.W.World.layout c.write_or_enter.new.w) c.write_or_enter.result) (sym (subst (λ p. HasBuiltNumber (g.W.World.view c.args.w.now) c.args.args (Some p) c.args.number) c.in-Write.is c.in-Some.ensures)) c.write_or_enter.ensures.gives
 
 pub returns-in-Unwind-clause-gives : goal.returns-in-Unwind-clause-gives
 returns-in-Unwind-clause-gives g c = c.unwind_or_enter.ensures.gives (g.K.Sink.taken c.args.out.now)
@@ -39,7 +39,7 @@ returns-in_default-clause-gives g c =
     (refl, λ output steps. unbuilt (ap (λ n. is_built_number k n (Some c.args.number)) c.requires.enters.count ∙ c.in_default.ensures) refl)
 
 pub unwind_or_enter-requires-clause-unwinds : goal.unwind_or_enter-requires-clause-unwinds
-unwind_or_enter-requires-clause-unwinds g c = subst (λ p. HasNumber (g.W.World.view c.args.w.now) c.args.args (Some p) c.args.number) c.in-Unwind.is c.in-Some.ensures
+unwind_or_enter-requires-clause-unwinds g c = subst (λ p. HasBuiltNumber (g.W.World.view c.args.w.now) c.args.args (Some p) c.args.number) c.in-Unwind.is c.in-Some.ensures
 
 pub read_or_enter-requires-clause-reads : goal.read_or_enter-requires-clause-reads
-read_or_enter-requires-clause-reads g c = subst (λ p. HasNumber (g.W.World.view c.args.w.now) c.args.args (Some p) c.args.number) c.in-ReadContext.is c.in-Some.ensures
+read_or_enter-requires-clause-reads g c = subst (λ p. HasBuiltNumber (g.W.World.view c.args.w.now) c.args.args (Some p) c.args.number) c.in-ReadContext.is c.in-Some.ensures

@@ -2,7 +2,7 @@ use Rattle.std.proofs.Common.{◌≡◌, ℕ, ◌+◌, ◌*◌, ◌<◌, false, 
 use Rattle.std.proofs.Common.{not, ltb}
 use Rattle.cs_heap.specs.Object.{base}
 use Rattle.std.proofs.lemmas.Bool.Decides.{nat_tests}
-use Rattle.cs_heap.specs.Object.{index_of, is_object}
+use Rattle.cs_heap.specs.Object.{object_place, is_object}
 use Rattle.cs_heap.specs.Layout.{unit_in}
 use Rattle.cs_heap.proofs.Marks.{marked_found, nonzero, is_marked, same_test, unit_in_is, unit_in_of}
 use Rattle.cs_heap.proofs.Seen.{read_is, seen}
@@ -17,7 +17,7 @@ returns-then-unit-len c =
     let read : c.index.result.now ≡ get_or c.self.inside.marks.items u 0 =
     read_is c.self.inside.marks.items u u c.index.result.now refl (omega (arith, c.if-unit-len.true, c.len.ensures, c.self.inside.marks.ok.0)) c.index.ensures in
     same_test (not (eqb c.index.result.now 0)) (is_object c.args.self.now.objects address)
-    (λ t. ap (λ (a : ℕ). is_some (index_of c.args.self.now.objects a)) at
+    (λ t. ap (λ (a : ℕ). is_some (object_place c.args.self.now.objects a)) at
     ∙ marked_found c.self.inside c.args.self.now.objects (laid_seen c.self.inside c.args.self.now c.self.invariant c.self.view_is) u (λ z. nonzero c.index.result.now t (read ∙ z)))
     (λ t. let s = seen c.self.inside c.args.self.now c.self.invariant c.self.view_is c.args.o.0 t in
     let same : u ≡ unit_of address = omega (arith, at) in

@@ -1,7 +1,7 @@
 use Rattle.std.proofs.Common.{◌≡◌, ℕ, ◌+◌, ◌*◌, List, [], ◌∷◌, ◌++◌, length, ap, ap₂, sym, ◌∙◌, arith, subst, append_assoc, length-append}
 use Rattle.cs_heap.specs.Object.{Object, body_units, used}
 use Rattle.cs_heap.specs.Object.{address_of}
-use Rattle.cs_heap.specs.Layout.{IsLaid, address_from, count_in, header_in}
+use Rattle.cs_heap.specs.Layout.{AreObjectsLaid, address_from, count_in, unit_header}
 use Rattle.cs_word.specs.declared.header.Header.{Header}
 use Rattle.cs_heap.proofs.Marks.{walk}
 use Rattle.cs_heap.proofs.Places.{next_of-found, object_above, used-push}
@@ -20,7 +20,7 @@ pub slot_count_at-slots-requires-clause-before : goal.slot_count_at-slots-requir
 slot_count_at-slots-requires-clause-before c =
     let s = seen c.self.inside c.args.self.now c.self.invariant c.self.view_is c.args.o.0 c.requires in
     let t = s.known_there.there in
-    let slots = ap (λ (h : Header). h.slots) (ap₂ (λ (ws : List ℕ) (u : ℕ). header_in ws (2 * u)) c.deref.ensures.value c.unit_of-unit.ensures ∙ t.header_is) in
+    let slots = ap (λ (h : Header). h.slots) (ap₂ (λ (ws : List ℕ) (u : ℕ). unit_header ws (2 * u)) c.deref.ensures.value c.unit_of-unit.ensures ∙ t.header_is) in
     λ top. let above = t.before (omega (arith, slots, top)) in omega (arith, above, c.unit_of-unit.ensures)
 
 pub object_from-requires : goal.object_from-requires
@@ -40,7 +40,7 @@ returns c =
     omega (arith, c.unit_of-unit.ensures, body, s.known_there.place, used-push p.before p.x) in
     let one_more : length (p.before ++ p.x ∷ []) ≡ s.index + 1 = omega (arith, p.count, length-append p.before (p.x ∷ [])) in
     c.object_from.ensures ∙ ap (λ (marks : List ℕ). address_from marks (c.unit_of-unit.result + 1 + c.body_units.result)) c.deref-2.ensures.value
-    ∙ walk c.self.inside (p.before ++ p.x ∷ []) p.after (subst (λ (xs : List Object). IsLaid c.self.inside xs) regrouped s.known_there.parts)
+    ∙ walk c.self.inside (p.before ++ p.x ∷ []) p.after (subst (λ (xs : List Object). AreObjectsLaid c.self.inside xs) regrouped s.known_there.parts)
     (c.unit_of-unit.result + 1 + c.body_units.result) behind
     ∙ ap₂ address_of (sym (p.list ∙ regrouped)) one_more
     ∙ sym (next_of-found c.args.self.now.objects c.args.o.0 s.index s.found)

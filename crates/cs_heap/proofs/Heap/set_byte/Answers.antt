@@ -1,5 +1,5 @@
 use Rattle.std.proofs.Common.{ℕ, ◌<◌, ◌/◌, ◌%◌, ◌∙◌, ap, length, refl, arith}
-use Rattle.cs_heap.specs.Object.{Memory, Object, slot_count_of, with_byte_in, with_slot}
+use Rattle.cs_heap.specs.Object.{Memory, Object, slot_count_of, with_byte_in, slot_set}
 use Rattle.std.specs.Vec.{with_item}
 use Rattle.cs_heap.specs.declared.Heap.TheInside.{Inside}
 use Rattle.cs_heap.proofs.Seen.{dirty_seen, field_is, seen_slot, word_stored}
@@ -31,5 +31,5 @@ returns c =
     let new : Inside = record { words = with_item c.self.inside.words c.slot_place.result v; births = c.self.inside.births; marks = c.self.inside.marks; limit = c.self.inside.limit; dirty = c.self.inside.dirty } in
     (word_stored c.self.inside new m c.args.o.0 c.slot_place.result (c.args.i / 4) v m.dirty c.self.invariant c.self.view_is (omega (arith, c.requires)) c.slot_place.ensures refl refl refl
     (record { limit = refl; words = omega arith; births = omega arith; marks = omega arith }) (dirty_seen c.self.inside m c.self.view_is)).view_is
-    ∙ ap (λ (n : ℕ). let stored : Memory = record m { objects = with_slot m.objects c.args.o.0 (c.args.i / 4) n } in stored)
+    ∙ ap (λ (n : ℕ). let stored : Memory = record m { objects = slot_set m.objects c.args.o.0 (c.args.i / 4) n } in stored)
     (c.with_byte_in-word.ensures ∙ ap (λ (n : ℕ). with_byte_in n (c.args.i % 4) c.args.b) c.slot.ensures)

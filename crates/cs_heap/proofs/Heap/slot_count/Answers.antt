@@ -1,6 +1,6 @@
 use Rattle.std.proofs.Common.{ℕ, ◌*◌, List, length, ap, ap₂, sym, ◌∙◌, arith}
 use Rattle.cs_heap.specs.Object.{Object}
-use Rattle.cs_heap.specs.Layout.{count_in, header_in}
+use Rattle.cs_heap.specs.Layout.{count_in, unit_header}
 use Rattle.cs_word.specs.declared.header.Header.{Header}
 use Rattle.cs_heap.proofs.OneObject.{fits_body}
 use Rattle.cs_heap.proofs.Seen.{field_is, seen}
@@ -17,7 +17,7 @@ pub slot_count_at-requires-clause-before : goal.slot_count_at-requires-clause-be
 slot_count_at-requires-clause-before c =
     let s = seen c.self.inside c.args.self.now c.self.invariant c.self.view_is c.args.o.0 c.requires in
     let t = s.known_there.there in
-    let slots = ap (λ (h : Header). h.slots) (ap₂ (λ (ws : List ℕ) (u : ℕ). header_in ws (2 * u)) c.deref.ensures.value c.unit_of.ensures ∙ t.header_is) in
+    let slots = ap (λ (h : Header). h.slots) (ap₂ (λ (ws : List ℕ) (u : ℕ). unit_header ws (2 * u)) c.deref.ensures.value c.unit_of.ensures ∙ t.header_is) in
     λ top. let above = t.before (omega (arith, slots, top)) in omega (arith, above, c.unit_of.ensures)
 
 pub returns-clause-value : goal.returns-clause-value

@@ -1,9 +1,9 @@
 use Rattle.std.proofs.Common.{arith, ap, ◌+◌, ◌-◌, ◌++◌, ◌∙◌, ℕ, List, drop, map, take}
 use Rattle.std.specs.Prelude.{codes}
+use Rattle.cs_heap.specs.Object.{words_at}
 use Rattle.cs_model.specs.Obj.{literal_count}
 use Rattle.cs_model.specs.Print.{refs_text}
 use Rattle.cs_classes.specs.Meaning.{ref_of}
-use Rattle.cs_inspect.specs.Reading.{words_at}
 use Rattle.cs_inspect.proofs.Meanings.{header_read, method_front, method_text, method_there, method_unused, no_header}
 use Rattle.cs_inspect.proofs.Texts.{ends, joins}
 use Rattle.cs_inspect.proofs.line.push_method.Goals as goal

@@ -1,7 +1,7 @@
 use Rattle.std.proofs.Common.{arith, ap, true, ◌≡◌, ◌∙◌}
+use Rattle.cs_model.specs.Words.{unused_bytes}
 use Rattle.cs_heap.specs.Format.{is_raw}
 use Rattle.cs_heap.specs.Object.{slot_count_of}
-use Rattle.cs_classes.specs.Meaning.{unused_bytes}
 use Rattle.cs_inspect.proofs.Meanings.{raw_read, raw_unused, raw_whole}
 use Rattle.cs_inspect.proofs.Texts.{ends}
 use Rattle.cs_inspect.proofs.line.push_raw.Goals as goal

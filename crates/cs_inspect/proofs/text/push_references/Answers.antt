@@ -1,6 +1,6 @@
 use Rattle.std.proofs.Common.{arith, drop}
+use Rattle.cs_heap.specs.Object.{words_at}
 use Rattle.cs_classes.specs.Meaning.{ref_of}
-use Rattle.cs_inspect.specs.Reading.{words_at}
 use Rattle.cs_inspect.proofs.Texts.{more_refs, refs_begin}
 use Rattle.cs_inspect.proofs.text.push_references.Goals as goal
 

@@ -1,7 +1,7 @@
 use Rattle.std.proofs.Common.{◌≡◌, ◌-◌, ◌++◌, drop, map, take}
+use Rattle.cs_heap.specs.Object.{words_at}
 use Rattle.cs_model.specs.Print.{refs_text}
 use Rattle.cs_classes.specs.Meaning.{ref_of}
-use Rattle.cs_inspect.specs.Reading.{words_at}
 use Rattle.cs_inspect.proofs.text.push_references.Given as goal
 
 abbrev pub invariant-loop-i : goal.invariant-loop-i

@@ -5,7 +5,7 @@ use Rattle.clap.specs.Faults.{fault_of, is_simple_and_free}
 use Rattle.clap.specs.Kinds.{HasKind}
 use Rattle.clap.specs.declared.error.Error.{Error}
 use Rattle.clap.specs.declared.error.kind.ErrorKind.TheVariants as kind
-use Rattle.cs_model.specs.CommandLine.{line_of}
+use Rattle.cs_line.specs.Possible.{line_of}
 use Rattle.cs_line.specs.LineApp.{line_app}
 use Rattle.cs_line.specs.Meaning.{line_by}
 use Rattle.cs_line.specs.declared.line.Line.{Line}

@@ -2,8 +2,8 @@ use Rattle.std.proofs.Common.{◌≡◌, ℕ, List, [], ap, set, sym, subst, IsS
 use Rattle.cs_classes.specs.Meaning.{count_of}
 use Rattle.cs_frame.specs.declared.FrameRef.{FrameRef}
 use Rattle.cs_frame.specs.declared.NewFrame.{NewFrame}
-use Rattle.cs_frame.specs.Frame.{Frame, with_caller, with_context, with_saved_pc, with_stack}
-use Rattle.cs_frame.specs.Page.{called, frames_of, fresh, on_frame, on_page, on_top, ref_of, top}
+use Rattle.cs_frame.specs.Frame.{Frame, with_caller, with_context, with_saved_pc, with_values}
+use Rattle.cs_frame.specs.Page.{called, frames_of, fresh, on_frame, on_page, on_top, frame_ref, top}
 use Rattle.cs_marriage.specs.Marriage.{stack_words}
 use Rattle.cs_marriage.proofs.Based.{alone, alone_frames, alone_on_frame, alone_on_top, base_is, context_value, number_pc}
 use Rattle.cs_marriage.proofs.basing.build_base.Goals as goal
@@ -31,8 +31,8 @@ returns-clause-frames c =
     let live : Frame = with_saved_pc pc sent in
     let married : Frame = with_context a live in
     let built : c.build-f.new.self ≡ alone ps p bare = c.build-f.ensures.made ∙ ap (λ (fs : List Frame). set ps p (called new fs)) c.requires.empty in
-    let at : r ≡ ref_of p bare =
-    c.build-f.ensures.frame ∙ (ap (λ (qs : List (List Frame)). ref_of p (top (frames_of qs p))) built ∙ ap (λ (fs : List Frame). ref_of p (top fs)) (alone_frames ps p lt bare)) in
+    let at : r ≡ frame_ref p bare =
+    c.build-f.ensures.frame ∙ (ap (λ (qs : List (List Frame)). frame_ref p (top (frames_of qs p))) built ∙ ap (λ (fs : List Frame). frame_ref p (top fs)) (alone_frames ps p lt bare)) in
     let changed : (g : Frame) (h : Frame → Frame) → g.at ≡ 0 → on_frame (alone ps p g) r h ≡ alone ps p (h g) =
     λ g h z. ap (λ (q : FrameRef). on_frame (alone ps p g) q h) (at ∙ ap (λ (n : ℕ). record { page = p; at = n }) (sym z)) ∙ alone_on_frame ps p lt g h in
     let one : c.set_sender.new.self ≡ alone ps p sent =
@@ -42,7 +42,7 @@ returns-clause-frames c =
     let three : c.set_context.new.self ≡ alone ps p married =
     c.set_context.ensures.context ∙ (ap (λ (qs : List (List Frame)). on_frame qs r (with_context a)) two ∙ changed live (with_context a) (λ _. 0)) in
     c.copy_stack.ensures.copied
-    ∙ ap (λ (q : FrameRef). on_page c.set_context.new.self q.page (on_top (with_stack xs))) at
-    ∙ ap (λ (qs : List (List Frame)). on_page qs p (on_top (with_stack xs))) three
-    ∙ alone_on_top ps p lt married (with_stack xs)
+    ∙ ap (λ (q : FrameRef). on_page c.set_context.new.self q.page (on_top (with_values xs))) at
+    ∙ ap (λ (qs : List (List Frame)). on_page qs p (on_top (with_values xs))) three
+    ∙ alone_on_top ps p lt married (with_values xs)
     ∙ ap (alone ps p) (base_is os a sender pc c.slot.result.0 c.slot-2.result.0 c.birth.result c.slot-3.result.0 c.slot-4.ensures c.slot-5.ensures c.slot.ensures c.slot-2.ensures c.birth.ensures c.slot-3.ensures)

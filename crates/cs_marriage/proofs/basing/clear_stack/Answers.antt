@@ -1,6 +1,6 @@
 use Rattle.std.proofs.Common.{◌≡◌, ℕ, ◌+◌, ◌-◌, List, length, set, ap, sym, ◌∙◌, arith, Option}
 use Rattle.std.specs.Option.{option_map_or}
-use Rattle.cs_heap.specs.Object.{Memory, Object, set_word, slot_count_of, with_object, with_slot}
+use Rattle.cs_heap.specs.Object.{Memory, Object, set_word, slot_count_of, with_object, slot_set}
 use Rattle.cs_heap.specs.Writes.{slot_stored}
 use Rattle.cs_heap.proofs.Writes.{slots_stored-counted}
 use Rattle.cs_heap.proofs.Laws.{field_of-with_object_kept}
@@ -38,7 +38,7 @@ loop-i-preserved c =
       heap =
           c.set_slot.ensures
           ∙ ap (λ (h : Memory). slot_stored h a i 65536) c.loop-i.invariant.heap
-          ∙ slots_stored-counted (record m { objects = with_object os a (filled_from 6 n) }) a (with_slot (with_object os a (filled_from 6 n)) a i 65536) c.requires.counted
+          ∙ slots_stored-counted (record m { objects = with_object os a (filled_from 6 n) }) a (slot_set (with_object os a (filled_from 6 n)) a i 65536) c.requires.counted
           ∙ ap (λ (xs : List Object). record m { objects = xs }) (with_object_twice os a (filled_from 6 n) (set_word i 65536) (filled_keeps 6 n)
           ∙ with_object_alike os a (λ x. set_word i 65536 (filled_from 6 n x)) (filled_from 6 (i + 1 - 6)) (λ x e. ap (λ (ws : List ℕ). record x { words = ws })
           (ap (λ j. set (filled 6 n x.words) j 65536) here ∙ (filled-more 6 n x.words ∙ ap (λ k. filled 6 k x.words) next))));

@@ -1,9 +1,10 @@
 use Rattle.std.proofs.Common.{◌≡◌, ℕ, ◌<◌, List, [], ◌∷◌, ◌++◌, take, ap, sym, ◌∙◌, arith}
+use Rattle.cs_heap.specs.Object.{words_at}
 use Rattle.cs_classes.specs.Meaning.{depth_in}
-use Rattle.cs_frame.specs.Frame.{Frame, pushed, with_stack}
+use Rattle.cs_frame.specs.Frame.{Frame, value_pushed, with_values}
 use Rattle.cs_frame.specs.Page.{frames_of, on_page, on_top}
 use Rattle.cs_frame.proofs.PageLaws.{on_page-on_page, page_in}
-use Rattle.cs_marriage.specs.Marriage.{stack_words, words_at}
+use Rattle.cs_marriage.specs.Marriage.{stack_words}
 use Rattle.cs_marriage.proofs.Based.{depth_is, stack_more, stacked_more}
 use Rattle.cs_marriage.proofs.basing.copy_stack.Goals as goal
 
@@ -21,9 +22,9 @@ loop-i-preserved c =
     record {
       frames =
           c.push.ensures.pushed
-          ∙ ap (λ (qs : List (List Frame)). on_page qs p (on_top (pushed v))) c.loop-i.invariant.frames
-          ∙ on_page-on_page ps p (on_top (with_stack (take i xs))) (on_top (pushed v)) (page_in ps p c.requires.top.0)
+          ∙ ap (λ (qs : List (List Frame)). on_page qs p (on_top (value_pushed v))) c.loop-i.invariant.frames
+          ∙ on_page-on_page ps p (on_top (with_values (take i xs))) (on_top (value_pushed v)) (page_in ps p c.requires.top.0)
           ∙ ap (λ (fs : List Frame). on_page ps p (λ _. fs)) (stacked_more (take i xs) v (frames_of ps p))
-          ∙ ap (λ n. on_page ps p (on_top (with_stack (take i xs ++ n ∷ [])))) c.slot.ensures
-          ∙ ap (λ (ys : List ℕ). on_page ps p (on_top (with_stack ys))) (sym (stack_more os a c.requires.context i inside));
+          ∙ ap (λ n. on_page ps p (on_top (with_values (take i xs ++ n ∷ [])))) c.slot.ensures
+          ∙ ap (λ (ys : List ℕ). on_page ps p (on_top (with_values ys))) (sym (stack_more os a c.requires.context i inside));
     }

@@ -1,5 +1,5 @@
 use Rattle.std.proofs.Common.{◌≡◌, ◌∙◌, ap, sym, subst, List}
-use Rattle.cs_heap.specs.Object.{Memory, Object, set_word, with_object, with_slot}
+use Rattle.cs_heap.specs.Object.{Memory, Object, set_word, with_object, slot_set}
 use Rattle.cs_heap.specs.Writes.{slot_stored, slots_stored}
 use Rattle.cs_heap.proofs.Writes.{slots_stored-twice}
 use Rattle.cs_heap.proofs.Laws.{set_word_keeps}
@@ -12,9 +12,9 @@ pub returns-clause-heap : goal.returns-clause-heap
 returns-clause-heap c =
     let m : Memory = c.args.heap.now in
     let a = c.args.ctx.0 in
-    let one : List Object = with_slot m.objects a 0 65536 in
-    let two : List Object = with_slot one a 1 65536 in
-    let three : List Object = with_slot two a 2 1 in
+    let one : List Object = slot_set m.objects a 0 65536 in
+    let two : List Object = slot_set one a 1 65536 in
+    let three : List Object = slot_set two a 2 1 in
     c.set_slot-3.ensures
     ∙ ap (λ v. slot_stored c.set_slot-2.new.self a 2 v) c.from_natural.ensures
     ∙ ap (λ (h : Memory). slot_stored h a 2 1) (c.set_slot-2.ensures ∙ ap (λ (h : Memory). slot_stored h a 1 65536) c.set_slot.ensures)
@@ -28,14 +28,14 @@ returns-clause-agree c =
     let one : Object → Object = set_word 0 65536 in
     let two : Object → Object = λ x. set_word 1 65536 (one x) in
     let three : Object → Object = λ x. set_word 2 1 (two x) in
-    let written : c.set_slot-3.new.self.objects ≡ with_slot (with_slot (with_slot os a 0 65536) a 1 65536) a 2 1 =
+    let written : c.set_slot-3.new.self.objects ≡ slot_set (slot_set (slot_set os a 0 65536) a 1 65536) a 2 1 =
     ap (λ (h : Memory). h.objects) (c.set_slot-3.ensures
     ∙ ap (λ v. slot_stored c.set_slot-2.new.self a 2 v) c.from_natural.ensures
     ∙ ap (λ (h : Memory). slot_stored h a 2 1) (c.set_slot-2.ensures
     ∙ ap (λ (h : Memory). slot_stored h a 1 65536) c.set_slot.ensures)) in
     let whole : c.set_slot-3.new.self.objects ≡ with_object os a three =
     written
-    ∙ (ap (λ (xs : List Object). with_slot xs a 2 1) (with_object_twice os a one (set_word 1 65536) (set_word_keeps 0 65536))
+    ∙ (ap (λ (xs : List Object). slot_set xs a 2 1) (with_object_twice os a one (set_word 1 65536) (set_word_keeps 0 65536))
     ∙ with_object_twice os a two (set_word 2 1) (λ x. set_word_keeps 1 65536 (one x) ∙ set_word_keeps 0 65536 x)) in
     subst (λ (xs : List Object). Agree xs c.args.frames.now) (sym whole)
     (agree_changed os a three (λ x. set_word_keeps 2 1 (two x) ∙ (set_word_keeps 1 65536 (one x) ∙ set_word_keeps 0 65536 x)) c.args.frames.now c.requires.agree c.requires.context c.requires.widowed.alone)

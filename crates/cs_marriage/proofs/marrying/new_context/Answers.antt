@@ -1,5 +1,5 @@
 use Rattle.std.proofs.Common.{◌≡◌, ℕ, ◌+◌, ◌||◌, Bool, true, false, List, [], ◌∷◌, ◌++◌, refl, ap, sym, ◌∙◌, arith}
-use Rattle.cs_heap.specs.Object.{Memory, Object, is_watched, new_object, slot_count_of, with_slot}
+use Rattle.cs_heap.specs.Object.{Memory, Object, is_watched, new_object, slot_count_of, slot_set}
 use Rattle.cs_heap.specs.Writes.{slot_stored}
 use Rattle.cs_heap.proofs.Laws.{pushed, slot_count_of-with_slot}
 use Rattle.cs_model.specs.Obj.{context_size}
@@ -62,7 +62,7 @@ returns-clause-added c =
     let f = frame c.args.frames.now c.args.f in
     let unwatched : is_watched m a ≡ false = ap (λ (h : Memory). is_watched h a) (sym c.in_ok-made.ensures.added) ∙ c.in_ok-made.ensures.unwatched in
     let made : List Object = os ++ new_object 36 3 (6 + size) c.birth-birth.result ∷ [] in
-    let all : List Object = with_slot (with_slot (with_slot (with_slot made a 0 c.link_word.result.0) a 3 c.method-method.result.0) a 4 c.closure.result.0) a 5 c.receiver.result.0 in
+    let all : List Object = slot_set (slot_set (slot_set (slot_set made a 0 c.link_word.result.0) a 3 c.method-method.result.0) a 4 c.closure.result.0) a 5 c.receiver.result.0 in
     let sized : size ≡ new_size os f = (c.context_size-size.ensures.value ∙ ap context_size c.method_header.ensures) ∙ ap (λ (n : ℕ). context_size (header_at os n)) c.method-method.ensures.method in
     c.set_slot-4.ensures
     ∙ ap (λ (h : Memory). slot_stored h a 5 c.receiver.result.0) (c.set_slot-3.ensures

@@ -1,10 +1,10 @@
-use Rattle.cs_frame.specs.Page.{IsStacked, frames_of}
+use Rattle.cs_frame.specs.Page.{AreStacked, frames_of}
 use Rattle.cs_marriage.proofs.Searching.{Walked, left}
 use Rattle.cs_marriage.proofs.search.frame_with.Given as goal
 
 abbrev pub invariant-loop-next : goal.invariant-loop-next
 invariant-loop-next l = record {
-  stacked : IsStacked (frames_of l.frames l.page);
+  stacked : AreStacked (frames_of l.frames l.page);
   walked : Walked l.frames l.page l.ctx.0 l.next;
 }
 

@@ -1,10 +1,10 @@
 use Rattle.std.proofs.Common.{◌≤◌, ◌∙◌, None, ap, refl, subst, sym}
+use Rattle.cs_classes.specs.Meaning.{loaded_kept}
 use Rattle.cs_classes.proofs.Fields.{kept_of-kinds}
 use Rattle.cs_model.specs.Due.{is_idle}
 use Rattle.cs_model.specs.Read.{IsRunning}
 use Rattle.cs_model.specs.Step.{shape_fault}
 use Rattle.cs_plain.specs.declared.PlainWorld.{PlainWorld}
-use Rattle.cs_plain.specs.View.{loaded_kept}
 use Rattle.cs_plain.proofs.Active.{sound_world}
 use Rattle.cs_model.proofs.Opening.{scheduled}
 use Rattle.cs_plain.proofs.PlainWorld.new.Goals as goal

@@ -4,15 +4,15 @@ use Rattle.cs_model.specs.State.{object_at}
 use Rattle.cs_model.specs.Operation.{nil_of}
 use Rattle.cs_acts.specs.Names.{Names}
 use Rattle.cs_acts.specs.Targets.{method_in}
-use Rattle.cs_plain.specs.View.{act_of, stored_of, view_of}
+use Rattle.cs_plain.specs.View.{plain_act, plain_stored, plain_view}
 use Rattle.cs_plain.proofs.Acts.{context_at, field_within, of_birth, method_read}
 use Rattle.cs_plain.proofs.PlainWorldWorld.act_method.Goals as goal
 
 pub slot-requires : goal.slot-requires
-slot-requires c = field_within c.args.self.now c.in-Context.context 3 c.requires.sound (subst (λ a. IsSome (act_of c.args.self.now a)) c.in-Context.is c.requires.stands) (omega arith)
+slot-requires c = field_within c.args.self.now c.in-Context.context 3 c.requires.sound (subst (λ a. IsSome (plain_act c.args.self.now a)) c.in-Context.is c.requires.stands) (omega arith)
 
 pub returns : goal.returns
 returns c =
-    let a = context_at c.args.self.now c.in-Context.context c.requires.sound (subst (λ a. IsSome (act_of c.args.self.now a)) c.in-Context.is c.requires.stands) in
-    subst (λ a. IfSome (act_of c.args.self.now a) (λ birth. Names (stored_of c.args.self.now) c.slot.result (method_in (nil_of (view_of c.args.self.now)) (context_in (object_at (view_of c.args.self.now) birth))))) (sym c.in-Context.is)
-    (of_birth c.requires.sound a.1 (λ birth. Names (stored_of c.args.self.now) c.slot.result (method_in (nil_of (view_of c.args.self.now)) (context_in (object_at (view_of c.args.self.now) birth)))) (method_read c.requires.sound a.1 c.slot.result c.slot.ensures))
+    let a = context_at c.args.self.now c.in-Context.context c.requires.sound (subst (λ a. IsSome (plain_act c.args.self.now a)) c.in-Context.is c.requires.stands) in
+    subst (λ a. IfSome (plain_act c.args.self.now a) (λ birth. Names (plain_stored c.args.self.now) c.slot.result (method_in (nil_of (plain_view c.args.self.now)) (context_in (object_at (plain_view c.args.self.now) birth))))) (sym c.in-Context.is)
+    (of_birth c.requires.sound a.1 (λ birth. Names (plain_stored c.args.self.now) c.slot.result (method_in (nil_of (plain_view c.args.self.now)) (context_in (object_at (plain_view c.args.self.now) birth)))) (method_read c.requires.sound a.1 c.slot.result c.slot.ensures))

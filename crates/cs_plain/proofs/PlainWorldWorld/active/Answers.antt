@@ -1,6 +1,6 @@
 use Rattle.std.proofs.Common.{ap, refl, sym, ◌∙◌}
 use Rattle.std.specs.Prelude.{not}
-use Rattle.cs_plain.specs.View.{active_in, birth_at}
+use Rattle.cs_plain.specs.View.{plain_active, oop_birth}
 use Rattle.cs_plain.proofs.Acts.{context_asked, none_asked}
 use Rattle.cs_plain.proofs.Words.{is_plain}
 use Rattle.cs_plain.proofs.PlainWorldWorld.active.Goals as goal
@@ -9,7 +9,7 @@ pub returns-then-is_context : goal.returns-then-is_context
 returns-then-is_context c =
     let objects = c.args.self.now.heap.objects in
     record {
-      active = ap (active_in objects) (sym c.in-Some.is);
+      active = ap (plain_active objects) (sym c.in-Some.is);
       gone = sym (ap not (sym (context_asked objects c.in-Some.context) ∙ sym c.is_context.ensures ∙ c.if-is_context.true));
       laid = is_plain c.args.self.now c.requires.holds.whole;
     }
@@ -17,9 +17,9 @@ returns-then-is_context c =
 pub returns-else-is_context : goal.returns-else-is_context
 returns-else-is_context c =
     let objects = c.args.self.now.heap.objects in
-    let none = none_asked (birth_at objects c.in-Some.context) (sym (context_asked objects c.in-Some.context) ∙ sym c.is_context.ensures ∙ c.if-is_context.false) in
+    let none = none_asked (oop_birth objects c.in-Some.context) (sym (context_asked objects c.in-Some.context) ∙ sym c.is_context.ensures ∙ c.if-is_context.false) in
     record {
-      active = none ∙ ap (active_in objects) (sym c.in-Some.is);
+      active = none ∙ ap (plain_active objects) (sym c.in-Some.is);
       gone = refl;
       laid = is_plain c.args.self.now c.requires.holds.whole;
     }

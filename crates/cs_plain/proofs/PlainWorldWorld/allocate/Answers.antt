@@ -7,7 +7,7 @@ use Rattle.cs_model.specs.Operation.{add_of, next_ref}
 use Rattle.cs_acts.specs.Made.{blank_of}
 use Rattle.cs_acts.specs.Names.{KeepsNames, Names}
 use Rattle.cs_acts.specs.Ready.{IsReady, IsSound}
-use Rattle.cs_plain.specs.View.{stored_of, view_of}
+use Rattle.cs_plain.specs.View.{plain_stored, plain_view}
 use Rattle.cs_acts.proofs.Allocating.{within}
 use Rattle.cs_plain.proofs.Allocating.{below, full_made, made_names, made_ready, made_sound, made_state, made_value, made_view}
 use Rattle.cs_plain.proofs.Writing.{same_kept}
@@ -23,35 +23,35 @@ returns-in_default-clause-full c =
 pub returns-clause-state : goal.returns-clause-state
 returns-clause-state c m k =
     let w = c.args.self.now in
-    subst (λ (h : Memory). Keeps (view_of (record w { heap = h; roots = after_birth w.roots })) (add_of m (blank_of m c.args.class c.args.format c.args.slots))) (sym c.in-Ok.ensures.added)
+    subst (λ (h : Memory). Keeps (plain_view (record w { heap = h; roots = after_birth w.roots })) (add_of m (blank_of m c.args.class c.args.format c.args.slots))) (sym c.in-Ok.ensures.added)
     (made_state w c.args.class c.args.format c.args.slots c.requires.sound c.requires.fits m k)
 
 pub returns-clause-exact : goal.returns-clause-exact
 returns-clause-exact c none =
     let w = c.args.self.now in
-    subst (λ (h : Memory). SameKept (view_of (record w { heap = h; roots = after_birth w.roots })) (add_of (view_of w) (blank_of (view_of w) c.args.class c.args.format c.args.slots))) (sym c.in-Ok.ensures.added)
+    subst (λ (h : Memory). SameKept (plain_view (record w { heap = h; roots = after_birth w.roots })) (add_of (plain_view w) (blank_of (plain_view w) c.args.class c.args.format c.args.slots))) (sym c.in-Ok.ensures.added)
     (same_kept _ _ (made_view w c.args.class c.args.format c.args.slots c.requires.sound c.requires.fits))
 
 pub returns-clause-value : goal.returns-clause-value
 returns-clause-value c =
     let w = c.args.self.now in
-    subst (λ (h : Memory). Names (stored_of (record w { heap = h; roots = after_birth w.roots })) c.in-Ok.object (next_ref (view_of w))) (sym c.in-Ok.ensures.added)
+    subst (λ (h : Memory). Names (plain_stored (record w { heap = h; roots = after_birth w.roots })) c.in-Ok.object (next_ref (plain_view w))) (sym c.in-Ok.ensures.added)
     (made_value w c.args.class c.args.format c.args.slots c.requires.sound c.requires.fits c.in-Ok.object c.in-Ok.ensures.address)
 
 pub returns-clause-sound : goal.returns-clause-sound
 returns-clause-sound c =
     let w = c.args.self.now in
-    subst (λ (h : Memory). IsSound (stored_of (record w { heap = h; roots = after_birth w.roots })) (view_of (record w { heap = h; roots = after_birth w.roots }))) (sym c.in-Ok.ensures.added)
+    subst (λ (h : Memory). IsSound (plain_stored (record w { heap = h; roots = after_birth w.roots })) (plain_view (record w { heap = h; roots = after_birth w.roots }))) (sym c.in-Ok.ensures.added)
     (made_sound w c.args.class c.args.format c.args.slots c.requires.sound c.requires.fits (within w.heap.limit (used w.heap.objects + size c.args.slots) (λ over. false≢true (c.in-Ok.ensures.full.1 over))))
 
 pub returns-clause-ready : goal.returns-clause-ready
 returns-clause-ready c ready =
     let w = c.args.self.now in
-    subst (λ (h : Memory). IsReady (stored_of (record w { heap = h; roots = after_birth w.roots })) (view_of (record w { heap = h; roots = after_birth w.roots }))) (sym c.in-Ok.ensures.added)
+    subst (λ (h : Memory). IsReady (plain_stored (record w { heap = h; roots = after_birth w.roots })) (plain_view (record w { heap = h; roots = after_birth w.roots }))) (sym c.in-Ok.ensures.added)
     (made_ready w c.args.class c.args.format c.args.slots c.requires.sound c.requires.fits (within w.heap.limit (used w.heap.objects + size c.args.slots) (λ over. false≢true (c.in-Ok.ensures.full.1 over))) ready)
 
 pub returns-clause-names : goal.returns-clause-names
 returns-clause-names c =
     let w = c.args.self.now in
-    subst (λ (h : Memory). KeepsNames (stored_of w) (stored_of (record w { heap = h; roots = after_birth w.roots }))) (sym c.in-Ok.ensures.added)
+    subst (λ (h : Memory). KeepsNames (plain_stored w) (plain_stored (record w { heap = h; roots = after_birth w.roots }))) (sym c.in-Ok.ensures.added)
     (made_names w c.args.class c.args.format c.args.slots c.requires.sound c.requires.fits)

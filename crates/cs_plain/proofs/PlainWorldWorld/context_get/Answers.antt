@@ -5,7 +5,7 @@ use Rattle.cs_classes.specs.Meaning.{count_of}
 use Rattle.cs_classes.proofs.Naturals.{natural_is}
 use Rattle.cs_acts.specs.Names.{NamesOption, name_of}
 use Rattle.cs_acts.specs.Targets.{field_of}
-use Rattle.cs_plain.specs.View.{stored_of, view_of}
+use Rattle.cs_plain.specs.View.{plain_stored, plain_view}
 use Rattle.cs_plain.proofs.Asking.{asked, asked_within, depth_few, depth_names, field_names}
 use Rattle.cs_plain.proofs.PlainWorldWorld.context_get.Goals as goal
 
@@ -25,7 +25,7 @@ returns-then-i-eq-STACK_POINTER-clause-value c =
     let w = c.args.self.now in
     let at = asked w c.args.ctx c.args.i c.requires.sound c.requires.named c.requires.there in
     let is : c.args.i ≡ 2 = grind (arith, nat_tests, c.if-i-eq-STACK_POINTER.true) in
-    subst (λ n. NamesOption (stored_of w) (Some c.from_natural.result) (field_of (view_of w) (name_of (stored_of w) c.args.ctx) n)) (sym is)
+    subst (λ n. NamesOption (plain_stored w) (Some c.from_natural.result) (field_of (plain_view w) (name_of (plain_stored w) c.args.ctx) n)) (sym is)
     (depth_names c.requires.sound at.1 c.from_natural.result c.unwrap_or.result
     ((c.unwrap_or.ensures ∙ ap (λ o. unwrap_or o 0) (c.natural.ensures.value ∙ natural_is _)) ∙ ap (λ v. unwrap_or (count_of v) 0) (c.slot-value.ensures ∙ ap (slot_of w.heap.objects c.args.ctx.0) is)) c.from_natural.ensures)
 

@@ -7,7 +7,7 @@ use Rattle.cs_model.specs.Enter.{enter_block_of}
 use Rattle.cs_model.proofs.Entering.{enter_block_moved}
 use Rattle.cs_acts.specs.Full.{CausesFull}
 use Rattle.cs_acts.specs.Names.{name_of}
-use Rattle.cs_plain.specs.View.{stored_of, view_of}
+use Rattle.cs_plain.specs.View.{plain_stored, plain_view}
 use Rattle.cs_plain.proofs.Block.{called_is, can_call, closure_there, method_is, method_names, outer_slots, three_slots}
 use Rattle.cs_plain.proofs.Entering.{header_there}
 use Rattle.cs_plain.proofs.Writing.{held_by, same_kept}
@@ -47,7 +47,7 @@ returns-clause-state c =
     let is = called_is c.args.self.now c.args.closure c.args.args c.requires.ready c.requires.named c.requires.fits c.slot-outer.result c.slot-outer.ensures
     c.slot-method.result c.active_context.result c.slot.result c.from_natural.result c.slot-2.result (c.slot_count-copied.result - 3) (slot_of c.args.self.now.heap.objects c.slot-method.result.0 0) c.method_header-header.result.0 c.slot-method.ensures refl c.method_header-header.ensures
     (omega (arith, c.slot_count-copied.ensures.value, three_slots c.args.self.now c.args.closure c.args.args c.requires.ready c.requires.named c.requires.fits)) c.active_context.ensures c.slot.ensures c.from_natural.ensures c.slot-2.ensures in
-    on_ok_weaker c.new_context.result (λ view m k. subst (λ t. Keeps t (enter_block_of m (name_of (stored_of c.args.self.now) c.args.closure) c.args.args)) (sym (view ∙ is))
+    on_ok_weaker c.new_context.result (λ view m k. subst (λ t. Keeps t (enter_block_of m (name_of (plain_stored c.args.self.now) c.args.closure) c.args.args)) (sym (view ∙ is))
     (enter_block_moved k (held_by c.args.self.now c.args.closure c.requires.ready c.requires.named) c.args.args).keeps) c.new_context.ensures.view
 
 pub returns-clause-exact : goal.returns-clause-exact
@@ -62,4 +62,4 @@ returns-clause-full c =
     let is = called_is c.args.self.now c.args.closure c.args.args c.requires.ready c.requires.named c.requires.fits c.slot-outer.result c.slot-outer.ensures
     c.slot-method.result c.active_context.result c.slot.result c.from_natural.result c.slot-2.result (c.slot_count-copied.result - 3) (slot_of c.args.self.now.heap.objects c.slot-method.result.0 0) c.method_header-header.result.0 c.slot-method.ensures refl c.method_header-header.ensures
     (omega (arith, c.slot_count-copied.ensures.value, three_slots c.args.self.now c.args.closure c.args.args c.requires.ready c.requires.named c.requires.fits)) c.active_context.ensures c.slot.ensures c.from_natural.ensures c.slot-2.ensures in
-    subst (λ t. IfErr c.new_context.result (CausesFull (stored_of c.new_context.new.self) None (view_of c.args.self.now) 0 t)) is c.new_context.ensures.full
+    subst (λ t. IfErr c.new_context.result (CausesFull (plain_stored c.new_context.new.self) None (plain_view c.args.self.now) 0 t)) is c.new_context.ensures.full

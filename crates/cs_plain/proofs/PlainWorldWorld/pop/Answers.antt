@@ -3,7 +3,7 @@ use Rattle.cs_heap.specs.Writes.{slot_stored}
 use Rattle.cs_model.specs.Operation.{drop_of, nil_of}
 use Rattle.std.specs.Prelude.{slice_get, unwrap_or}
 use Rattle.cs_model.specs.Read.{stack_of}
-use Rattle.cs_plain.specs.View.{view_of}
+use Rattle.cs_plain.specs.View.{plain_view}
 use Rattle.cs_plain.proofs.Active.{active_is}
 use Rattle.cs_plain.proofs.Slots.{depth_within, few_slots, fields_within, slots_are}
 use Rattle.cs_plain.proofs.Writing.{along, writes-pop}
@@ -36,5 +36,5 @@ returns-clause-value c =
     let named = returns-clause-names c c.stack_at-value.result c.stack_at-value.ensures.sound in
     record {
       sound = named.sound;
-      is = named.is ∙ c.stack_at-value.ensures.is ∙ ap (λ d. unwrap_or (slice_get (stack_of (view_of c.args.self.now)) (d - 1)) (nil_of (view_of c.args.self.now))) c.depth-depth.ensures.value;
+      is = named.is ∙ c.stack_at-value.ensures.is ∙ ap (λ d. unwrap_or (slice_get (stack_of (plain_view c.args.self.now)) (d - 1)) (nil_of (plain_view c.args.self.now))) c.depth-depth.ensures.value;
     }

@@ -3,7 +3,7 @@ use Rattle.std.specs.Option.{option_map_or}
 use Rattle.cs_heap.specs.Object.{Object}
 use Rattle.cs_model.specs.Operation.{store_of}
 use Rattle.cs_acts.specs.Names.{name_of}
-use Rattle.cs_plain.specs.View.{stored_of}
+use Rattle.cs_plain.specs.View.{plain_stored}
 use Rattle.cs_plain.proofs.Writing.{along}
 use Rattle.cs_plain.proofs.Storing.{storable, writes-store}
 use Rattle.cs_plain.proofs.PlainWorldWorld.store.Goals as goal
@@ -14,13 +14,13 @@ set_slot-requires c =
     omega (arith, s.1.within, ap (λ (o : Option Object). option_map_or (λ (y : Object). length y.words) o 0) s.1.there)
 
 pub returns-clause-state : goal.returns-clause-state
-returns-clause-state c m k = (along c.args.self.now c.set_slot.new.self _ (λ m. store_of m (name_of (stored_of c.args.self.now) c.args.o) c.args.i (name_of (stored_of c.args.self.now) c.args.v)) c.set_slot.ensures (writes-store c.args.self.now c.args.o c.args.v c.args.i (storable c.requires.ready c.args.i c.args.v.0 c.args.o c.requires.object c.requires.there).0 c.requires.ready c.requires.object c.requires.named (storable c.requires.ready c.args.i c.args.v.0 c.args.o c.requires.object c.requires.there).1)).state m k
+returns-clause-state c m k = (along c.args.self.now c.set_slot.new.self _ (λ m. store_of m (name_of (plain_stored c.args.self.now) c.args.o) c.args.i (name_of (plain_stored c.args.self.now) c.args.v)) c.set_slot.ensures (writes-store c.args.self.now c.args.o c.args.v c.args.i (storable c.requires.ready c.args.i c.args.v.0 c.args.o c.requires.object c.requires.there).0 c.requires.ready c.requires.object c.requires.named (storable c.requires.ready c.args.i c.args.v.0 c.args.o c.requires.object c.requires.there).1)).state m k
 
 pub returns-clause-exact : goal.returns-clause-exact
-returns-clause-exact c none = (along c.args.self.now c.set_slot.new.self _ (λ m. store_of m (name_of (stored_of c.args.self.now) c.args.o) c.args.i (name_of (stored_of c.args.self.now) c.args.v)) c.set_slot.ensures (writes-store c.args.self.now c.args.o c.args.v c.args.i (storable c.requires.ready c.args.i c.args.v.0 c.args.o c.requires.object c.requires.there).0 c.requires.ready c.requires.object c.requires.named (storable c.requires.ready c.args.i c.args.v.0 c.args.o c.requires.object c.requires.there).1)).exact
+returns-clause-exact c none = (along c.args.self.now c.set_slot.new.self _ (λ m. store_of m (name_of (plain_stored c.args.self.now) c.args.o) c.args.i (name_of (plain_stored c.args.self.now) c.args.v)) c.set_slot.ensures (writes-store c.args.self.now c.args.o c.args.v c.args.i (storable c.requires.ready c.args.i c.args.v.0 c.args.o c.requires.object c.requires.there).0 c.requires.ready c.requires.object c.requires.named (storable c.requires.ready c.args.i c.args.v.0 c.args.o c.requires.object c.requires.there).1)).exact
 
 pub returns-clause-ready : goal.returns-clause-ready
-returns-clause-ready c = (along c.args.self.now c.set_slot.new.self _ (λ m. store_of m (name_of (stored_of c.args.self.now) c.args.o) c.args.i (name_of (stored_of c.args.self.now) c.args.v)) c.set_slot.ensures (writes-store c.args.self.now c.args.o c.args.v c.args.i (storable c.requires.ready c.args.i c.args.v.0 c.args.o c.requires.object c.requires.there).0 c.requires.ready c.requires.object c.requires.named (storable c.requires.ready c.args.i c.args.v.0 c.args.o c.requires.object c.requires.there).1)).ready
+returns-clause-ready c = (along c.args.self.now c.set_slot.new.self _ (λ m. store_of m (name_of (plain_stored c.args.self.now) c.args.o) c.args.i (name_of (plain_stored c.args.self.now) c.args.v)) c.set_slot.ensures (writes-store c.args.self.now c.args.o c.args.v c.args.i (storable c.requires.ready c.args.i c.args.v.0 c.args.o c.requires.object c.requires.there).0 c.requires.ready c.requires.object c.requires.named (storable c.requires.ready c.args.i c.args.v.0 c.args.o c.requires.object c.requires.there).1)).ready
 
 pub returns-clause-names : goal.returns-clause-names
-returns-clause-names c = (along c.args.self.now c.set_slot.new.self _ (λ m. store_of m (name_of (stored_of c.args.self.now) c.args.o) c.args.i (name_of (stored_of c.args.self.now) c.args.v)) c.set_slot.ensures (writes-store c.args.self.now c.args.o c.args.v c.args.i (storable c.requires.ready c.args.i c.args.v.0 c.args.o c.requires.object c.requires.there).0 c.requires.ready c.requires.object c.requires.named (storable c.requires.ready c.args.i c.args.v.0 c.args.o c.requires.object c.requires.there).1)).names
+returns-clause-names c = (along c.args.self.now c.set_slot.new.self _ (λ m. store_of m (name_of (plain_stored c.args.self.now) c.args.o) c.args.i (name_of (plain_stored c.args.self.now) c.args.v)) c.set_slot.ensures (writes-store c.args.self.now c.args.o c.args.v c.args.i (storable c.requires.ready c.args.i c.args.v.0 c.args.o c.requires.object c.requires.there).0 c.requires.ready c.requires.object c.requires.named (storable c.requires.ready c.args.i c.args.v.0 c.args.o c.requires.object c.requires.there).1)).names

@@ -1,6 +1,6 @@
 use Rattle.std.proofs.Common.{sym, subst}
 use Rattle.cs_acts.specs.Names.{name_of}
-use Rattle.cs_send.specs.Sent.{Enters, Refuses, message_of}
+use Rattle.cs_send.specs.Sent.{Enters, RefusesSend, message_of}
 use Rattle.cs_send.proofs.Sending.{enters_plain, halts, is_plain, offers, sent_plain}
 use Rattle.cs_send.proofs.Sender.send.Goals as goal
 
@@ -28,7 +28,7 @@ returns-in-Err-clause-sent g c =
     let s = g.W.World.stored c.args.w.now in
     let k = g.W.World.view c.args.w.now in (
       is_plain k (message_of s c.args.selector c.args.args c.args.above) (name_of s c.in-Plain.method) c.in-Plain.ensures.found,
-      subst (λ o. Refuses (g.W.World.stored c.enter.new.w) (g.W.World.layout c.args.w.now) k o c.in-Err.why)
+      subst (λ o. RefusesSend (g.W.World.stored c.enter.new.w) (g.W.World.layout c.args.w.now) k o c.in-Err.why)
           (sent_plain k (message_of s c.args.selector c.args.args c.args.above) (name_of s c.in-Plain.method) (sym c.in-Plain.ensures.found)) c.in-Err.ensures.full,
     )
 

@@ -1,9 +1,9 @@
 use Rattle.std.proofs.Common.{◌≤◌, ◌∙◌, ap, refl, subst, sym}
+use Rattle.cs_classes.specs.Meaning.{loaded_kept}
 use Rattle.cs_model.specs.Due.{is_idle}
 use Rattle.cs_model.specs.Read.{IsRunning}
 use Rattle.cs_model.specs.Settle.{open_kept}
 use Rattle.cs_model.specs.Step.{shape_fault}
-use Rattle.cs_stack.specs.View.{loaded_kept}
 use Rattle.cs_stack.proofs.Closed.{good_sound}
 use Rattle.cs_stack.proofs.Laid.{fresh_one}
 use Rattle.cs_stack.proofs.Opening.{made_good, made_runs, made_view}

@@ -1,7 +1,7 @@
 use Rattle.std.proofs.Common.{◌-◌, ◌+◌, ap, sym, arith, take, drop, length, length-take, List, [], ◌∷◌, ◌++◌, ◌∙◌}
 use Rattle.std.specs.Prelude.{slice_index}
-use Rattle.cs_frame.specs.Frame.{Frame, pushed}
-use Rattle.cs_frame.specs.Page.{frame, frames_of, on_page, on_top, used, nth, index_of}
+use Rattle.cs_frame.specs.Frame.{Frame, value_pushed}
+use Rattle.cs_frame.specs.Page.{frame, frames_of, on_page, on_top, frames_used, nth, frame_index}
 use Rattle.cs_frame.proofs.PageLaws.{page_in}
 use Rattle.cs_stack.proofs.Stacking.{last_more, longer, longer_more, longer_other, longer_room}
 use Rattle.cs_stack.proofs.arguments.copy_arguments.Goals as goal
@@ -13,7 +13,7 @@ push-requires-clause-room c =
     let xs = (frame ps c.args.caller).stack in
     let ys = take c.loop-i.i (drop (length xs - c.args.args) xs) in
     let words = longer_room ps p ys (page_in ps p c.requires.callee.0) in
-    omega (arith, words, ap (λ (qs : List (List Frame)). used (frames_of qs p)) c.loop-i.invariant.frames, length-take c.loop-i.i (drop (length xs - c.args.args) xs), c.loop-i-test.true, c.requires.room)
+    omega (arith, words, ap (λ (qs : List (List Frame)). frames_used (frames_of qs p)) c.loop-i.invariant.frames, length-take c.loop-i.i (drop (length xs - c.args.args) xs), c.loop-i-test.true, c.requires.room)
 
 pub loop-i-preserved : goal.loop-i-preserved
 loop-i-preserved c =
@@ -25,12 +25,12 @@ loop-i-preserved c =
     let ys = take i (drop (length xs - c.args.args) xs) in
     let v = c.slot.result.0 in
     let same = ap (λ (qs : List (List Frame)). frames_of qs r.page) c.loop-i.invariant.frames ∙ longer_other ps p r.page ys c.requires.apart in
-    let read = c.slot.ensures.value ∙ ap (λ (fs : List Frame). slice_index (nth fs (index_of fs r.at)).stack (c.depth.result - c.args.args + i)) same
+    let read = c.slot.ensures.value ∙ ap (λ (fs : List Frame). slice_index (nth fs (frame_index fs r.at)).stack (c.depth.result - c.args.args + i)) same
     ∙ ap (λ n. slice_index xs (n - c.args.args + i)) c.depth.ensures.depth in
     record {
       frames =
           c.push.ensures.pushed
-          ∙ ap (λ (qs : List (List Frame)). on_page qs p (on_top (pushed v))) c.loop-i.invariant.frames
+          ∙ ap (λ (qs : List (List Frame)). on_page qs p (on_top (value_pushed v))) c.loop-i.invariant.frames
           ∙ longer_more ps p ys v (page_in ps p c.requires.callee.0)
           ∙ ap (λ n. longer ps p (ys ++ n ∷ [])) read
           ∙ ap (longer ps p) (sym (last_more xs c.args.args i c.requires.there c.loop-i-test.true));

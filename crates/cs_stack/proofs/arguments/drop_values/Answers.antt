@@ -1,5 +1,5 @@
 use Rattle.std.proofs.Common.{ap, arith, length, List, ◌∙◌}
-use Rattle.cs_frame.specs.Frame.{Frame, popped}
+use Rattle.cs_frame.specs.Frame.{Frame, top_popped}
 use Rattle.cs_frame.specs.Page.{frames_of, on_page, on_top, top}
 use Rattle.cs_frame.proofs.PageLaws.{page_in}
 use Rattle.cs_stack.proofs.Stacking.{shorter_depth, shorter_more}
@@ -19,6 +19,6 @@ loop-preserved c =
     record {
       frames =
           c.pop.ensures.popped
-          ∙ ap (λ (qs : List (List Frame)). on_page qs p (on_top popped)) c.loop.invariant.frames
+          ∙ ap (λ (qs : List (List Frame)). on_page qs p (on_top top_popped)) c.loop.invariant.frames
           ∙ shorter_more ps p c.loop.counter (page_in ps p c.requires.top.0);
     }

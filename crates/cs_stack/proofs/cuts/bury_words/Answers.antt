@@ -1,5 +1,5 @@
 use Rattle.std.proofs.Common.{◌∙◌, ap, List}
-use Rattle.cs_heap.specs.Object.{Memory, Object, with_slot}
+use Rattle.cs_heap.specs.Object.{Memory, Object, slot_set}
 use Rattle.cs_heap.specs.Writes.{slot_stored, slots_stored}
 use Rattle.cs_heap.proofs.Writes.{slots_stored-twice}
 use Rattle.cs_stack.proofs.cuts.bury_words.Goals as goal
@@ -8,9 +8,9 @@ pub returns : goal.returns
 returns c =
     let m : Memory = c.args.heap.now in
     let a = c.args.context.0 in
-    let one : List Object = with_slot m.objects a 0 65536 in
-    let two : List Object = with_slot one a 1 65536 in
-    let three : List Object = with_slot two a 2 1 in
+    let one : List Object = slot_set m.objects a 0 65536 in
+    let two : List Object = slot_set one a 1 65536 in
+    let three : List Object = slot_set two a 2 1 in
     c.set_slot-3.ensures
     ∙ ap (λ v. slot_stored c.set_slot-2.new.self a 2 v) c.from_natural.ensures
     ∙ ap (λ (h : Memory). slot_stored h a 2 1) (c.set_slot-2.ensures ∙ ap (λ (h : Memory). slot_stored h a 1 65536) c.set_slot.ensures)

@@ -3,7 +3,7 @@ use Rattle.cs_model.specs.declared.stop.Stop.TheVariants as why
 use Rattle.cs_model.specs.End.{Out}
 use Rattle.cs_model.specs.Read.{active_birth}
 use Rattle.cs_acts.specs.Names.{name_of}
-use Rattle.cs_unwind.specs.Walked.{Stands}
+use Rattle.cs_unwind.specs.Walked.{ActStands}
 use Rattle.cs_unwind.proofs.Arriving.{dies_is, mark_at, nonlocal_ended, nonlocal_far, nonlocal_marked, returns_as, unmarked}
 use Rattle.cs_unwind.proofs.Pushing.{stopped}
 use Rattle.cs_unwind.proofs.Walking.{told}
@@ -22,7 +22,7 @@ past_home-requires-clause-free g c =
       unmarked = unmarked _ _ _ c.in-None.is m.sees.mark;
       leads = leads;
       doomed = λ i e.
-          let s = subst (Stands (g.W.World.act c.args.w.now) c.sender-target.result) e leads in
+          let s = subst (ActStands (g.W.World.act c.args.w.now) c.sender-target.result) e leads in
           dies_is _ c.sender-target.result (active_birth k) h.birth m.births c.in-Met.passed.target c.dies-dies.result i s m.sees.meets (c.dies-dies.ensures i h.birth s h.stands);
     }
 

@@ -1,6 +1,6 @@
 use Rattle.std.proofs.Common.{ap, sym, subst, ◌∙◌, arith}
 use Rattle.std.specs.Prelude.{OnOk}
-use Rattle.cs_frame.specs.Page.{frames_of, used}
+use Rattle.cs_frame.specs.Page.{frames_of, frames_used}
 use Rattle.cs_acts.specs.Made.{MakesAtMost}
 use Rattle.cs_stack.specs.declared.parts.Parts.{Parts}
 use Rattle.cs_stack.specs.Good.{IsGood}
@@ -14,7 +14,7 @@ pub returns-then-room-lt-FRAME_ROOM-clause-contexts : goal.returns-then-room-lt-
 returns-then-room-lt-FRAME_ROOM-clause-contexts c =
     let w : Parts = c.args.self.now in
     let o = opened w c.requires.good c.requires.ready in
-    let words = ap (λ n. used (frames_of w.frames n)) c.order.ensures.page ∙ active_used o in
+    let words = ap (λ n. frames_used (frames_of w.frames n)) c.order.ensures.page ∙ active_used o in
     subst (λ n. OnOk c.overflow.result (MakesAtMost n (layout_of w) (stored_of w) (stored_of c.overflow.new.self))) (sym (made_one w c.requires.good o (omega (arith, words, c.room-room.ensures.room, c.if-room-lt-FRAME_ROOM.true))))
     c.overflow.ensures.contexts
 
@@ -22,7 +22,7 @@ pub returns-clause-good : goal.returns-clause-good
 returns-clause-good c =
     let w : Parts = c.args.self.now in
     let o = opened w c.requires.good c.requires.ready in
-    let words = ap (λ n. used (frames_of w.frames n)) c.order.ensures.page ∙ active_used o in
+    let words = ap (λ n. frames_used (frames_of w.frames n)) c.order.ensures.page ∙ active_used o in
     subst IsGood (sym c.call.ensures.made)
     (called_good c.requires.good c.requires.ready o c.requires.can (omega (arith, words, c.room-room.ensures.room, c.if-room-lt-FRAME_ROOM.false)))
 
@@ -30,7 +30,7 @@ pub returns-clause-view : goal.returns-clause-view
 returns-clause-view c =
     let w : Parts = c.args.self.now in
     let o = opened w c.requires.good c.requires.ready in
-    let words = ap (λ n. used (frames_of w.frames n)) c.order.ensures.page ∙ active_used o in
+    let words = ap (λ n. frames_used (frames_of w.frames n)) c.order.ensures.page ∙ active_used o in
     ap view_of c.call.ensures.made
     ∙ called_view c.requires.good c.requires.ready o c.requires.can (omega (arith, words, c.room-room.ensures.room, c.if-room-lt-FRAME_ROOM.false))
 
@@ -38,6 +38,6 @@ pub returns-clause-layout : goal.returns-clause-layout
 returns-clause-layout c =
     let w : Parts = c.args.self.now in
     let o = opened w c.requires.good c.requires.ready in
-    let words = ap (λ n. used (frames_of w.frames n)) c.order.ensures.page ∙ active_used o in
+    let words = ap (λ n. frames_used (frames_of w.frames n)) c.order.ensures.page ∙ active_used o in
     ap layout_of c.call.ensures.made
     ∙ called_layout c.requires.good c.requires.ready o c.requires.can (omega (arith, words, c.room-room.ensures.room, c.if-room-lt-FRAME_ROOM.false))

@@ -1,6 +1,6 @@
 use Rattle.std.proofs.Common.{List, subst, sym, ap, arith}
 use Rattle.cs_frame.specs.Frame.{Frame}
-use Rattle.cs_frame.specs.Page.{CanCall, frames_of}
+use Rattle.cs_frame.specs.Page.{HasArguments, frames_of}
 use Rattle.cs_frame.specs.declared.FrameRef.{FrameRef}
 use Rattle.cs_stack.specs.declared.parts.Parts.{Parts}
 use Rattle.cs_stack.specs.Moved.{given_birth}
@@ -15,7 +15,7 @@ build-frame-requires-clause-size c = omega (arith, few c.requires.good c.require
 pub build-frame-requires-clause-caller : goal.build-frame-requires-clause-caller
 build-frame-requires-clause-caller c =
     let o = opened c.args.self.now c.requires.good c.requires.ready in
-    subst (λ (r : FrameRef). CanCall c.args.new.args (frames_of c.args.self.now.frames r.page)) (sym (top_ref o c.top-top.result c.top-top.ensures.is))
+    subst (λ (r : FrameRef). HasArguments c.args.new.args (frames_of c.args.self.now.frames r.page)) (sym (top_ref o c.top-top.result c.top-top.ensures.is))
     (can_call c.requires.good c.requires.ready o c.requires.can)
 
 pub build-frame-requires-clause-values : goal.build-frame-requires-clause-values

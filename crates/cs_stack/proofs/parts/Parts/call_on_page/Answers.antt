@@ -2,7 +2,7 @@ use Rattle.std.proofs.Common.{◌<◌, ◌-◌, ℕ, length, length-drop, subst,
 use Rattle.std.specs.Prelude.{slice_index}
 use Rattle.std.proofs.lemmas.List.{length-append, length-replicate}
 use Rattle.cs_frame.specs.Frame.{Frame, IsValue, nil}
-use Rattle.cs_frame.specs.Page.{CanCall, top, used}
+use Rattle.cs_frame.specs.Page.{HasArguments, top, frames_used}
 use Rattle.cs_stack.specs.declared.parts.Parts.{Parts}
 use Rattle.cs_stack.specs.Moved.{copied_at, given_birth}
 use Rattle.cs_model.specs.Obj.{context_class}
@@ -18,10 +18,10 @@ build-frame-requires-clause-room c =
     let o = opened w c.requires.good c.requires.ready in
     let p : ℕ = c.in-Some.page in
     let free = c.in-Some.ensures.was_free in
-    omega (arith, ap used (free_empty w c.requires.good p free))
+    omega (arith, ap frames_used (free_empty w c.requires.good p free))
 
 pub build-frame-requires-clause-caller : goal.build-frame-requires-clause-caller
-build-frame-requires-clause-caller c = subst (CanCall 0) (sym (free_empty c.args.self.now c.requires.good c.in-Some.page c.in-Some.ensures.was_free)) refl
+build-frame-requires-clause-caller c = subst (HasArguments 0) (sym (free_empty c.args.self.now c.requires.good c.in-Some.page c.in-Some.ensures.was_free)) refl
 
 pub build-frame-requires-clause-values : goal.build-frame-requires-clause-values
 build-frame-requires-clause-values c =

@@ -1,9 +1,10 @@
 -- Digits read one after another, as the model reads them.
-use Rattle.std.proofs.Common.{◌≡◌, ℕ, Bool, true, false, ◌+◌, ◌*◌, ◌-◌, ◌<◌, ◌≤◌, List, [], ◌∷◌, Some, None, option_and_then, length, get_or, drop, drop-cons, add-one, refl, arith, if◌then◌else◌, ◌==◌, nat_lt}
+use Rattle.std.proofs.Common.{◌≡◌, ℕ, Bool, true, false, ◌+◌, ◌*◌, ◌-◌, ◌<◌, ◌≤◌, List, [], ◌∷◌, Some, None, option_and_then, length, get_or, drop, drop-cons, add-one, refl, arith, if◌then◌else◌, ◌==◌, nat_lt, nat_le, Option}
 use Rattle.std.proofs.lemmas.Bool.Decides.{nat_tests}
 use Rattle.std.proofs.lemmas.List.{drop_all}
 use Rattle.std.specs.Char.{is_ascii_digit}
-use Rattle.cs_model.specs.Line.{at_most, digits_from, number_in}
+use Rattle.cs_model.specs.Line.{at_most, digits_from, decimal_number}
+use Rattle.cs_model.specs.Text.{number_between}
 
 -- one digit more
 pub digits_from-digit : (n : ℕ) (bytes : List ℕ) (i : ℕ) → i < length bytes → is_ascii_digit (get_or bytes i 0) ≡ true
@@ -40,11 +41,11 @@ digits_from-above most (b ∷ bytes) n h = go (is_ascii_digit b) (digits_from-ab
     go false rest = refl
 
 -- a number that doesn't begin with a zero that more bytes follow
-pub number_in-digits : (bytes : List ℕ) → 0 < length bytes → (get_or bytes 0 0 ≡ 48 → length bytes ≤ 1) → number_in bytes ≡ digits_from 0 bytes
+pub number_in-digits : (bytes : List ℕ) → 0 < length bytes → (get_or bytes 0 0 ≡ 48 → length bytes ≤ 1) → decimal_number bytes ≡ digits_from 0 bytes
 number_in-digits [] some alone = absurd (omega (arith, some))
 number_in-digits (b ∷ bytes) some alone = go (b == 48) refl
   where
-    go : (zero : Bool) → (b == 48) ≡ zero → number_in (b ∷ bytes) ≡ digits_from 0 (b ∷ bytes)
+    go : (zero : Bool) → (b == 48) ≡ zero → decimal_number (b ∷ bytes) ≡ digits_from 0 (b ∷ bytes)
     go true e =
         let first : b ≡ 48 = grind (arith, nat_tests) in
         let none : length bytes ≡ 0 = omega (arith, alone first) in
@@ -52,11 +53,25 @@ number_in-digits (b ∷ bytes) some alone = go (b == 48) refl
     go false e = rw e refl
 
 -- one that does
-pub number_in-zero : (bytes : List ℕ) → get_or bytes 0 0 ≡ 48 → 1 < length bytes → number_in bytes ≡ None
+pub number_in-zero : (bytes : List ℕ) → get_or bytes 0 0 ≡ 48 → 1 < length bytes → decimal_number bytes ≡ None
 number_in-zero [] zero more = absurd (omega (arith, more))
 number_in-zero (b ∷ bytes) zero more =
     let first : (b == 48) ≡ true = grind (arith, nat_tests, zero) in
     let long : nat_lt 0 (length bytes) ≡ true = grind (arith, nat_tests, more) in
     rw (first, long) refl
+
+-- a number within bounds is one that is at most so much and at least so much
+pub between : (lowest highest : ℕ) (word : List ℕ)
+    → number_between lowest highest word ≡ option_and_then (λ n. if nat_lt n lowest then None else Some n) (option_and_then (at_most highest) (decimal_number word))
+between lowest highest word = go (decimal_number word) where
+  go : (o : Option ℕ) → option_and_then (λ n. if nat_lt n lowest then None else at_most highest n) o ≡ option_and_then (λ n. if nat_lt n lowest then None else Some n) (option_and_then (at_most highest) o)
+  go None = refl
+  go (Some n) = cases (nat_lt n lowest) (nat_le n highest) refl refl where
+    cases : (a b : Bool) → nat_lt n lowest ≡ a → nat_le n highest ≡ b
+        → (if nat_lt n lowest then None else at_most highest n) ≡ option_and_then (λ n. if nat_lt n lowest then None else Some n) (at_most highest n)
+    cases true true ha hb = rw (hb, ha) refl
+    cases true false ha hb = rw (hb, ha) refl
+    cases false true ha hb = rw (hb, ha) refl
+    cases false false ha hb = rw (hb, ha) refl
 
 pub ruleset numbers = (digits_from-digit, digits_from-other, digits_from-end, digits_from-above, at_most-within, number_in-digits, number_in-zero)
