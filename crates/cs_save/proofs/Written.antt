@@ -16,7 +16,7 @@ use Rattle.cs_heap.specs.Object.{Object, address_of, is_object, next_of, heap_ob
 use Rattle.cs_heap.proofs.Laws.{address_of-below, address_of-past, index_of-address, next_of-address, object_at-address}
 use Rattle.cs_model.specs.Words.{bytes_of_words}
 use Rattle.cs_model.proofs.SavedNumbers.{bytes_of_words-append}
-use Rattle.cs_save.specs.Writing.{Gathering, WentOn, BrokeOff, OthersStay, WroteWords, BrokeWords, writing, whole_taken}
+use Rattle.cs_save.specs.Writing.{Gathering, WentOn, BrokeOff, OthersStay, WroteWords, BrokeWords, writing, gathered}
 use Rattle.cs_model.specs.SavedFile.{overflow_words, halves}
 
 behind : (t : Option (List ℕ)) (xs ys : List ℕ) → option_map (λ (before : List ℕ). before ++ ys) (option_map (λ (before : List ℕ). before ++ xs) t)
@@ -31,7 +31,7 @@ went_then a b c xs ys h k = record {
   asked = k.asked ∙ h.asked;
   never_falls = omega (arith, h.never_falls, k.never_falls);
   last = k.last ∙ h.last;
-  taken = k.taken ∙ ap (option_map (λ (before : List ℕ). before ++ ys)) h.taken ∙ behind (whole_taken a) xs ys;
+  taken = k.taken ∙ ap (option_map (λ (before : List ℕ). before ++ ys)) h.taken ∙ behind (gathered a) xs ys;
 }
 
 pub rose_later : (x y z : ℕ) → x ≤ y → Rose y z → Rose x z
@@ -45,7 +45,7 @@ broke_then a b c xs ys h k = record {
   never_falls = omega (arith, h.never_falls, k.never_falls);
   rose = rose_later a.faults b.faults c.faults h.never_falls k.rose;
   last = rw (← h.begun) k.last;
-  taken = (k.taken.0, k.taken.1 ∙ part k.taken.0 (whole_taken a) (whole_taken b) h.taken);
+  taken = (k.taken.0, k.taken.1 ∙ part k.taken.0 (gathered a) (gathered b) h.taken);
 }
   where
     part : (n : ℕ) (t s : Option (List ℕ)) → s ≡ option_map (λ (before : List ℕ). before ++ xs) t
@@ -62,7 +62,7 @@ broke_first a c xs ys k = record {
   never_falls = k.never_falls;
   rose = k.rose;
   last = k.last;
-  taken = part (whole_taken a) k.taken.0 k.taken.1;
+  taken = part (gathered a) k.taken.0 k.taken.1;
 }
   where
     shorter : (n : ℕ) (zs : List ℕ) → take (min n (length zs)) (zs ++ ys) ≡ take n zs
@@ -87,7 +87,7 @@ went_nowhere a = record {
   asked = refl;
   never_falls = omega arith;
   last = refl;
-  taken = none (whole_taken a);
+  taken = none (gathered a);
 }
   where
     none : (t : Option (List ℕ)) → t ≡ option_map (λ (before : List ℕ). before ++ []) t
@@ -347,7 +347,7 @@ empty_behind : (t : Option (List ℕ)) → option_map (λ (bytes : List ℕ). by
 empty_behind None = refl
 empty_behind (Some t) = ap Some (append-nil t)
 
-begun_empty : (t : Option (List ℕ)) (a : Gathering) → a.taken ≡ option_map (λ (taken : List ℕ). []) t → a.piece ≡ [] → whole_taken a ≡ option_map (λ (taken : List ℕ). []) t
+begun_empty : (t : Option (List ℕ)) (a : Gathering) → a.taken ≡ option_map (λ (taken : List ℕ). []) t → a.piece ≡ [] → gathered a ≡ option_map (λ (taken : List ℕ). []) t
 begun_empty t a e p = ap (λ (ps : List ℕ). option_map (λ (bytes : List ℕ). bytes ++ ps) a.taken) p ∙ empty_behind a.taken ∙ e
 
 pub whole_taken : (t : Option (List ℕ)) (a b c : Gathering) (bytes : List ℕ) → a.taken ≡ option_map (λ (taken : List ℕ). []) t → a.piece ≡ [] → WentOn a b bytes → WentOn b c []

@@ -18,8 +18,8 @@ writing begun content asked faults last taken piece =
     record { begun = begun; content = content; asked = asked; faults = faults; last = last; taken = taken; piece = piece }
 
 -- what was taken, and the piece behind it
-abbrev pub whole_taken : Gathering → Option (List ℕ)
-whole_taken a = option_map (λ (bytes : List ℕ). bytes ++ a.piece) a.taken
+abbrev pub gathered : Gathering → Option (List ℕ)
+gathered a = option_map (λ (bytes : List ℕ). bytes ++ a.piece) a.taken
 
 -- no name but that of the begun content changes what it holds
 abbrev pub OthersStay : Gathering → Gathering → Type 0
@@ -32,7 +32,7 @@ pub record WentOn (a b : Gathering) (bytes : List ℕ) : Type 0 where
   pub asked : b.asked ≡ a.asked
   pub never_falls : a.faults ≤ b.faults
   pub last : b.last ≡ a.last
-  pub taken : whole_taken b ≡ option_map (λ (before : List ℕ). before ++ bytes) (whole_taken a)
+  pub taken : gathered b ≡ option_map (λ (before : List ℕ). before ++ bytes) (gathered a)
 
 -- a call failed: only the first of all those bytes were taken
 pub record BrokeOff (a b : Gathering) (bytes : List ℕ) : Type 0 where
@@ -42,7 +42,7 @@ pub record BrokeOff (a b : Gathering) (bytes : List ℕ) : Type 0 where
   pub never_falls : a.faults ≤ b.faults
   pub rose : Rose a.faults b.faults
   pub last : IfSome a.begun (λ name. b.last ≡ save_fault name)
-  pub taken : (n : ℕ) × (b.taken ≡ option_map (λ (before : List ℕ). take n (before ++ bytes)) (whole_taken a))
+  pub taken : (n : ℕ) × (b.taken ≡ option_map (λ (before : List ℕ). take n (before ++ bytes)) (gathered a))
 
 -- the same of words, each with its lowest byte first
 abbrev pub WroteWords : Gathering → Gathering → List ℕ → Type 0
