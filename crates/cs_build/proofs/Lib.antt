@@ -11,3 +11,6 @@ pub mod Describing
 pub mod OpLemmas
 pub mod OuterLemmas
 pub mod HexLemmas
+pub mod InnerLemmas
+pub mod LineReading
+pub mod Narrowing

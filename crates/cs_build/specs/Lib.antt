@@ -1,5 +1,6 @@
 pub mod Meaning
 pub mod Narrow
 pub mod Faults
+pub mod Lines
 pub mod Laid
 pub mod Stored

@@ -6,6 +6,8 @@ mod error;
 mod form;
 mod generate;
 mod image;
+mod inner;
+mod lines;
 mod making;
 mod mention;
 mod method;
