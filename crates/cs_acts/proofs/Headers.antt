@@ -3,12 +3,13 @@ use Rattle.std.proofs.Common.{◌≡◌, ℕ, ◌+◌, ◌-◌, ◌*◌, ◌<◌
 use Rattle.std.specs.Prelude.{unwrap_or, ◌==◌, ◌&&◌, if◌then◌else◌}
 use Rattle.std.proofs.lemmas.Bool.{false≢true}
 use Rattle.std.proofs.lemmas.Bool.Decides.{nat_tests}
+use Rattle.cs_word.specs.Word.{natural_of_word}
 use Rattle.cs_model.specs.Words.{unused_bytes}
 use Rattle.cs_word.specs.declared.Oop.{Oop}
 use Rattle.cs_heap.specs.Format.{is_code}
 use Rattle.cs_heap.specs.Object.{Memory, Object, byte_of, format_at, is_object, heap_object, slot_count_of, slot_of}
 use Rattle.cs_classes.proofs.Refs.{both_true}
-use Rattle.cs_classes.specs.Meaning.{code_in, count_of, method_header, ref_of, used_bytes}
+use Rattle.cs_classes.specs.Meaning.{code_in, method_header, ref_of, used_bytes}
 use Rattle.cs_classes.proofs.Sorts.{not_pointers, obj_of-method}
 use Rattle.cs_classes.proofs.Sounds.{method_other, sound_at}
 use Rattle.cs_model.specs.Obj as obj
@@ -56,7 +57,7 @@ method_in s k h o e holds m = subst (λ (h : Memory). IsMethodAt h.objects (obje
 -- ---- its header
 
 module _ (os : List Object) (o : Option Obj) (w : ℕ) (m : IsMethodAt os o w) where
-  pub header_read : (n : ℕ) → n ≡ unwrap_or (count_of (slot_of os w 0)) 0 → n ≡ obj.header_in o
+  pub header_read : (n : ℕ) → n ≡ unwrap_or (natural_of_word (slot_of os w 0)) 0 → n ≡ obj.header_in o
   header_read n e = e ∙ header_is os o w m ∙ sym (ap obj.header_in m.means)
 
 -- ---- its primitive

@@ -5,12 +5,13 @@ use Rattle.std.specs.Option.{option_map_or}
 use Rattle.std.proofs.lemmas.Bool.Decides.{nat_tests}
 use Rattle.std.proofs.lemmas.List.{get_or-drop, get_or-take, get_or_past, length-drop, length-map, length-take}
 use Rattle.std.proofs.lemmas.Option.{slice_get-get_or, slice_get-map, slice_get_past}
+use Rattle.cs_word.specs.Word.{natural_of_word}
 use Rattle.cs_model.specs.Words.{byte_in, bytes_of_words, small_value, unused_bytes}
 use Rattle.cs_word.specs.declared.Oop.{Oop}
 use Rattle.cs_word.specs.declared.Kind.TheVariants as kind
 use Rattle.cs_heap.specs.Format.{is_code}
 use Rattle.cs_heap.specs.Object.{Memory, Object, byte_of, part_at, format_at, is_object, heap_object, slot_count_of, slot_of}
-use Rattle.cs_classes.specs.Meaning.{ref_of, obj_of, is_heap_context, method_header, literal_words, used_bytes, code_in, count_of, head_of}
+use Rattle.cs_classes.specs.Meaning.{ref_of, obj_of, is_heap_context, method_header, literal_words, used_bytes, code_in, head_of}
 use Rattle.cs_classes.specs.Sound.{IsSoundMethod, IsSoundObject, is_reference}
 pub use Rattle.cs_classes.proofs.Counting.{length-bytes_of}
 use Rattle.cs_classes.proofs.Heaps.{is_object-object_at}
@@ -104,8 +105,8 @@ module _ (os : List Object) (o : Option Obj) (w : ℕ) (m : IsMethodAt os o w) w
   pub slots_fit : literal_count (method_header words) < slot_count_of os w
   slots_fit = omega (arith, literals_fit, field_is (λ x. length x.words))
 
-  pub header_is : unwrap_or (count_of (slot_of os w 0)) 0 ≡ method_header words
-  header_is = ap (λ n. unwrap_or (count_of n) 0) (field_is (λ x. slice_index x.words 0))
+  pub header_is : unwrap_or (natural_of_word (slot_of os w 0)) 0 ≡ method_header words
+  header_is = ap (λ n. unwrap_or (natural_of_word n) 0) (field_is (λ x. slice_index x.words 0))
 
   pub length-literals : length (literal_words words) ≡ literal_count (method_header words)
   length-literals = omega (arith, literals_fit, length-take (literal_count (method_header words)) (drop 1 words), length-drop 1 words)
@@ -134,21 +135,21 @@ pub active_method : (s : Store) (k : Kept) (h : Memory) (o : Oop) → h ≡ s.me
 active_method s k h o e ready names = subst (λ m. IsMethodAt m.objects (method_of k) o.0) (sym e) (method_there s k o ready names)
 
 -- the count that the code reads
-pub count_read : (os : List Object) (k : Kept) (w n : ℕ) → IsMethodAt os (method_of k) w → n ≡ literal_count (unwrap_or (count_of (slot_of os w 0)) 0) → n ≡ length (literals_of k)
+pub count_read : (os : List Object) (k : Kept) (w n : ℕ) → IsMethodAt os (method_of k) w → n ≡ literal_count (unwrap_or (natural_of_word (slot_of os w 0)) 0) → n ≡ length (literals_of k)
 count_read os k w n m e =
     e ∙ ap literal_count (header_is os (method_of k) w m) ∙ sym (length-literals os (method_of k) w m)
     ∙ sym (length-map (literal_words m.object.words) (ref_of os)) ∙ sym (ap (λ o. length (obj.literals_in o)) m.means)
 
 pub slots_below : (os : List Object) (k : Kept) (w i : ℕ) → IsMethodAt os (method_of k) w → i < length (literals_of k) → i + 1 < slot_count_of os w
 slots_below os k w i m h =
-    let n = count_read os k w (literal_count (unwrap_or (count_of (slot_of os w 0)) 0)) m refl in
+    let n = count_read os k w (literal_count (unwrap_or (natural_of_word (slot_of os w 0)) 0)) m refl in
     omega (arith, h, n, ap literal_count (header_is os (method_of k) w m), slots_fit os (method_of k) w m)
 
 pub literal_names : (s : Store) (k : Kept) (w i : ℕ) (o : Oop) → IsMethodAt s.memory.objects (method_of k) w → i < length (literals_of k) → o.0 ≡ slot_of s.memory.objects w (i + 1)
     → NamesOption s (Some o) (slice_get (literals_of k) i)
 literal_names s k w i o m h is =
     let os = s.memory.objects in
-    let n = count_read os k w (literal_count (unwrap_or (count_of (slot_of os w 0)) 0)) m refl in
+    let n = count_read os k w (literal_count (unwrap_or (natural_of_word (slot_of os w 0)) 0)) m refl in
     let less : i < literal_count (method_header m.object.words) = omega (arith, h, n, ap literal_count (header_is os (method_of k) w m)) in
     record {
       sound = subst (λ v. is_reference os v ≡ true) (sym is) (literal_named os (method_of k) w m i less);
@@ -215,7 +216,7 @@ module _ (os : List Object) (o : Option Obj) (w : ℕ) (m : IsMethodAt os o w) w
       omega (arith, length-bytecodes, length-code, unused, slots_are, format)
 
 -- where a pc lies, as the code reads it
-pub lies_read : (os : List Object) (o : Option Obj) (w n end pc : ℕ) → IsMethodAt os o w → n ≡ literal_count (unwrap_or (count_of (slot_of os w 0)) 0) → end ≡ 4 * slot_count_of os w - unused_bytes (format_at os w)
+pub lies_read : (os : List Object) (o : Option Obj) (w n end pc : ℕ) → IsMethodAt os o w → n ≡ literal_count (unwrap_or (natural_of_word (slot_of os w 0)) 0) → end ≡ 4 * slot_count_of os w - unused_bytes (format_at os w)
     → (nat_le (4 * (n + 1) + 1) pc && nat_le pc (end + 1)) ≡ lies_in o pc
 lies_read os o w n end pc m count is =
     let ls : List Ref = map (ref_of os) (literal_words m.object.words) in

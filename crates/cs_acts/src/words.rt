@@ -1,10 +1,10 @@
 //! What is read of the heap by its words alone.
 ghost use Rattle.std.specs.Prelude.{◌≡◌, ◌<◌, ◌≤◌, ◌+◌, ◌*◌, ◌-◌, ◌&&◌, IsSome, IsTrue, Some, nat_le, is_some, true};
 ghost use Rattle.std.specs.Prelude.{unwrap_or};
+ghost use Rattle.cs_word.specs.Word.{natural_of_word};
 ghost use Rattle.cs_model.specs.Words.{unused_bytes};
 ghost use Rattle.cs_heap.specs.Format.{is_code};
 ghost use Rattle.cs_heap.specs.Object.{format_at, is_object, next_of, slot_count_of, slot_of};
-ghost use Rattle.cs_classes.specs.Meaning.{count_of};
 ghost use Rattle.cs_classes.specs.Sound.{is_method_address, is_reference, has_slots};
 ghost use Rattle.cs_model.specs.Obj.{literal_count};
 ghost use Rattle.cs_acts.specs.Reading.{byte_before, word_class, is_read_only_at};
@@ -77,7 +77,7 @@ pub(crate) fn store_target(heap: &Heap, o: Oop, i: u32) -> StoreTarget
 /// How many literals a method's header says.
 pub(crate) fn count_of_literals(heap: &Heap, method: Oop) -> u32
     requires { 0 < slot_count_of heap.now.objects method.0 }
-    ensures { result ≡ literal_count (unwrap_or (count_of (slot_of heap.now.objects method.0 0)) 0) }
+    ensures { result ≡ literal_count (unwrap_or (natural_of_word (slot_of heap.now.objects method.0 0)) 0) }
 {
     method_header(heap, method).literals()
 }

@@ -6,28 +6,19 @@ ghost use Rattle.cs_model.specs.Generator.{array_line, generated, run_text};
 use itoa::Buffer;
 use std::alloc::{AllocError, Global};
 
-/// Memory was refused.
-#[derive(Clone, Copy, PartialEq, Eq, Debug, Drop)]
-pub struct NoMemory;
-
-impl From<AllocError> for NoMemory {
-    fn from(_refused: AllocError) -> NoMemory {
-        NoMemory
-    }
-}
-
 /// The method that recurs as often as its argument says, and answers 0.
 const DOWN: &str =
-    "method Object down: 1 1\nlit #down:\npushTemp 0\nint 0\nop 6\njumpFalse d\nint 0\nreturnTop\n:d\nself\npushTemp 0\nint 1\nop 1\nsend 0 1\nint 1\nop 0\nreturnTop\nend\n";
+    "method Object down: 1 1\nlit #down:\npushTemp 0\nint 0\nop 6\njumpFalse d\nint 0\nreturnTop\n\
+    :d\nself\npushTemp 0\nint 1\nop 1\nsend 0 1\nint 1\nop 0\nreturnTop\nend\n";
 
 /// The text of a large image for each number: 1,000 to 16,000 arrays of one slot, and a process that recurs over and
 /// over to a depth of 100 to 4,099.
 ///
 /// # Errors
 ///
-/// `NoMemory` where memory is refused.
+/// `AllocError` where memory is refused.
 #[tactic(auto, using(crate::proofs::RangeLemmas::ranges), unfolding(cs_model::specs::Generator::generated))]
-pub fn gen_text(alloc: Global, k: u32) -> Result<Vec<u8>, NoMemory>
+pub fn gen_text(alloc: Global, k: u32) -> Result<Vec<u8>, AllocError>
     ensures { IfOk result (λ text. text.items ≡ generated k) }
 {
     let arrays = 1000 * (1 + k % 16);

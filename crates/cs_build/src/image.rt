@@ -10,7 +10,8 @@ ghost use Rattle.cs_model.specs.SavedFile.{body_size as body_size_of, overflow_w
 ghost use Rattle.cs_model.specs.SavedFile.{saved_size, saved_words, saved_bytes, saved_base, page_address, table_page};
 ghost use Rattle.cs_model.specs.SavedFile.{free_lists, table_root, page_place};
 ghost use Rattle.cs_build.specs.Laid.{laid_by, laid_slots, reference_by, ref_word, byte_words, laid_words, saved_by};
-ghost use Rattle.cs_build.specs.Laid.{addresses_from, laid_addresses, page_of, table_pages, file_for, FitsRef, FitsLaid};
+ghost use Rattle.cs_build.specs.Laid.{addresses_from, laid_addresses, page_of, table_pages, file_for, FitsRef};
+ghost use Rattle.cs_build.specs.Laid.{FitsLaid};
 ghost use Rattle.cs_build.specs.Laid.{FitsLayout, head_words, put_words};
 ghost use Rattle.cs_build.specs.Laid.{root_words, root_word_of, all_header_words, laid_size, head_bits_of};
 ghost use Rattle.cs_model.specs.SavedFile.{hidden_object, saved_heap};

@@ -17,4 +17,4 @@ mod outer;
 mod word;
 
 pub use error::BuildError;
-pub use generate::{NoMemory, gen_text};
+pub use generate::gen_text;

@@ -2,9 +2,9 @@
 
 ghost use Rattle.std.specs.Prelude.{◌≡◌, ◌≢◌, ◌∷◌, [], map, option_map, IfOk, OnOk};
 ghost use Rattle.hex.specs.declared.error.FromHexError.TheVariants.{OutOfMemory};
-ghost use Rattle.cs_model.specs.BuilderText.{all_of, behind_large, bytes_form, bytes_in, class_form, is_large, mention_in};
-ghost use Rattle.cs_model.specs.BuilderText.{method_form, object_form, outer_form, primitive_given, process_form};
-ghost use Rattle.cs_model.specs.BuilderText.{special_form, super_in};
+ghost use Rattle.cs_model.specs.BuilderText.{all_of, behind_large, bytes_form, bytes_in, class_form, is_large};
+ghost use Rattle.cs_model.specs.BuilderText.{mention_in, method_form, object_form, outer_form, primitive_given};
+ghost use Rattle.cs_model.specs.BuilderText.{process_form, special_form, super_in};
 ghost use Rattle.cs_build.specs.Meaning.{mention_by};
 ghost use Rattle.cs_build.specs.Narrow.{Reads, lone_name, narrow, narrow_mention, plain_outer, word_texts};
 

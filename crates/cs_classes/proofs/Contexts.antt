@@ -2,10 +2,11 @@
 use Rattle.std.proofs.Common.{◌≡◌, ℕ, zero, suc, ◌+◌, ◌-◌, ◌<◌, ◌≤◌, true, List, [], ◌∷◌, ◌++◌, length, map, take, drop, Option, Some, refl, ap, ap₂, sym, ◌∙◌, arith, get_or, set}
 use Rattle.std.specs.Prelude.{slice_index, unwrap_or}
 use Rattle.std.proofs.lemmas.List.{get_or-drop, get_or-set_other, get_or-set_same, length-drop, length-map, length-set, length-take, map-append, map-set, set_past, take-map, take_more}
+use Rattle.cs_word.specs.Word.{natural_of_word}
 use Rattle.cs_heap.specs.Object.{Object}
 use Rattle.cs_model.specs.Ref.{Ref}
 use Rattle.cs_model.specs.Obj.{edit_context, Context, Ctx, pushed, stored, with_pc, with_stack}
-use Rattle.cs_classes.specs.Meaning.{context_of, count_of, depth_in, is_heap_context, obj_of}
+use Rattle.cs_classes.specs.Meaning.{context_of, depth_in, is_heap_context, obj_of}
 use Rattle.cs_classes.proofs.Edits.{take_set}
 use Rattle.cs_classes.proofs.Sorts.{obj_of-context}
 
@@ -25,9 +26,9 @@ pub context_of-sender : (refer : ℕ → Ref) (hash : ℕ) (ws : List ℕ) (v : 
 unfolding context_of
 context_of-sender refer hash ws v h = by_six (λ us. context_of refer hash (set us 0 v) ≡ record (context_of refer hash us) { sender = refer v }) (λ a b c d e f rest. refl) ws h
 
-pub context_of-pc : (refer : ℕ → Ref) (hash : ℕ) (ws : List ℕ) (v : ℕ) → 6 ≤ length ws → context_of refer hash (set ws 1 v) ≡ with_pc (count_of v) (context_of refer hash ws)
+pub context_of-pc : (refer : ℕ → Ref) (hash : ℕ) (ws : List ℕ) (v : ℕ) → 6 ≤ length ws → context_of refer hash (set ws 1 v) ≡ with_pc (natural_of_word v) (context_of refer hash ws)
 unfolding context_of
-context_of-pc refer hash ws v h = by_six (λ us. context_of refer hash (set us 1 v) ≡ with_pc (count_of v) (context_of refer hash us)) (λ a b c d e f rest. refl) ws h
+context_of-pc refer hash ws v h = by_six (λ us. context_of refer hash (set us 1 v) ≡ with_pc (natural_of_word v) (context_of refer hash us)) (λ a b c d e f rest. refl) ws h
 
 pub context_of-method : (refer : ℕ → Ref) (hash : ℕ) (ws : List ℕ) (v : ℕ) → 6 ≤ length ws → context_of refer hash (set ws 3 v) ≡ record (context_of refer hash ws) { method = refer v }
 unfolding context_of
@@ -43,10 +44,10 @@ context_of-receiver refer hash ws v h = by_six (λ us. context_of refer hash (se
 
 -- stackp says how much of the words behind the fields is the stack
 pub context_of-stackp : (refer : ℕ → Ref) (hash : ℕ) (ws : List ℕ) (v : ℕ) → 6 ≤ length ws
-    → context_of refer hash (set ws 2 v) ≡ with_stack (map refer (take (unwrap_or (count_of v) 0) (drop 6 ws))) (context_of refer hash ws)
+    → context_of refer hash (set ws 2 v) ≡ with_stack (map refer (take (unwrap_or (natural_of_word v) 0) (drop 6 ws))) (context_of refer hash ws)
 unfolding context_of
 context_of-stackp refer hash ws v h =
-    by_six (λ us. context_of refer hash (set us 2 v) ≡ with_stack (map refer (take (unwrap_or (count_of v) 0) (drop 6 us))) (context_of refer hash us)) (λ a b c d e f rest. refl) ws h
+    by_six (λ us. context_of refer hash (set us 2 v) ≡ with_stack (map refer (take (unwrap_or (natural_of_word v) 0) (drop 6 us))) (context_of refer hash us)) (λ a b c d e f rest. refl) ws h
 
 -- ---- the stack
 
@@ -60,13 +61,13 @@ context_of-stack refer hash ws i v h = along (6 + i) (omega arith) ∙ by_six (�
 
     go : (a b c d e f : ℕ) (rest : List ℕ) → context_of refer hash (set (a ∷ b ∷ c ∷ d ∷ e ∷ f ∷ rest) (suc (suc (suc (suc (suc (suc i)))))) v) ≡ stored i (refer v) (context_of refer hash (a ∷ b ∷ c ∷ d ∷ e ∷ f ∷ rest))
     go a b c d e f rest =
-        let depth : ℕ = unwrap_or (count_of c) 0 in
+        let depth : ℕ = unwrap_or (natural_of_word c) 0 in
         let stack : map refer (take depth (set rest i v)) ≡ set (map refer (take depth rest)) i (refer v) = ap (map refer) (take_set depth rest i v) ∙ map-set refer (take depth rest) i v in
         let size = ap (λ (n : ℕ). suc (suc (suc (suc (suc (suc n))))) - 6) (length-set rest i v) in
         λ k. record {
           hash = hash;
           sender = refer a;
-          pc = count_of b;
+          pc = natural_of_word b;
           method = refer d;
           closure = refer e;
           receiver = refer f;
@@ -86,7 +87,7 @@ take_take (suc m) (suc n) [] h = refl
 take_take {X = X} (suc m) (suc n) (x ∷ xs) h = ap (λ (zs : List X). x ∷ zs) (take_take m n xs (omega (arith, h)))
 
 -- a lower stackp: the topmost values are gone
-pub context_of-lower : (refer : ℕ → Ref) (hash : ℕ) (ws : List ℕ) (v d : ℕ) → 6 ≤ length ws → count_of v ≡ Some d → d ≤ length (context_of refer hash ws).stack
+pub context_of-lower : (refer : ℕ → Ref) (hash : ℕ) (ws : List ℕ) (v d : ℕ) → 6 ≤ length ws → natural_of_word v ≡ Some d → d ≤ length (context_of refer hash ws).stack
     → context_of refer hash (set ws 2 v) ≡ with_stack (take d (context_of refer hash ws).stack) (context_of refer hash ws)
 unfolding context_of
 context_of-lower refer hash ws v d h e l =
@@ -97,7 +98,7 @@ context_of-lower refer hash ws v d h e l =
     ∙ sym (take-map refer d (take (depth_in ws) (drop 6 ws))))
 
 -- a stackp that is one higher: the word that was next is the top
-pub context_of-higher : (refer : ℕ → Ref) (hash : ℕ) (ws : List ℕ) (v : ℕ) → 6 ≤ length ws → depth_in ws < length ws - 6 → count_of v ≡ Some (depth_in ws + 1)
+pub context_of-higher : (refer : ℕ → Ref) (hash : ℕ) (ws : List ℕ) (v : ℕ) → 6 ≤ length ws → depth_in ws < length ws - 6 → natural_of_word v ≡ Some (depth_in ws + 1)
     → context_of refer hash (set ws 2 v) ≡ pushed (refer (slice_index ws (6 + depth_in ws))) (context_of refer hash ws)
 unfolding context_of
 context_of-higher refer hash ws v h l e =
@@ -115,13 +116,13 @@ context_of-behind refer hash ws i v h l =
     context_of-stack refer hash ws i v h ∙ ap (λ (xs : List Ref). with_stack xs (context_of refer hash ws)) (set_past (context_of refer hash ws).stack i (refer v) l)
 
 -- a push: the word behind the stack, and then stackp
-pub context_of-push : (refer : ℕ → Ref) (hash : ℕ) (ws : List ℕ) (v w : ℕ) → 6 ≤ length ws → depth_in ws < length ws - 6 → count_of w ≡ Some (depth_in ws + 1)
+pub context_of-push : (refer : ℕ → Ref) (hash : ℕ) (ws : List ℕ) (v w : ℕ) → 6 ≤ length ws → depth_in ws < length ws - 6 → natural_of_word w ≡ Some (depth_in ws + 1)
     → context_of refer hash (set (set ws (6 + depth_in ws) v) 2 w) ≡ pushed (refer v) (context_of refer hash ws)
 context_of-push refer hash ws v w h l e =
     let d : ℕ = depth_in ws in
     let us : List ℕ = set ws (6 + d) v in
     let long : length us ≡ length ws = length-set ws (6 + d) v in
-    let deep : depth_in us ≡ d = ap (λ (u : ℕ). unwrap_or (count_of u) 0) (get_or-set_other ws (6 + d) 2 v 0 (λ same. omega (arith, same))) in
+    let deep : depth_in us ≡ d = ap (λ (u : ℕ). unwrap_or (natural_of_word u) 0) (get_or-set_other ws (6 + d) 2 v 0 (λ same. omega (arith, same))) in
     let top : slice_index us (6 + depth_in us) ≡ v = ap (λ (n : ℕ). slice_index us (6 + n)) deep ∙ get_or-set_same ws (6 + d) v 0 (omega (arith, l)) in
     let same = context_of-behind refer hash ws d v h (omega (arith, depth_is refer hash ws (omega (arith, l)))) in
     context_of-higher refer hash us w (omega (arith, long, h)) (omega (arith, long, deep, l)) (e ∙ ap (λ (n : ℕ). Some (n + 1)) (sym deep))

@@ -3,6 +3,7 @@ use Rattle.std.proofs.Common.{◌≡◌, ℕ, zero, suc, ◌+◌, ◌-◌, ◌*�
 use Rattle.std.specs.Prelude.{slice_index, unwrap_or}
 use Rattle.std.proofs.lemmas.Bool.{cases_eq, eq-eqb, ne_eqb}
 use Rattle.std.proofs.lemmas.List.{drop-set-add, drop-set-lt, get_or-drop, get_or-set_other, length-set, map-set, take-set-le}
+use Rattle.cs_word.specs.Word.{natural_of_word}
 use Rattle.cs_model.specs.Words.{byte_in, bytes_of_words, unused_bytes}
 use Rattle.cs_heap.specs.Format.{is_code, is_pointers}
 use Rattle.cs_heap.specs.Object.{Object, set_word, with_byte_in}
@@ -10,7 +11,7 @@ use Rattle.cs_heap.proofs.Laws.{byte_in-with_byte_in_other, byte_in-with_byte_in
 use Rattle.cs_model.specs.Ref.{Ref}
 use Rattle.cs_model.specs.Obj.{Method, Obj, Ptr, Raw, literal_count}
 use Rattle.cs_model.specs.Operation.{with_byte, with_hash, with_slot}
-use Rattle.cs_classes.specs.Meaning.{code_in, context_of, count_of, method_header, is_heap_context, literal_words, method_meaning, obj_of, used_bytes, head_of}
+use Rattle.cs_classes.specs.Meaning.{code_in, context_of, method_header, is_heap_context, literal_words, method_meaning, obj_of, used_bytes, head_of}
 use Rattle.cs_classes.proofs.Sorts.{AContext, AMethod, Bytes, Pointers, Sort, not_pointers, obj_of-bytes, obj_of-context, obj_of-method, obj_of-pointers, sort_of}
 
 -- ---- lists
@@ -35,7 +36,7 @@ obj_of-set_word refer x i v o p =
 -- ---- literals of methods
 
 header_in-set : (ws : List ℕ) (i v : ℕ) → 0 < i → method_header (set ws i v) ≡ method_header ws
-header_in-set ws i v h = ap (λ (w : ℕ). unwrap_or (count_of w) 0) (get_or-set_other ws i 0 v 0 (λ e. omega (arith, e, h)))
+header_in-set ws i v h = ap (λ (w : ℕ). unwrap_or (natural_of_word w) 0) (get_or-set_other ws i 0 v 0 (λ e. omega (arith, e, h)))
 
 pub literals_in-set : (ws : List ℕ) (i v : ℕ) → 0 < i → literal_words (set ws i v) ≡ set (literal_words ws) (i - 1) v
 literals_in-set ws i v h =

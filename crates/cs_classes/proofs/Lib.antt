@@ -10,5 +10,4 @@ pub mod Wholes
 pub mod Writes
 pub mod Makings
 pub mod Fields
-pub mod Naturals
 pub mod Counting

@@ -9,6 +9,7 @@ use Rattle.std.proofs.lemmas.Bool.{eq-eqb, false≢true, or_left}
 use Rattle.std.proofs.lemmas.Bool.Decides.{nat_tests}
 use Rattle.std.proofs.lemmas.List.{get_or-replicate, length-replicate, take-replicate}
 use Rattle.std.proofs.lemmas.List.Elements.{All-drop}
+use Rattle.cs_word.specs.Word.{natural_of_word}
 use Rattle.cs_model.specs.Words.{bytes_of_words, unused_bytes}
 use Rattle.cs_word.specs.Header.{flag_bits}
 use Rattle.cs_heap.specs.Format.{format_allows, is_code, is_pointers}
@@ -22,7 +23,7 @@ use Rattle.cs_model.specs.Operation.{add_of, new_pointers}
 use Rattle.cs_model.specs.Operation as operation
 use Rattle.cs_model.specs.Instance.{new_context}
 use Rattle.cs_classes.specs.declared.Roots.{Roots}
-use Rattle.cs_classes.specs.Meaning.{nth_birth, code_in, context_of, count_of, depth_in, method_header, is_heap_context, kept_of, literal_words, obj_of, ref_of, used_bytes, head_of}
+use Rattle.cs_classes.specs.Meaning.{nth_birth, code_in, context_of, depth_in, method_header, is_heap_context, kept_of, literal_words, obj_of, ref_of, used_bytes, head_of}
 use Rattle.cs_classes.specs.Sound.{IsSoundMethod, IsSoundObject, IsWhole, is_closure_address, is_method_address, is_reference, is_sender, is_weak, nil_word, references_in}
 use Rattle.cs_classes.proofs.Refs.{is_nil_or_closure, is_nil_or_method, is_reference-object, is_reference-push, is_sender-nil, nil_of-push, ref_of-object, ref_of-push}
 use Rattle.cs_classes.proofs.Sorts.{map_alike, not_pointers, obj_of-bytes, obj_of-context, obj_of-method, obj_of-pointers, references-context, references-method, references-pointers}
@@ -177,14 +178,14 @@ module _ {os : List Object} {table : FinMap nat_cmp ℕ} {roots : Roots} (w : Is
 
   -- a context: its fields are nil and its stack is empty
   new_context_of : (refer : ℕ → Ref) (m : ℕ) → context_of refer 0 (replicate (suc (suc (suc (suc (suc (suc m)))))) base) ≡ new_context (refer base) m
-  unfolding context_of count_of
+  unfolding context_of natural_of_word
   new_context_of refer m =
       let size : length (replicate (suc (suc (suc (suc (suc (suc m)))))) base) - 6 ≡ m = omega (arith, length-replicate (suc (suc (suc (suc (suc (suc m)))))) base) in
       λ i. record { hash = 0; sender = refer base; pc = None; method = refer base; closure = refer base; receiver = refer base; stack = []; size = size i }
 
   pub makes-context : (size : ℕ) → (size == 16 || size == 56) ≡ true
       → Makes os (new_object 36 3 (6 + size) roots.next_birth) table roots (λ k. Ctx (new_context (operation.nil_of k) size))
-  unfolding count_of
+  unfolding natural_of_word
   makes-context size fits = makes y (λ k. Ctx (new_context (operation.nil_of k) size)) refl w.entries.contexts sound (λ active. means)
     where
       y : Object
@@ -197,7 +198,7 @@ module _ {os : List Object} {table : FinMap nat_cmp ℕ} {roots : Roots} (w : Is
       word i l = get_or-replicate (6 + size) i base 0 (omega (arith, l))
 
       depth : depth_in y.words ≡ 0
-      depth = ap (λ (v : ℕ). unwrap_or (count_of v) 0) (word 2 (omega arith))
+      depth = ap (λ (v : ℕ). unwrap_or (natural_of_word v) 0) (word 2 (omega arith))
 
       nil : nil_word (os ++ y ∷ []) ≡ base
       nil = nil_of-push os y (omega (arith, w.first)) ∙ w.nil
@@ -208,8 +209,8 @@ module _ {os : List Object} {table : FinMap nat_cmp ℕ} {roots : Roots} (w : Is
       no_more : (i : ℕ) → i < 6 → (b : Bool) → (slice_index y.words i == nil_word (os ++ y ∷ []) || b) ≡ true
       no_more i l b = or_left (slice_index y.words i == nil_word (os ++ y ∷ [])) b (eq-eqb (slice_index y.words i) (nil_word (os ++ y ∷ [])) (word i l ∙ sym nil))
 
-      is_nil : (i : ℕ) → i < 6 → IsTrue (slice_index y.words i == nil_word (os ++ y ∷ []) || is_some (count_of (slice_index y.words i)))
-      is_nil i l = or_left (slice_index y.words i == nil_word (os ++ y ∷ [])) (is_some (count_of (slice_index y.words i))) (eq-eqb (slice_index y.words i) (nil_word (os ++ y ∷ [])) (word i l ∙ sym nil))
+      is_nil : (i : ℕ) → i < 6 → IsTrue (slice_index y.words i == nil_word (os ++ y ∷ []) || is_some (natural_of_word (slice_index y.words i)))
+      is_nil i l = or_left (slice_index y.words i == nil_word (os ++ y ∷ [])) (is_some (natural_of_word (slice_index y.words i))) (eq-eqb (slice_index y.words i) (nil_word (os ++ y ∷ [])) (word i l ∙ sym nil))
 
       shape : (n : ℕ) → (n == 16 || n == 56) ≡ true → ((6 + n) == 22 || (6 + n) == 62) ≡ true
       shape n h = grind (arith, nat_tests)

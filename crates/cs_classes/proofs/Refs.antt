@@ -6,14 +6,14 @@ use Rattle.std.proofs.lemmas.Bool.Decides.{Decides-int_eq}
 use Rattle.std.proofs.lemmas.Int.{ints}
 use Rattle.cs_word.specs.declared.Kind.{Kind}
 use Rattle.cs_word.specs.declared.Kind.TheVariants as kind
-use Rattle.cs_word.specs.Word.{IsSmall, character_word, kind_of, small_word}
+use Rattle.cs_word.specs.Word.{IsSmall, character_word, kind_of, small_word, natural_by_kind, natural_of_word}
 use Rattle.cs_word.proofs.Words.{kind_of-character_word, kind_of-injective, kind_of-link, kind_of-object, kind_of-small_word}
 use Rattle.cs_heap.specs.Format.{is_code}
 use Rattle.cs_heap.specs.Object.{Object, address_among, base, birth_at, class_at, part_at, format_at, is_object, slot_count_of, with_object}
 use Rattle.cs_heap.proofs.Laws.{field_of-old, field_of-with_object_kept, index_of-injective, is_object-old, is_object-with_object, object_placed, slot_counts-with_object}
 use Rattle.cs_model.specs.Ref.{Ref, small_index, same_ref}
 use Rattle.cs_model.specs.Ref as ref
-use Rattle.cs_classes.specs.Meaning.{count_of, count_of_kind, ref_of, ref_of_kind}
+use Rattle.cs_classes.specs.Meaning.{ref_of, ref_of_kind}
 use Rattle.cs_classes.specs.Sound.{AreSoundObjects, is_closure_address, is_method_address, is_reference, is_reference_kind, is_sender, is_sender_kind, nil_word}
 use Rattle.cs_classes.proofs.Heaps.{IsEdit, birth_of-object_at, birth_of-push, birth_of-with_object, object_there, stands}
 
@@ -46,16 +46,16 @@ is_reference-character os code = ap (is_reference_kind os) (kind_of-character_wo
 pub small_natural : (n : ℕ) → n < 2 ^ 30 → IsSmall (pos n)
 small_natural n h = (omega (arith, ints), omega (arith, ints))
 
-pub count_of-small : (n : ℕ) → n < 2 ^ 30 → count_of (small_word (pos n)) ≡ Some n
-unfolding count_of
-count_of-small n h = ap count_of_kind (kind_of-small_word (pos n) (small_natural n h))
+pub count_of-small : (n : ℕ) → n < 2 ^ 30 → natural_of_word (small_word (pos n)) ≡ Some n
+unfolding natural_of_word
+count_of-small n h = ap natural_by_kind (kind_of-small_word (pos n) (small_natural n h))
 
 -- a count is the same as a word and as a reference
-pub index_of-ref_of : (os : List Object) (w : ℕ) → is_reference os w ≡ true → small_index (ref_of os w) ≡ count_of w
-unfolding ref_of is_reference count_of
+pub index_of-ref_of : (os : List Object) (w : ℕ) → is_reference os w ≡ true → small_index (ref_of os w) ≡ natural_of_word w
+unfolding ref_of is_reference natural_of_word
 index_of-ref_of os w h = at (kind_of w) h
   where
-    at : (k : Kind) → is_reference_kind os k ≡ true → small_index (ref_of_kind os k) ≡ count_of_kind k
+    at : (k : Kind) → is_reference_kind os k ≡ true → small_index (ref_of_kind os k) ≡ natural_by_kind k
     at (kind.Small z) h = refl
     at (kind.Character c) h = refl
     at (kind.Object a) h = refl

@@ -7,10 +7,11 @@ use Rattle.std.proofs.lemmas.Bool.Decides.{nat_tests}
 use Rattle.std.proofs.lemmas.List.{get_or-set_other, get_or-set_same, length-set}
 use Rattle.std.proofs.lemmas.List.Elements.{All-drop, All-set}
 use Rattle.std.proofs.lemmas.Option.{slice_get_within}
+use Rattle.cs_word.specs.Word.{natural_of_word}
 use Rattle.cs_heap.specs.Format.{is_code, is_pointers, format_allows}
 use Rattle.cs_heap.specs.Object.{Object, at_index, heap_object, set_word, with_object}
 use Rattle.cs_model.specs.Obj.{is_header, literal_count}
-use Rattle.cs_classes.specs.Meaning.{count_of, depth_in, method_header, is_heap_context, literal_words}
+use Rattle.cs_classes.specs.Meaning.{depth_in, method_header, is_heap_context, literal_words}
 use Rattle.cs_classes.specs.Sound.{AreSoundObjects, IsSoundObject, is_reference, is_sender, nil_word, references_in}
 use Rattle.cs_classes.proofs.Heaps.{IsEdit, slice_get-at_index_other, slice_get-at_index_same, slice_get-push, stands, with_object-stands}
 use Rattle.cs_classes.proofs.Objects.{IsFresh}
@@ -90,8 +91,8 @@ sound-alike os us alike x s = record {
     format = old.format;
     slots = old.slots;
     sender = subst (λ (p : ℕ → Bool). IsTrue (p (slice_index x.words 0))) (sym alike.senders) old.sender;
-    pc = subst (λ (n : ℕ). IsTrue (slice_index x.words 1 == n || is_some (count_of (slice_index x.words 1)))) (sym alike.nil) old.pc;
-    stackp = subst (λ (n : ℕ). IsTrue (slice_index x.words 2 == n || is_some (count_of (slice_index x.words 2)))) (sym alike.nil) old.stackp;
+    pc = subst (λ (n : ℕ). IsTrue (slice_index x.words 1 == n || is_some (natural_of_word (slice_index x.words 1)))) (sym alike.nil) old.pc;
+    stackp = subst (λ (n : ℕ). IsTrue (slice_index x.words 2 == n || is_some (natural_of_word (slice_index x.words 2)))) (sym alike.nil) old.stackp;
     depth = old.depth;
     method = subst (λ (p : ℕ → Bool). IsTrue (p (slice_index x.words 3))) (sym alike.methods) old.method;
     closure = subst (λ (p : ℕ → Bool). IsTrue (p (slice_index x.words 4))) (sym alike.closures) old.closure;
@@ -147,8 +148,8 @@ more os y some x s = record {
     format = old.format;
     slots = old.slots;
     sender = is_sender-push os y (slice_index x.words 0) some old.sender;
-    pc = subst (λ (n : ℕ). IsTrue (slice_index x.words 1 == n || is_some (count_of (slice_index x.words 1)))) (sym (nil_of-push os y some)) old.pc;
-    stackp = subst (λ (n : ℕ). IsTrue (slice_index x.words 2 == n || is_some (count_of (slice_index x.words 2)))) (sym (nil_of-push os y some)) old.stackp;
+    pc = subst (λ (n : ℕ). IsTrue (slice_index x.words 1 == n || is_some (natural_of_word (slice_index x.words 1)))) (sym (nil_of-push os y some)) old.pc;
+    stackp = subst (λ (n : ℕ). IsTrue (slice_index x.words 2 == n || is_some (natural_of_word (slice_index x.words 2)))) (sym (nil_of-push os y some)) old.stackp;
     depth = old.depth;
     method = is_nil_or_method-push os y (slice_index x.words 3) some old.method;
     closure = is_nil_or_closure-push os y (slice_index x.words 4) some old.closure;
@@ -194,7 +195,7 @@ sound-set_slot os x i v s other p h = record {
 sound_method : (os : List Object) (x : Object) (i v : ℕ) → IsSoundObject os x → is_code x.format ≡ true → 0 < i → AllPass (is_reference os) (literal_words (set x.words i v)) → IsSoundObject os (set_word i v x)
 sound_method os x i v s m h all =
     let word : slice_index (set x.words i v) 0 ≡ slice_index x.words 0 = get_or-set_other x.words i 0 v 0 (λ e. omega (arith, e, h)) in
-    let header : method_header (set x.words i v) ≡ method_header x.words = ap (λ (w : ℕ). unwrap_or (count_of w) 0) word in
+    let header : method_header (set x.words i v) ≡ method_header x.words = ap (λ (w : ℕ). unwrap_or (natural_of_word w) 0) word in
     let old = s.method m in
     record {
       kind = s.kind;
@@ -204,7 +205,7 @@ sound_method os x i v s m h all =
       references = subst (AllPass (is_reference os)) (sym (references-method (set_word i v x) m)) all;
       context = λ c. absurd (false≢true (sym (method_other os x s m) ∙ c));
       method = λ _. record {
-        header = ap count_of word ∙ old.header ∙ ap Some (sym header);
+        header = ap natural_of_word word ∙ old.header ∙ ap Some (sym header);
         valid = subst (λ (n : ℕ). IsTrue (is_header n)) (sym header) old.valid;
         literals = omega (arith, old.literals, length-set x.words i v, ap literal_count header);
       };
@@ -240,9 +241,9 @@ sound-set_bytes os x i v s other p m = record {
 pub record IsContextWrite (os : List Object) (x : Object) (i v : ℕ) : Type 0 where
   pub reference : 0 < i → is_reference os v ≡ true
   pub sender : i ≡ 0 → is_sender os v ≡ true
-  pub pc : i ≡ 1 → IsTrue (v == nil_word os || is_some (count_of v))
-  pub stackp : i ≡ 2 → IsTrue (v == nil_word os || is_some (count_of v))
-  pub depth : i ≡ 2 → unwrap_or (count_of v) 0 ≤ length x.words - 6
+  pub pc : i ≡ 1 → IsTrue (v == nil_word os || is_some (natural_of_word v))
+  pub stackp : i ≡ 2 → IsTrue (v == nil_word os || is_some (natural_of_word v))
+  pub depth : i ≡ 2 → unwrap_or (natural_of_word v) 0 ≤ length x.words - 6
   pub method : i ≡ 3 → is_nil_or_method os v ≡ true
   pub closure : i ≡ 4 → is_nil_or_closure os v ≡ true
 
@@ -270,10 +271,10 @@ sound-set_context os x i v s c w =
         format = old.format;
         slots = subst (λ (n : ℕ). IsTrue (n == 22 || n == 62)) (sym slots) old.slots;
         sender = read 0 (λ (u : ℕ). IsTrue (is_sender os u)) (omega (arith, whole.fields)) w.sender old.sender;
-        pc = read 1 (λ (u : ℕ). IsTrue (u == nil_word os || is_some (count_of u))) (omega (arith, whole.fields)) w.pc old.pc;
-        stackp = read 2 (λ (u : ℕ). IsTrue (u == nil_word os || is_some (count_of u))) (omega (arith, whole.fields)) w.stackp old.stackp;
+        pc = read 1 (λ (u : ℕ). IsTrue (u == nil_word os || is_some (natural_of_word u))) (omega (arith, whole.fields)) w.pc old.pc;
+        stackp = read 2 (λ (u : ℕ). IsTrue (u == nil_word os || is_some (natural_of_word u))) (omega (arith, whole.fields)) w.stackp old.stackp;
         depth = subst (λ (n : ℕ). depth_in (set x.words i v) ≤ n - 6) (sym slots)
-            (read 2 (λ (u : ℕ). unwrap_or (count_of u) 0 ≤ length x.words - 6) (omega (arith, whole.fields)) w.depth old.depth);
+            (read 2 (λ (u : ℕ). unwrap_or (natural_of_word u) 0 ≤ length x.words - 6) (omega (arith, whole.fields)) w.depth old.depth);
         method = read 3 (λ (u : ℕ). IsTrue (is_nil_or_method os u)) (omega (arith, whole.fields)) w.method old.method;
         closure = read 4 (λ (u : ℕ). IsTrue (is_nil_or_closure os u)) (omega (arith, whole.fields)) w.closure old.closure;
       };

@@ -10,7 +10,7 @@ use Rattle.std.specs.FinMap.{FinMap, get}
 use Rattle.std.proofs.lemmas.Bool.{or_right}
 use Rattle.std.proofs.lemmas.Bool.Decides.{nat_tests}
 use Rattle.std.proofs.lemmas.List.{length-set}
-use Rattle.cs_word.specs.Word.{small_word}
+use Rattle.cs_word.specs.Word.{small_word, natural_of_word}
 use Rattle.cs_heap.specs.Format.{is_code, is_pointers}
 use Rattle.cs_heap.specs.Object.{Object, birth_at, class_at, format_at, hash_at, is_object, slot_count_of, heap_object, set_word, slot_of, byte_set, hash_set, with_object, slot_set}
 use Rattle.cs_heap.specs.Object as heap
@@ -20,7 +20,7 @@ use Rattle.cs_model.specs.State.{Kept}
 use Rattle.cs_model.specs.Operation.{edit_object, store_byte_of, store_of}
 use Rattle.cs_model.specs.Operation as operation
 use Rattle.cs_classes.specs.declared.Roots.{Roots}
-use Rattle.cs_classes.specs.Meaning.{context_of, count_of, depth_in, method_header, is_heap_context, kept_of, obj_of, objects_of, ref_of}
+use Rattle.cs_classes.specs.Meaning.{context_of, depth_in, method_header, is_heap_context, kept_of, obj_of, objects_of, ref_of}
 use Rattle.cs_classes.specs.Sound.{IsSoundObject, IsWhole, is_reference, is_sender, nil_word}
 use Rattle.cs_classes.proofs.Heaps.{IsEdit, is_object-object_at, object_there, set_word-IsEdit, with_object-twice}
 use Rattle.cs_classes.proofs.Objects.{get-objects_of}
@@ -182,9 +182,9 @@ module _ {os : List Object} {table : FinMap nat_cmp ℕ} {roots : Roots} {a : �
         }) (context_of-sender (ref_of os) x.hash x.words v fields)
 
     -- nil, or a SmallInteger that isn't negative
-    pub does-set_pc : (v : ℕ) → is_reference os v ≡ true → IsTrue (v == nil_word os || is_some (count_of v)) → Does os (slot_set os a 1 v) table roots (λ k. edit_object k (ref_of os a) (edit_context (with_pc (count_of v))))
+    pub does-set_pc : (v : ℕ) → is_reference os v ≡ true → IsTrue (v == nil_word os || is_some (natural_of_word v)) → Does os (slot_set os a 1 v) table roots (λ k. edit_object k (ref_of os a) (edit_context (with_pc (natural_of_word v))))
     does-set_pc v r h =
-        context_edit 1 v (with_pc (count_of v)) (record {
+        context_edit 1 v (with_pc (natural_of_word v)) (record {
           reference = λ some. r;
           sender = λ e. absurd (omega (arith, e));
           pc = λ e. h;
@@ -238,7 +238,7 @@ module _ {os : List Object} {table : FinMap nat_cmp ℕ} {roots : Roots} {a : �
           reference = λ some. is_reference-small os (pos d) (small_natural d small);
           sender = λ e. absurd (omega (arith, e));
           pc = λ e. absurd (omega (arith, e));
-          stackp = λ e. or_right (small_word (pos d) == nil_word os) (is_some (count_of (small_word (pos d)))) (ap is_some count);
+          stackp = λ e. or_right (small_word (pos d) == nil_word os) (is_some (natural_of_word (small_word (pos d)))) (ap is_some count);
           depth = λ e. omega (arith, ap (λ (o : Option ℕ). unwrap_or o 0) count, l, long);
           method = λ e. absurd (omega (arith, e));
           closure = λ e. absurd (omega (arith, e));

@@ -7,10 +7,10 @@ use Rattle.std.specs.FinMap.{FinMap, from_entries, entries}
 use Rattle.cs_model.specs.Words.{byte_in, unused_units, unused_bytes, bytes_of_words}
 use Rattle.cs_word.specs.declared.Kind.{Kind}
 use Rattle.cs_word.specs.declared.Kind.TheVariants as kind
-use Rattle.cs_word.specs.Word.{kind_of}
+use Rattle.cs_word.specs.Word.{kind_of, natural_of_word}
 use Rattle.cs_heap.specs.Format.{is_pointers, is_code}
 use Rattle.cs_heap.specs.Object.{Object, birth_at, heap_object}
-use Rattle.cs_model.specs.Ref.{Ref, natural_of}
+use Rattle.cs_model.specs.Ref.{Ref}
 use Rattle.cs_model.specs.Ref as ref
 use Rattle.cs_word.specs.Header.{is_immutable}
 use Rattle.cs_model.specs.Obj.{Obj, Head, Context, Ptr, Raw, Method, Ctx, context_class, context_fields, literal_count}
@@ -31,16 +31,6 @@ ref_of_kind objects (kind.Link word) = ref.Small (pos 0)
 unfoldable pub ref_of : List Object → ℕ → Ref
 ref_of objects word = ref_of_kind objects (kind_of word)
 
-abbrev pub count_of_kind : Kind → Option ℕ
-count_of_kind (kind.Small value) = natural_of value
-count_of_kind (kind.Character code) = None
-count_of_kind (kind.Object address) = None
-count_of_kind (kind.Link word) = None
-
--- the number that a word is, where it is a SmallInteger that isn't negative
-unfoldable pub count_of : ℕ → Option ℕ
-count_of word = count_of_kind (kind_of word)
-
 -- ---- objects
 
 -- the bytes of words that end an object of this format
@@ -49,14 +39,14 @@ used_bytes format words = take (4 * length words - unused_bytes format) (bytes_o
 
 -- the depth that a stackp says: nil counts as 0
 abbrev pub depth_in : List ℕ → ℕ
-depth_in words = unwrap_or (count_of (slice_index words 2)) 0
+depth_in words = unwrap_or (natural_of_word (slice_index words 2)) 0
 
 -- The slots of a context: sender, pc, stackp, method, closure, receiver, and its stack, of which stackp says the depth.
 unfoldable pub context_of : (ℕ → Ref) → ℕ → List ℕ → Context
 context_of refer hash words = record {
   hash = hash;
   sender = refer (slice_index words 0);
-  pc = count_of (slice_index words 1);
+  pc = natural_of_word (slice_index words 1);
   method = refer (slice_index words 3);
   closure = refer (slice_index words 4);
   receiver = refer (slice_index words 5);
@@ -66,7 +56,7 @@ context_of refer hash words = record {
 
 -- the header of a method, its first slot
 abbrev pub method_header : List ℕ → ℕ
-method_header words = unwrap_or (count_of (slice_index words 0)) 0
+method_header words = unwrap_or (natural_of_word (slice_index words 0)) 0
 
 -- the literals of a method stand behind its header
 abbrev pub literal_words : List ℕ → List ℕ

@@ -6,7 +6,7 @@ use Rattle.std.specs.FinMap.{FinMap, get}
 use Rattle.cs_model.specs.Words.{unused_bytes}
 use Rattle.cs_word.specs.declared.Kind.{Kind}
 use Rattle.cs_word.specs.declared.Kind.TheVariants as kind
-use Rattle.cs_word.specs.Word.{kind_of}
+use Rattle.cs_word.specs.Word.{kind_of, natural_of_word}
 use Rattle.cs_word.specs.Header.{flag_bits}
 use Rattle.cs_heap.specs.Format.{is_code, is_pointers, format_allows}
 use Rattle.cs_heap.specs.Object.{Object, address_of, base, class_at, format_at, is_object, heap_object, slot_count_of}
@@ -15,7 +15,7 @@ use Rattle.cs_model.specs.ImageFault.{is_bad_format, is_bad_header_size, is_bad_
 use Rattle.cs_model.specs.Obj.{context_class, context_fields, is_header, literal_count}
 use Rattle.cs_model.specs.State.{is_class_index}
 use Rattle.cs_classes.specs.declared.Roots.{Roots}
-use Rattle.cs_classes.specs.Meaning.{count_of, depth_in, method_header, is_heap_context, literal_words}
+use Rattle.cs_classes.specs.Meaning.{depth_in, method_header, is_heap_context, literal_words}
 
 -- ---- words
 
@@ -70,15 +70,15 @@ pub record IsSoundContext (objects : List Object) (x : Object) : Type 0 where
   pub format : x.format ≡ 3
   pub slots : IsTrue (length x.words == 22 || length x.words == 62)
   pub sender : IsTrue (is_sender objects (slice_index x.words 0))
-  pub pc : IsTrue (slice_index x.words 1 == nil_word objects || is_some (count_of (slice_index x.words 1)))
-  pub stackp : IsTrue (slice_index x.words 2 == nil_word objects || is_some (count_of (slice_index x.words 2)))
+  pub pc : IsTrue (slice_index x.words 1 == nil_word objects || is_some (natural_of_word (slice_index x.words 1)))
+  pub stackp : IsTrue (slice_index x.words 2 == nil_word objects || is_some (natural_of_word (slice_index x.words 2)))
   pub depth : depth_in x.words ≤ length x.words - context_fields
   pub method : IsTrue (slice_index x.words 3 == nil_word objects || is_method_address objects (slice_index x.words 3))
   pub closure : IsTrue (slice_index x.words 4 == nil_word objects || is_closure_address objects (slice_index x.words 4))
 
 -- a method's first slot is a valid header, and its literals fit, with a slot behind them where bytes are unused
 pub record IsSoundMethod (x : Object) : Type 0 where
-  pub header : count_of (slice_index x.words 0) ≡ Some (method_header x.words)
+  pub header : natural_of_word (slice_index x.words 0) ≡ Some (method_header x.words)
   pub valid : IsTrue (is_header (method_header x.words))
   pub literals : literal_count (method_header x.words) + (if nat_lt 0 (unused_bytes x.format) then 1 else 0) < length x.words
 

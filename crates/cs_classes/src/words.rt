@@ -1,9 +1,9 @@
 //! What is read of the heap by its words alone.
 
 ghost use Rattle.std.specs.Prelude.{◌≡◌, ◌<◌, ◌==◌, ◌&&◌, unwrap_or};
+ghost use Rattle.cs_word.specs.Word.{natural_of_word};
 ghost use Rattle.cs_heap.specs.Object.{class_at, is_object, slot_count_of, slot_of};
 ghost use Rattle.cs_model.specs.Obj.{context_class};
-ghost use Rattle.cs_classes.specs.Meaning.{count_of};
 
 use crate::CONTEXT_CLASS;
 use cs_heap::Heap;
@@ -17,10 +17,9 @@ pub fn is_context(heap: &Heap, o: Oop) -> bool
 }
 
 /// The header of a method, which its first slot says. A slot that is no number says 0.
-#[tactic(auto, using(crate::proofs::Naturals::natural_is))]
 pub fn method_header(heap: &Heap, method: Oop) -> MethodHeader
     requires { 0 < slot_count_of heap.now.objects method.0 }
-    ensures { result.0 ≡ unwrap_or (count_of (slot_of heap.now.objects method.0 0)) 0 }
+    ensures { result.0 ≡ unwrap_or (natural_of_word (slot_of heap.now.objects method.0 0)) 0 }
 {
     MethodHeader(heap.slot(method, 0).natural().unwrap_or(0))
 }

@@ -3,9 +3,9 @@ use Rattle.std.proofs.Common.{◌≡◌, ℕ, Bool, true, false, refl, sym, ap, 
 use Rattle.std.proofs.lemmas.Bool.{false≢true}
 use Rattle.std.proofs.lemmas.Bool.Decides.{eqb_tells}
 use Rattle.std.specs.Prelude.{◌&&◌}
+use Rattle.cs_word.specs.Word.{natural_of_word}
 use Rattle.cs_word.specs.declared.Oop.{Oop}
 use Rattle.cs_heap.specs.Object.{is_object}
-use Rattle.cs_classes.specs.Meaning.{count_of}
 use Rattle.cs_classes.proofs.Refs.{index_of-ref_of, ref_of-object}
 use Rattle.cs_model.specs.Ref.{Ref}
 use Rattle.cs_model.specs.Ref as ref
@@ -75,7 +75,7 @@ bytes_last s t k v x o ready sound named names keeps is = go (is_bytes_at t.memo
     first true b h = refl
     first false b h = absurd (false≢true h)
 
-    no_number : count_of o.0 ≡ None
+    no_number : natural_of_word o.0 ≡ None
     no_number = sym (index_of-ref_of s.memory.objects o.0 named) ∙ ap ref.small_index (ref_of-object s.memory.objects o.0 (first (is_object s.memory.objects o.0) _ is))
 
     go : (b : Bool) → is_bytes_at t.memory.objects o.0 ≡ b → Lasts s t (Bytes o)

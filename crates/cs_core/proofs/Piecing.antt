@@ -4,10 +4,11 @@ use Rattle.std.specs.Prelude.{nat_le, ◌&&◌, if◌then◌else◌}
 use Rattle.std.specs.Option.{option_map_or}
 use Rattle.std.proofs.lemmas.Bool.{false≢true}
 use Rattle.std.proofs.lemmas.Bool.Decides.{nat_tests}
+use Rattle.cs_word.specs.Word.{natural_of_word}
 use Rattle.cs_word.specs.declared.Oop.{Oop}
 use Rattle.cs_heap.specs.Format.{format_allows, is_code, is_pointers}
 use Rattle.cs_heap.specs.Object.{Memory, Object, format_at}
-use Rattle.cs_classes.specs.Meaning.{count_of, ref_of, used_bytes}
+use Rattle.cs_classes.specs.Meaning.{ref_of, used_bytes}
 use Rattle.cs_classes.specs.Sound.{IsSoundObject}
 use Rattle.cs_classes.proofs.Refs.{index_of-ref_of}
 use Rattle.cs_classes.proofs.Sorts.{AContext, AMethod, Bytes, Pointers, Sort, sort_of, obj_of-pointers, obj_of-method, obj_of-bytes}
@@ -69,7 +70,7 @@ bytes_named s k o h named = go (object_named s.memory.objects o.0) refl (says s 
 -- ---- what is to be written
 
 -- an object named by a word, and the number that a word is
-pub to_write : (s : Store) (k : Kept) (o : Oop) → Holds s k → IsNamed s o → bytes_to_write k (name_of s o) ≡ or_bytes (bytes_in (object_named s.memory.objects o.0)) (small_byte (count_of o.0))
+pub to_write : (s : Store) (k : Kept) (o : Oop) → Holds s k → IsNamed s o → bytes_to_write k (name_of s o) ≡ or_bytes (bytes_in (object_named s.memory.objects o.0)) (small_byte (natural_of_word o.0))
 unfolding bytes_to_write
 to_write s k o h named = ap₂ (λ x n. or_bytes x (small_byte n)) (bytes_named s k o h named) (index_of-ref_of s.memory.objects o.0 named)
 
@@ -93,10 +94,10 @@ bytes_in-else os w h = go (place os w)
 
 -- the bytes of a byte object, and else the number as a byte
 pub bytes_there : (s : Store) (k : Kept) (o : Oop) → Holds s k → IsNamed s o → is_bytes_at s.memory.objects o.0 ≡ true → Some (bytes_at s.memory.objects o.0) ≡ bytes_to_write k (name_of s o)
-bytes_there s k o h named is = sym (to_write s k o h named ∙ ap (λ x. or_bytes x (small_byte (count_of o.0))) (bytes_in-there s.memory.objects o.0 is))
+bytes_there s k o h named is = sym (to_write s k o h named ∙ ap (λ x. or_bytes x (small_byte (natural_of_word o.0))) (bytes_in-there s.memory.objects o.0 is))
 
-pub byte_else : (s : Store) (k : Kept) (o : Oop) → Holds s k → IsNamed s o → is_bytes_at s.memory.objects o.0 ≡ false → small_byte (count_of o.0) ≡ bytes_to_write k (name_of s o)
-byte_else s k o h named is = sym (to_write s k o h named ∙ ap (λ x. or_bytes x (small_byte (count_of o.0))) (bytes_in-else s.memory.objects o.0 is))
+pub byte_else : (s : Store) (k : Kept) (o : Oop) → Holds s k → IsNamed s o → is_bytes_at s.memory.objects o.0 ≡ false → small_byte (natural_of_word o.0) ≡ bytes_to_write k (name_of s o)
+byte_else s k o h named is = sym (to_write s k o h named ∙ ap (λ x. or_bytes x (small_byte (natural_of_word o.0))) (bytes_in-else s.memory.objects o.0 is))
 
 -- as the code reads the heap
 pub is_bytes_read : (s : Store) (m : Memory) (o : Oop) (b : Bool) → m ≡ s.memory → is_bytes_at m.objects o.0 ≡ b → is_bytes_at s.memory.objects o.0 ≡ b

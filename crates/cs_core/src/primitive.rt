@@ -1,6 +1,7 @@
 //! The primitives that no crate of their own has yet: 1, the sum of two SmallIntegers, and 900, which writes bytes.
 ghost use Rattle.std.specs.Prelude.{◌≡◌, ◌<◌, ◌≤◌, ◌+◌, ◌*◌, ◌-◌, [], ◌∷◌, true, IfSome, OnErr, OnOk, Some, drop};
 ghost use Rattle.std.specs.Prelude.{option_and_then, option_map, take};
+ghost use Rattle.cs_word.specs.Word.{natural_of_word};
 ghost use Rattle.cs_model.specs.Words.{unused_bytes};
 ghost use Rattle.arrayvec.specs.ArrayVec.{array_vec_len};
 ghost use Rattle.cs_model.specs.Exec.{small_operands};
@@ -9,7 +10,6 @@ ghost use Rattle.cs_model.specs.PrimRun.{bytes_to_write, small_byte};
 ghost use Rattle.cs_model.specs.Read.{depth_of};
 ghost use Rattle.cs_acts.specs.Names.{IsNamed, NamesOption, name_of};
 ghost use Rattle.cs_acts.specs.Ready.{IsReady, IsSound};
-ghost use Rattle.cs_classes.specs.Meaning.{count_of};
 ghost use Rattle.cs_heap.specs.Object.{format_at, slot_count_of};
 ghost use Rattle.cs_prim_ctx.specs.Numbers.{reads_context};
 ghost use Rattle.cs_shelf.specs.Outside.{Appends, AppendsPart, Rose};
@@ -120,9 +120,9 @@ fn holds_bytes(heap: &Heap, o: Oop) -> bool
 }
 
 /// The SmallInteger that a word is, as a byte; None exactly where it is none from 0 to 255.
-#[tactic(auto, unfolding(cs_classes::specs::Meaning::count_of))]
+#[tactic(auto, unfolding(cs_word::specs::Word::natural_of_word))]
 fn byte_of(o: Oop) -> Option<u8>
-    ensures { option_map (λ b. b ∷ []) result ≡ small_byte (count_of o.0) }
+    ensures { option_map (λ b. b ∷ []) result ≡ small_byte (natural_of_word o.0) }
 {
     match o.kind() {
         Kind::Small(value) if (0..256).contains(&value) => Some(value as u8),

@@ -2,7 +2,8 @@
 
 ghost use Rattle.std.specs.Prelude.{◌≡◌, ◌<◌, ◌≤◌, Some, None, IfOk, OnErr, slice_index};
 ghost use Rattle.cs_model.specs.Decode.{len_of, variable, constant, return_of, extended_push, extended_store};
-ghost use Rattle.cs_model.specs.Decode.{extended_pop, double_extended, array, extended, jump, send_op, op_of, decode_at};
+ghost use Rattle.cs_model.specs.Decode.{extended_pop, double_extended, array, extended, jump, send_op, op_of};
+ghost use Rattle.cs_model.specs.Decode.{decode_at};
 ghost use Rattle.cs_model.specs.Assemble.{IsInstr};
 
 use cs_model::{Instr, Op};

@@ -3,7 +3,7 @@ use Rattle.std.proofs.Common.{◌≡◌, ◌≢◌, ℕ, zero, suc, ◌+◌, ◌
 use Rattle.std.specs.List.{CopiedTo, SameBelow, SameFrom}
 use Rattle.std.proofs.lemmas.Bool.{cases_lt}
 use Rattle.std.proofs.lemmas.List.{length-set}
-use Rattle.cs_frame.specs.declared.Head.{Head}
+use Rattle.cs_frame.specs.declared.PageHead.{PageHead}
 use Rattle.cs_frame.specs.declared.Begin.{Begin}
 use Rattle.cs_frame.specs.declared.NewFrame.{NewFrame}
 use Rattle.cs_frame.specs.Frame.{Frame, nil, call_cut}
@@ -173,7 +173,7 @@ build_top (suc n) v w base fp sp b new st can be x plain =
     )
 
 -- what the numbers of a call are
-pub record Room (w : List ℕ) (p : ℕ) (h : Head) (b : Begin) (new : NewFrame) : Type 0 where
+pub record Room (w : List ℕ) (p : ℕ) (h : PageHead) (b : Begin) (new : NewFrame) : Type 0 where
   pub args_in : new.args ≤ h.end
   pub taken : 0 < h.count → new.args + 1 ≤ h.end
   pub begin_low : p * 4096 ≤ b.frame
@@ -183,7 +183,7 @@ pub record Room (w : List ℕ) (p : ℕ) (h : Head) (b : Begin) (new : NewFrame)
   pub end_over : h.end ≤ end_with b new
   pub few : h.count ≤ 410
 
-pub room_for : {w : List ℕ} {hs : List Head} {p : ℕ} {h : Head} {fs : List Frame} {b : Begin} {new : NewFrame} → Opened w hs p h fs
+pub room_for : {w : List ℕ} {hs : List PageHead} {p : ℕ} {h : PageHead} {fs : List Frame} {b : Begin} {new : NewFrame} → Opened w hs p h fs
     → frames_used fs + 66 ≤ 4096 → new.args + new.fill ≤ 56 → HasArguments new.args fs → Begins h.count (p * 4096) h.frame h.end b new → Room w p h b new
 room_for {w} {p = p} {h = h} {b = b} {new = new} o room size can be =
     let u = used_words o in
@@ -205,16 +205,16 @@ room_for {w} {p = p} {h = h} {b = b} {new = new} o room size can be =
         let l = length-words w (fp + 10) (sp - (fp + 10)) in
         (omega arith, omega arith, omega arith, omega arith, omega arith, omega arith, (λ q. omega arith))
 
-pub build_done : {v w : List ℕ} {hs : List Head} {ps : List (List Frame)} {h : Head} {b : Begin} {new : NewFrame} → AreFramesLaid w hs → pages_of w 0 hs ≡ ps
+pub build_done : {v w : List ℕ} {hs : List PageHead} {ps : List (List Frame)} {h : PageHead} {b : Begin} {new : NewFrame} → AreFramesLaid w hs → pages_of w 0 hs ≡ ps
     → (p : ℕ) → p < length ps → h ≡ get_or hs p h → frames_used (frames_of ps p) + 66 ≤ 4096 → new.args + new.fill ≤ 56 → HasArguments new.args (frames_of ps p) → HoldsValues new
     → Begins h.count (p * 4096) h.frame h.end b new → Built v w h.end b new
-    → let h' : Head = record { frame = b.frame; end = end_with b new; count = h.count + 1 } in
+    → let h' : PageHead = record { frame = b.frame; end = end_with b new; count = h.count + 1 } in
     AreFramesLaid v (set hs p h') × (pages_of v 0 (set hs p h') ≡ on_page ps p (called new))
 build_done {v} {w} {hs} {ps} {h} {b} {new} laid e p lt eh room size can plain be x =
     let o = opened laid e p lt eh in
     let r = room_for o room size can be in
     let base = p * 4096 in
-    let h' : Head = record { frame = b.frame; end = end_with b new; count = h.count + 1 } in
+    let h' : PageHead = record { frame = b.frame; end = end_with b new; count = h.count + 1 } in
     let can' : HasArguments new.args (frames_down h.count w base h.frame h.end) = subst (λ (gs : List Frame). HasArguments new.args gs) o.is can in
     let t = build_top h.count v w base h.frame h.end b new o.page.stands can' be x plain in
     let one : suc h.count ≡ h.count + 1 = omega arith in
@@ -263,7 +263,7 @@ built_by {w} {w1} {w2} {w3} sp {b} {new} len copied copy_below copy_above over_o
     }
 
 -- the new frame is the last of its page
-pub built_top : {v : List ℕ} {p : ℕ} (hs : List Head) (h : Head) → AreFramesLaid v (set hs p h) → p < length hs → 0 < h.count
+pub built_top : {v : List ℕ} {p : ℕ} (hs : List PageHead) (h : PageHead) → AreFramesLaid v (set hs p h) → p < length hs → 0 < h.count
     → (0 < length (frames_of (pages_of v 0 (set hs p h)) p)) × (h.frame - p * 4096 ≡ (top (frames_of (pages_of v 0 (set hs p h)) p)).at)
 built_top {v} {p} hs h laid lt some =
     let qs = pages_of v 0 (set hs p h) in
@@ -273,7 +273,7 @@ built_top {v} {p} hs h laid lt some =
     (omega arith, (top_place o (λ z. omega arith)).0)
 
 -- receiver and arguments stand on the page where it has a frame
-pub callable : {w : List ℕ} {hs : List Head} {p : ℕ} {h : Head} {fs : List Frame} → Opened w hs p h fs → (args : ℕ) → HasArguments args fs → 0 < h.count → args + 1 ≤ h.end
+pub callable : {w : List ℕ} {hs : List PageHead} {p : ℕ} {h : PageHead} {fs : List Frame} → Opened w hs p h fs → (args : ℕ) → HasArguments args fs → 0 < h.count → args + 1 ≤ h.end
 callable {w} {p = p} {h = h} o args can some =
     deep h.count h.frame h.end o.page.stands (subst (λ (gs : List Frame). HasArguments args gs) o.is can) some
   where

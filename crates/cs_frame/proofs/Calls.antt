@@ -2,7 +2,7 @@
 use Rattle.std.proofs.Common.{◌≡◌, ◌≢◌, ℕ, zero, suc, ◌+◌, ◌-◌, ◌*◌, ◌/◌, ◌%◌, ◌<◌, ◌≤◌, ◌⊎◌, List, [], ◌∷◌, ◌++◌, length, get_or, set, refl, sym, ◌∙◌, ap, subst, inl, inr, arith, get_or-set_other, get_or-set_same}
 use Rattle.std.proofs.lemmas.List.{length-set}
 use Rattle.std.proofs.lemmas.Bool.{cases_eq}
-use Rattle.cs_frame.specs.declared.Head.{Head}
+use Rattle.cs_frame.specs.declared.PageHead.{PageHead}
 use Rattle.cs_frame.specs.declared.Part.{Part}
 use Rattle.cs_frame.specs.declared.Part.TheVariants as part
 use Rattle.cs_frame.specs.declared.FrameRef.{FrameRef}
@@ -20,24 +20,24 @@ pub off_page : (w : List ℕ) (b i x : ℕ) → b ≤ i → i < b + 4096 → Sam
 off_page w b i x le lt k (inl a) = get_or-set_other w i k x 0 (omega arith)
 off_page w b i x le lt k (inr a) = get_or-set_other w i k x 0 (omega arith)
 
-pub some_frame : {w : List ℕ} {hs : List Head} {p : ℕ} {h : Head} {fs : List Frame} → Opened w hs p h fs → length fs ≡ h.count
+pub some_frame : {w : List ℕ} {hs : List PageHead} {p : ℕ} {h : PageHead} {fs : List Frame} → Opened w hs p h fs → length fs ≡ h.count
 some_frame {w} {p = p} {h = h} o = ap length o.is ∙ length-frames h.count w (p * 4096) h.frame h.end
 
-pub used_words : {w : List ℕ} {hs : List Head} {p : ℕ} {h : Head} {fs : List Frame} → Opened w hs p h fs → p * 4096 + frames_used fs ≡ h.end
+pub used_words : {w : List ℕ} {hs : List PageHead} {p : ℕ} {h : PageHead} {fs : List Frame} → Opened w hs p h fs → p * 4096 + frames_used fs ≡ h.end
 used_words {w} {p = p} {h = h} o =
     let e = ap frames_used o.is in let u = used_is h.count w (p * 4096) h.frame h.end o.page.stands in omega arith
 
-pub stacked_page : {w : List ℕ} {hs : List Head} {p : ℕ} {h : Head} {fs : List Frame} → Opened w hs p h fs → AreStacked fs
+pub stacked_page : {w : List ℕ} {hs : List PageHead} {p : ℕ} {h : PageHead} {fs : List Frame} → Opened w hs p h fs → AreStacked fs
 stacked_page {w} {p = p} {h = h} o = subst AreStacked (sym o.is) (stacked h.count w (p * 4096) h.frame h.end o.page.stands)
 
-pub push_done : {w v : List ℕ} {hs : List Head} {ps : List (List Frame)} {h : Head} → AreFramesLaid w hs → pages_of w 0 hs ≡ ps → (p x : ℕ)
+pub push_done : {w v : List ℕ} {hs : List PageHead} {ps : List (List Frame)} {h : PageHead} → AreFramesLaid w hs → pages_of w 0 hs ≡ ps → (p x : ℕ)
     → 0 < length (frames_of ps p) → h ≡ get_or hs p h → frames_used (frames_of ps p) < 4096 → x % 8 ≢ 4 → v ≡ set w h.end x
-    → let h' : Head = record { frame = h.frame; end = h.end + 1; count = h.count } in
+    → let h' : PageHead = record { frame = h.frame; end = h.end + 1; count = h.count } in
     AreFramesLaid v (set hs p h') × (pages_of v 0 (set hs p h') ≡ on_page ps p (on_top (value_pushed x)))
 push_done {w} {v} {hs} {ps} {h} laid e p x some eh room plain ev =
     let o = opened laid e p (page_in ps p some) eh in
     let b = p * 4096 in
-    let h' : Head = record { frame = h.frame; end = h.end + 1; count = h.count } in
+    let h' : PageHead = record { frame = h.frame; end = h.end + 1; count = h.count } in
     let u = used_words o in let n = some_frame o in
     let low = o.low in let fits = o.fits in
     let t = pushed_top h.count w b h.frame h.end (b + 4096) x o.page.stands (omega arith) (omega arith) plain o.page.free in
@@ -46,7 +46,7 @@ push_done {w} {v} {hs} {ps} {h} laid e p x some eh room plain ev =
     let G : List ℕ → Type 0 = λ us. AreFramesLaid us (set hs p h') × (pages_of us 0 (set hs p h') ≡ on_page ps p (on_top (value_pushed x))) in
     subst G (sym ev) (c.0, c.1 ∙ ap (λ (fs : List Frame). set ps p fs) (t.0 ∙ ap (on_top (value_pushed x)) (sym o.is)))
 
-pub pop_bounds : {w : List ℕ} {hs : List Head} {ps : List (List Frame)} {h : Head} → AreFramesLaid w hs → pages_of w 0 hs ≡ ps → (p : ℕ)
+pub pop_bounds : {w : List ℕ} {hs : List PageHead} {ps : List (List Frame)} {h : PageHead} → AreFramesLaid w hs → pages_of w 0 hs ≡ ps → (p : ℕ)
     → 0 < length (frames_of ps p) → h ≡ get_or hs p h → 0 < length (top (frames_of ps p)).stack
     → Opened w hs p h (frames_of ps p) × Pops h.count w (p * 4096) h.frame h.end (p * 4096 + 4096)
 pop_bounds {w} {hs} {ps} {h} laid e p some eh value =
@@ -55,25 +55,25 @@ pop_bounds {w} {hs} {ps} {h} laid e p some eh value =
     subst (λ (fs : List Frame). 0 < length (top fs).stack) o.is value in
     (o, pops h.count w (p * 4096) h.frame h.end (p * 4096 + 4096) o.page.stands value' o.page.free)
 
-pub pop_done : {w : List ℕ} {hs : List Head} {ps : List (List Frame)} {h : Head} → AreFramesLaid w hs → pages_of w 0 hs ≡ ps → (p : ℕ)
+pub pop_done : {w : List ℕ} {hs : List PageHead} {ps : List (List Frame)} {h : PageHead} → AreFramesLaid w hs → pages_of w 0 hs ≡ ps → (p : ℕ)
     → 0 < length (frames_of ps p) → h ≡ get_or hs p h → 0 < length (top (frames_of ps p)).stack
-    → let h' : Head = record { frame = h.frame; end = h.end - 1; count = h.count } in
+    → let h' : PageHead = record { frame = h.frame; end = h.end - 1; count = h.count } in
     AreFramesLaid w (set hs p h') × (pages_of w 0 (set hs p h') ≡ on_page ps p (on_top top_popped))
 pop_done {w} {hs} {ps} {h} laid e p some eh value =
     let q = pop_bounds laid e p some eh value in let o = q.0 in let t = q.1 in
-    let h' : Head = record { frame = h.frame; end = h.end - 1; count = h.count } in
+    let h' : PageHead = record { frame = h.frame; end = h.end - 1; count = h.count } in
     let high = o.high in
     let pg : IsPageOfWords w (p * 4096) h' = record { stands = t.stands; within = omega arith; free = t.free } in
     let c = closed h' laid e o.page_in refl (λ k a. refl) pg in
     (c.0, c.1 ∙ ap (λ (fs : List Frame). set ps p fs) (t.frames ∙ ap (on_top top_popped) (sym o.is)))
 
-pub pop_value : {w : List ℕ} {hs : List Head} {ps : List (List Frame)} {h : Head} {x : ℕ} → AreFramesLaid w hs → pages_of w 0 hs ≡ ps → (p : ℕ)
+pub pop_value : {w : List ℕ} {hs : List PageHead} {ps : List (List Frame)} {h : PageHead} {x : ℕ} → AreFramesLaid w hs → pages_of w 0 hs ≡ ps → (p : ℕ)
     → 0 < length (frames_of ps p) → h ≡ get_or hs p h → 0 < length (top (frames_of ps p)).stack → x ≡ get_or w (h.end - 1) 0
-    → let h' : Head = record { frame = h.frame; end = h.end - 1; count = h.count } in
+    → let h' : PageHead = record { frame = h.frame; end = h.end - 1; count = h.count } in
     (top (frames_of ps p)).stack ≡ (top (frames_of (pages_of w 0 (set hs p h')) p)).stack ++ x ∷ []
 pop_value {w} {hs} {ps} {h} {x} laid e p some eh value ex =
     let q = pop_bounds laid e p some eh value in let o = q.0 in let t = q.1 in
-    let h' : Head = record { frame = h.frame; end = h.end - 1; count = h.count } in
+    let h' : PageHead = record { frame = h.frame; end = h.end - 1; count = h.count } in
     let d = pop_done laid e p some eh value in
     let S : List Frame → List ℕ = λ fs. (top fs).stack in
     let now : frames_of (pages_of w 0 (set hs p h')) p ≡ frames_down h.count w (p * 4096) h.frame (h.end - 1) =
@@ -82,7 +82,7 @@ pop_value {w} {hs} {ps} {h} {x} laid e p some eh value ex =
     ap S o.is ∙ (t.value ∙ (ap (λ (ys : List ℕ). ys ++ get_or w (h.end - 1) 0 ∷ []) (ap S (sym now))
     ∙ ap (λ (y : ℕ). S (frames_of (pages_of w 0 (set hs p h')) p) ++ y ∷ []) (sym ex)))
 
-pub drop_bounds : {w : List ℕ} {hs : List Head} {ps : List (List Frame)} {h : Head} → AreFramesLaid w hs → pages_of w 0 hs ≡ ps → (p : ℕ)
+pub drop_bounds : {w : List ℕ} {hs : List PageHead} {ps : List (List Frame)} {h : PageHead} → AreFramesLaid w hs → pages_of w 0 hs ≡ ps → (p : ℕ)
     → 0 < length (frames_of ps p) → h ≡ get_or hs p h
     → Opened w hs p h (frames_of ps p) × Drops h.count w (p * 4096) h.frame h.end (p * 4096 + 4096)
 drop_bounds {w} {hs} {ps} {h} laid e p some eh =
@@ -91,26 +91,26 @@ drop_bounds {w} {hs} {ps} {h} laid e p some eh =
     let high = o.high in let fits = o.fits in
     (o, drops h.count w (p * 4096) h.frame h.end (p * 4096 + 4096) o.page.stands some' (omega arith) o.page.free)
 
-pub drop_done : {w v : List ℕ} {hs : List Head} {ps : List (List Frame)} {h : Head} {link : ℕ} → AreFramesLaid w hs → pages_of w 0 hs ≡ ps → (p : ℕ)
+pub drop_done : {w v : List ℕ} {hs : List PageHead} {ps : List (List Frame)} {h : PageHead} {link : ℕ} → AreFramesLaid w hs → pages_of w 0 hs ≡ ps → (p : ℕ)
     → 0 < length (frames_of ps p) → h ≡ get_or hs p h → link ≡ get_or w h.frame 0 → v ≡ set w h.frame 0
-    → let h' : Head = record { frame = link / 8; end = h.frame; count = h.count - 1 } in
+    → let h' : PageHead = record { frame = link / 8; end = h.frame; count = h.count - 1 } in
     AreFramesLaid v (set hs p h') × (pages_of v 0 (set hs p h') ≡ on_page ps p rest_of)
 drop_done {w} {v} {hs} {ps} {h} {link} laid e p some eh el ev =
     let q = drop_bounds laid e p some eh in let o = q.0 in let t = q.1 in
     let b = p * 4096 in
     let a = t.begin in let c = t.end in let high = o.high in
-    let h' : Head = record { frame = below w h.frame; end = h.frame; count = h.count - 1 } in
+    let h' : PageHead = record { frame = below w h.frame; end = h.frame; count = h.count - 1 } in
     let pg : IsPageOfWords (set w h.frame 0) b h' = record { stands = t.stands; within = omega arith; free = t.free } in
     let r = closed h' laid e o.page_in (length-set w h.frame 0) (off_page w b h.frame 0 (omega arith) (omega arith)) pg in
-    let G : List ℕ → ℕ → Type 0 = λ us l. let g : Head = record { frame = l / 8; end = h.frame; count = h.count - 1 } in
+    let G : List ℕ → ℕ → Type 0 = λ us l. let g : PageHead = record { frame = l / 8; end = h.frame; count = h.count - 1 } in
     AreFramesLaid us (set hs p g) × (pages_of us 0 (set hs p g) ≡ on_page ps p rest_of) in
     subst (λ (us : List ℕ). G us link) (sym ev) (subst (λ (l : ℕ). G (set w h.frame 0) l) (sym el)
     (r.0, r.1 ∙ ap (λ (fs : List Frame). set ps p fs) (t.frames ∙ ap rest_of (sym o.is))))
 
-pub top_empty : {w : List ℕ} {hs : List Head} {p : ℕ} {h : Head} {fs : List Frame} → Opened w hs p h fs → h.count ≡ 0 → fs ≡ []
+pub top_empty : {w : List ℕ} {hs : List PageHead} {p : ℕ} {h : PageHead} {fs : List Frame} → Opened w hs p h fs → h.count ≡ 0 → fs ≡ []
 top_empty {w} {p = p} {h = h} o z = o.is ∙ ap (λ (n : ℕ). frames_down n w (p * 4096) h.frame h.end) z
 
-pub top_place : {w : List ℕ} {hs : List Head} {p : ℕ} {h : Head} {fs : List Frame} → Opened w hs p h fs → h.count ≢ 0
+pub top_place : {w : List ℕ} {hs : List PageHead} {p : ℕ} {h : PageHead} {fs : List Frame} → Opened w hs p h fs → h.count ≢ 0
     → (h.frame - p * 4096 ≡ (top fs).at) × (p * 4096 ≤ h.frame)
 top_place {w} {p = p} {h = h} o ne =
     let l = lies h.count 0 w (p * 4096) h.frame h.end o.page.stands (omega arith) in let over = l.over in
@@ -122,7 +122,7 @@ top_place {w} {p = p} {h = h} o ne =
 
 -- values
 
-pub slot_is : {w : List ℕ} {hs : List Head} {ps : List (List Frame)} {r : FrameRef} → Found w hs ps r → (i : ℕ) (d : ℕ) → i < length (frame ps r).stack
+pub slot_is : {w : List ℕ} {hs : List PageHead} {ps : List (List Frame)} {r : FrameRef} → Found w hs ps r → (i : ℕ) (d : ℕ) → i < length (frame ps r).stack
     → get_or w ((r.page * 4096 + r.at) + (10 + i)) 0 ≡ get_or (frame ps r).stack i d
 slot_is {w} {ps = ps} {r = r} f i d lt =
     let a = r.page * 4096 + r.at in let n = f.end - (a + 10) in
@@ -130,7 +130,7 @@ slot_is {w} {ps = ps} {r = r} f i d lt =
     let len = ap (λ (g : Frame). length g.stack) f.is in let l = length-words w (a + 10) n in
     sym (ap (λ (g : Frame). get_or g.stack i d) f.is ∙ (words_at w (a + 10) n i d (omega arith) ∙ ap (λ (k : ℕ). get_or w k 0) e))
 
-pub depth_is : {w : List ℕ} {hs : List Head} {ps : List (List Frame)} {r : FrameRef} → (f : Found w hs ps r)
+pub depth_is : {w : List ℕ} {hs : List PageHead} {ps : List (List Frame)} {r : FrameRef} → (f : Found w hs ps r)
     → length (frame ps r).stack ≡ f.end - ((r.page * 4096 + r.at) + 10)
 depth_is {w} {ps = ps} {r = r} f =
     let a = r.page * 4096 + r.at in
@@ -153,7 +153,7 @@ whole_set w fp sp k x h pos lt len plain pc =
       ];
     }
 
-set_done : (g : Frame → Frame) {w v : List ℕ} {hs : List Head} {ps : List (List Frame)} {r : FrameRef} (k x : ℕ) → AreFramesLaid w hs → pages_of w 0 hs ≡ ps
+set_done : (g : Frame → Frame) {w v : List ℕ} {hs : List PageHead} {ps : List (List Frame)} {r : FrameRef} (k x : ℕ) → AreFramesLaid w hs → pages_of w 0 hs ≡ ps
     → (f : Found w hs ps r) → 0 < k → (r.page * 4096 + r.at) + k < f.end → x % 8 ≢ 4 → (k ≡ 2 → IsPc x) → v ≡ set w ((r.page * 4096 + r.at) + k) x
     → (let a = r.page * 4096 + r.at in frame_at (set w (a + k) x) (r.page * 4096) a f.end ≡ g (frame_at w (r.page * 4096) a f.end))
     → AreFramesLaid v hs × (pages_of v 0 hs ≡ on_frame ps r g)
@@ -167,7 +167,7 @@ set_done g {w} {v} {hs} {ps} {r} k x laid e f pos lt plain pc ev here =
     away end lt j (inl c) = get_or-set_other w ((r.page * 4096 + r.at) + k) j x 0 (omega arith)
     away end lt j (inr c) = get_or-set_other w ((r.page * 4096 + r.at) + k) j x 0 (omega arith)
 
-pub set_slot_done : {w v : List ℕ} {hs : List Head} {ps : List (List Frame)} → AreFramesLaid w hs → pages_of w 0 hs ≡ ps → (r : FrameRef) (i x : ℕ)
+pub set_slot_done : {w v : List ℕ} {hs : List PageHead} {ps : List (List Frame)} → AreFramesLaid w hs → pages_of w 0 hs ≡ ps → (r : FrameRef) (i x : ℕ)
     → IsFrame ps r → i < length (frame ps r).stack → x % 8 ≢ 4 → v ≡ set w ((r.page * 4096 + r.at) + (10 + i)) x
     → AreFramesLaid v hs × (pages_of v 0 hs ≡ on_frame ps r (with_value i x))
 set_slot_done {w} {v} {hs} {ps} laid e r i x is li plain ev =
@@ -251,7 +251,7 @@ part_set q w base fp sp x fits = by_part q (λ k j ne. get_or-set_other w (fp + 
     by_part part.Receiver o s st = frame_parts (set w (fp + 8) x) base fp sp _ _ _ _ _ _ _ _ _ (o 8 (fp + 1) (omega arith)) (o 8 (fp + 2) (omega arith)) (o 8 (fp + 3) (omega arith))
         (o 8 (fp + 4) (omega arith)) (o 8 (fp + 5) (omega arith)) (o 8 (fp + 6) (omega arith)) (o 8 (fp + 7) (omega arith)) (s 8 (omega arith)) st
 
-pub set_part_done : {w v : List ℕ} {hs : List Head} {ps : List (List Frame)} → AreFramesLaid w hs → pages_of w 0 hs ≡ ps → (r : FrameRef) (q : Part) (x : ℕ)
+pub set_part_done : {w v : List ℕ} {hs : List PageHead} {ps : List (List Frame)} → AreFramesLaid w hs → pages_of w 0 hs ≡ ps → (r : FrameRef) (q : Part) (x : ℕ)
     → IsFrame ps r → CanHold q x → v ≡ set w ((r.page * 4096 + r.at) + offset_of q) x
     → AreFramesLaid v hs × (pages_of v 0 hs ≡ on_frame ps r (with_part q x))
 set_part_done {w} {v} {hs} {ps} laid e r q x is held ev =
@@ -265,18 +265,18 @@ set_part_done {w} {v} {hs} {ps} laid e r q x is held ev =
 -- the caller
 
 -- the frame is the base frame exactly where it begins its page
-pub base_zero : {w : List ℕ} {hs : List Head} {ps : List (List Frame)} {r : FrameRef} → Found w hs ps r → IsBase ps r → r.at ≡ 0
+pub base_zero : {w : List ℕ} {hs : List PageHead} {ps : List (List Frame)} {r : FrameRef} → Found w hs ps r → IsBase ps r → r.at ≡ 0
 base_zero {w} {ps = ps} {r = r} f is =
     let n = some_frame f.open' in
     let b = f.lie.base_is (is ∙ n) in let e = f.begin_is in omega arith
 
-pub zero_base : {w : List ℕ} {hs : List Head} {ps : List (List Frame)} {r : FrameRef} → Found w hs ps r → r.at ≡ 0 → IsBase ps r
+pub zero_base : {w : List ℕ} {hs : List PageHead} {ps : List (List Frame)} {r : FrameRef} → Found w hs ps r → r.at ≡ 0 → IsBase ps r
 zero_base {w} {ps = ps} {r = r} f z =
     let n = some_frame f.open' in
     let over = f.lie.over in let e = f.begin_is in let i = f.index_in' in omega arith
 
 -- a frame that isn't the base frame has its link to the caller
-pub caller_place : {w : List ℕ} {hs : List Head} {ps : List (List Frame)} {r : FrameRef} → Found w hs ps r → r.at ≢ 0
+pub caller_place : {w : List ℕ} {hs : List PageHead} {ps : List (List Frame)} {r : FrameRef} → Found w hs ps r → r.at ≢ 0
     → (r.page * 4096 ≤ below w (r.page * 4096 + r.at)) × ((caller_of ps r).at ≡ below w (r.page * 4096 + r.at) - r.page * 4096)
 caller_place {w} {ps = ps} {r = r} f ne =
     let h = f.head in let k = index_in ps r in let b = r.page * 4096 in

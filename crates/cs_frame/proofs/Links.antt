@@ -2,7 +2,7 @@
 use Rattle.std.proofs.Common.{◌≡◌, ◌≢◌, ℕ, zero, suc, ◌+◌, ◌-◌, ◌*◌, ◌/◌, ◌%◌, ◌<◌, ◌≤◌, List, length, get_or, cond, true, false, eqb, refl, sym, ◌∙◌, ap, subst, inl, inr, arith}
 use Rattle.std.proofs.lemmas.Bool.{cases_lt, cases_eq, eq-eqb, ne_eqb}
 use Rattle.std.proofs.lemmas.List.{get_or_default}
-use Rattle.cs_frame.specs.declared.Head.{Head}
+use Rattle.cs_frame.specs.declared.PageHead.{PageHead}
 use Rattle.cs_frame.specs.declared.FrameRef.{FrameRef}
 use Rattle.cs_frame.specs.Frame.{Frame, IsLink}
 use Rattle.cs_frame.specs.Page.{frames_of, frame_index, IsFrame}
@@ -11,7 +11,7 @@ use Rattle.cs_frame.proofs.Stacks.{length-frames, base_below}
 use Rattle.cs_frame.proofs.Pages.{Opened, opened, Found, found, length-pages}
 
 -- a frame's first word is a link
-pub link-is_frame : {w : List ℕ} {hs : List Head} → AreFramesLaid w hs → (r : FrameRef) → IsFrame (pages_of w 0 hs) r → IsLink (get_or w (r.page * 4096 + r.at) 0)
+pub link-is_frame : {w : List ℕ} {hs : List PageHead} → AreFramesLaid w hs → (r : FrameRef) → IsFrame (pages_of w 0 hs) r → IsLink (get_or w (r.page * 4096 + r.at) 0)
 link-is_frame laid r is = (found laid refl r is).whole.link
 
 -- a link below the end of a page's frames is a frame's first word
@@ -32,7 +32,7 @@ link_below (suc n) w base fp sp k st low high is =
     ]
 
 -- and every link of the zone is one
-pub frame-is_link : {w : List ℕ} {hs : List Head} → AreFramesLaid w hs → (k : ℕ) → k < length w → IsLink (get_or w k 0)
+pub frame-is_link : {w : List ℕ} {hs : List PageHead} → AreFramesLaid w hs → (k : ℕ) → k < length w → IsLink (get_or w k 0)
     → IsFrame (pages_of w 0 hs) (record { page = k / 4096; at = k % 4096 })
 frame-is_link {w} {hs} laid k lt is =
     let p = k / 4096 in
@@ -40,7 +40,7 @@ frame-is_link {w} {hs} laid k lt is =
     let ps = pages_of w 0 hs in
     let in' : p < length hs = omega arith in
     let page_in : p < length ps = omega (arith, length-pages w 0 hs) in
-    let h0 : Head = record { frame = 0; end = 0; count = 0 } in
+    let h0 : PageHead = record { frame = 0; end = 0; count = 0 } in
     let h = get_or hs p h0 in
     let o = opened {ps = ps} {h = h} laid refl p page_in (get_or_default hs p h0 h in') in
     let at : k - p * 4096 ≡ k % 4096 = omega arith in

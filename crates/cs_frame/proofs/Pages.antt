@@ -1,7 +1,7 @@
 -- All pages: what a call may use of one of them, and what it owes where it changed one.
 use Rattle.std.proofs.Common.{◌≡◌, ℕ, zero, suc, ◌+◌, ◌-◌, ◌*◌, ◌<◌, ◌≤◌, ◌⊎◌, List, [], ◌∷◌, length, get_or, set, refl, sym, ◌∙◌, ap, subst, inl, inr, arith}
 use Rattle.std.proofs.lemmas.List.{length-set, get_or_default, set-get_or}
-use Rattle.cs_frame.specs.declared.Head.{Head}
+use Rattle.cs_frame.specs.declared.PageHead.{PageHead}
 use Rattle.cs_frame.specs.declared.FrameRef.{FrameRef}
 use Rattle.cs_frame.specs.Frame.{Frame}
 use Rattle.cs_frame.specs.Page.{nth, on_nth, frames_of, index_in, IsFrame, frame, on_frame}
@@ -10,36 +10,36 @@ use Rattle.cs_frame.proofs.Words.{Same, no_link_same}
 use Rattle.cs_frame.proofs.Stacks.{begin_nth, end_nth, length-frames, nth-frames, base_below, Lies, lies, frames_same, nth_changed}
 use Rattle.cs_frame.proofs.PageLaws.{at-nth_index, page_in, page-IsFrame}
 
-pub length-pages : (w : List ℕ) (base : ℕ) (hs : List Head) → length (pages_of w base hs) ≡ length hs
+pub length-pages : (w : List ℕ) (base : ℕ) (hs : List PageHead) → length (pages_of w base hs) ≡ length hs
 length-pages w base [] = refl
 length-pages w base (h ∷ hs) = ap suc (length-pages w (base + 4096) hs)
 
 -- each page has its head
-pub page_count : {w : List ℕ} {hs : List Head} {ps : List (List Frame)} → AreFramesLaid w hs → pages_of w 0 hs ≡ ps → (p : ℕ) → p < length ps → p < length hs
+pub page_count : {w : List ℕ} {hs : List PageHead} {ps : List (List Frame)} → AreFramesLaid w hs → pages_of w 0 hs ≡ ps → (p : ℕ) → p < length ps → p < length hs
 page_count {w} {hs} laid e p lt = omega (arith, length-pages w 0 hs, ap length e)
 
 -- the page that begins at b has the head h, and shows the frames fs
-pub record Shows (w : List ℕ) (b : ℕ) (h : Head) (fs : List Frame) : Type 0 where
+pub record Shows (w : List ℕ) (b : ℕ) (h : PageHead) (fs : List Frame) : Type 0 where
   pub is : fs ≡ frames_down h.count w b h.frame h.end
   pub page : IsPageOfWords w b h
 
-pub page_at : (w : List ℕ) (base : ℕ) (hs : List Head) (p b : ℕ) (h : Head) → ArePages w base hs → p < length hs
+pub page_at : (w : List ℕ) (base : ℕ) (hs : List PageHead) (p b : ℕ) (h : PageHead) → ArePages w base hs → p < length hs
     → h ≡ get_or hs p h → b ≡ base + p * 4096 → Shows w b h (get_or (pages_of w base hs) p [])
 page_at w base [] p b h al lt e eb = absurd (omega arith)
 page_at w base (g ∷ hs) zero b h al lt e eb =
-    let F : Head → ℕ → Type 0 = λ k c. Shows w c k (frames_down g.count w base g.frame g.end) in
+    let F : PageHead → ℕ → Type 0 = λ k c. Shows w c k (frames_down g.count w base g.frame g.end) in
     let eb' : base ≡ b = omega arith in
     subst (λ k. F k b) (sym e) (subst (λ c. F g c) eb' (record { is = refl; page = al.0 }))
 page_at w base (g ∷ hs) (suc p) b h al lt e eb = page_at w (base + 4096) hs p b h al.1 (omega arith) e (omega arith)
 
-pub page_same : (v w : List ℕ) (base : ℕ) (h : Head) → Same v w base (base + 4096) → IsPageOfWords w base h
+pub page_same : (v w : List ℕ) (base : ℕ) (h : PageHead) → Same v w base (base + 4096) → IsPageOfWords w base h
     → (frames_down h.count v base h.frame h.end ≡ frames_down h.count w base h.frame h.end) × IsPageOfWords v base h
 page_same v w base h s pg =
     let le = pg.within in let low = base_below h.count w base h.frame h.end pg.stands in
     let r = frames_same h.count v w base h.frame h.end pg.stands (λ k a b. s k a (omega arith)) in
     (r.0, record { stands = r.1; within = le; free = no_link_same v w h.end (base + 4096) (λ k a b. s k (omega arith) b) pg.free })
 
-pub pages_same : (v w : List ℕ) (base : ℕ) (hs : List Head) → ArePages w base hs
+pub pages_same : (v w : List ℕ) (base : ℕ) (hs : List PageHead) → ArePages w base hs
     → ((k : ℕ) → base ≤ k → get_or v k 0 ≡ get_or w k 0) → (pages_of v base hs ≡ pages_of w base hs) × ArePages v base hs
 pages_same v w base [] al s = (refl, tt)
 pages_same v w base (h ∷ hs) al s =
@@ -53,7 +53,7 @@ pages_same v w base (h ∷ hs) al s =
 abbrev pub SameOff : List ℕ → List ℕ → ℕ → Type 0
 SameOff v w b = (k : ℕ) → (k < b) ⊎ (b + 4096 ≤ k) → get_or v k 0 ≡ get_or w k 0
 
-pub page_set : (v w : List ℕ) (base : ℕ) (hs : List Head) (p b : ℕ) (h : Head) → ArePages w base hs → p < length hs
+pub page_set : (v w : List ℕ) (base : ℕ) (hs : List PageHead) (p b : ℕ) (h : PageHead) → ArePages w base hs → p < length hs
     → b ≡ base + p * 4096 → SameOff v w b → IsPageOfWords v b h
     → (pages_of v base (set hs p h) ≡ set (pages_of w base hs) p (frames_down h.count v b h.frame h.end)) × ArePages v base (set hs p h)
 page_set v w base [] p b h al lt eb s pg = absurd (omega arith)
@@ -73,7 +73,7 @@ page_set v w base (g ∷ hs) (suc p) b h al lt eb s pg =
     )
 
 -- what a call that works on page p may use
-pub record Opened (w : List ℕ) (hs : List Head) (p : ℕ) (h : Head) (fs : List Frame) : Type 0 where
+pub record Opened (w : List ℕ) (hs : List PageHead) (p : ℕ) (h : PageHead) (fs : List Frame) : Type 0 where
   pub page_in : p < length hs
   pub is : fs ≡ frames_down h.count w (p * 4096) h.frame h.end
   pub page : IsPageOfWords w (p * 4096) h
@@ -83,7 +83,7 @@ pub record Opened (w : List ℕ) (hs : List Head) (p : ℕ) (h : Head) (fs : Lis
   pub small : length w ≤ 262144
   pub few : p < 64
 
-pub opened : {w : List ℕ} {hs : List Head} {ps : List (List Frame)} {h : Head} → AreFramesLaid w hs → pages_of w 0 hs ≡ ps → (p : ℕ)
+pub opened : {w : List ℕ} {hs : List PageHead} {ps : List (List Frame)} {h : PageHead} → AreFramesLaid w hs → pages_of w 0 hs ≡ ps → (p : ℕ)
     → p < length ps → h ≡ get_or hs p h → Opened w hs p h (frames_of ps p)
 opened {w} {hs} {ps} {h} laid e p lt eh =
     let in' : p < length hs = omega (arith, length-pages w 0 hs, ap length e) in
@@ -103,7 +103,7 @@ opened {w} {hs} {ps} {h} laid e p lt eh =
     }
 
 -- what a call owes that left page p with the head h
-pub closed : {v w : List ℕ} {hs : List Head} {ps : List (List Frame)} {p : ℕ} (h : Head) → AreFramesLaid w hs → pages_of w 0 hs ≡ ps → p < length hs
+pub closed : {v w : List ℕ} {hs : List PageHead} {ps : List (List Frame)} {p : ℕ} (h : PageHead) → AreFramesLaid w hs → pages_of w 0 hs ≡ ps → p < length hs
     → length v ≡ length w → SameOff v w (p * 4096) → IsPageOfWords v (p * 4096) h
     → AreFramesLaid v (set hs p h) × (pages_of v 0 (set hs p h) ≡ set ps p (frames_down h.count v (p * 4096) h.frame h.end))
 closed {v} {w} {hs} {ps} {p} h laid e lt len s pg =
@@ -114,8 +114,8 @@ closed {v} {w} {hs} {ps} {p} h laid e lt len s pg =
     )
 
 -- the frame that a reference names, which ends at `end`
-pub record Found (w : List ℕ) (hs : List Head) (ps : List (List Frame)) (r : FrameRef) : Type 0 where
-  pub head : Head
+pub record Found (w : List ℕ) (hs : List PageHead) (ps : List (List Frame)) (r : FrameRef) : Type 0 where
+  pub head : PageHead
   pub head_is : head ≡ get_or hs r.page head
   pub open' : Opened w hs r.page head (frames_of ps r.page)
   pub index_in' : index_in ps r < head.count
@@ -131,10 +131,10 @@ pub record Found (w : List ℕ) (hs : List Head) (ps : List (List Frame)) (r : F
   pub few : r.page < 64
   pub is : frame ps r ≡ frame_at w (r.page * 4096) (r.page * 4096 + r.at) end
 
-pub found : {w : List ℕ} {hs : List Head} {ps : List (List Frame)} → AreFramesLaid w hs → pages_of w 0 hs ≡ ps → (r : FrameRef)
+pub found : {w : List ℕ} {hs : List PageHead} {ps : List (List Frame)} → AreFramesLaid w hs → pages_of w 0 hs ≡ ps → (r : FrameRef)
     → IsFrame ps r → Found w hs ps r
 found {w} {hs} {ps} laid e r is =
-    let h0 : Head = record { frame = 0; end = 0; count = 0 } in
+    let h0 : PageHead = record { frame = 0; end = 0; count = 0 } in
     let h = get_or hs r.page h0 in
     let lt : r.page < length ps = page-IsFrame ps r is in
     let eh : h ≡ get_or hs r.page h = get_or_default hs r.page h0 h (omega (arith, length-pages w 0 hs, ap length e)) in
@@ -167,7 +167,7 @@ found {w} {hs} {ps} laid e r is =
     }
 
 -- a change inside a frame, not of its link, that makes of it what g does
-pub inner_done : (g : Frame → Frame) {w v : List ℕ} {hs : List Head} {ps : List (List Frame)} {r : FrameRef} → AreFramesLaid w hs → pages_of w 0 hs ≡ ps
+pub inner_done : (g : Frame → Frame) {w v : List ℕ} {hs : List PageHead} {ps : List (List Frame)} {r : FrameRef} → AreFramesLaid w hs → pages_of w 0 hs ≡ ps
     → (f : Found w hs ps r) → length v ≡ length w
     → ((j : ℕ) → (j ≤ r.page * 4096 + r.at) ⊎ (f.end ≤ j) → get_or v j 0 ≡ get_or w j 0)
     → IsWholeFrame v (r.page * 4096 + r.at) f.end
@@ -187,8 +187,8 @@ inner_done g {w} {v} {hs} {ps} {r} laid e f len s whole here =
       free = no_link_same v w h.end (b + 4096) (λ j a d. s j (inr (omega arith))) o.page.free;
     } in
     let x = closed h laid e o.page_in len (off s over high) pg in
-    let same : set hs r.page h ≡ hs = ap (λ (k' : Head). set hs r.page k') f.head_is ∙ set-get_or hs r.page h in
-    let G : List Head → Type 0 = λ ks. AreFramesLaid v ks × (pages_of v 0 ks ≡ on_frame ps r g) in
+    let same : set hs r.page h ≡ hs = ap (λ (k' : PageHead). set hs r.page k') f.head_is ∙ set-get_or hs r.page h in
+    let G : List PageHead → Type 0 = λ ks. AreFramesLaid v ks × (pages_of v 0 ks ≡ on_frame ps r g) in
     subst G same (x.0, x.1 ∙ ap (λ (fs : List Frame). set ps r.page fs) (c.0 ∙ ap (on_nth k g) (sym o.is)))
   where
     off : ((j : ℕ) → (j ≤ r.page * 4096 + r.at) ⊎ (f.end ≤ j) → get_or v j 0 ≡ get_or w j 0) → r.page * 4096 + r.at + 10 ≤ f.end → f.end ≤ r.page * 4096 + 4096

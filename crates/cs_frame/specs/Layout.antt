@@ -1,6 +1,6 @@
 -- How the words of the zone are read as frames: down the saved frame pointers from the last frame of a page.
 use Rattle.std.specs.Prelude.{◌≡◌, ◌≢◌, ℕ, zero, suc, ◌+◌, ◌-◌, ◌*◌, ◌/◌, ◌%◌, ◌^◌, ◌<◌, ◌≤◌, List, [], ◌∷◌, length, slice_index}
-use Rattle.cs_frame.specs.declared.Head.{Head}
+use Rattle.cs_frame.specs.declared.PageHead.{PageHead}
 use Rattle.cs_frame.specs.declared.Part.{Part}
 use Rattle.cs_frame.specs.declared.Part.TheVariants as part
 use Rattle.cs_frame.specs.Frame.{Frame, IsLink, IsPc, IsValue, with_caller, with_saved_pc, with_method, with_closure, with_context, with_receiver}
@@ -54,23 +54,23 @@ Stands zero w base fp sp = sp ≡ base
 Stands (suc n) w base fp sp = IsWholeFrame w fp sp × Stands n w base (below w fp) fp
 
 -- the page that begins at base has the head h: no word above its frames is a link
-pub record IsPageOfWords (w : List ℕ) (base : ℕ) (h : PageEnd) : Type 0 where
+pub record IsPageOfWords (w : List ℕ) (base : ℕ) (h : PageHead) : Type 0 where
   pub stands : Stands h.count w base h.frame h.end
   pub within : h.end ≤ base + 4096
   pub free : NoLink w h.end (base + 4096)
 
-abbrev pub ArePages : List ℕ → ℕ → List PageEnd → Type 0
+abbrev pub ArePages : List ℕ → ℕ → List PageHead → Type 0
 ArePages w base [] = Unit {0}
 ArePages w base (h ∷ hs) = IsPageOfWords w base h × ArePages w (base + 4096) hs
 
 -- the zone is 1 to 64 pages
-pub record AreFramesLaid (w : List ℕ) (hs : List PageEnd) : Type 0 where
+pub record AreFramesLaid (w : List ℕ) (hs : List PageHead) : Type 0 where
   pub few : length hs ≤ 64
   pub len : length w ≡ length hs * 4096
   pub pages : ArePages w 0 hs
 
 -- what the words mean
-abbrev pub pages_of : List ℕ → ℕ → List PageEnd → List (List Frame)
+abbrev pub pages_of : List ℕ → ℕ → List PageHead → List (List Frame)
 pages_of w base [] = []
 pages_of w base (h ∷ hs) = frames_down h.count w base h.frame h.end ∷ pages_of w (base + 4096) hs
 

@@ -1,6 +1,6 @@
 -- What the steps of making a frame leave in the zone.
 use Rattle.std.specs.Prelude.{◌≡◌, ℕ, zero, suc, ◌+◌, ◌*◌, ◌/◌, ◌%◌, ◌^◌, ◌<◌, ◌≤◌, List, [], ◌∷◌, length, slice_index}
-use Rattle.cs_frame.specs.declared.Head.{Head}
+use Rattle.cs_frame.specs.declared.PageHead.{PageHead}
 use Rattle.cs_frame.specs.declared.NewFrame.{NewFrame}
 
 -- the words outside i up to j are the same
@@ -31,6 +31,6 @@ pub record HasOverhead (w : List ℕ) (fp link sender : ℕ) (new : NewFrame) : 
   pub spare_is : slice_index w (fp + 9) ≡ 65536
 
 -- n pages without a frame, the first of which begins at base
-abbrev pub empty_heads : ℕ → ℕ → List Head
+abbrev pub empty_heads : ℕ → ℕ → List PageHead
 empty_heads base zero = []
 empty_heads base (suc n) = record { frame = base; end = base; count = 0 } ∷ empty_heads (base + 4096) n

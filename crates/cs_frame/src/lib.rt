@@ -18,7 +18,8 @@ ghost use Rattle.cs_frame.specs.Frame.{Frame, IsValue, IsPc, value_pushed, top_p
 ghost use Rattle.cs_frame.specs.Frame.{with_caller, with_saved_pc, with_method, with_closure, with_context};
 ghost use Rattle.cs_frame.specs.Frame.{with_receiver};
 ghost use Rattle.cs_frame.specs.Page.{frames_used, AreStacked, top, on_top, rest_of, frames_of, on_page, frame_ref};
-ghost use Rattle.cs_frame.specs.Page.{IsFrame, frame, caller_of, on_frame, IsTop, IsBase, called, HasArguments, HoldsValues};
+ghost use Rattle.cs_frame.specs.Page.{IsFrame, frame, caller_of, on_frame, IsTop, IsBase, called, HasArguments};
+ghost use Rattle.cs_frame.specs.Page.{HoldsValues};
 ghost use Rattle.cs_frame.specs.Layout.{part_of, with_part, CanHold, offset_of};
 ghost use Rattle.cs_frame.specs.Written.{empty_heads, SameOutside, AllAre, HasOverhead, half_word};
 
@@ -72,7 +73,7 @@ pub struct NewFrame {
 
 /// What is known of a page beside its words.
 #[derive(Clone, Copy)]
-struct Head {
+struct PageHead {
     /// Where the last frame begins, as a place in the zone.
     frame: u32,
     /// Where its stack ends, and with it the used part of the page.
@@ -120,7 +121,7 @@ fn place(f: FrameRef, k: u32) -> u32
 #[derive(Drop)]
 pub struct Frames {
     zone: Zone,
-    heads: Vec<Head>,
+    heads: Vec<PageHead>,
 }
 
 impl Model for Frames {
@@ -205,7 +206,7 @@ impl Frames {
         self.zone.copy(head.end - new.args, stack, new.args);
         write_overhead(&mut self.zone, &begin, &new);
         fill_nil(&mut self.zone, stack + new.args, new.fill);
-        self.heads[page as usize] = Head {
+        self.heads[page as usize] = PageHead {
             frame: begin.frame,
             end: stack + new.args + new.fill,
             count: head.count + 1,
@@ -225,7 +226,7 @@ impl Frames {
         let link = self.zone.get(head.frame);
         // No cell of a frame that is gone keeps a link.
         self.zone.set(head.frame, 0);
-        self.heads[page as usize] = Head {
+        self.heads[page as usize] = PageHead {
             frame: link / 8,
             end: head.frame,
             count: head.count - 1,
@@ -242,7 +243,7 @@ impl Frames {
         let page = f.page as usize;
         let head = self.heads[page];
         self.zone.set(head.end, v.0);
-        self.heads[page] = Head {
+        self.heads[page] = PageHead {
             frame: head.frame,
             end: head.end + 1,
             count: head.count,
@@ -261,7 +262,7 @@ impl Frames {
         let page = f.page as usize;
         let head = self.heads[page];
         let v = self.zone.get(head.end - 1);
-        self.heads[page] = Head {
+        self.heads[page] = PageHead {
             frame: head.frame,
             end: head.end - 1,
             count: head.count,
@@ -464,7 +465,7 @@ struct Begin {
 
 /// A base frame begins with its page, links to itself and holds its receiver for a sender. Any
 /// other frame begins where the receiver stands on its caller's stack.
-fn begin_of(first: u32, head: Head, new: &NewFrame) -> Begin
+fn begin_of(first: u32, head: PageHead, new: &NewFrame) -> Begin
     requires caller { 0 < head.count → new.now.args + 1 ≤ head.end }
     ensures base { head.count ≡ 0
         → (result.frame ≡ first) × (result.caller ≡ first) × (result.sender ≡ new.now.receiver.0) }
@@ -529,14 +530,14 @@ fn fill_nil(zone: &mut Zone, from: u32, n: u32)
     }
 }
 
-fn heads_of_empty_pages(alloc: Global, pages: u32) -> Result<Vec<Head>, NoMemory>
+fn heads_of_empty_pages(alloc: Global, pages: u32) -> Result<Vec<PageHead>, NoMemory>
     requires few { pages ≤ 64 }
     ensures heads { IfOk result (λ heads. heads.items ≡ empty_heads 0 pages) }
 {
     let mut heads = Vec::new(alloc);
     for page in 0..pages {
         let first = page * PAGE_WORDS;
-        heads.push(Head {
+        heads.push(PageHead {
             frame: first,
             end: first,
             count: 0,

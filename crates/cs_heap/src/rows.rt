@@ -8,7 +8,8 @@ ghost use Rattle.cs_model.specs.Words.{byte_in as byte_of_word};
 ghost use Rattle.cs_word.specs.Header.{header_bits, IsWritable};
 ghost use Rattle.cs_heap.specs.Object.{body_units as body_units_of, new_slot as new_slot_of};
 ghost use Rattle.cs_heap.specs.Object.{size, units, units_before as units_before_of, with_byte_in as word_with_byte};
-ghost use Rattle.cs_heap.specs.Layout.{address_from, count_in, unit_header, marked, overflow, row, unit_in, with_header};
+ghost use Rattle.cs_heap.specs.Layout.{address_from, count_in, unit_header, marked, overflow, row, unit_in};
+ghost use Rattle.cs_heap.specs.Layout.{with_header};
 
 use crate::BASE;
 use cs_word::{Header, Oop};

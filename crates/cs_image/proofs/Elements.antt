@@ -3,13 +3,14 @@ use Rattle.std.proofs.Common.{◌≡◌, ℕ, suc, ◌+◌, ◌*◌, ◌-◌, �
 use Rattle.std.proofs.lemmas.List.{get_or-map, get_or-drop, get_or-take, ext_get_or, length-map, length-take}
 use Rattle.std.specs.List.{take-map, drop-map}
 use Rattle.std.proofs.lemmas.Bool.Decides.{nat_tests}
+use Rattle.cs_word.specs.Word.{natural_of_word}
 use Rattle.cs_model.specs.Obj.{Head, Ptr, Raw, Method, Ctx, context_class, literal_count}
 use Rattle.cs_model.specs.Image.{head_in}
 use Rattle.cs_model.specs.Words.{obj_by, plain, context_by, ref_by, natural_in_word, is_pointer_format, is_method_format, plain_format, header_in_words, literals_in_words, bytecodes_in_words, bytes_in_words, stackp_in_words, unused_bytes, bytes_of_words}
 use Rattle.cs_model.specs.ImageFile.{FileObject, File}
 use Rattle.cs_model.specs.ImageFault.{is_lost}
 use Rattle.cs_heap.specs.Object.{Object}
-use Rattle.cs_classes.specs.Meaning.{head_of, ref_of, count_of, obj_of, context_of, method_meaning, used_bytes, depth_in, code_in, literal_words, method_header}
+use Rattle.cs_classes.specs.Meaning.{head_of, ref_of, obj_of, context_of, method_meaning, used_bytes, depth_in, code_in, literal_words, method_header}
 use Rattle.cs_classes.proofs.Sorts.{obj_of-bytes, obj_of-method, obj_of-pointers}
 use Rattle.cs_image.specs.Loading.{translated, loaded}
 use Rattle.cs_image.proofs.Wording.{memory_of, meant, ref_translated, count_same, count_translated, loaded_words, length-loaded_words, get_loaded, words_pointers, words_raw, method_head, method_literals, IsMethodOf, word_stays}
@@ -33,11 +34,6 @@ none_lost_drop f n ws h i g = ap (is_lost f) (get_or-drop n ws i 0) ∙ h (n + i
 pub refs_same : (births : List ℕ) (f : File) (ws : List ℕ) → NoneLost f ws → map (ref_of (memory_of births f)) (map (translated f) ws) ≡ map (ref_by (meant births f)) ws
 refs_same births f [] h = refl
 refs_same births f (w ∷ ws) h = λ i. ref_translated births f w (h 0 (omega arith)) i ∷ refs_same births f ws (none_lost_tail f w ws h) i
-
-bytes_same : (ws : List ℕ) → bytes_of_words ws ≡ bytes_of_words ws
-unfolding bytes_of_words bytes_of_words
-bytes_same [] = refl
-bytes_same (w ∷ ws) = ap (λ (bs : List ℕ). w / 256 ^ 0 % 256 ∷ w / 256 ^ 1 % 256 ∷ w / 256 ^ 2 % 256 ∷ w / 256 ^ 3 % 256 ∷ bs) (bytes_same ws)
 
 -- the object that stands in memory
 abbrev pub standing : File → ℕ → FileObject → Object
@@ -82,8 +78,8 @@ context_same births f hash ws long fine = λ i. record {
     at : (k : ℕ) → k < length ws → ref_of (memory_of births f) (get_or (map (translated f) ws) k 0) ≡ ref_by (meant births f) (get_or ws k 0)
     at k h = ap (ref_of (memory_of births f)) (read k h) ∙ ref_translated births f (get_or ws k 0) (fine k h)
 
-    count : (k : ℕ) → k < length ws → count_of (get_or (map (translated f) ws) k 0) ≡ natural_in_word (get_or ws k 0)
-    count k h = ap count_of (read k h) ∙ count_translated f (get_or ws k 0)
+    count : (k : ℕ) → k < length ws → natural_of_word (get_or (map (translated f) ws) k 0) ≡ natural_in_word (get_or ws k 0)
+    count k h = ap natural_of_word (read k h) ∙ count_translated f (get_or ws k 0)
 
     depth : depth_in (map (translated f) ws) ≡ stackp_in_words ws
     depth = ap (λ (n : Option ℕ). unwrap_or n 0) (count 2 (omega (arith, long)))
@@ -122,7 +118,7 @@ method_code f format words m = ext_get_or 0 (drop (1 + n) (loaded_words f format
     stays false d h = rw m.pointers refl
 
 pub header_loaded : (f : File) (j : ℕ) (o : FileObject) → is_pointer_format o.format ≡ false → 0 < length o.words → method_header (loaded_words f o.format o.words) ≡ header_in_words o.words
-header_loaded f j o p h = ap (λ (n : Option ℕ). unwrap_or n 0) (ap count_of (method_head f o.format o.words p h) ∙ count_same (get_or o.words 0 0))
+header_loaded f j o p h = ap (λ (n : Option ℕ). unwrap_or n 0) (ap natural_of_word (method_head f o.format o.words p h) ∙ count_same (get_or o.words 0 0))
 
 method_same : (births : List ℕ) (f : File) (j : ℕ) (o : FileObject) → (o.class == context_class) ≡ false → IsMethodOf f o.format o.words → plain_format o.format ≡ o.format → NoneLost f (literals_in_words o.words)
     → method_meaning (ref_of (memory_of births f)) (loaded f j o)
@@ -134,7 +130,7 @@ method_same births f j o other m same fine = λ i. Method (head_other f j o othe
     ws = loaded_words f o.format o.words
 
     header : method_header ws ≡ header_in_words o.words
-    header = ap (λ (n : Option ℕ). unwrap_or n 0) (ap count_of (method_head f o.format o.words m.pointers (omega (arith, m.fits))) ∙ count_same (get_or o.words 0 0))
+    header = ap (λ (n : Option ℕ). unwrap_or n 0) (ap natural_of_word (method_head f o.format o.words m.pointers (omega (arith, m.fits))) ∙ count_same (get_or o.words 0 0))
 
     literals : map (ref_of (memory_of births f)) (literal_words ws) ≡ map (ref_by (meant births f)) (literals_in_words o.words)
     literals = ap (λ n. map (ref_of (memory_of births f)) (take (literal_count n) (drop 1 ws))) header
@@ -146,7 +142,6 @@ method_same births f j o other m same fine = λ i. Method (head_other f j o othe
     code : used_bytes (plain_format o.format) (code_in ws) ≡ bytecodes_in_words o.format o.words
     code = ap (λ n. used_bytes n (code_in ws)) same ∙ ap (used_bytes o.format) words_code
         ∙ ap (λ n. take (4 * n - unused_bytes o.format) (bytes_of_words (drop (1 + literal_count (header_in_words o.words)) o.words))) (length-drop (1 + literal_count (header_in_words o.words)) o.words)
-        ∙ ap (take (4 * (length o.words - (1 + literal_count (header_in_words o.words))) - unused_bytes o.format)) (bytes_same (drop (1 + literal_count (header_in_words o.words)) o.words))
 
 -- ---- all four sorts
 
@@ -174,7 +169,7 @@ unfolding obj_of obj_by method_meaning
 object_same births f j o fine = go (o.class == context_class) (is_pointer_format o.format) (is_method_format o.format) refl refl refl
   where
     raw_bytes : (a b : ℕ) (xs ys : List ℕ) → a ≡ b → xs ≡ ys → used_bytes a xs ≡ bytes_in_words b ys
-    raw_bytes a b xs ys e h = ap (λ n. used_bytes n xs) e ∙ ap (used_bytes b) h ∙ ap (take (4 * length ys - unused_bytes b)) (bytes_same ys)
+    raw_bytes a b xs ys e h = ap (λ n. used_bytes n xs) e ∙ ap (used_bytes b) h
 
     go : (b c d : Bool) → (o.class == context_class) ≡ b → is_pointer_format o.format ≡ c → is_method_format o.format ≡ d
         → obj_of (ref_of (memory_of births f)) (loaded f j o) ≡ obj_by (meant births f) (head_in o) o.words

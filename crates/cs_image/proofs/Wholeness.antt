@@ -8,6 +8,7 @@ use Rattle.std.specs.FinMap.{FinMap, get, get-empty, get-insert, insert}
 use Rattle.std.proofs.lemmas.Bool.Decides.{nat_tests, eqb_tells}
 use Rattle.std.proofs.lemmas.List.{get_or-drop, get_or-map, length-map, length-take}
 use Rattle.std.proofs.lemmas.Option.{slice_get_past, slice_get_within}
+use Rattle.cs_word.specs.Word.{natural_of_word}
 use Rattle.cs_model.specs.Obj.{context_class, context_fields, literal_count, is_header}
 use Rattle.cs_model.specs.Words.{is_pointer_format, is_method_format, has_shape, plain_format, natural_in_word, header_in_words, literals_in_words, stackp_in_words, unused_bytes}
 use Rattle.cs_model.specs.ImageFile.{FileObject, File, file_of, old_base, special_address, is_visible, visible, is_nil_word, nil_in, named, names, address_in}
@@ -21,7 +22,7 @@ use Rattle.cs_image.proofs.Finding.{find-number}
 use Rattle.cs_heap.specs.Object.{Object, address_among, address_of, base, class_at, format_at, header_address, is_object, no_flags, heap_object, slot_count_of}
 use Rattle.cs_heap.specs.Format.{format_allows}
 use Rattle.cs_word.specs.Header.{flag_bits, with_immutable}
-use Rattle.cs_classes.specs.Meaning.{count_of, depth_in, method_header}
+use Rattle.cs_classes.specs.Meaning.{depth_in, method_header}
 use Rattle.cs_classes.specs.Sound.{is_closure_address, is_method_address, is_sender, is_weak, IsImageHeader, AreSoundObjects, IsSoundClass, IsSoundHeader, IsSoundTable, IsSpecialArray, is_reference, nil_word, references_in, IsSoundContext, IsSoundMethod, IsSoundObject, IsWhole}
 use Rattle.cs_classes.specs.declared.Roots.{Roots}
 use Rattle.cs_classes.proofs.Tables.{ties_same, ties_other}
@@ -148,7 +149,7 @@ same_test a b e = grind (arith, nat_tests, e)
 
 -- a field that is nil or a number that isn't negative
 nil_or_count : (births : List ℕ) (f : File) → f.base % 4 ≡ 0 → (s : Firsts f) → (w : ℕ) → (is_nil_word f w ≡ true) ⊎ (is_some (natural_in_word w) ≡ true)
-    → (translated f w == nil_word (memory_of births f) || is_some (count_of (translated f w))) ≡ true
+    → (translated f w == nil_word (memory_of births f) || is_some (natural_of_word (translated f w))) ≡ true
 nil_or_count births f aligned s w (inl h) =
     let e : w ≡ nil_in f = equal w (nil_in f) h in
     or_left _ _ (same_test _ _ (ap (translated f) e ∙ translated_nil births f aligned s))
@@ -375,7 +376,7 @@ context_sound births f special j o g c = record {
   pc = at 1 (omega (arith, c.long)) c.pc;
   stackp = at 2 (omega (arith, c.long)) c.stackp;
   depth =
-      let d : depth_in (loaded_words f o.format o.words) ≡ stackp_in_words o.words = ap (λ (r : Option ℕ). unwrap_or r 0) (ap count_of (read 2 (omega (arith, c.long))) ∙ count_translated f (get_or o.words 2 0)) in
+      let d : depth_in (loaded_words f o.format o.words) ≡ stackp_in_words o.words = ap (λ (r : Option ℕ). unwrap_or r 0) (ap natural_of_word (read 2 (omega (arith, c.long))) ∙ count_translated f (get_or o.words 2 0)) in
       let w = c.depth in
       let l = length-loaded_words f o.format o.words in
       omega (arith, d, w, l);
@@ -394,8 +395,8 @@ context_sound births f special j o g c = record {
     read k h = ap (λ (ws : List ℕ). get_or ws k 0) words ∙ get_or-map (translated f) o.words k 0 0 h
 
     at : (k : ℕ) → k < length o.words → (is_nil_word f (get_or o.words k 0) ≡ true) ⊎ (is_some (natural_in_word (get_or o.words k 0)) ≡ true)
-        → (get_or (loaded_words f o.format o.words) k 0 == nil_word (memory_of births f) || is_some (count_of (get_or (loaded_words f o.format o.words) k 0))) ≡ true
-    at k h d = ap (λ w. w == nil_word (memory_of births f) || is_some (count_of w)) (read k h) ∙ nil_or_count births f g.aligned g.first (get_or o.words k 0) d
+        → (get_or (loaded_words f o.format o.words) k 0 == nil_word (memory_of births f) || is_some (natural_of_word (get_or (loaded_words f o.format o.words) k 0))) ≡ true
+    at k h d = ap (λ w. w == nil_word (memory_of births f) || is_some (natural_of_word w)) (read k h) ∙ nil_or_count births f g.aligned g.first (get_or o.words k 0) d
 
 header_known : (r : Option ℕ) → option_map_or is_header r false ≡ true → r ≡ Some (unwrap_or r 0)
 header_known None h = absurd (cc)
@@ -414,7 +415,7 @@ method_from f j o p known fits =
     let R : ℕ → Type 0 = λ n. literal_count (method_header (loaded_words f o.format o.words)) + (cond (ltb 0 (unused_bytes o.format)) 1 0) < n in
     let S : ℕ → Type 0 = λ u. literal_count (method_header (loaded_words f o.format o.words)) + (cond (ltb 0 (unused_bytes u)) 1 0) < length (loaded_words f o.format o.words) in
     record {
-      header = ap count_of (method_head f o.format o.words p (omega (arith, fits))) ∙ count_same (get_or o.words 0 0) ∙ header_known (natural_in_word (get_or o.words 0 0)) known ∙ ap Some (sym header);
+      header = ap natural_of_word (method_head f o.format o.words p (omega (arith, fits))) ∙ count_same (get_or o.words 0 0) ∙ header_known (natural_in_word (get_or o.words 0 0)) known ∙ ap Some (sym header);
       valid = ap is_header header ∙ header_valid (natural_in_word (get_or o.words 0 0)) known;
       literals = subst S (sym (plain_others o.format p)) (subst R (sym l) (subst Q (sym header) fits));
     }

@@ -5,6 +5,7 @@ use Rattle.std.proofs.lemmas.List.FromFn.{get_or-map-range_with_len, length-map-
 use Rattle.std.proofs.lemmas.Bool.Decides.{nat_tests, eqb_tells}
 use Rattle.std.specs.Option.{option_map_or}
 use Rattle.std.specs.List.{range_with_len}
+use Rattle.cs_word.specs.Word.{natural_by_kind, natural_of_word}
 use Rattle.cs_word.specs.declared.Kind.TheVariants as kind
 use Rattle.cs_model.specs.Ref.{Ref}
 use Rattle.cs_model.specs.Ref as ref
@@ -14,7 +15,7 @@ use Rattle.cs_model.specs.ImageFile.{FileObject, File, is_visible, visible, name
 use Rattle.cs_model.specs.ImageFault.{is_lost}
 use Rattle.cs_model.specs.Image.{birth_in}
 use Rattle.cs_heap.specs.Object.{Object, base, header_address, size}
-use Rattle.cs_classes.specs.Meaning.{ref_of, count_of, count_of_kind}
+use Rattle.cs_classes.specs.Meaning.{ref_of}
 use Rattle.cs_classes.specs.Sound.{is_reference}
 use Rattle.cs_classes.proofs.Refs.{ref_of-object, is_reference-object}
 use Rattle.cs_image.specs.Loading.{number_that, addresses_of, address_named, translated, refers, loaded_word, loaded_from}
@@ -134,13 +135,13 @@ even_address f word = go (number_that (λ o. address_in f o == word) f.objects)
     go None = refl
     go (Some k) = even_addresses f.objects 0 k
 
-count_even : (word : ℕ) → word % 2 ≡ 0 → count_of word ≡ None
-unfolding count_of
+count_even : (word : ℕ) → word % 2 ≡ 0 → natural_of_word word ≡ None
+unfolding natural_of_word
 count_even word e =
     let b : (word % 2 == 1) ≡ false = no_test _ _ (λ z. absurd (omega (arith, e, z))) in
     rw b (go (word % 4 == 2) (word % 8 == 0))
   where
-    go : (c d : Bool) → count_of_kind (cond c (kind.Character (word / 4)) (cond d (kind.Object word) (kind.Link word))) ≡ None
+    go : (c d : Bool) → natural_by_kind (cond c (kind.Character (word / 4)) (cond d (kind.Object word) (kind.Link word))) ≡ None
     go true d = refl
     go false true = refl
     go false false = refl
@@ -148,19 +149,19 @@ count_even word e =
 pub natural_even : (word : ℕ) → word % 2 ≡ 0 → natural_in_word word ≡ None
 natural_even word e = let b : (word % 2 == 1) ≡ false = no_test _ _ (λ z. absurd (omega (arith, e, z))) in rw b refl
 
-pub count_same : (word : ℕ) → count_of word ≡ natural_in_word word
-unfolding count_of
+pub count_same : (word : ℕ) → natural_of_word word ≡ natural_in_word word
+unfolding natural_of_word
 count_same word = elim (eqb_tells (word % 2) 1) [ inl h ↦ odd h.0 | inr h ↦ let e : word % 2 ≡ 0 = omega (arith, h.1) in count_even word e ∙ sym (natural_even word e) ]
   where
-    odd : (word % 2 == 1) ≡ true → count_of word ≡ natural_in_word word
+    odd : (word % 2 == 1) ≡ true → natural_of_word word ≡ natural_in_word word
     odd b = rw b refl
 
-pub count_translated : (f : File) (word : ℕ) → count_of (translated f word) ≡ natural_in_word word
+pub count_translated : (f : File) (word : ℕ) → natural_of_word (translated f word) ≡ natural_in_word word
 count_translated f word = elim (eqb_tells (word % 4) 0) [
   | inl h ↦
       let t : translated f word ≡ address_named f word = rw h.0 refl in
-      ap count_of t ∙ count_even (address_named f word) (even_address f word) ∙ sym (natural_even word (omega (arith, h.1)))
-  | inr h ↦ let t : translated f word ≡ word = rw h.0 refl in ap count_of t ∙ count_same word
+      ap natural_of_word t ∙ count_even (address_named f word) (even_address f word) ∙ sym (natural_even word (omega (arith, h.1)))
+  | inr h ↦ let t : translated f word ≡ word = rw h.0 refl in ap natural_of_word t ∙ count_same word
 ]
 
 -- ---- the words of an object

@@ -2,7 +2,8 @@
 
 ghost use Rattle.std.specs.Prelude.{◌≡◌, ◌<◌, ◌≤◌, ◌+◌, ◌-◌, ◌^◌, ◌==◌, ◌||◌, ◌&&◌, not, IfSome, length};
 ghost use Rattle.cs_model.specs.ImageFile.{is_nil_word, is_visible, names};
-ghost use Rattle.cs_model.specs.ImageFault.{bad_context, is_file_context, is_file_method, is_pc_of, is_sound_context, is_stackp};
+ghost use Rattle.cs_model.specs.ImageFault.{bad_context, is_file_context, is_file_method, is_pc_of};
+ghost use Rattle.cs_model.specs.ImageFault.{is_sound_context, is_stackp};
 ghost use Rattle.cs_image.specs.Heap.{seen};
 
 use crate::cut::word_at;

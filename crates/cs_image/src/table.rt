@@ -90,7 +90,8 @@ pub(crate) fn entry(file: &FileHeap, index: u32) -> u32
 
 /// A page of the class table by its number.
 fn page(file: &FileHeap, number: u32) -> Option<FileObject<'_>>
-    ensures { option_map seen result ≡ option_and_then (unless_nil file.now) (slice_get (page_addresses file.now) number) }
+    ensures { option_map seen result
+        ≡ option_and_then (unless_nil file.now) (slice_get (page_addresses file.now) number) }
 {
     let pages = pages(file);
     if (number as usize) < pages.len() {

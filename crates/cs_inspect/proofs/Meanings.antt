@@ -15,15 +15,14 @@ use Rattle.cs_heap.specs.Object.{Object, class_at, format_at, hash_at, is_object
 use Rattle.cs_model.specs.Obj.{Obj, Ptr, Raw, Method, Ctx, literal_count}
 use Rattle.cs_model.specs.Print.{bytes_text, context_text, object_text, pc_text, ref_text, refs_text}
 use Rattle.cs_model.specs.Ref.{Ref}
-use Rattle.cs_classes.specs.Meaning.{code_in, context_of, count_of, depth_in, method_header, literal_words, meaning_at, obj_of, ref_of, used_bytes}
+use Rattle.cs_classes.specs.Meaning.{code_in, context_of, depth_in, method_header, literal_words, meaning_at, obj_of, ref_of, used_bytes}
 use Rattle.cs_classes.specs.Sound.{AreSoundObjects, is_reference, is_sender}
 use Rattle.cs_classes.proofs.Heaps.{object_there}
 use Rattle.cs_classes.proofs.Sorts.{obj_of-bytes, obj_of-context, obj_of-method, obj_of-pointers, references-method}
 use Rattle.cs_classes.proofs.Sounds.{method_other, whole_context}
 use Rattle.cs_inspect.specs.Reading.{context_seen, names_object, method_at, pointers_at, raw_at}
-use Rattle.cs_inspect.specs.Texts.{activation_text, object_text_at, activation_text}
+use Rattle.cs_inspect.specs.Texts.{activation_text, object_text_at}
 use Rattle.cs_inspect.proofs.Reading.{bytes_of-drop, length-words_at, there, word_is}
-use Rattle.cs_inspect.proofs.Texts.{natural_is}
 
 -- ---- formats
 
@@ -123,7 +122,7 @@ raw_whole os a n u e f =
 
 -- a method's header, literals and bytecodes
 pub record MethodThere (os : List Object) (a : ℕ) : Type 0 where
-  pub header : count_of (slot_of os a 0) ≡ Some (method_header (words_at os a))
+  pub header : natural_of_word (slot_of os a 0) ≡ Some (method_header (words_at os a))
   pub other : (class_at os a == 36) ≡ false
   pub slots : literal_count (method_header (words_at os a)) < slot_count_of os a
   pub unused : unused_bytes (format_at os a) ≤ 4 * (slot_count_of os a - (1 + literal_count (method_header (words_at os a))))
@@ -138,7 +137,7 @@ method_there os a sound h m =
     let count : literal_count (method_header (words_at os a)) ≡ literal_count (method_header t.x.words) = ap (λ (ws : List ℕ). literal_count (method_header ws)) words in
     let all : AllPass (is_reference os) (literal_words t.x.words) = subst (AllPass (is_reference os)) (references-method t.x method) t.sound.references in
     record {
-      header = ap count_of (t.slot 0) ∙ parts.header ∙ ap (λ (ws : List ℕ). Some (method_header ws)) (sym words);
+      header = ap natural_of_word (t.slot 0) ∙ parts.header ∙ ap (λ (ws : List ℕ). Some (method_header ws)) (sym words);
       other = ap (λ (n : ℕ). n == 36) t.class ∙ method_other os t.x t.sound method;
       slots = omega (arith, parts.literals, count, t.count);
       unused = few t.x.format (literal_count (method_header t.x.words)) (length t.x.words) (format_at os a) (slot_count_of os a) (literal_count (method_header (words_at os a))) method parts.literals t.format t.count count;
@@ -215,7 +214,7 @@ regroup_context a h b n c s d p e m f k g r z t = simp append_assoc
 
 abbrev context_shape : List Object → ℕ → ℕ → ℕ → ℕ → ℕ → ℕ → ℕ → List Ref → List ℕ
 context_shape os hash x s p m c r rs = (codes " context hash=" ++ decimal hash) ++ (codes " size=" ++ decimal x)
-    ++ (codes " sender=" ++ ref_text (ref_of os s) ++ codes " pc=" ++ pc_text (count_of p))
+    ++ (codes " sender=" ++ ref_text (ref_of os s) ++ codes " pc=" ++ pc_text (natural_of_word p))
     ++ (codes " method=" ++ ref_text (ref_of os m) ++ (codes " closure=" ++ ref_text (ref_of os c)) ++ (codes " receiver=" ++ ref_text (ref_of os r)) ++ codes ":")
     ++ refs_text rs
 
@@ -238,24 +237,24 @@ context_whole os a h n d g e f =
     ∙ ap (λ (v : ℕ). context_shape os hash size (slice_index ws 0) (slice_index ws 1) v (slot_of os a 4) (slot_of os a 5) stack) (sym (word_is os a 3))
     ∙ ap (λ (v : ℕ). context_shape os hash size (slice_index ws 0) (slice_index ws 1) (slice_index ws 3) v (slot_of os a 5) stack) (sym (word_is os a 4))
     ∙ ap (λ (v : ℕ). context_shape os hash size (slice_index ws 0) (slice_index ws 1) (slice_index ws 3) (slice_index ws 4) v stack) (sym (word_is os a 5))
-    ∙ regroup_context (codes " context hash=") (decimal hash) (codes " size=") (decimal size) (codes " sender=") (ref_text (ref_of os (slice_index ws 0))) (codes " pc=") (pc_text (count_of (slice_index ws 1)))
+    ∙ regroup_context (codes " context hash=") (decimal hash) (codes " size=") (decimal size) (codes " sender=") (ref_text (ref_of os (slice_index ws 0))) (codes " pc=") (pc_text (natural_of_word (slice_index ws 1)))
     (codes " method=") (ref_text (ref_of os (slice_index ws 3))) (codes " closure=") (ref_text (ref_of os (slice_index ws 4))) (codes " receiver=") (ref_text (ref_of os (slice_index ws 5))) (codes ":") (refs_text stack)
 
 -- ---- what is read of a method's header and of a stackp
 
 pub header_read : (os : List Object) (a h w : ℕ) → MethodThere os a → Some h ≡ natural_of_word w → w ≡ slot_of os a 0 → h ≡ method_header (words_at os a)
 header_read os a h w t e is =
-    let same : Some h ≡ Some (method_header (words_at os a)) = e ∙ natural_is w ∙ ap count_of is ∙ t.header in
+    let same : Some h ≡ Some (method_header (words_at os a)) = e ∙ ap natural_of_word is ∙ t.header in
     ap (λ (o : Option ℕ). unwrap_or o 0) same
 
 pub no_header : (os : List Object) (a w : ℕ) (r : Option MethodHeader) → MethodThere os a → r ≡ None → option_map (λ header. header.0) r ≡ natural_of_word w → w ≡ slot_of os a 0 → ⊥
 no_header os a w r t none e is =
-    let gone : None ≡ Some (method_header (words_at os a)) = sym (ap (option_map (λ (header : MethodHeader). header.0)) none) ∙ e ∙ natural_is w ∙ ap count_of is ∙ t.header in
+    let gone : None ≡ Some (method_header (words_at os a)) = sym (ap (option_map (λ (header : MethodHeader). header.0)) none) ∙ e ∙ ap natural_of_word is ∙ t.header in
     cc
 
 pub depth_read : (os : List Object) (a d w : ℕ) (r : Option ℕ) → d ≡ unwrap_or r 0 → r ≡ natural_of_word w → w ≡ slot_of os a 2 → d ≡ depth_in (words_at os a)
 depth_read os a d w r e f is =
-    e ∙ ap (λ (o : Option ℕ). unwrap_or o 0) (f ∙ natural_is w ∙ ap count_of (is ∙ sym (word_is os a 2)))
+    e ∙ ap (λ (o : Option ℕ). unwrap_or o 0) (f ∙ ap natural_of_word (is ∙ sym (word_is os a 2)))
 
 pub method_unused : (os : List Object) (a f : ℕ) → f ≡ format_at os a → is_code (format_at os a) ≡ true → f - 24 ≡ unused_bytes (format_at os a)
 method_unused os a f e m = ap (λ (g : ℕ). g - 24) e ∙ go (format_at os a) m

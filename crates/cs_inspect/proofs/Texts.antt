@@ -12,7 +12,7 @@ use Rattle.cs_word.specs.Word.{kind_of, natural_by_kind, natural_of_word}
 use Rattle.cs_heap.specs.Object.{Object, birth_at, byte_of, class_at, is_object, slot_count_of, slot_of, words_at}
 use Rattle.cs_model.specs.Ref.{Ref}
 use Rattle.cs_model.specs.Print.{byte_text, bytes_text, ref_text, refs_text}
-use Rattle.cs_classes.specs.Meaning.{count_of, count_of_kind, ref_of, ref_of_kind}
+use Rattle.cs_classes.specs.Meaning.{ref_of, ref_of_kind}
 use Rattle.cs_classes.specs.Sound.{is_reference, is_reference_kind, is_sender, is_sender_kind, nil_word}
 use Rattle.cs_inspect.specs.Reading.{names_object}
 use Rattle.cs_inspect.proofs.Reading.{byte_is, length-bytes_at, length-words_at, word_is}
@@ -114,18 +114,6 @@ some_bytes from end bs less within = go (take (end - from) (drop from bs)) (omeg
     go : (us : List ℕ) → 0 < length us → codes " " ++ flat_map byte_text us ≡ bytes_text us
     go [] h = absurd (omega (arith, h))
     go (u ∷ us) h = refl
-
--- ---- pcs
-
-pub natural_is : (w : ℕ) → natural_of_word w ≡ count_of w
-unfolding natural_of_word count_of
-natural_is w = go (kind_of w)
-  where
-    go : (k : Kind) → natural_by_kind k ≡ count_of_kind k
-    go (kind.Small z) = refl
-    go (kind.Character c) = refl
-    go (kind.Object a) = refl
-    go (kind.Link l) = refl
 
 -- ---- references by their kinds
 

@@ -1,10 +1,11 @@
 -- The printed text of what is read of a heap.
 use Rattle.std.specs.Prelude.{ℕ, List, [], ◌++◌, codes, decimal}
 use Rattle.std.specs.Option.{option_map_or}
+use Rattle.cs_word.specs.Word.{natural_of_word}
 use Rattle.cs_word.specs.declared.Oop.{Oop}
 use Rattle.cs_heap.specs.Object.{Object, birth_at, slot_of}
 use Rattle.cs_model.specs.Print.{object_text, pc_text, ref_text}
-use Rattle.cs_classes.specs.Meaning.{count_of, meaning_at, ref_of}
+use Rattle.cs_classes.specs.Meaning.{meaning_at, ref_of}
 
 -- the text of the object at an address
 abbrev pub object_text_at : List Object → ℕ → List ℕ
@@ -20,7 +21,7 @@ slot_text objects a name slot = name ++ ref_text (ref_of objects (slot_of object
 
 -- where a context stands, and what it is an activation of
 abbrev pub activation_text : List Object → ℕ → List ℕ
-activation_text objects a = slot_text objects a (codes " sender=") 0 ++ codes " pc=" ++ pc_text (count_of (slot_of objects a 1))
+activation_text objects a = slot_text objects a (codes " sender=") 0 ++ codes " pc=" ++ pc_text (natural_of_word (slot_of objects a 1))
 
 abbrev pub activation_text : List Object → ℕ → List ℕ
 activation_text objects a = slot_text objects a (codes " method=") 3 ++ slot_text objects a (codes " closure=") 4

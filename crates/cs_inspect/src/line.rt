@@ -7,7 +7,7 @@ ghost use Rattle.cs_heap.specs.Object.{class_at, format_at, hash_at, is_object, 
 ghost use Rattle.cs_model.specs.Print.{context_text, object_text};
 ghost use Rattle.cs_classes.specs.Sound.{AreSoundObjects};
 ghost use Rattle.cs_inspect.specs.Reading.{context_seen, names_object, method_at, pointers_at, raw_at};
-ghost use Rattle.cs_inspect.specs.Texts.{activation_text, line_at, object_text_at, activation_text, slot_text};
+ghost use Rattle.cs_inspect.specs.Texts.{activation_text, line_at, object_text_at, slot_text};
 
 use crate::text::{
     push_bytes, push_field, push_number, push_pc, push_reference, push_references, push_text,
@@ -149,7 +149,8 @@ fn push_method_head(
     requires { is_object heap.now.objects o.0 ≡ true }
     ensures { OnOk result (text.new.items ≡ text.old.items
         ++ (codes " method class=" ++ decimal (class_at heap.now.objects o.0)
-        ++ codes " hash=" ++ decimal (hash_at heap.now.objects o.0) ++ codes " header=" ++ decimal header.0 ++ codes ":")) }
+        ++ codes " hash=" ++ decimal (hash_at heap.now.objects o.0)
+        ++ codes " header=" ++ decimal header.0 ++ codes ":")) }
 {
     push_field(text, " method class=", heap.class_index(o))?;
     push_field(text, " hash=", heap.hash(o))?;

@@ -2,10 +2,11 @@
 
 ghost use Rattle.std.specs.Prelude.{◌≡◌, ℕ, ◌-◌, ◌*◌, ◌<◌, ◌≤◌, ◌++◌, true, OnOk};
 ghost use Rattle.std.specs.Prelude.{drop, flat_map, map, take};
+ghost use Rattle.cs_word.specs.Word.{natural_of_word};
 ghost use Rattle.cs_model.specs.Words.{bytes_of_words};
 ghost use Rattle.cs_heap.specs.Object.{slot_count_of, slot_of, words_at};
 ghost use Rattle.cs_model.specs.Print.{byte_text, bytes_text, pc_text, ref_text, refs_text};
-ghost use Rattle.cs_classes.specs.Meaning.{count_of, ref_of};
+ghost use Rattle.cs_classes.specs.Meaning.{ref_of};
 ghost use Rattle.cs_classes.specs.Sound.{is_reference};
 ghost use Rattle.cs_inspect.specs.Reading.{names_object};
 
@@ -135,7 +136,7 @@ pub(crate) fn push_bytes(
 
 /// Appends the pc that a word says: a number, or nil.
 pub(crate) fn push_pc(text: &mut Vec<u8>, word: Oop) -> Result<(), AllocError>
-    ensures { OnOk result (text.new.items ≡ text.old.items ++ pc_text (count_of word.0)) }
+    ensures { OnOk result (text.new.items ≡ text.old.items ++ pc_text (natural_of_word word.0)) }
 {
     match word.natural() {
         Some(pc) => push_number(text, pc),

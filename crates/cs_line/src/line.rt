@@ -6,7 +6,7 @@ ghost use Rattle.std.specs.Option.{option_map_or};
 ghost use Rattle.clap.specs.Words.{app_of, found_of, kind_of, with_rule};
 ghost use Rattle.cs_model.specs.CommandLine as model;
 ghost use Rattle.cs_model.specs.CommandLine.{Part, is_short_name, line_in as line_in_parts};
-ghost use Rattle.cs_line.specs.Possible.{is_possible, line_of, possible};
+ghost use Rattle.cs_line.specs.Possible.{is_possible, is_simple_run, line_of, possible};
 ghost use Rattle.cs_model.specs.Text.{number_between};
 ghost use Rattle.cs_line.specs.LineApp.{flag_rule, line_app, option_rule, place_rule};
 ghost use Rattle.cs_line.specs.Meaning.{command_by, line_by, name_by, options_by};
@@ -291,7 +291,7 @@ impl Options<'_> {
 
     /// Whether a run needs no more than the machine can do today.
     fn is_simple_run(&self) -> bool
-        ensures { result ≡ model.is_simple_run (options_by self.now) }
+        ensures { result ≡ is_simple_run (options_by self.now) }
     {
         self.events.is_none()
             && self.save.is_none()

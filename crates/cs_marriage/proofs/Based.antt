@@ -5,18 +5,19 @@ use Rattle.std.specs.Prelude.{slice_index, ◌==◌, ◌/◌, ◌%◌, if◌then
 use Rattle.std.proofs.lemmas.Bool.{cases_eq, eq-eqb, ne_eqb}
 use Rattle.std.proofs.lemmas.Bool.Decides.{nat_tests}
 use Rattle.std.proofs.lemmas.List.{get_or-drop, get_or-take, take_more}
+use Rattle.cs_word.specs.Word.{natural_by_kind, natural_of_word}
 use Rattle.cs_model.specs.Words.{small_value}
 use Rattle.cs_heap.specs.Object.{Object, birth_at, class_at, part_at, heap_object, set_word, slot_count_of, slot_of, with_object, words_at}
 use Rattle.cs_heap.proofs.Laws.{KeepsCount, field_of-with_object_kept, field_of-with_object_same, is_object-with_object, object_at-with_object_other, object_placed, set_word_keeps}
 use Rattle.cs_word.specs.declared.Kind.TheVariants as kind
-use Rattle.cs_classes.specs.Meaning.{count_of, count_of_kind, depth_in}
+use Rattle.cs_classes.specs.Meaning.{depth_in}
 use Rattle.cs_frame.specs.declared.FrameRef.{FrameRef}
 use Rattle.cs_frame.specs.Frame.{Frame, IsPc, IsValue, nil, value_pushed, with_values}
 use Rattle.cs_frame.specs.Page.{IsBase, IsFrame, IsTop, frame, frames_of, index_in, frame_index, nth, on_frame, on_nth, on_page, on_top, frame_ref, top, frames_used}
 use Rattle.cs_frame.proofs.PageLaws.{frames_of-on_page, frames_of-on_page_other, length-on_page, on_page-on_page}
 use Rattle.cs_marriage.specs.Place.{link_word, names_place}
 use Rattle.cs_marriage.specs.Agree.{Agree, FrameAgrees, HasNoFrame, IsContextAt}
-use Rattle.cs_marriage.specs.Marriage.{CanBase, base_frame, cleared, linked, stack_words, words_if}
+use Rattle.cs_marriage.specs.Marriage.{CanBase, base_frame, cleared, linked, stack_words}
 use Rattle.cs_marriage.proofs.Agreeing.{Stays, fits_stays, size_some}
 use Rattle.cs_marriage.proofs.Clearing.{cleared_keeps, get_or-cleared}
 use Rattle.cs_marriage.proofs.Objects.{context_long, context_there, method_apart, method_like, method_same, method_there}
@@ -28,19 +29,19 @@ module _ (os : List Object) (a : ℕ) where
   pub slot_is : (i : ℕ) → slot_of os a i ≡ slice_index (words_at os a) i
   slot_is i = go (heap_object os a)
     where
-      go : (o : Option Object) → option_map_or (λ (x : Object). slice_index x.words i) o 0 ≡ slice_index (words_if o) i
+      go : (o : Option Object) → option_map_or (λ (x : Object). slice_index x.words i) o 0 ≡ slice_index (option_map_or (λ (x : Object). x.words) o []) i
       go None = refl
       go (Some x) = refl
 
   pub count_is : slot_count_of os a ≡ length (words_at os a)
   count_is = go (heap_object os a)
     where
-      go : (o : Option Object) → option_map_or (λ (x : Object). length x.words) o 0 ≡ length (words_if o)
+      go : (o : Option Object) → option_map_or (λ (x : Object). length x.words) o 0 ≡ length (option_map_or (λ (x : Object). x.words) o [])
       go None = refl
       go (Some x) = refl
 
-  pub depth_is : unwrap_or (count_of (slot_of os a 2)) 0 ≡ depth_in (words_at os a)
-  depth_is = ap (λ n. unwrap_or (count_of n) 0) (slot_is 2)
+  pub depth_is : unwrap_or (natural_of_word (slot_of os a 2)) 0 ≡ depth_in (words_at os a)
+  depth_is = ap (λ n. unwrap_or (natural_of_word n) 0) (slot_is 2)
 
   module _ (can : CanBase os a) where
     pub deep : 6 + depth_in (words_at os a) ≤ slot_count_of os a
@@ -62,19 +63,19 @@ module _ (os : List Object) (a : ℕ) where
     stack_more i h = take_more (stack_words os a) i 0 (omega (arith, h, stack_long)) ∙ ap (λ w. take i (stack_words os a) ++ w ∷ []) (stack_at i h)
 
 -- a word that is a count is odd
-pub number_pc : (w : ℕ) → IsSome (count_of w) → IsPc w
-unfolding count_of
+pub number_pc : (w : ℕ) → IsSome (natural_of_word w) → IsPc w
+unfolding natural_of_word
 number_pc w some = go (w % 2 == 1) refl some
   where
     odd : (n : ℕ) → (n == 1) ≡ true → n ≡ 1
     odd n h = grind (arith, nat_tests, h)
 
-    other : (b c : Bool) → is_some (count_of_kind (if b then kind.Character (w / 4) else (if c then kind.Object w else kind.Link w))) ≡ true → ⊥
+    other : (b c : Bool) → is_some (natural_by_kind (if b then kind.Character (w / 4) else (if c then kind.Object w else kind.Link w))) ≡ true → ⊥
     other true c h = absurd (cc)
     other false true h = absurd (cc)
     other false false h = absurd (cc)
 
-    go : (b : Bool) → (w % 2 == 1) ≡ b → is_some (count_of_kind (if b then kind.Small (small_value w) else (if w % 4 == 2 then kind.Character (w / 4) else (if w % 8 == 0 then kind.Object w else kind.Link w)))) ≡ true → IsPc w
+    go : (b : Bool) → (w % 2 == 1) ≡ b → is_some (natural_by_kind (if b then kind.Small (small_value w) else (if w % 4 == 2 then kind.Character (w / 4) else (if w % 8 == 0 then kind.Object w else kind.Link w)))) ≡ true → IsPc w
     go true e h = inr (odd (w % 2) e)
     go false e h = absurd (other (w % 4 == 2) (w % 8 == 0) h)
 
@@ -220,7 +221,7 @@ module _ (os : List Object) (ps : List (List Frame)) (a p : ℕ) (agree : Agree 
   place_linked : slot_of the_objects a 0 ≡ link_word the_place
   place_linked = field_linked (λ x. slice_index x.words 0) ∙ go (heap_object os a) (let long = context_long os a can.context in omega (arith, long, count_is os a))
     where
-      go : (o : Option Object) → 0 < length (words_if o) → option_map_or (λ (x : Object). slice_index (linked the_place x).words 0) o 0 ≡ link_word the_place
+      go : (o : Option Object) → 0 < length (option_map_or (λ (x : Object). x.words) o []) → option_map_or (λ (x : Object). slice_index (linked the_place x).words 0) o 0 ≡ link_word the_place
       go None some = absurd (omega (arith, some))
       go (Some x) some = linked_place the_place x.words some
 

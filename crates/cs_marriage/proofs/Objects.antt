@@ -2,11 +2,11 @@
 use Rattle.std.proofs.Common.{◌≡◌, ◌≢◌, inl, inr, ℕ, zero, suc, ◌<◌, ◌≤◌, true, List, [], ◌∷◌, length, Option, Some, None, option_and_then, is_some, refl, ap, sym, ◌∙◌, arith}
 use Rattle.std.specs.Prelude.{slice_get, slice_index, unwrap_or}
 use Rattle.std.specs.Option.{option_map_or}
+use Rattle.cs_word.specs.Word.{natural_of_word}
 use Rattle.cs_heap.specs.Object.{Object, at_index, birth_at, class_at, part_at, format_at, object_place, is_object, heap_object, slot_count_of, slot_of, with_object}
 use Rattle.cs_heap.specs.Format.{is_code}
 use Rattle.cs_heap.proofs.Places.{has_number}
 use Rattle.cs_heap.proofs.Laws.{KeepsCount, index_of-with_object}
-use Rattle.cs_classes.specs.Meaning.{count_of}
 use Rattle.cs_marriage.specs.Agree.{IsContextAt, IsMethodAt, header_at}
 
 -- ---- two changes of one object
@@ -139,4 +139,4 @@ method_same os ws m like is = record {
 }
 
 pub header_same : (os ws : List Object) (m : ℕ) → LikeMethod os ws m → header_at ws m ≡ header_at os m
-header_same os ws m like = ap (λ n. unwrap_or (count_of n) 0) like.header
+header_same os ws m like = ap (λ n. unwrap_or (natural_of_word n) 0) like.header

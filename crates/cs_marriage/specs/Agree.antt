@@ -1,8 +1,8 @@
 -- When heap and frames agree: what a frame has for a context, and what a context has for a frame.
 use Rattle.std.specs.Prelude.{◌≡◌, ◌≢◌, ◌⊎◌, ◌↔◌, ℕ, ◌-◌, ◌<◌, ◌≤◌, ◌==◌, true, false, if◌then◌else◌, List, length, unwrap_or}
+use Rattle.cs_word.specs.Word.{natural_of_word}
 use Rattle.cs_heap.specs.Object.{Object, birth_at, class_at, format_at, is_object, slot_count_of, slot_of}
 use Rattle.cs_heap.specs.Format.{is_code}
-use Rattle.cs_classes.specs.Meaning.{count_of}
 use Rattle.cs_model.specs.Obj.{context_class, context_fields, context_size}
 use Rattle.cs_frame.specs.declared.FrameRef.{FrameRef}
 use Rattle.cs_frame.specs.Frame.{Frame, nil}
@@ -19,7 +19,7 @@ pub record IsContextAt (os : List Object) (a : ℕ) : Type 0 where
 
 -- the header of the method at an address
 abbrev pub header_at : List Object → ℕ → ℕ
-header_at os a = unwrap_or (count_of (slot_of os a 0)) 0
+header_at os a = unwrap_or (natural_of_word (slot_of os a 0)) 0
 
 -- a method, with a header
 pub record IsMethodAt (os : List Object) (a : ℕ) : Type 0 where

@@ -1,8 +1,8 @@
 -- What the calls make of heap and frames.
 use Rattle.std.specs.Prelude.{◌≡◌, ◌≢◌, ℕ, pos, ◌+◌, ◌-◌, ◌<◌, ◌≤◌, ◌^◌, ◌==◌, false, if◌then◌else◌, List, [], ◌∷◌, ◌++◌, Option, Some, None, IsSome, length, take, drop, replicate, unwrap_or}
-use Rattle.cs_word.specs.Word.{small_word}
+use Rattle.cs_word.specs.Word.{small_word, natural_of_word}
 use Rattle.cs_heap.specs.Object.{Object, birth_at, next_address, no_flags, heap_object, set_word, slot_count_of, slot_of, slot_set, words_at}
-use Rattle.cs_classes.specs.Meaning.{count_of, depth_in}
+use Rattle.cs_classes.specs.Meaning.{depth_in}
 use Rattle.cs_model.specs.Obj.{context_class, context_fields, context_size}
 use Rattle.cs_frame.specs.declared.FrameRef.{FrameRef}
 use Rattle.cs_frame.specs.Frame.{Frame, IsValue, nil}
@@ -41,10 +41,6 @@ spouse_address os f = if f.context == nil then next_address os (context_fields +
 
 -- ---- a context as a base frame
 
-abbrev pub words_if : Option Object → List ℕ
-words_if None = []
-words_if (Some x) = x.words
-
 -- the stack of the context at an address
 abbrev pub stack_words : List Object → ℕ → List ℕ
 stack_words os a = take (depth_in (words_at os a)) (drop context_fields (words_at os a))
@@ -78,11 +74,11 @@ linked r x = cleared_from context_fields (set_word 2 nil (set_word 1 nil (set_wo
 pub record CanBase (os : List Object) (a : ℕ) : Type 0 where
   pub context : IsContextAt os a
   pub single : names_place (slot_of os a 0) ≡ false
-  pub live : IsSome (count_of (slot_of os a 1))
+  pub live : IsSome (natural_of_word (slot_of os a 1))
   pub birth : birth_at os a < 2 ^ 62
   pub method : IsMethodAt os (slot_of os a 3)
   pub values : (i : ℕ) → i < slot_count_of os a → IsValue (slot_of os a i)
-  pub stack : context_fields + unwrap_or (count_of (slot_of os a 2)) 0 ≤ slot_count_of os a
+  pub stack : context_fields + unwrap_or (natural_of_word (slot_of os a 2)) 0 ≤ slot_count_of os a
 
 -- ---- burying
 

@@ -1,8 +1,8 @@
 //! How a single context becomes the base frame of a page.
 ghost use Rattle.std.specs.Prelude.{◌≡◌, ◌+◌, ◌<◌, ◌≤◌, ◌^◌, ◌||◌, [], ◌∷◌, IsSome, length, unwrap_or};
+ghost use Rattle.cs_word.specs.Word.{natural_of_word};
 ghost use Rattle.cs_heap.specs.Object.{birth_at, is_watched, slot_count_of, slot_of, with_object};
 ghost use Rattle.cs_heap.specs.Writes.{slots_stored};
-ghost use Rattle.cs_classes.specs.Meaning.{count_of};
 ghost use Rattle.cs_frame.specs.Frame.{with_values};
 ghost use Rattle.cs_frame.specs.Page.{IsTop, frames_of, on_page, on_top, top, frames_used};
 ghost use Rattle.cs_marriage.specs.Agree.{Agree, HasContext, IsContextAt};
@@ -66,7 +66,8 @@ fn copy_stack(heap: &Heap, frames: &mut Frames, ctx: Oop, f: FrameRef)
     requires top { IsTop frames.old f }
     requires room { frames_used (frames_of frames.old f.page) + 56 ≤ 4096 }
     requires empty { (top (frames_of frames.old f.page)).stack ≡ [] }
-    ensures copied { frames.new ≡ on_page frames.old f.page (on_top (with_values (stack_words heap.now.objects ctx.0))) }
+    ensures copied { frames.new
+        ≡ on_page frames.old f.page (on_top (with_values (stack_words heap.now.objects ctx.0))) }
 {
     for i in 0..stack_depth(heap, ctx) {
         frames.push(f, heap.slot(ctx, FIRST_STACK + i));
@@ -74,10 +75,9 @@ fn copy_stack(heap: &Heap, frames: &mut Frames, ctx: Oop, f: FrameRef)
 }
 
 /// How many values the stack of a context holds, as its words say.
-#[tactic(auto, using(cs_classes::proofs::Naturals::natural_is))]
 fn stack_depth(heap: &Heap, ctx: Oop) -> u32
     requires { 2 < slot_count_of heap.now.objects ctx.0 }
-    ensures { result ≡ unwrap_or (count_of (slot_of heap.now.objects ctx.0 2)) 0 }
+    ensures { result ≡ unwrap_or (natural_of_word (slot_of heap.now.objects ctx.0 2)) 0 }
 {
     heap.slot(ctx, STACK_POINTER).natural().unwrap_or(0)
 }

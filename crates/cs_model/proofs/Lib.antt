@@ -66,3 +66,11 @@ pub mod Finding
 pub mod Doing
 pub mod Changing
 pub mod Digits
+pub mod SavedPlacing
+pub mod SavedEntries
+pub mod SavedSeen
+pub mod SavedWhole
+pub mod SavedTables
+pub mod SavedContexts
+pub mod SavedDescribing
+pub mod SavedBirths

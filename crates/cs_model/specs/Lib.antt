@@ -6,6 +6,7 @@ pub mod Read
 pub mod Words
 pub mod ImageFile
 pub mod SavedFile
+pub mod SoundFile
 pub mod ImageFault
 pub mod Image
 pub mod End

@@ -8,7 +8,7 @@
 //! The definitions stand in `specs/Keeps.antt` and `specs/Alike.antt`. Each law is a function with an empty body: what
 //! it ensures is the law. A state is closed where it keeps itself, which is where all that it names is there.
 ghost use Rattle.std.specs.Prelude.{◌≡◌, ◌≢◌, ◌<◌, ◌≤◌, ◌+◌, ℕ, ℤ, Bool, true, false, nat_lt, if◌then◌else◌, Option};
-ghost use Rattle.std.specs.Prelude.{Some, None, List, [], ◌∷◌, length, slice_get, IsSome};
+ghost use Rattle.std.specs.Prelude.{Some, None, List, [], ◌∷◌, length, slice_get, slice_index, Ok, IsSome};
 ghost use Rattle.std.specs.List.{AllByRecursion, Contains};
 ghost use Rattle.cs_model.specs.declared.event.Event.{Event};
 ghost use Rattle.cs_model.specs.declared.instruction.Op.{Op};
@@ -54,7 +54,10 @@ ghost use Rattle.cs_model.specs.Shallow.{ended_between, is_answer, Trial, result
 ghost use Rattle.cs_model.specs.Shallow.{trials, bytecode_state};
 ghost use Rattle.cs_model.specs.Report.{place_of, report_of};
 ghost use Rattle.cs_model.specs.Canon.{canon};
-ghost use Rattle.cs_model.specs.SavedFile.{SavedFile, FitsFile, IsReadAgain, IsSeen, IsSeenAgain, saved_bytes};
+ghost use Rattle.cs_model.specs.Image.{described, image_of};
+ghost use Rattle.cs_model.specs.SavedFile.{SavedFile, SavedObject, FitsFile, IsReadAgain, IsSeen, IsSeenAgain};
+ghost use Rattle.cs_model.specs.SavedFile.{saved_bytes};
+ghost use Rattle.cs_model.specs.SoundFile.{IsSoundFile, births_saved, saved_address, saved_birth, state_of_file};
 ghost use Rattle.cs_model.specs.Built.{is_built_number, is_built_send, is_built_out, built_step, built_run};
 
 /// An object that is put at a birth is there, and nothing else changes.
@@ -451,8 +454,26 @@ pub fn a_saved_file_is_read_again()
     ensures seen { (f : SavedFile) → FitsFile f → AllByRecursion IsSeen f.objects → IsSeenAgain f (saved_bytes f) }
 {}
 
-/// States of which one keeps the other have one form by which images are compared: it sees neither births of contexts nor
-/// contexts that nothing names.
+/// A file whose parts fit describes the state of its objects, where each of these is to be seen.
+pub fn a_file_describes_its_objects()
+    ensures { (f : SavedFile) → FitsFile f → AllByRecursion IsSeen f.objects
+        → described (saved_bytes f) ≡ state_of_file f }
+{}
+
+/// The image of a file without faults is the state of its objects.
+pub fn the_image_of_a_sound_file_is_that_of_its_objects()
+    ensures { (f : SavedFile) (limit : ℕ) → IsSoundFile f limit
+        → image_of (saved_bytes f) limit ≡ Ok (state_of_file f) }
+{}
+
+/// Where each visible object has a birth, the address of one names the birth of its number.
+pub fn an_address_names_the_birth_of_its_object()
+    ensures { (f : SavedFile) → FitsFile f → length (births_saved f) ≡ length f.objects → (k : ℕ) (o : SavedObject)
+        → slice_get f.objects k ≡ Some o → saved_birth f (saved_address f.objects k) ≡ slice_index (births_saved f) k }
+{}
+
+/// States of which one keeps the other have one form by which images are compared: it sees neither births of contexts
+/// nor contexts that nothing names.
 pub fn states_that_keep_each_other_have_one_form()
     ensures canon { (v m : Kept) → Keeps v m → canon v ≡ canon m }
 {}

@@ -6,9 +6,9 @@ use Rattle.std.proofs.lemmas.Bool.Decides.{nat_tests}
 use Rattle.cs_word.specs.declared.Oop.{Oop}
 use Rattle.cs_word.specs.declared.Kind.{Kind}
 use Rattle.cs_word.specs.declared.Kind.TheVariants as kind
-use Rattle.cs_word.specs.Word.{kind_of}
+use Rattle.cs_word.specs.Word.{kind_of, natural_of_word}
 use Rattle.cs_heap.specs.Object.{Object, birth_at, class_at, object_place, is_object, heap_object, slot_count_of, slot_of}
-use Rattle.cs_classes.specs.Meaning.{context_of, count_of, is_heap_context, obj_of, ref_of, ref_of_kind}
+use Rattle.cs_classes.specs.Meaning.{context_of, is_heap_context, obj_of, ref_of, ref_of_kind}
 use Rattle.cs_classes.specs.Sound.{is_reference, is_reference_kind}
 use Rattle.cs_classes.proofs.Contexts.{depth_is}
 use Rattle.cs_classes.proofs.Heaps.{birth_of-object_at, object_there}
@@ -98,14 +98,14 @@ module _ {w : PlainWorld} {a : Oop} {x : Object} (sound : IsSound (plain_stored 
   unfolding context_of
   method_read v read = word_named v 3 _ (omega arith) read (sym (ap (method_in (nil_of (plain_view w))) context_is))
 
-  pub live_read : is_some (count_of (slot_of w.heap.objects a.0 1)) ≡ is_live (plain_view w) x.birth
+  pub live_read : is_some (natural_of_word (slot_of w.heap.objects a.0 1)) ≡ is_live (plain_view w) x.birth
   unfolding context_of
-  live_read = ap (λ n. is_some (count_of n)) (at.slot 1) ∙ sym (ap (λ o. is_some (option_and_then (λ (c : Context). c.pc) o)) context_is)
+  live_read = ap (λ n. is_some (natural_of_word n)) (at.slot 1) ∙ sym (ap (λ o. is_some (option_and_then (λ (c : Context). c.pc) o)) context_is)
 
-  depth_read : unwrap_or (count_of (slot_of w.heap.objects a.0 2)) 0 ≡ length context.stack
-  depth_read = ap (λ n. unwrap_or (count_of n) 0) (at.slot 2) ∙ sym (depth_is (ref_of w.heap.objects) x.hash x.words at.whole.depth)
+  depth_read : unwrap_or (natural_of_word (slot_of w.heap.objects a.0 2)) 0 ≡ length context.stack
+  depth_read = ap (λ n. unwrap_or (natural_of_word n) 0) (at.slot 2) ∙ sym (depth_is (ref_of w.heap.objects) x.hash x.words at.whole.depth)
 
-  pub full_read : (d n : ℕ) → d ≡ unwrap_or (count_of (slot_of w.heap.objects a.0 2)) 0 → n ≡ slot_count_of w.heap.objects a.0
+  pub full_read : (d n : ℕ) → d ≡ unwrap_or (natural_of_word (slot_of w.heap.objects a.0 2)) 0 → n ≡ slot_count_of w.heap.objects a.0
       → not (nat_le (n - 6) d) ≡ has_room (context_in (state.object_at (plain_view w) x.birth))
   unfolding context_of
   full_read d n deep long =

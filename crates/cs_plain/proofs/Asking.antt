@@ -6,9 +6,9 @@ use Rattle.std.proofs.lemmas.Bool.Decides.{nat_tests}
 use Rattle.std.proofs.lemmas.List.{get_or-drop, get_or-take}
 use Rattle.std.proofs.lemmas.Option.{slice_get-get_or, slice_get-map}
 use Rattle.cs_word.specs.declared.Oop.{Oop}
-use Rattle.cs_word.specs.Word.{small_word}
+use Rattle.cs_word.specs.Word.{small_word, natural_of_word}
 use Rattle.cs_heap.specs.Object.{Object, slot_count_of, slot_of}
-use Rattle.cs_classes.specs.Meaning.{context_of, count_of, depth_in, ref_of}
+use Rattle.cs_classes.specs.Meaning.{context_of, depth_in, ref_of}
 use Rattle.cs_classes.specs.Sound as whole
 use Rattle.cs_classes.specs.Sound.{is_reference}
 use Rattle.cs_classes.proofs.Contexts.{depth_is}
@@ -130,25 +130,25 @@ module _ {w : PlainWorld} {a : Oop} {x : Object} (sound : IsSound (plain_stored 
           let below = there_below c.stack (i - 6) (sym (ap is_some (field_is i ∙ value_is (plain_view w) c i past)) ∙ some) in
           omega (arith, past, below, deep, at.whole.depth, at.whole.fields, at.count)
 
-  pub depth_few : (n : ℕ) → n ≡ unwrap_or (count_of (slot_of w.heap.objects a.0 2)) 0 → n < 2 ^ 30
-  depth_few n e = omega (arith, e ∙ ap (λ v. unwrap_or (count_of v) 0) (at.slot 2), at.whole.depth, slots_few)
+  pub depth_few : (n : ℕ) → n ≡ unwrap_or (natural_of_word (slot_of w.heap.objects a.0 2)) 0 → n < 2 ^ 30
+  depth_few n e = omega (arith, e ∙ ap (λ v. unwrap_or (natural_of_word v) 0) (at.slot 2), at.whole.depth, slots_few)
 
   -- stackp, nil counting as 0
-  pub depth_names : (v : Oop) (n : ℕ) → n ≡ unwrap_or (count_of (slot_of w.heap.objects a.0 2)) 0 → v.0 ≡ small_word (pos n) → NamesOption (plain_stored w) (Some v) (field_of (plain_view w) (name_of (plain_stored w) a) 2)
+  pub depth_names : (v : Oop) (n : ℕ) → n ≡ unwrap_or (natural_of_word (slot_of w.heap.objects a.0 2)) 0 → v.0 ≡ small_word (pos n) → NamesOption (plain_stored w) (Some v) (field_of (plain_view w) (name_of (plain_stored w) a) 2)
   unfolding context_get
   depth_names v n e word =
       let small = small_natural n (depth_few n e) in
-      let is : n ≡ length c.stack = e ∙ ap (λ u. unwrap_or (count_of u) 0) (at.slot 2) ∙ sym deep in
+      let is : n ≡ length c.stack = e ∙ ap (λ u. unwrap_or (natural_of_word u) 0) (at.slot 2) ∙ sym deep in
       record {
         sound = ap (is_reference w.heap.objects) word ∙ is_reference-small w.heap.objects (pos n) small;
         is = ap (λ u. Some (ref_of w.heap.objects u)) word ∙ ap (λ r. Some r) (ref_of-small w.heap.objects (pos n) small) ∙ ap (λ m. Some (Small (pos m))) is ∙ sym (field_is 2);
       }
 
   -- nil, or the number of a live context
-  pc_names : (u : ℕ) → is_reference w.heap.objects u ≡ true → (u == whole.nil_word w.heap.objects || is_some (count_of u)) ≡ true → ref_of w.heap.objects u ≡ pc_value (nil_of (plain_view w)) (count_of u)
-  pc_names u named either = go (count_of u) refl
+  pc_names : (u : ℕ) → is_reference w.heap.objects u ≡ true → (u == whole.nil_word w.heap.objects || is_some (natural_of_word u)) ≡ true → ref_of w.heap.objects u ≡ pc_value (nil_of (plain_view w)) (natural_of_word u)
+  pc_names u named either = go (natural_of_word u) refl
     where
-      go : (o : Option ℕ) → count_of u ≡ o → ref_of w.heap.objects u ≡ pc_value (nil_of (plain_view w)) o
+      go : (o : Option ℕ) → natural_of_word u ≡ o → ref_of w.heap.objects u ≡ pc_value (nil_of (plain_view w)) o
       go (Some n) e = small_is (ref_of w.heap.objects u) n (index_of-ref_of w.heap.objects u named ∙ e)
       go None e =
           let nil : u ≡ whole.nil_word w.heap.objects = eqb-true u (whole.nil_word w.heap.objects) (left (u == whole.nil_word w.heap.objects) (ap (λ o. u == whole.nil_word w.heap.objects || is_some o) (sym e) ∙ either)) in

@@ -10,10 +10,10 @@ use Rattle.std.proofs.lemmas.Option.{slice_get-map, slice_get-get_or}
 use Rattle.cs_word.specs.declared.Oop.{Oop}
 use Rattle.cs_word.specs.declared.Kind.{Kind}
 use Rattle.cs_word.specs.declared.Kind.TheVariants as kind
-use Rattle.cs_word.specs.Word.{kind_of, small_word}
+use Rattle.cs_word.specs.Word.{kind_of, small_word, natural_of_word}
 use Rattle.cs_heap.specs.Object.{Object, is_object, heap_object, slot_count_of, slot_of}
 use Rattle.cs_model.proofs.Bools.{and_five}
-use Rattle.cs_classes.specs.Meaning.{context_of, count_of, obj_of, ref_of, ref_of_kind}
+use Rattle.cs_classes.specs.Meaning.{context_of, obj_of, ref_of, ref_of_kind}
 use Rattle.cs_classes.specs.Sound.{is_reference, is_reference_kind}
 use Rattle.cs_classes.proofs.Heaps.{birth_of-object_at, is_object-object_at, object_there}
 use Rattle.cs_classes.proofs.Refs.{count_of-small, index_of-ref_of, is_reference-small, ref_of-object, small_natural}
@@ -218,7 +218,7 @@ module _ (w : PlainWorld) (v : Oop) (args : ℕ) (ready : IsReady (plain_stored 
 
     -- ---- the fields that the code writes
 
-    module _ (m b pc stackp receiver : Oop) (n word header : ℕ) (method_read : m.0 ≡ slot_of os outer.0 3) (read_header : word ≡ slot_of os m.0 0) (counted : header ≡ unwrap_or (count_of word) 0)
+    module _ (m b pc stackp receiver : Oop) (n word header : ℕ) (method_read : m.0 ≡ slot_of os outer.0 3) (read_header : word ≡ slot_of os m.0 0) (counted : header ≡ unwrap_or (natural_of_word word) 0)
         (copied : n + 3 ≡ slot_count_of os v.0) (known : w.active ≡ Some b) (pc_read : pc.0 ≡ slot_of os v.0 1) (stackp_is : stackp.0 ≡ small_word (pos (args + n)))
         (receiver_read : receiver.0 ≡ slot_of os outer.0 5) where
       abbrev fields : Fields
@@ -230,12 +230,12 @@ module _ (w : PlainWorld) (v : Oop) (args : ℕ) (ready : IsReady (plain_stored 
       head : Header k (name_of (plain_stored w) m) header
       head =
           let at = method_at w m ready.sound method.sound (method_is m method_read) in
-          header_at os k (name_of (plain_stored w) m) m.0 header at (counted ∙ ap (λ n. unwrap_or (count_of n) 0) read_header ∙ header_is os (object_of k (name_of (plain_stored w) m)) m.0 at)
+          header_at os k (name_of (plain_stored w) m) m.0 header at (counted ∙ ap (λ n. unwrap_or (natural_of_word n) 0) read_header ∙ header_is os (object_of k (name_of (plain_stored w) m)) m.0 at)
 
       pc_names : Names (plain_stored w) pc (closure_slot k x 1)
       pc_names = slot_names 1 pc (omega arith) pc_read
 
-      pc_count : count_of pc.0 ≡ small_index (closure_slot k x 1)
+      pc_count : natural_of_word pc.0 ≡ small_index (closure_slot k x 1)
       pc_count = sym (index_of-ref_of os pc.0 pc_names.sound) ∙ ap small_index pc_names.is
 
       entry : Entry (object_of k (closure_method k x)) (small_index (closure_slot k x 1))
@@ -263,8 +263,8 @@ module _ (w : PlainWorld) (v : Oop) (args : ℕ) (ready : IsReady (plain_stored 
           few true = omega arith
           few false = omega arith
 
-      stackp_count : count_of stackp.0 ≡ Some (args + n)
-      stackp_count = ap count_of stackp_is ∙ count_of-small (args + n) stack_small
+      stackp_count : natural_of_word stackp.0 ≡ Some (args + n)
+      stackp_count = ap natural_of_word stackp_is ∙ count_of-small (args + n) stack_small
 
       pub can_call : CanCall (plain_stored w) k header args n fields
       can_call = record {
@@ -292,8 +292,8 @@ module _ (w : PlainWorld) (v : Oop) (args : ℕ) (ready : IsReady (plain_stored 
       called_is =
           let a = active_is w b ready known in
           let sender : name_of (plain_stored w) b ≡ ref.Obj (active_birth k) = ref_of-object os b.0 (is_object-object_at os b.0 a.0 a.1.there) ∙ ap (λ n. ref.Obj n) (sym a.1.birth) in
-          let left : unwrap_or (count_of stackp.0) 0 - (args + n) ≡ 0 = omega (arith, ap (λ (o : Option ℕ). unwrap_or o 0) stackp_count) in
-          let stack : called_stack (plain_stored w) k (unwrap_or (count_of stackp.0) 0) args n fields ≡ last_values args (stack_of k) ++ copied_values k x =
+          let left : unwrap_or (natural_of_word stackp.0) 0 - (args + n) ≡ 0 = omega (arith, ap (λ (o : Option ℕ). unwrap_or o 0) stackp_count) in
+          let stack : called_stack (plain_stored w) k (unwrap_or (natural_of_word stackp.0) 0) args n fields ≡ last_values args (stack_of k) ++ copied_values k x =
           ap₂ (λ us n. last_values args (stack_of k) ++ (us ++ replicate n (nil_of k))) values_are left ∙ ap (λ us. last_values args (stack_of k) ++ us) (append-nil (copied_values k x)) in
           let receives = (receiver_names receiver receiver_read).is in
           let size_back = sym size_is in

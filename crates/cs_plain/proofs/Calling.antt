@@ -10,10 +10,10 @@ use Rattle.std.proofs.lemmas.List.{drop-map, drop-take, length-append, length-re
 use Rattle.std.proofs.lemmas.List.Elements.{All-append, All-cons, All-drop, All-replicate, All-take}
 use Rattle.std.proofs.Math.Seq.{take-append-add}
 use Rattle.cs_word.specs.declared.Oop.{Oop}
-use Rattle.cs_word.specs.Word.{small_word}
+use Rattle.cs_word.specs.Word.{small_word, natural_of_word}
 use Rattle.cs_heap.specs.Object.{Object, class_at, is_object, set_word, base, header_address, new_object, next_address, size, used, slot_set}
 use Rattle.cs_heap.proofs.Laws.{object_at-new, used-pushed}
-use Rattle.cs_classes.specs.Meaning.{context_of, count_of, depth_in, kept_of, obj_of, ref_of}
+use Rattle.cs_classes.specs.Meaning.{context_of, depth_in, kept_of, obj_of, ref_of}
 use Rattle.cs_classes.specs.Kinds.{ContextKinds, KindsStand}
 use Rattle.cs_classes.specs.Sound.{IsSoundObject, IsWhole, is_reference, is_sender, nil_word}
 use Rattle.cs_classes.proofs.Fields.{nil_or_closure_named}
@@ -235,8 +235,8 @@ module _ {w : PlainWorld} {x : Object} (header args n : ℕ) (f : Fields) (ready
       method = method_kind;
       closure = closure_kind;
       slots = subst (λ (n : ℕ). IsTrue (n == 22 || n == 62)) (sym words_long) (shape csize (sizes (header / 2 ^ 17 % 2 == 1)));
-      pc = or_right (f.pc.0 == nil_word all) (is_some (count_of f.pc.0)) (ap is_some fits.pc);
-      stackp = or_right (f.stackp.0 == nil_word all) (is_some (count_of f.stackp.0)) (ap is_some fits.stackp);
+      pc = or_right (f.pc.0 == nil_word all) (is_some (natural_of_word f.pc.0)) (ap is_some fits.pc);
+      stackp = or_right (f.stackp.0 == nil_word all) (is_some (natural_of_word f.stackp.0)) (ap is_some fits.stackp);
       depth = omega (arith, ap (λ (o : Option ℕ). unwrap_or o 0) fits.stackp, words_long, fits.fits);
     };
     method = λ n. absurd (false≢true n);
@@ -293,7 +293,7 @@ module _ {w : PlainWorld} {x : Object} (header args n : ℕ) (f : Fields) (ready
       obj_of-context refer new refl ∙ ap Ctx (λ i. record {
         hash = 0;
         sender = sender i;
-        pc = count_of f.pc.0;
+        pc = natural_of_word f.pc.0;
         method = method i;
         closure = closure i;
         receiver = receiver i;

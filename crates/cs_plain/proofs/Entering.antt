@@ -7,9 +7,9 @@ use Rattle.std.proofs.lemmas.List.{length-map}
 use Rattle.cs_word.specs.declared.Oop.{Oop}
 use Rattle.cs_word.specs.declared.Kind.{Kind}
 use Rattle.cs_word.specs.declared.Kind.TheVariants as kind
-use Rattle.cs_word.specs.Word.{kind_of, small_word}
+use Rattle.cs_word.specs.Word.{kind_of, small_word, natural_of_word}
 use Rattle.cs_heap.specs.Object.{Object, slot_count_of, slot_of, base, birth_at, is_object, heap_object}
-use Rattle.cs_classes.specs.Meaning.{count_of, method_header, literal_words, obj_of, ref_of, ref_of_kind}
+use Rattle.cs_classes.specs.Meaning.{method_header, literal_words, obj_of, ref_of, ref_of_kind}
 use Rattle.cs_classes.specs.Meaning as meaning
 use Rattle.cs_classes.specs.Sound.{is_reference, is_reference_kind}
 use Rattle.cs_classes.proofs.Heaps.{birth_of-object_at, is_object-object_at, object_there}
@@ -141,13 +141,13 @@ header_at os k x m header at e =
 
 module _ (w : PlainWorld) (m b : Oop) (args : ℕ) (skip : Bool) (ready : IsReady (plain_stored w) (plain_view w)) (named : IsNamed (plain_stored w) m)
     (fits : CanEnter (plain_view w) (name_of (plain_stored w) m) args skip) (known : w.active ≡ Some b) (word header : ℕ) (read : word ≡ slot_of w.heap.objects m.0 0)
-    (counted : header ≡ unwrap_or (count_of word) 0) where
+    (counted : header ≡ unwrap_or (natural_of_word word) 0) where
   method : IsMethodAt w.heap.objects (object_of (plain_view w) (name_of (plain_stored w) m)) m.0
   method = method_at w m ready.sound named fits.method
 
   head : Header (plain_view w) (name_of (plain_stored w) m) header
   head = header_at w.heap.objects (plain_view w) (name_of (plain_stored w) m) m.0 header method
-      (counted ∙ ap (λ n. unwrap_or (count_of n) 0) read ∙ header_is w.heap.objects (object_of (plain_view w) (name_of (plain_stored w) m)) m.0 method)
+      (counted ∙ ap (λ n. unwrap_or (natural_of_word n) 0) read ∙ header_is w.heap.objects (object_of (plain_view w) (name_of (plain_stored w) m)) m.0 method)
 
   abbrev entry : ℕ
   entry = 4 * (literal_count header + 1) + 1 + (if skip then 3 else 0)
@@ -181,11 +181,11 @@ module _ (w : PlainWorld) (m b : Oop) (args : ℕ) (skip : Bool) (ready : IsRead
     stackp_word : stackp.0 ≡ small_word (pos (temporary_count header))
     stackp_word = stackp_is ∙ ap (λ n. small_word (pos n)) temporaries_read
 
-    pc_count : count_of pc.0 ≡ Some entry
-    pc_count = ap count_of pc_word ∙ count_of-small entry entry_small
+    pc_count : natural_of_word pc.0 ≡ Some entry
+    pc_count = ap natural_of_word pc_word ∙ count_of-small entry entry_small
 
-    stackp_count : count_of stackp.0 ≡ Some (temporary_count header)
-    stackp_count = ap count_of stackp_word ∙ count_of-small (temporary_count header) temporaries_small
+    stackp_count : natural_of_word stackp.0 ≡ Some (temporary_count header)
+    stackp_count = ap natural_of_word stackp_word ∙ count_of-small (temporary_count header) temporaries_small
 
     nothing : copied_words w.heap.objects base 0 ≡ []
     nothing = none (drop 3 (calling.words_there (heap_object w.heap.objects base)))
@@ -221,13 +221,13 @@ module _ (w : PlainWorld) (m b : Oop) (args : ℕ) (skip : Bool) (ready : IsRead
         let k = plain_view w in
         let a = active_is w b ready known in
         let sender : name_of (plain_stored w) b ≡ ref.Obj (active_birth k) = ref_of-object w.heap.objects b.0 (is_object-object_at w.heap.objects b.0 a.0 a.1.there) ∙ ap (λ n. ref.Obj n) (sym a.1.birth) in
-        let entered : count_of pc.0 ≡ Some (operation.entry_pc (object_of k (name_of (plain_stored w) m)) skip) = pc_count ∙ ap (λ n. Some n) (sym entry_is) in
+        let entered : natural_of_word pc.0 ≡ Some (operation.entry_pc (object_of k (name_of (plain_stored w) m)) skip) = pc_count ∙ ap (λ n. Some n) (sym entry_is) in
         let closure : ref_of w.heap.objects base ≡ operation.nil_of k = ref_of-nil w.heap.objects w.classes w.roots ready.sound.holds.whole in
         let receives : name_of (plain_stored w) receiver ≡ receiver_below args (operation.nil_of k) (stack_of k) = names.is ∙ ap (λ n. unwrap_or (slice_get (stack_of k) (n - (args + 1))) (operation.nil_of k)) deep in
         let none : map (ref_of w.heap.objects) (copied_words w.heap.objects base 0) ≡ [] = ap (map (ref_of w.heap.objects)) nothing in
-        let count : unwrap_or (count_of stackp.0) 0 ≡ temporary_count (obj.header_in (object_of k (name_of (plain_stored w) m))) = ap (λ o. unwrap_or o 0) stackp_count ∙ ap temporary_count head.is in
-        let left : unwrap_or (count_of stackp.0) 0 - (args + 0) ≡ temporary_count (obj.header_in (object_of k (name_of (plain_stored w) m))) - args = omega (arith, count) in
-        let stack : called_stack (plain_stored w) k (unwrap_or (count_of stackp.0) 0) args 0 fields
+        let count : unwrap_or (natural_of_word stackp.0) 0 ≡ temporary_count (obj.header_in (object_of k (name_of (plain_stored w) m))) = ap (λ o. unwrap_or o 0) stackp_count ∙ ap temporary_count head.is in
+        let left : unwrap_or (natural_of_word stackp.0) 0 - (args + 0) ≡ temporary_count (obj.header_in (object_of k (name_of (plain_stored w) m))) - args = omega (arith, count) in
+        let stack : called_stack (plain_stored w) k (unwrap_or (natural_of_word stackp.0) 0) args 0 fields
         ≡ last_values args (stack_of k) ++ replicate (temporary_count (obj.header_in (object_of k (name_of (plain_stored w) m))) - args) (operation.nil_of k) =
         ap₂ (λ us n. last_values args (stack_of k) ++ (us ++ replicate n (operation.nil_of k))) none left in
         ap (called_of k args) (λ i. record {

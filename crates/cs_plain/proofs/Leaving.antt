@@ -6,9 +6,9 @@ use Rattle.std.specs.Cmp.{nat_cmp_total}
 use Rattle.std.proofs.lemmas.Bool.{eq-eqb, or_left, or_right}
 use Rattle.std.proofs.lemmas.Bool.Decides.{nat_tests}
 use Rattle.cs_word.specs.declared.Oop.{Oop}
-use Rattle.cs_word.specs.Word.{small_word}
+use Rattle.cs_word.specs.Word.{small_word, natural_of_word}
 use Rattle.cs_heap.specs.Object.{Memory, Object, base, set_word, slot_of, with_object, slot_set}
-use Rattle.cs_classes.specs.Meaning.{context_of, count_of, depth_in, is_heap_context, kept_of, ref_of}
+use Rattle.cs_classes.specs.Meaning.{context_of, depth_in, is_heap_context, kept_of, ref_of}
 use Rattle.cs_classes.specs.Meaning as meaning
 use Rattle.cs_classes.specs.Kinds.{KindsStand}
 use Rattle.cs_classes.specs.Sound.{IsSoundObject, is_reference, nil_word}
@@ -62,7 +62,7 @@ buried_words : List ℕ → List ℕ
 buried_words ws = set (set (set ws 0 base) 1 base) 2 (small_word (pos 0))
 
 buried_context : (refer : ℕ → Ref) (hash : ℕ) (ws : List ℕ) → 6 ≤ length ws → context_of refer hash (buried_words ws) ≡ record (context_of refer hash ws) { sender = refer base; pc = None; stack = [] }
-unfolding context_of count_of buried_words
+unfolding context_of natural_of_word buried_words
 buried_context refer hash ws h =
     by_six (λ us. context_of refer hash (buried_words us) ≡ record (context_of refer hash us) { sender = refer base; pc = None; stack = [] }) (λ a b c d e f rest. refl) ws h
 
@@ -123,7 +123,7 @@ module _ {w : PlainWorld} {a : Oop} {x : Object} (sound : IsSound (plain_stored 
       (record {
         reference = λ some. base_named;
         sender = λ e. absurd (omega (arith, e));
-        pc = λ e. or_left (base == nil_word os) (is_some (count_of base)) is_nil;
+        pc = λ e. or_left (base == nil_word os) (is_some (natural_of_word base)) is_nil;
         stackp = λ e. absurd (omega (arith, e));
         depth = λ e. absurd (omega (arith, e));
         method = λ e. absurd (omega (arith, e));
@@ -134,7 +134,7 @@ module _ {w : PlainWorld} {a : Oop} {x : Object} (sound : IsSound (plain_stored 
         reference = λ some. is_reference-small os (pos 0) (small_natural 0 small);
         sender = λ e. absurd (omega (arith, e));
         pc = λ e. absurd (omega (arith, e));
-        stackp = λ e. or_right (zero_word == nil_word os) (is_some (count_of zero_word)) (ap is_some count);
+        stackp = λ e. or_right (zero_word == nil_word os) (is_some (natural_of_word zero_word)) (ap is_some count);
         depth = λ e. omega (arith, ap (λ (o : Option ℕ). unwrap_or o 0) count);
         method = λ e. absurd (omega (arith, e));
         closure = λ e. absurd (omega (arith, e));

@@ -5,9 +5,10 @@ use Rattle.std.specs.Option.{option_map_or}
 use Rattle.std.proofs.lemmas.List.{get_or-drop, get_or-take}
 use Rattle.std.proofs.lemmas.Bool.Decides.{nat_tests}
 use Rattle.std.proofs.lemmas.Option.{slice_get-map, slice_get-get_or}
+use Rattle.cs_word.specs.Word.{natural_of_word}
 use Rattle.cs_word.specs.declared.Oop.{Oop}
 use Rattle.cs_heap.specs.Object.{Object, slot_count_of, slot_of}
-use Rattle.cs_classes.specs.Meaning.{context_of, count_of, depth_in, ref_of}
+use Rattle.cs_classes.specs.Meaning.{context_of, depth_in, ref_of}
 use Rattle.cs_classes.specs.Sound.{IsSoundObject, is_reference}
 use Rattle.cs_classes.proofs.Contexts.{depth_is}
 use Rattle.cs_classes.proofs.Sounds.{IsWholeContext, sound_at, whole_context}
@@ -58,7 +59,7 @@ module _ {w : PlainWorld} {a : Oop} {x : Object} (ready : IsReady (plain_stored 
   unfolding context_of
   size_is_read = ap (λ (c : Context). c.size) active.is
 
-  pub pc_is_read : unwrap_or (count_of (slice_index x.words 1)) 0 ≡ pc_of (plain_view w)
+  pub pc_is_read : unwrap_or (natural_of_word (slice_index x.words 1)) 0 ≡ pc_of (plain_view w)
   unfolding context_of
   pc_is_read = ap (λ (c : Context). unwrap_or c.pc 0) active.is
 

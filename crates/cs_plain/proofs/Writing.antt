@@ -2,11 +2,11 @@
 use Rattle.std.proofs.Common.{◌≡◌, ℕ, pos, ◌+◌, ◌-◌, ◌<◌, ◌^◌, Bool, true, false, refl, sym, ap, subst, ◌∙◌, Some, List, length, arith}
 use Rattle.std.specs.Prelude.{◌==◌, ◌||◌, is_some}
 use Rattle.cs_word.specs.declared.Oop.{Oop}
-use Rattle.cs_word.specs.Word.{small_word}
+use Rattle.cs_word.specs.Word.{small_word, natural_of_word}
 use Rattle.cs_heap.specs.Writes.{slot_stored}
 use Rattle.cs_acts.proofs.Dirty.{names-dirtied, ready-dirtied}
 use Rattle.cs_heap.specs.Object.{Memory, Object, set_word, slot_set}
-use Rattle.cs_classes.specs.Meaning.{count_of, depth_in, ref_of}
+use Rattle.cs_classes.specs.Meaning.{depth_in, ref_of}
 use Rattle.cs_classes.specs.Sound.{nil_word}
 use Rattle.cs_classes.proofs.Heaps.{set_word-IsEdit, with_object-twice}
 use Rattle.cs_classes.proofs.Refs.{count_of-small, is_reference-small, small_natural}
@@ -64,10 +64,10 @@ module _ {w : PlainWorld} {a : Oop} {x : Object} (ready : IsReady (plain_stored 
       → Writes w (with_objects w (slot_set w.heap.objects a.0 1 (small_word (pos pc)))) (λ m. set_pc_of m pc)
   unfolding set_pc_of
   writes-set_pc pc small lies =
-      let count : count_of (small_word (pos pc)) ≡ Some pc = count_of-small pc small in
+      let count : natural_of_word (small_word (pos pc)) ≡ Some pc = count_of-small pc small in
       let does = does-set_pc known active.context (small_word (pos pc)) (is_reference-small w.heap.objects (pos pc) (small_natural pc small))
-      (or_right (small_word (pos pc) == nil_word w.heap.objects) (is_some (count_of (small_word (pos pc)))) (ap is_some count)) in
-      let done = written w a x _ (with_pc (count_of (small_word (pos pc)))) pc ready active does (slot_edited 1 (small_word (pos pc))) count refl refl refl lies in
+      (or_right (small_word (pos pc) == nil_word w.heap.objects) (is_some (natural_of_word (small_word (pos pc)))) (ap is_some count)) in
+      let done = written w a x _ (with_pc (natural_of_word (small_word (pos pc)))) pc ready active does (slot_edited 1 (small_word (pos pc))) count refl refl refl lies in
       record {
         state = λ m k. subst (λ v. Keeps v (set_pc_of m pc)) (sym (done.view ∙ ap (λ p. edit_active (plain_view w) (with_pc p)) count)) (set_pc_moved k (is pc)).keeps;
         exact = same_kept _ _ (done.view ∙ ap (λ p. edit_active (plain_view w) (with_pc p)) count);

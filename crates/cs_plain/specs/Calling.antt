@@ -1,9 +1,10 @@
 -- A context that is made of its fields, of arguments, and of copied values.
 use Rattle.std.specs.Prelude.{◌≡◌, ℕ, ◌+◌, ◌-◌, ◌<◌, ◌≤◌, ◌==◌, ◌||◌, true, List, [], ◌++◌, length, drop, take, map, replicate, Option, Some, None, unwrap_or}
 use Rattle.cs_heap.specs.Object.{Object, is_object, heap_object}
-use Rattle.cs_classes.specs.Meaning.{count_of, ref_of}
+use Rattle.cs_classes.specs.Meaning.{ref_of}
 use Rattle.cs_classes.specs.Sound.{is_closure_address, is_reference, nil_word}
 use Rattle.std.specs.List.{AllPass}
+use Rattle.cs_word.specs.Word.{natural_of_word}
 use Rattle.cs_model.specs.Ref.{Ref}
 use Rattle.cs_model.specs.Obj.{Context, context_size, lies_in}
 use Rattle.cs_model.specs.State.{Kept, object_of}
@@ -26,10 +27,10 @@ copied_words objects closure n = take n (drop 3 (words_there (heap_object object
 -- more value, the copied values in the closure.
 pub record CanCall (s : Store) (k : Kept) (header args copied : ℕ) (f : Fields) : Type 0 where
   pub entry : ℕ
-  pub pc : count_of f.pc.0 ≡ Some entry
+  pub pc : natural_of_word f.pc.0 ≡ Some entry
   pub lies : lies_in (object_of k (name_of s f.method)) entry ≡ true
   pub depth : ℕ
-  pub stackp : count_of f.stackp.0 ≡ Some depth
+  pub stackp : natural_of_word f.stackp.0 ≡ Some depth
   pub holds : args + copied ≤ depth
   pub fits : depth ≤ context_size header
   pub pc_named : IsNamed s f.pc
@@ -52,11 +53,11 @@ abbrev pub called_context : Store → Kept → ℕ → ℕ → ℕ → Fields �
 called_context s k header args copied f = record {
   hash = 0;
   sender = name_of s f.sender;
-  pc = count_of f.pc.0;
+  pc = natural_of_word f.pc.0;
   method = name_of s f.method;
   closure = name_of s f.closure;
   receiver = name_of s f.receiver;
-  stack = called_stack s k (unwrap_or (count_of f.stackp.0) 0) args copied f;
+  stack = called_stack s k (unwrap_or (natural_of_word f.stackp.0) 0) args copied f;
   size = context_size header;
 }
 

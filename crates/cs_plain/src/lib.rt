@@ -288,7 +288,8 @@ impl PlainWorld {
             (λ home. IsSomeAnd (sender_birth (plain_view self.old) home) (CanLand (plain_view self.old) home)) }
         ensures view { IfSome (oop_birth self.old.heap.objects dying)
             (λ home. IfSome (sender_birth (plain_view self.old) home)
-            (λ target. plain_view self.new ≡ landed_of (plain_view self.old) home target (name_of (plain_stored self.old) v))) }
+            (λ target. plain_view self.new
+            ≡ landed_of (plain_view self.old) home target (name_of (plain_stored self.old) v))) }
         ensures ready { IsReady (plain_stored self.new) (plain_view self.new) }
         ensures names { KeepsNames (plain_stored self.old) (plain_stored self.new) }
         ensures limit { self.new.heap.limit ≡ self.old.heap.limit }

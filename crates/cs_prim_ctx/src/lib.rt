@@ -69,8 +69,8 @@ fn slot_at<W: World>(w: &mut W, args: u32) -> PrimEnd
     requires ready { IsReady (W.stored w.old) (W.view w.old) }
     requires there { args < depth_of (W.view w.old) }
     requires context { is_context_ref (W.view w.old) (receiver (W.view w.old) args) ≡ true }
-    ensures { PerformsOnContexts (W.stored w.old) (W.stored w.new) (W.layout w.old) (W.layout w.new) (W.view w.old) (W.view w.new)
-        result (slot_at_prim (W.view w.old) args) }
+    ensures { PerformsOnContexts (W.stored w.old) (W.stored w.new) (W.layout w.old) (W.layout w.new)
+        (W.view w.old) (W.view w.new) result (slot_at_prim (W.view w.old) args) }
 {
     if args != 1 {
         return PrimEnd::Fail;
@@ -86,8 +86,8 @@ fn slot_at<W: World>(w: &mut W, args: u32) -> PrimEnd
 fn stack_at<W: World>(w: &mut W, args: u32) -> PrimEnd
     requires ready { IsReady (W.stored w.old) (W.view w.old) }
     requires there { args < depth_of (W.view w.old) }
-    ensures { PerformsOnContexts (W.stored w.old) (W.stored w.new) (W.layout w.old) (W.layout w.new) (W.view w.old) (W.view w.new)
-        result (stack_at_prim (W.view w.old) args) }
+    ensures { PerformsOnContexts (W.stored w.old) (W.stored w.new) (W.layout w.old) (W.layout w.new)
+        (W.view w.old) (W.view w.new) result (stack_at_prim (W.view w.old) args) }
 {
     if args != 1 {
         return PrimEnd::Fail;
@@ -106,8 +106,8 @@ fn stack_at<W: World>(w: &mut W, args: u32) -> PrimEnd
 fn stack_pointer<W: World>(w: &mut W, args: u32) -> PrimEnd
     requires ready { IsReady (W.stored w.old) (W.view w.old) }
     requires there { args < depth_of (W.view w.old) }
-    ensures { PerformsOnContexts (W.stored w.old) (W.stored w.new) (W.layout w.old) (W.layout w.new) (W.view w.old) (W.view w.new)
-        result (stackp_prim (W.view w.old) args) }
+    ensures { PerformsOnContexts (W.stored w.old) (W.stored w.new) (W.layout w.old) (W.layout w.new)
+        (W.view w.old) (W.view w.new) result (stackp_prim (W.view w.old) args) }
 {
     if args != 0 {
         return PrimEnd::Fail;
@@ -139,8 +139,8 @@ fn answer_field<W: World>(w: &mut W, args: u32, ctx: Oop, i: u32) -> PrimEnd
     requires there { args < depth_of (W.view w.old) }
     requires named { IsNamed (W.stored w.old) ctx }
     requires context { is_context_ref (W.view w.old) (name_of (W.stored w.old) ctx) ≡ true }
-    ensures { PerformsOnContexts (W.stored w.old) (W.stored w.new) (W.layout w.old) (W.layout w.new) (W.view w.old) (W.view w.new)
-        result (answer_field (W.view w.old) args i (field_of (W.view w.old) (name_of (W.stored w.old) ctx) i)) }
+    ensures { PerformsOnContexts (W.stored w.old) (W.stored w.new) (W.layout w.old) (W.layout w.new)
+        (W.view w.old) (W.view w.new) result (answer_field (W.view w.old) args i (field_of (W.view w.old) (name_of (W.stored w.old) ctx) i)) }
 {
     match field(w, ctx, i) {
         Ok(Some(value)) => {

@@ -7,7 +7,7 @@ ghost use Rattle.cs_heap.specs.Object.{address_of, format_at, is_object, slot_co
 ghost use Rattle.cs_model.specs.SavedFile.{body_size as body_size_of, halves, overflow_words};
 ghost use Rattle.cs_save.specs.Filed.{body_word as body_word_of, file_word as file_word_of, filed_bits_at};
 ghost use Rattle.std.specs.Prelude.{if◌then◌else◌};
-ghost use Rattle.cs_classes.specs.Meaning.{count_of};
+ghost use Rattle.cs_word.specs.Word.{natural_of_word};
 ghost use Rattle.cs_word.specs.Header.{flag_bits};
 ghost use Rattle.cs_model.specs.Obj.{literal_count as literal_count_of};
 ghost use Rattle.cs_save.specs.Filed.{referring as referring_of, saved_at, saved_between};
@@ -38,9 +38,9 @@ pub(crate) fn file_word(word: u32) -> u32
 }
 
 /// The number that a word is, and 0 where it is no SmallInteger or negative.
-#[tactic(auto, unfolding(cs_classes::specs::Meaning::count_of))]
+#[tactic(auto, unfolding(cs_word::specs::Word::natural_of_word))]
 fn count(word: Oop) -> u32
-    ensures { result ≡ unwrap_or (count_of word.0) 0 }
+    ensures { result ≡ unwrap_or (natural_of_word word.0) 0 }
 {
     match word.kind() {
         Kind::Small(value) if value >= 0 => value as u32,
@@ -50,7 +50,7 @@ fn count(word: Oop) -> u32
 
 /// How many literals the method with this header has.
 fn literal_count(header: Oop) -> u32
-    ensures value { result ≡ literal_count_of (unwrap_or (count_of header.0) 0) }
+    ensures value { result ≡ literal_count_of (unwrap_or (natural_of_word header.0) 0) }
     ensures most { result < 2 ^ 15 }
 {
     count(header) % (1 << 15)

@@ -7,10 +7,10 @@ use Rattle.std.proofs.lemmas.Bool.{cases_eq, eq-eqb, or_right}
 use Rattle.std.proofs.lemmas.Bool.Decides.{eqb_tells}
 use Rattle.std.proofs.lemmas.List.Folds.{list_any_at}
 use Rattle.std.proofs.lemmas.List.{get_or-set_other, get_or-set_same, length-map, length-set}
-use Rattle.cs_word.specs.Word.{small_word}
+use Rattle.cs_word.specs.Word.{small_word, natural_of_word}
 use Rattle.cs_word.specs.declared.Oop.{Oop}
 use Rattle.cs_heap.specs.Object.{Object, birth_at, is_object, heap_object, slot_count_of, slot_of}
-use Rattle.cs_classes.specs.Meaning.{context_of, count_of, depth_in, is_heap_context, obj_of, objects_of, ref_of}
+use Rattle.cs_classes.specs.Meaning.{context_of, depth_in, is_heap_context, obj_of, objects_of, ref_of}
 use Rattle.cs_classes.specs.Sound.{is_reference}
 use Rattle.cs_classes.proofs.Heaps.{birth_of-object_at, is_object-object_at, stands}
 use Rattle.cs_classes.proofs.Objects.{get-objects_of-element}
@@ -310,8 +310,8 @@ pc_kept x l fits = go (is_linked x) refl
         ∙ sym (fits e).0
     go false e = refl
 
-pub nil_counts : count_of nil ≡ None
-unfolding count_of
+pub nil_counts : natural_of_word nil ≡ None
+unfolding natural_of_word
 nil_counts = refl
 
 pub depth_kept : (x : Object) → 6 ≤ length x.words → (is_linked x ≡ true → LinkFits x) → depth_in (unframed x).words ≡ depth_in x.words
@@ -319,10 +319,10 @@ depth_kept x l fits = go (is_linked x) refl
   where
     go : (b : Bool) → is_linked x ≡ b → depth_in (if b then record x { words = dead_words x.words } else x).words ≡ depth_in x.words
     go true e =
-        ap (λ v. unwrap_or (count_of v) 0)
+        ap (λ v. unwrap_or (natural_of_word v) 0)
         (get_or-set_same (slice_set (slice_set x.words 0 nil) 1 nil) 2 (small_word (pos 0)) 0
         (omega (arith, l, length-set x.words 0 nil, length-set (slice_set x.words 0 nil) 1 nil)))
-        ∙ ap (λ n. unwrap_or n 0) (count_of-small 0 (omega arith)) ∙ sym (ap (λ v. unwrap_or (count_of v) 0) (fits e).1 ∙ ap (λ n. unwrap_or n 0) nil_counts)
+        ∙ ap (λ n. unwrap_or n 0) (count_of-small 0 (omega arith)) ∙ sym (ap (λ v. unwrap_or (natural_of_word v) 0) (fits e).1 ∙ ap (λ n. unwrap_or n 0) nil_counts)
     go false e = refl
 
 module _ {w : Parts} {a : ℕ} (c : ContextAct w a) where
@@ -391,8 +391,8 @@ module _ {w : Parts} {p at : ℕ} (good : IsGood w) (a : FrameAct w p at) where
   abbrev pub frame_reads : Reads w a.begins_at.f.birth
   frame_reads = record { context = frame_context w.heap.objects a.begins_at.f a.begins_at.gs; found = a.found }
 
-  pub frame_lives : Lives w.heap.objects a.begins_at.f.method (count_of a.begins_at.f.saved_pc)
-  frame_lives = lives w.heap.objects f.method (count_of f.saved_pc) a.fits.lies
+  pub frame_lives : Lives w.heap.objects a.begins_at.f.method (natural_of_word a.begins_at.f.saved_pc)
+  frame_lives = lives w.heap.objects f.method (natural_of_word f.saved_pc) a.fits.lies
 
   pub frame_method_named : is_reference w.heap.objects a.begins_at.f.method ≡ true
   frame_method_named = is_reference-object w.heap.objects f.method (is_object-object_at w.heap.objects f.method frame_lives.object frame_lives.there)
@@ -494,8 +494,8 @@ module _ {w : Parts} {a : ℕ} (c : ContextAct w a) where
   pub kept_pc : (v : ℕ) → v ≡ slot_of w.heap.objects a 1 → v ≡ slice_index (unframed c.x).words 1
   kept_pc v e = word_is 1 v e ∙ sym (pc_kept c.x c.whole.fields c.links)
 
-  pub kept_depth : (v : ℕ) → v ≡ slot_of w.heap.objects a 2 → unwrap_or (count_of v) 0 ≡ depth_in (unframed c.x).words
-  kept_depth v e = ap (λ n. unwrap_or (count_of n) 0) (word_is 2 v e) ∙ sym (depth_kept c.x c.whole.fields c.links)
+  pub kept_depth : (v : ℕ) → v ≡ slot_of w.heap.objects a 2 → unwrap_or (natural_of_word v) 0 ≡ depth_in (unframed c.x).words
+  kept_depth v e = ap (λ n. unwrap_or (natural_of_word n) 0) (word_is 2 v e) ∙ sym (depth_kept c.x c.whole.fields c.links)
 
   pub stack_counted : length (context_of (ref_of w.heap.objects) (unframed c.x).hash (unframed c.x).words).stack ≡ depth_in (unframed c.x).words
   stack_counted =
@@ -510,15 +510,15 @@ module _ {w : Parts} {a : ℕ} (c : ContextAct w a) where
   unfolding context_of
   context_method v e = record { sound = field_named c 3 v.0 (omega arith) e; is = ap (ref_of w.heap.objects) (kept_word 3 v.0 (omega arith) e) ∙ sym (reads_method context_reads) }
 
-  pub context_live : (v : ℕ) → v ≡ slot_of w.heap.objects a 1 → is_some (count_of v) ≡ is_live (view_of w) c.x.birth
+  pub context_live : (v : ℕ) → v ≡ slot_of w.heap.objects a 1 → is_some (natural_of_word v) ≡ is_live (view_of w) c.x.birth
   unfolding context_of
-  context_live v e = ap (λ n. is_some (count_of n)) (kept_pc v e) ∙ sym (reads_live context_reads)
+  context_live v e = ap (λ n. is_some (natural_of_word n)) (kept_pc v e) ∙ sym (reads_live context_reads)
 
   size_is : (n : ℕ) → nat_lt n (context_of (ref_of w.heap.objects) (unframed c.x).hash (unframed c.x).words).size ≡ nat_lt n (slot_count_of w.heap.objects a - 6)
   unfolding context_of
   size_is n = ap (λ m. nat_lt n (m - 6)) (words_counted c.x ∙ sym (slots_are c))
 
-  pub context_room : (v : ℕ) → v ≡ slot_of w.heap.objects a 2 → has_room (context_in (state.object_at (view_of w) c.x.birth)) ≡ nat_lt (unwrap_or (count_of v) 0) (slot_count_of w.heap.objects a - 6)
+  pub context_room : (v : ℕ) → v ≡ slot_of w.heap.objects a 2 → has_room (context_in (state.object_at (view_of w) c.x.birth)) ≡ nat_lt (unwrap_or (natural_of_word v) 0) (slot_count_of w.heap.objects a - 6)
   context_room v e =
       reads_room context_reads ∙ ap (λ n. nat_lt n (context_of (ref_of w.heap.objects) (unframed c.x).hash (unframed c.x).words).size) (stack_counted ∙ sym (kept_depth v e))
-      ∙ size_is (unwrap_or (count_of v) 0)
+      ∙ size_is (unwrap_or (natural_of_word v) 0)

@@ -4,9 +4,9 @@ use Rattle.std.specs.Prelude.{◌&&◌, ◌==◌, ◌||◌, ◌≤◌, ◌-◌, 
 use Rattle.std.specs.List.{AllPass}
 use Rattle.std.proofs.lemmas.List.Elements.{All-cons}
 use Rattle.std.proofs.lemmas.Bool.{eq-eqb, eqb-true, or_left, or_right}
+use Rattle.cs_word.specs.Word.{natural_of_word}
 use Rattle.cs_heap.specs.Object.{Object, class_at, is_object, with_object}
 use Rattle.cs_heap.proofs.Laws.{field_of-old, is_object-old, is_object-with_object}
-use Rattle.cs_classes.specs.Meaning.{count_of}
 use Rattle.cs_classes.specs.Sound.{is_closure_address, is_reference, is_reference_kind, is_sender, is_sender_kind, nil_word}
 use Rattle.cs_classes.proofs.Heaps.{IsEdit}
 use Rattle.cs_classes.proofs.Refs.{both_true, either_true, is_nil_or_closure, is_reference-object, is_sender-context, is_sender-nil, class_of-with_object}
@@ -143,7 +143,7 @@ write_sender os x v h = record {
   closure = λ e. absurd (omega (arith, e));
 }
 
-pub write_pc : (os : List Object) (x : Object) (v : ℕ) → is_reference os v ≡ true → IsTrue (v == nil_word os || is_some (count_of v)) → IsContextWrite os x 1 v
+pub write_pc : (os : List Object) (x : Object) (v : ℕ) → is_reference os v ≡ true → IsTrue (v == nil_word os || is_some (natural_of_word v)) → IsContextWrite os x 1 v
 write_pc os x v named h = record {
   reference = λ e. named;
   sender = λ e. absurd (omega (arith, e));
@@ -154,8 +154,8 @@ write_pc os x v named h = record {
   closure = λ e. absurd (omega (arith, e));
 }
 
-pub write_stackp : (os : List Object) (x : Object) (v : ℕ) → is_reference os v ≡ true → IsTrue (v == nil_word os || is_some (count_of v))
-    → unwrap_or (count_of v) 0 ≤ length x.words - 6 → IsContextWrite os x 2 v
+pub write_stackp : (os : List Object) (x : Object) (v : ℕ) → is_reference os v ≡ true → IsTrue (v == nil_word os || is_some (natural_of_word v))
+    → unwrap_or (natural_of_word v) 0 ≤ length x.words - 6 → IsContextWrite os x 2 v
 write_stackp os x v named h few = record {
   reference = λ e. named;
   sender = λ e. absurd (omega (arith, e));

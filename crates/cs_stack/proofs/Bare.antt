@@ -9,14 +9,14 @@ use Rattle.std.proofs.lemmas.List.{length-map, length-set, map-append}
 use Rattle.cs_model.specs.Words.{small_value}
 use Rattle.cs_word.specs.declared.Kind.{Kind}
 use Rattle.cs_word.specs.declared.Kind.TheVariants as kind
-use Rattle.cs_word.specs.Word.{kind_of, small_word}
+use Rattle.cs_word.specs.Word.{kind_of, small_word, natural_of_word}
 use Rattle.cs_heap.specs.Format.{is_code}
 use Rattle.cs_heap.specs.Object.{Object, address_among, address_of, at_index, base, birth_at, class_at, part_at, format_at, index_among, object_place, is_object, heap_object, set_word, size, slot_count_of, slot_counts, used, with_object}
 use Rattle.cs_heap.proofs.Laws.{address_of-below, index_of-address}
 use Rattle.cs_classes.specs.declared.Roots.{Roots}
 use Rattle.cs_classes.specs.declared.Loaded.{Loaded}
 use Rattle.cs_classes.specs.Senders.{SendersStand}
-use Rattle.cs_classes.specs.Meaning.{nth_birth, classes_of, context_of, count_of, is_heap_context, kept_of, method_meaning, obj_of, objects_of, ref_of, ref_of_kind, loaded_kept}
+use Rattle.cs_classes.specs.Meaning.{nth_birth, classes_of, context_of, is_heap_context, kept_of, method_meaning, obj_of, objects_of, ref_of, ref_of_kind, loaded_kept}
 use Rattle.cs_classes.specs.Sound.{AreSoundObjects, IsSoundClass, IsSoundObject, IsWhole, is_reference, is_reference_kind, is_sender, is_sender_kind, nil_word}
 use Rattle.cs_classes.proofs.Heaps.{stands}
 use Rattle.cs_classes.proofs.Objects.{AreApart, get-objects_of-element, objects_of-comes}
@@ -190,14 +190,14 @@ nil_object os first is = go (address_of os 0) refl (address_of-below os 0 (omega
 pub dead_sound : (os : List Object) (x : Object) → 3 ≤ length os → nil_word os ≡ base → IsSoundObject os x → is_heap_context x ≡ true → IsSoundObject os (dead_object x)
 dead_sound os x first nil_is sound c =
     let there : is_reference os nil ≡ true = is_reference-object os nil (nil_object os first nil_is) in
-    let is_nil : IsTrue (nil == nil_word os || is_some (count_of nil)) = or_left (nil == nil_word os) (is_some (count_of nil)) (eq-eqb nil (nil_word os) (sym nil_is)) in
-    let none : count_of (small_word (pos 0)) ≡ Some 0 = count_of-small 0 (omega arith) in
+    let is_nil : IsTrue (nil == nil_word os || is_some (natural_of_word nil)) = or_left (nil == nil_word os) (is_some (natural_of_word nil)) (eq-eqb nil (nil_word os) (sym nil_is)) in
+    let none : natural_of_word (small_word (pos 0)) ≡ Some 0 = count_of-small 0 (omega arith) in
     let sender = sender_sound os nil nil_is (nil_or_nil context_class os (nil_object os first nil_is)) in
     let one = sound-set_context os x 0 nil sound c (write_sender os x nil sender) in
     let two = sound-set_context os (set_word 0 nil x) 1 nil one c (write_pc os (set_word 0 nil x) nil there is_nil) in
     sound-set_context os (set_word 1 nil (set_word 0 nil x)) 2 (small_word (pos 0)) two c
     (write_stackp os (set_word 1 nil (set_word 0 nil x)) (small_word (pos 0)) (is_reference-small os (pos 0) (small_natural 0 (omega arith)))
-    (or_right (small_word (pos 0) == nil_word os) (is_some (count_of (small_word (pos 0)))) (ap is_some none)) (omega (arith, ap (λ o. unwrap_or o 0) none)))
+    (or_right (small_word (pos 0) == nil_word os) (is_some (natural_of_word (small_word (pos 0)))) (ap is_some none)) (omega (arith, ap (λ o. unwrap_or o 0) none)))
 
 linked_context : (x : Object) → is_linked x ≡ true → is_heap_context x ≡ true
 linked_context x h = go (is_heap_context x) refl h

@@ -10,8 +10,8 @@ use Rattle.std.proofs.lemmas.List.Elements.{All-cons, All-take}
 use Rattle.std.proofs.lemmas.Map.Keys.{IsDistinct-cons}
 use Rattle.cs_heap.specs.Object.{Object, birth_at, class_at, hash_at, heap_object, slot_count_of, slot_of, with_object, words_at}
 use Rattle.cs_heap.proofs.Laws.{field_of-with_object_kept}
-use Rattle.cs_word.specs.Word.{small_word}
-use Rattle.cs_classes.specs.Meaning.{context_of, count_of, depth_in, kept_of, meaning_at, obj_of, objects_of, ref_of}
+use Rattle.cs_word.specs.Word.{small_word, natural_of_word}
+use Rattle.cs_classes.specs.Meaning.{context_of, depth_in, kept_of, meaning_at, obj_of, objects_of, ref_of}
 use Rattle.cs_classes.specs.Sound.{IsWhole, is_reference}
 use Rattle.cs_classes.proofs.Heaps.{IsEdit, stands}
 use Rattle.cs_classes.proofs.Sorts.{obj_of-context}
@@ -21,7 +21,7 @@ use Rattle.cs_frame.specs.declared.FrameRef.{FrameRef}
 use Rattle.cs_frame.specs.Frame.{Frame, nil}
 use Rattle.cs_frame.specs.Page.{frames_of, on_page}
 use Rattle.cs_frame.proofs.PageLaws.{frames_of-on_page, frames_of-on_page_other, length-on_page}
-use Rattle.cs_marriage.specs.Marriage.{base_frame, linked, stack_words, words_if}
+use Rattle.cs_marriage.specs.Marriage.{base_frame, linked, stack_words}
 use Rattle.cs_marriage.specs.Place.{names_place}
 use Rattle.cs_marriage.proofs.Agreeing.{size_some}
 use Rattle.cs_marriage.proofs.Based.{agree_based, deep, stack_long}
@@ -114,7 +114,7 @@ module _ {u : Parts} (good : IsGood u) (closed : u.pages.recent ≡ []) (s : ℕ
   slot_named i h = ap (λ q. q (slot_of os s i)) references ∙ live_named good.whole at good.pcs good.births i (omega (arith, h, six))
 
   words_are : words_at os s ≡ x.words
-  words_are = ap words_if at.there
+  words_are = ap (λ (o : Option Object). option_map_or (λ (x : Object). x.words) o []) at.there
 
   not_nil : s ≢ nil
   not_nil e = good.agree.nil_class (ap (class_at os) (sym e) ∙ (live_context good.whole at good.pcs good.births).class)
@@ -136,8 +136,8 @@ module _ {u : Parts} (good : IsGood u) (closed : u.pages.recent ≡ []) (s : ℕ
   base_fits = let can = can_base good.whole at good.pcs good.births in (
     record {
       names = record { closure = closure_fits; receiver = slot_named 5 (omega arith); stack = stack_named };
-      lies = live_index (meaning_at us (slot_of os s 3)) (count_of (slot_of os s 1)) can.live
-          (live_kept s x r good.whole at.there at.context named (slot_of os s 3) (count_of (slot_of os s 1)) ∙ live_lies good.whole at good.pcs good.births);
+      lies = live_index (meaning_at us (slot_of os s 3)) (natural_of_word (slot_of os s 1)) can.live
+          (live_kept s x r good.whole at.there at.context named (slot_of os s 3) (natural_of_word (slot_of os s 1)) ∙ live_lies good.whole at good.pcs good.births);
       fits = omega (arith, stack_long os s can, deep os s can, size_some us f not_nil, kept_count);
       stands = refl;
       room = omega arith;
@@ -247,7 +247,7 @@ module _ {u : Parts} (good : IsGood u) (closed : u.pages.recent ≡ []) (s : ℕ
         hash = (ap (λ b. if b then 0 else hash_at us s) (ne_eqb s nil not_nil) ∙ field_of-with_object_kept (λ y. y.hash) os s s (linked r) (linked_edit r).slots (λ y. refl)
             ∙ ap (λ (o : Option Object). option_map_or (λ (y : Object). y.hash) o 0) at.there) i;
         sender = (ap (λ q. q (slot_of os s 0)) refers ∙ ap (ref_of os) (slot 0)) i;
-        pc = ap count_of (slot 1) i;
+        pc = ap natural_of_word (slot 1) i;
         method = (ap (λ q. q (slot_of os s 3)) refers ∙ ap (ref_of os) (slot 3)) i;
         closure = (ap (λ q. q (slot_of os s 4)) refers ∙ ap (ref_of os) (slot 4)) i;
         receiver = (ap (λ q. q (slot_of os s 5)) refers ∙ ap (ref_of os) (slot 5)) i;

@@ -9,10 +9,10 @@ use Rattle.std.proofs.lemmas.Option.{slice_get-get_or, slice_get-map}
 use Rattle.cs_word.specs.declared.Kind.{Kind}
 use Rattle.cs_word.specs.declared.Kind.TheVariants as kind
 use Rattle.cs_word.specs.declared.Oop.{Oop}
-use Rattle.cs_word.specs.Word.{kind_of}
+use Rattle.cs_word.specs.Word.{kind_of, natural_by_kind, natural_of_word}
 use Rattle.cs_heap.specs.Object.{Object, birth_at, class_at, is_object, slot_count_of, slot_of}
 use Rattle.cs_model.proofs.Bools.{and_five}
-use Rattle.cs_classes.specs.Meaning.{context_of, count_of, count_of_kind, objects_of, ref_of, ref_of_kind}
+use Rattle.cs_classes.specs.Meaning.{context_of, objects_of, ref_of, ref_of_kind}
 use Rattle.cs_classes.specs.Sound.{is_reference, is_reference_kind}
 use Rattle.cs_classes.proofs.Heaps.{birth_of-object_at, is_object-object_at}
 use Rattle.cs_classes.proofs.Refs.{ref_of-object}
@@ -44,11 +44,11 @@ use Rattle.cs_stack.proofs.Copies.{HasSlots, closure_there, count_is, slot_named
 use Rattle.cs_stack.proofs.Methods.{Begins}
 
 -- a word and its reference are the same index
-index_word : (os : List Object) (v : ℕ) → is_reference os v ≡ true → small_index (ref_of os v) ≡ count_of v
-unfolding ref_of count_of is_reference
+index_word : (os : List Object) (v : ℕ) → is_reference os v ≡ true → small_index (ref_of os v) ≡ natural_of_word v
+unfolding ref_of natural_of_word is_reference
 index_word os v named = by_kind (kind_of v) named
   where
-    by_kind : (n : Kind) → is_reference_kind os n ≡ true → small_index (ref_of_kind os n) ≡ count_of_kind n
+    by_kind : (n : Kind) → is_reference_kind os n ≡ true → small_index (ref_of_kind os n) ≡ natural_by_kind n
     by_kind (kind.Small value) h = refl
     by_kind (kind.Character code) h = refl
     by_kind (kind.Object address) h = refl
@@ -202,7 +202,7 @@ module _ {w : Parts} (good : IsGood w) (ready : IsReady (stored_of w) (view_of w
       receiver_is : name_of (stored_of w) receiver ≡ receiver_in_context (nil_of k) (outer_context k x)
       receiver_is = ap (ref_of os) receiver_word ∙ outer_there.receiver ∙ sym (ap (receiver_in_context (nil_of k)) outer_is_there)
 
-      pc_is : count_of pc.0 ≡ small_index (closure_slot k x 1)
+      pc_is : natural_of_word pc.0 ≡ small_index (closure_slot k x 1)
       pc_is = sym (index_word os pc.0 (ap (is_reference os) pc_word ∙ field_named 1 (omega arith))) ∙ ap small_index (ap (ref_of os) pc_word ∙ slot_reads 1 (omega arith))
 
       all : copies ≡ length (copied_values k x)

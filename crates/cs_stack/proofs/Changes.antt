@@ -4,10 +4,10 @@ use Rattle.std.specs.Prelude.{slice_set}
 use Rattle.std.specs.List.{AllPass}
 use Rattle.std.proofs.lemmas.List.{length-map, map-set, map_push}
 use Rattle.std.specs.List.{take-map}
-use Rattle.cs_word.specs.Word.{kind_of}
+use Rattle.cs_word.specs.Word.{kind_of, natural_of_word}
 use Rattle.cs_word.proofs.Words.{kind_of-link}
 use Rattle.cs_heap.specs.Object.{Object}
-use Rattle.cs_classes.specs.Meaning.{count_of, meaning_at, ref_of}
+use Rattle.cs_classes.specs.Meaning.{meaning_at, ref_of}
 use Rattle.cs_classes.specs.Sound.{is_reference, is_reference_kind}
 use Rattle.cs_frame.specs.Frame.{Frame, IsValue}
 use Rattle.cs_frame.specs.Frame as frame
@@ -47,7 +47,7 @@ module _ (os : List Object) (next : ℕ) (f : Frame) where
     alone = fits.alone;
   }
 
-  pub fits_pc : (v : ℕ) (fs : List Frame) → FrameFits os next f fs → lies_if_index (meaning_at os f.method) (count_of v) ≡ true → FrameFits os next (frame.with_saved_pc v f) fs
+  pub fits_pc : (v : ℕ) (fs : List Frame) → FrameFits os next f fs → lies_if_index (meaning_at os f.method) (natural_of_word v) ≡ true → FrameFits os next (frame.with_saved_pc v f) fs
   fits_pc v [] fits lies = record {
     names = record { closure = fits.names.closure; receiver = fits.names.receiver; stack = fits.names.stack };
     lies = lies;
@@ -82,7 +82,7 @@ module _ (os : List Object) (next : ℕ) (f : Frame) where
   context_stack xs [] = refl
   context_stack xs (g ∷ gs) = refl
 
-  pub context_pc : (v : ℕ) (fs : List Frame) → frame_context os (frame.with_saved_pc v f) fs ≡ obj.with_pc (count_of v) (frame_context os f fs)
+  pub context_pc : (v : ℕ) (fs : List Frame) → frame_context os (frame.with_saved_pc v f) fs ≡ obj.with_pc (natural_of_word v) (frame_context os f fs)
   unfolding frame_context
   context_pc v [] = refl
   context_pc v (g ∷ gs) = refl

@@ -6,9 +6,9 @@ use Rattle.std.proofs.lemmas.Bool.{eq-eqb, eqb-true, or_left, or_right}
 use Rattle.std.specs.List.{AllByRecursion, AllPass}
 use Rattle.std.specs.FinMap.{get}
 use Rattle.std.proofs.lemmas.List.{length-set}
-use Rattle.cs_word.specs.Word.{small_word}
+use Rattle.cs_word.specs.Word.{small_word, natural_of_word}
 use Rattle.cs_heap.specs.Object.{Object, class_at, is_object}
-use Rattle.cs_classes.specs.Meaning.{context_of, count_of, is_heap_context, kept_of, meaning_at, obj_of, objects_of, ref_of}
+use Rattle.cs_classes.specs.Meaning.{context_of, is_heap_context, kept_of, meaning_at, obj_of, objects_of, ref_of}
 use Rattle.cs_classes.specs.Kinds.{ContextKinds, KindsStand}
 use Rattle.cs_classes.specs.Senders.{SenderStands}
 use Rattle.cs_classes.specs.Sound.{is_method_address, is_reference, nil_word}
@@ -44,12 +44,12 @@ use Rattle.cs_stack.proofs.Framed.{Bare, Framed, IsOn, Which, all_fit, below_on,
 use Rattle.cs_stack.proofs.Places.{agreed, plain_lacks}
 
 -- a linked context reads as dead
-pub linked_dead : (os : List Object) (x : Object) → 6 ≤ length x.words → is_linked x ≡ true → count_of (slice_index (unframed x).words 1) ≡ None
-unfolding count_of
+pub linked_dead : (os : List Object) (x : Object) → 6 ≤ length x.words → is_linked x ≡ true → natural_of_word (slice_index (unframed x).words 1) ≡ None
+unfolding natural_of_word
 linked_dead os x enough h =
     let zeroth : List ℕ = set x.words 0 nil in
-    ap (λ b. count_of (slice_index (cond b (record x { words = dead_words x.words }) x).words 1)) h
-    ∙ ap count_of (get_or-set_other (set zeroth 1 nil) 2 1 (small_word (pos 0)) 0 (λ e. omega (arith, e)) ∙ get_or-set_same zeroth 1 nil 0 (omega (arith, enough, length-set x.words 0 nil)))
+    ap (λ b. natural_of_word (slice_index (cond b (record x { words = dead_words x.words }) x).words 1)) h
+    ∙ ap natural_of_word (get_or-set_other (set zeroth 1 nil) 2 1 (small_word (pos 0)) 0 (λ e. omega (arith, e)) ∙ get_or-set_same zeroth 1 nil 0 (omega (arith, enough, length-set x.words 0 nil)))
 
 -- the sender of a dead context is nil
 sender_dead : (ws : List ℕ) → 6 ≤ length ws → slice_index (dead_words ws) 0 ≡ nil
@@ -106,14 +106,14 @@ module _ (w : Parts) (good : IsGood w) where
   unfolding frame_context
   frame_held f [] p on = let h = fits f [] p on in record {
     sender = view_held f.caller (nil_or_named context_class os f.caller h.sender);
-    method = method_held f.method (count_of f.saved_pc) (lives os f.method (count_of f.saved_pc) h.lies);
+    method = method_held f.method (natural_of_word f.saved_pc) (lives os f.method (natural_of_word f.saved_pc) h.lies);
     closure = view_held f.closure (nil_or_named closure_class os f.closure h.names.closure);
     receiver = view_held f.receiver h.names.receiver;
     stack = stack_held f.stack h.names.stack;
   }
   frame_held f (g ∷ gs) p on = let h = fits f (g ∷ gs) p on in record {
     sender = ap is_some (found g gs p (below_on on));
-    method = method_held f.method (count_of f.saved_pc) (lives os f.method (count_of f.saved_pc) h.lies);
+    method = method_held f.method (natural_of_word f.saved_pc) (lives os f.method (natural_of_word f.saved_pc) h.lies);
     closure = view_held f.closure (nil_or_named closure_class os f.closure h.names.closure);
     receiver = view_held f.receiver h.names.receiver;
     stack = stack_held f.stack h.names.stack;
@@ -197,11 +197,11 @@ module _ (w : Parts) (good : IsGood w) where
 
   frame_lies : (f : Frame) (gs : List Frame) → FrameFits os w.roots.next_birth f gs → PcLies view (frame_context os f gs)
   unfolding frame_context
-  frame_lies f gs fit pc e = lies_there f.method (count_of f.saved_pc) pc (lives os f.method (count_of f.saved_pc) fit.lies) e
+  frame_lies f gs fit pc e = lies_there f.method (natural_of_word f.saved_pc) pc (lives os f.method (natural_of_word f.saved_pc) fit.lies) e
 
   context_lies : (x : Object) → PcFits os x → PcLies view (context_of (ref_of os) x.hash x.words)
   unfolding context_of
-  context_lies x fit pc e = lies_there (slice_index x.words 3) (count_of (slice_index x.words 1)) pc (lives_if_live os (slice_index x.words 3) (count_of (slice_index x.words 1)) pc fit e) e
+  context_lies x fit pc e = lies_there (slice_index x.words 3) (natural_of_word (slice_index x.words 1)) pc (lives_if_live os (slice_index x.words 3) (natural_of_word (slice_index x.words 1)) pc fit e) e
 
   unframed_lies : (j : ℕ) (x : Object) → slice_get os j ≡ Some x → is_heap_context x ≡ true → PcLies view (context_of (ref_of os) (unframed x).hash (unframed x).words)
   unfolding context_of

@@ -4,12 +4,12 @@ use Rattle.std.specs.Prelude.{slice_get, slice_index, ◌||◌, if◌then◌else
 use Rattle.std.specs.FinMap.{get}
 use Rattle.std.proofs.lemmas.Bool.{and_right, cases_eq}
 use Rattle.std.proofs.lemmas.Bool.Decides.{eqb_tells}
-use Rattle.cs_word.specs.Word.{small_word}
+use Rattle.cs_word.specs.Word.{small_word, natural_of_word}
 use Rattle.cs_word.specs.declared.Oop.{Oop}
 use Rattle.cs_heap.specs.Object.{Memory, Object, at_index, birth_at, heap_object, set_word, with_object, slot_set}
 use Rattle.cs_heap.specs.Writes.{slots_stored}
 use Rattle.cs_heap.proofs.Laws.{field_of-with_object_kept, is_object-with_object, object_at-with_object_other, object_at-with_object_same, used-with_object}
-use Rattle.cs_classes.specs.Meaning.{context_of, count_of, is_heap_context, kept_of, meaning_at, obj_of, objects_of, ref_of}
+use Rattle.cs_classes.specs.Meaning.{context_of, is_heap_context, kept_of, meaning_at, obj_of, objects_of, ref_of}
 use Rattle.cs_classes.specs.Sound.{IsSoundObject, IsWhole, is_reference}
 use Rattle.cs_classes.proofs.Contexts.{by_six}
 use Rattle.cs_classes.proofs.Heaps.{IsEdit, slice_get-at_index_other, slice_get-at_index_same, stands, with_object-stands, with_object-twice}
@@ -75,7 +75,7 @@ dead_twice : (ws : List ℕ) → 6 ≤ length ws → dead_words (dead_words ws) 
 dead_twice ws h = by_six (λ us. dead_words (dead_words us) ≡ dead_words us) (λ a b c d e f rest. refl) ws h
 
 dead_context : (refer : ℕ → Ref) (hash n : ℕ) (ws : List ℕ) → 6 ≤ length ws → refer nil ≡ ref.Obj n → context_of refer hash (dead_words ws) ≡ dead n (context_of refer hash ws)
-unfolding context_of count_of
+unfolding context_of natural_of_word
 dead_context refer hash n ws h is =
     by_six (λ us. context_of refer hash (dead_words us) ≡ record (context_of refer hash us) { sender = refer nil; pc = None; stack = [] }) (λ a b c d e f rest. refl) ws h
     ∙ ap (λ r. record (context_of refer hash ws) { sender = r; pc = None; stack = [] }) is
@@ -153,9 +153,9 @@ module _ {u : Parts} (good : IsGood u) (closed : u.pages.recent ≡ []) {a : ℕ
 
   pcs : (j : ℕ) (y : Object) → slice_get us j ≡ Some y → is_heap_context y ≡ true → PcFits us y
   pcs j y h is = elim (cases j y h) [
-    | inl e ↦ subst (PcFits us) e (ap (λ w. lies_if_live (meaning_at us (slice_index (entomb x).words 3)) (count_of w)) (dead_pc x.words long)
+    | inl e ↦ subst (PcFits us) e (ap (λ w. lies_if_live (meaning_at us (slice_index (entomb x).words 3)) (natural_of_word w)) (dead_pc x.words long)
         ∙ ap (lies_if_live (meaning_at us (slice_index (entomb x).words 3))) nil_counts)
-    | inr old ↦ live_kept (slice_index y.words 3) (count_of (slice_index y.words 1)) ∙ good.pcs j y old is
+    | inr old ↦ live_kept (slice_index y.words 3) (natural_of_word (slice_index y.words 1)) ∙ good.pcs j y old is
   ]
 
   links : (j : ℕ) (y : Object) → slice_get us j ≡ Some y → is_linked y ≡ true → LinkFits y

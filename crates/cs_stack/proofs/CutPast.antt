@@ -4,9 +4,10 @@ use Rattle.std.specs.Prelude.{Contains, IsSomeAnd, nat_lt, not, ◌||◌, if◌t
 use Rattle.std.specs.List.{AllByRecursion, filter, list_any}
 use Rattle.std.specs.FinMap.{get}
 use Rattle.std.proofs.lemmas.Bool.{eqb-false}
+use Rattle.cs_word.specs.Word.{natural_of_word}
 use Rattle.cs_word.specs.declared.Oop.{Oop}
 use Rattle.cs_heap.specs.Object.{birth_at}
-use Rattle.cs_classes.specs.Meaning.{context_of, count_of, objects_of, ref_of}
+use Rattle.cs_classes.specs.Meaning.{context_of, objects_of, ref_of}
 use Rattle.cs_classes.specs.Sound.{is_reference}
 use Rattle.cs_frame.specs.Frame.{Frame, nil}
 use Rattle.cs_frame.specs.Page.{frames_of}
@@ -160,7 +161,7 @@ module _ {w v : Parts} {dying : List ℕ} {t : ℕ} {a : Act} (ended : Arrives w
                 let same : Some (Ctx (frame_context v.heap.objects f gs)) ≡ Some (Ctx (dead (view_of w).rest.nil d.0)) = sym found ∙ is in
                 let contexts : frame_context v.heap.objects f gs ≡ dead (view_of w).rest.nil d.0 = cc in
                 let fits = fits_on v.heap.objects v.roots.next_birth on (ended.good.frames q) in
-                let live = lives v.heap.objects f.method (count_of f.saved_pc) fits.lies in
+                let live = lives v.heap.objects f.method (natural_of_word f.saved_pc) fits.lies in
                 none_some live.pc (sym (ap (λ (c : Context). c.pc) contexts) ∙ live.at_is)
           ])
 

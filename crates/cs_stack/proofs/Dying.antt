@@ -5,10 +5,10 @@ use Rattle.std.specs.Option.{option_map_or}
 use Rattle.std.specs.Ordering.{nat_cmp}
 use Rattle.std.specs.FinMap.{FinMap, get}
 use Rattle.std.proofs.lemmas.Bool.{ne_eqb}
-use Rattle.cs_word.specs.Word.{small_word}
+use Rattle.cs_word.specs.Word.{small_word, natural_of_word}
 use Rattle.cs_heap.specs.Object.{Object, hash_at, heap_object, slot_count_of, slot_of}
 use Rattle.cs_classes.specs.declared.Roots.{Roots}
-use Rattle.cs_classes.specs.Meaning.{context_of, count_of, depth_in, is_heap_context, obj_of, objects_of, ref_of}
+use Rattle.cs_classes.specs.Meaning.{context_of, depth_in, is_heap_context, obj_of, objects_of, ref_of}
 use Rattle.cs_classes.specs.Sound.{IsWhole}
 use Rattle.cs_classes.proofs.Refs.{count_of-small}
 use Rattle.cs_classes.proofs.Sorts.{obj_of-context}
@@ -47,10 +47,10 @@ module _ (ws : List ℕ) (long : 6 ≤ length ws) where
   dead_long = length-set (set (set ws 0 nil) 1 nil) 2 (small_word (pos 0)) ∙ length-set (set ws 0 nil) 1 nil ∙ length-set ws 0 nil
 
   pub dead_depth : depth_in (dead_words ws) ≡ 0
-  dead_depth = ap (λ n. unwrap_or (count_of n) 0) dead_stackp ∙ ap (λ o. unwrap_or o 0) (count_of-small 0 (omega arith))
+  dead_depth = ap (λ n. unwrap_or (natural_of_word n) 0) dead_stackp ∙ ap (λ o. unwrap_or o 0) (count_of-small 0 (omega arith))
 
-none_counts : count_of nil ≡ None
-unfolding count_of
+none_counts : natural_of_word nil ≡ None
+unfolding natural_of_word
 none_counts = refl
 
 -- ---- the context of a frame
@@ -100,7 +100,7 @@ module _ {os : List Object} {table : FinMap nat_cmp ℕ} {roots : Roots} (heap :
         λ i. record {
           hash = sym hash_is i;
           sender = (ap (ref_of os) (dead_sender x.words long) ∙ nil_name) i;
-          pc = (ap count_of (dead_pc x.words long) ∙ none_counts) i;
+          pc = (ap natural_of_word (dead_pc x.words long) ∙ none_counts) i;
           method = ap (ref_of os) (dead_other x.words long 3 (omega arith) ∙ sym (slot_is 3) ∙ m.method) i;
           closure = ap (ref_of os) (dead_other x.words long 4 (omega arith) ∙ sym (slot_is 4) ∙ m.closure) i;
           receiver = ap (ref_of os) (dead_other x.words long 5 (omega arith) ∙ sym (slot_is 5) ∙ m.receiver) i;

@@ -6,8 +6,8 @@ use Rattle.std.proofs.lemmas.List.Elements.{All-get_or, All-push, All-set, All-t
 use Rattle.std.proofs.lemmas.Option.{slice_get-get_or, slice_get-map}
 use Rattle.std.proofs.lemmas.Bool.Decides.{eqb_tells}
 use Rattle.cs_word.specs.declared.Oop.{Oop}
-use Rattle.cs_word.specs.Word.{small_word}
-use Rattle.cs_classes.specs.Meaning.{count_of, meaning_at, ref_of}
+use Rattle.cs_word.specs.Word.{small_word, natural_of_word}
+use Rattle.cs_classes.specs.Meaning.{meaning_at, ref_of}
 use Rattle.cs_classes.specs.Sound.{is_reference}
 use Rattle.cs_classes.proofs.Heaps.{is_object-object_at}
 use Rattle.cs_classes.proofs.Refs.{count_of-small, is_reference-object}
@@ -88,10 +88,10 @@ module _ {w : Parts} (good : IsGood w) (o : Opened w) where
   unfolding frame_context
   size_read = ap (λ (c : Context). c.size) o.context
 
-  live : Lives w.heap.objects o.f.method (count_of o.f.saved_pc)
-  live = lives w.heap.objects o.f.method (count_of o.f.saved_pc) o.fits.lies
+  live : Lives w.heap.objects o.f.method (natural_of_word o.f.saved_pc)
+  live = lives w.heap.objects o.f.method (natural_of_word o.f.saved_pc) o.fits.lies
 
-  pub pc_read : unwrap_or (count_of o.f.saved_pc) 0 ≡ pc_of (view_of w)
+  pub pc_read : unwrap_or (natural_of_word o.f.saved_pc) 0 ≡ pc_of (view_of w)
   unfolding frame_context
   pc_read = sym (ap (λ (c : Context). unwrap_or c.pc 0) o.context)
 
@@ -123,7 +123,7 @@ module _ {w : Parts} (good : IsGood w) (o : Opened w) where
 
   method_is : method_of (view_of w) ≡ meaning_at w.heap.objects o.f.method
   unfolding method_of
-  method_is = ap (object_of (view_of w)) (sym method_name) ∙ method_there w good o.f.method (count_of o.f.saved_pc) live
+  method_is = ap (object_of (view_of w)) (sym method_name) ∙ method_there w good o.f.method (natural_of_word o.f.saved_pc) live
 
   pub pc_fits : (pc : ℕ) → lies_in (method_of (view_of w)) pc ≡ true → pc < 2 ^ 29
   unfolding method_of
@@ -137,8 +137,8 @@ module _ {w : Parts} (good : IsGood w) (o : Opened w) where
   pub pc_edited : (pc : ℕ) (v : ℕ) (r : FrameRef) (ps : List (List Frame)) → lies_in (method_of (view_of w)) pc ≡ true → v ≡ small_word (pos pc)
       → r ≡ active_ref w → ps ≡ on_frame w.frames r (frames.with_saved_pc v) → Edited w (with_frames w ps) (obj.with_pc (Some pc))
   pc_edited pc v r ps lies word is new =
-      let count : count_of v ≡ Some pc = ap count_of word ∙ count_of-small pc (omega (arith, pc_fits pc lies)) in
-      let there : lies_if_index (meaning_at w.heap.objects o.f.method) (count_of v) ≡ true =
+      let count : natural_of_word v ≡ Some pc = ap natural_of_word word ∙ count_of-small pc (omega (arith, pc_fits pc lies)) in
+      let there : lies_if_index (meaning_at w.heap.objects o.f.method) (natural_of_word v) ≡ true =
       ap (lies_if_index (meaning_at w.heap.objects o.f.method)) count ∙ ap (λ m. lies_in m pc) (sym method_is) ∙ lies in
       edited w good o (frames.with_saved_pc v o.f) (obj.with_pc (Some pc)) ps (new ∙ top_changed r (frames.with_saved_pc v) is) refl refl refl refl
       (agree_changed r (frames.with_saved_pc v) ps (ties_saved_pc v) is new)

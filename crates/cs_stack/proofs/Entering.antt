@@ -7,10 +7,10 @@ use Rattle.std.proofs.lemmas.List.{drop-map, length-append, length-map, length-r
 use Rattle.std.proofs.lemmas.List.Elements.{All-append, All-drop, All-get_or, All-replicate, All-take}
 use Rattle.std.proofs.lemmas.Option.{slice_get-get_or, slice_get-map}
 use Rattle.cs_word.specs.declared.Oop.{Oop}
-use Rattle.cs_word.specs.Word.{kind_of}
+use Rattle.cs_word.specs.Word.{kind_of, natural_of_word}
 use Rattle.cs_word.proofs.Words.{kind_of-link}
 use Rattle.cs_heap.specs.Object.{Object, slot_of}
-use Rattle.cs_classes.specs.Meaning.{count_of, objects_of, ref_of}
+use Rattle.cs_classes.specs.Meaning.{objects_of, ref_of}
 use Rattle.cs_classes.specs.Sound.{is_reference, is_reference_kind}
 use Rattle.cs_classes.proofs.Objects.{get-objects_of-fresh}
 use Rattle.cs_classes.proofs.Wholes.{next_is_fresh}
@@ -190,7 +190,7 @@ module _ {w : Parts} (good : IsGood w) (ready : IsReady (stored_of w) (view_of w
   new_context at sender gs from = λ i. record {
     hash = 0;
     sender = from i;
-    pc = count_of pc.0;
+    pc = natural_of_word pc.0;
     method = name_of (stored_of w) new.method;
     closure = name_of (stored_of w) new.closure;
     receiver = name_of (stored_of w) new.receiver;
@@ -222,7 +222,7 @@ module _ {w : Parts} (good : IsGood w) (ready : IsReady (stored_of w) (view_of w
           (All-append (λ (u : ℕ). is_reference os u ≡ true) (replicate new.fill nil) (copied_at os new.closure.0 copies)
           (All-replicate (λ (u : ℕ). is_reference os u ≡ true) new.fill nil nil_named) copied.named);
     };
-    lies = ap (λ p. lies_if_index p (count_of pc.0)) code.means ∙ can.lies;
+    lies = ap (λ p. lies_if_index p (natural_of_word pc.0)) code.means ∙ can.lies;
     fits = size_fits;
     stands = stands;
     room = room;
@@ -242,7 +242,7 @@ module _ {w : Parts} (good : IsGood w) (ready : IsReady (stored_of w) (view_of w
 
   -- its pc is a number
   pub new_pc : IsPc pc.0
-  new_pc = number_pc pc.0 (some_pc (object_of k (name_of (stored_of w) new.method)) (count_of pc.0) can.lies)
+  new_pc = number_pc pc.0 (some_pc (object_of k (name_of (stored_of w) new.method)) (natural_of_word pc.0) can.lies)
 
   -- what it is given to hold is no link
   pub new_values : HoldsValues new

@@ -9,9 +9,9 @@ use Rattle.std.proofs.lemmas.Option.{slice_get-get_or, slice_get-map, slice_get_
 use Rattle.cs_word.specs.declared.Kind.{Kind}
 use Rattle.cs_word.specs.declared.Kind.TheVariants as kind
 use Rattle.cs_word.specs.declared.Oop.{Oop}
-use Rattle.cs_word.specs.Word.{kind_of, small_word}
+use Rattle.cs_word.specs.Word.{kind_of, small_word, natural_by_kind, natural_of_word}
 use Rattle.cs_heap.specs.Object.{Object, slot_of}
-use Rattle.cs_classes.specs.Meaning.{context_of, count_of, count_of_kind, depth_in, ref_of, ref_of_kind}
+use Rattle.cs_classes.specs.Meaning.{context_of, depth_in, ref_of, ref_of_kind}
 use Rattle.cs_classes.specs.Sound.{is_reference, is_reference_kind, nil_word as heap_nil}
 use Rattle.cs_frame.specs.declared.FrameRef.{FrameRef}
 use Rattle.cs_frame.specs.Page.{IsBase}
@@ -48,11 +48,11 @@ pub record IsCount (os : List Object) (v n : ℕ) : Type 0 where
   pub named : is_reference os v ≡ true
   pub is : ref_of os v ≡ ref.Small (pos n)
 
-pub count_named : (os : List Object) (v n : ℕ) → count_of v ≡ Some n → IsCount os v n
-unfolding count_of ref_of is_reference
+pub count_named : (os : List Object) (v n : ℕ) → natural_of_word v ≡ Some n → IsCount os v n
+unfolding natural_of_word ref_of is_reference
 count_named os v n h = go (kind_of v) refl h
   where
-    go : (k : Kind) → kind_of v ≡ k → count_of_kind k ≡ Some n → IsCount os v n
+    go : (k : Kind) → kind_of v ≡ k → natural_by_kind k ≡ Some n → IsCount os v n
     go (kind.Small (pos m)) e h =
         let same : m ≡ n = cc in
         record { named = ap (is_reference_kind os) e; is = ap (ref_of_kind os) e ∙ ap (λ i. ref.Small (pos i)) same }
@@ -170,7 +170,7 @@ module _ {w : Parts} {p at : ℕ} (good : IsGood w) (a : FrameAct w p at) where
   frame_get_pc v e =
       let l = frame_lives good a in
       let word : v.0 ≡ f.saved_pc = e ∙ ap (λ (g : Frame). g.saved_pc) a.is in
-      let n = count_named w.heap.objects v.0 l.pc (ap count_of word ∙ l.at_is) in
+      let n = count_named w.heap.objects v.0 l.pc (ap natural_of_word word ∙ l.at_is) in
       names v 1 (ref.Small (pos l.pc)) n.named n.is (get_pc (view_of w) c ∙ ap (λ o. Some (pc_value (nil_of (view_of w)) o)) l.at_is)
 
   pub frame_get_depth : (v : Oop) (n : ℕ) → n ≡ length (frame w.frames (record { page = p; at = at })).stack → v.0 ≡ small_word (pos n) → n < 2 ^ 30
@@ -289,7 +289,7 @@ module _ {w : Parts} {a : ℕ} (good : IsGood w) (c : ContextAct w a) (o : Oop) 
       let same : slice_index words 0 ≡ slice_index c.x.words 0 = ap (λ b. slice_index (if b then record c.x { words = dead_words c.x.words } else c.x).words 0) free in
       names_word v 0 context.sender (field_named c 0 v.0 (omega arith) e) (ap (ref_of w.heap.objects) (e ∙ slot_is c 0 ∙ sym same)) (get_sender (view_of w) context)
 
-  pub depth_few : (v : ℕ) → v ≡ slot_of w.heap.objects a 2 → unwrap_or (count_of v) 0 < 2 ^ 30
+  pub depth_few : (v : ℕ) → v ≡ slot_of w.heap.objects a 2 → unwrap_or (natural_of_word v) 0 < 2 ^ 30
   depth_few v e =
       let s = (sound_at w.heap.objects a c.x good.whole.heap c.there).context c.context in
       omega (arith, kept_depth c v e, depth_kept c.x c.whole.fields c.links, c.whole.depth, words_few c.x s.slots)
@@ -303,30 +303,30 @@ module _ {w : Parts} {a : ℕ} (good : IsGood w) (c : ContextAct w a) (o : Oop) 
         ]
       ]
 
-  pub word_get_depth : (v : Oop) (u : ℕ) → u ≡ slot_of w.heap.objects a 2 → v.0 ≡ small_word (pos (unwrap_or (count_of u) 0)) → NamesOption (stored_of w) (Some v) (field_at (view_of w) (act_of w (act.Context o)) 2)
+  pub word_get_depth : (v : Oop) (u : ℕ) → u ≡ slot_of w.heap.objects a 2 → v.0 ≡ small_word (pos (unwrap_or (natural_of_word u) 0)) → NamesOption (stored_of w) (Some v) (field_at (view_of w) (act_of w (act.Context o)) 2)
   word_get_depth v u read e =
-      let s = small_count w.heap.objects v.0 (unwrap_or (count_of u) 0) e (depth_few u read) in
-      names_word v 2 (ref.Small (pos (unwrap_or (count_of u) 0))) s.named s.is (get_depth (view_of w) context ∙ ap (λ n. Some (ref.Small (pos n))) (stack_counted c ∙ sym (kept_depth c u read)))
+      let s = small_count w.heap.objects v.0 (unwrap_or (natural_of_word u) 0) e (depth_few u read) in
+      names_word v 2 (ref.Small (pos (unwrap_or (natural_of_word u) 0))) s.named s.is (get_depth (view_of w) context ∙ ap (λ n. Some (ref.Small (pos n))) (stack_counted c ∙ sym (kept_depth c u read)))
 
   pub word_get_pc : (v : Oop) → v.0 ≡ slot_of w.heap.objects a 1 → NamesOption (stored_of w) (Some v) (field_at (view_of w) (act_of w (act.Context o)) 1)
   unfolding context_of
-  word_get_pc v e = go (count_of v.0) refl
+  word_get_pc v e = go (natural_of_word v.0) refl
     where
-      pc_is : context.pc ≡ count_of v.0
-      pc_is = ap count_of (sym (kept_pc c v.0 e))
+      pc_is : context.pc ≡ natural_of_word v.0
+      pc_is = ap natural_of_word (sym (kept_pc c v.0 e))
 
       or_right : (b d : Bool) → (b || d) ≡ true → d ≡ false → b ≡ true
       or_right true d h k = refl
       or_right false d h k = absurd (cc)
 
-      go : (q : Option ℕ) → count_of v.0 ≡ q → NamesOption (stored_of w) (Some v) (field_at (view_of w) (act_of w (act.Context o)) 1)
+      go : (q : Option ℕ) → natural_of_word v.0 ≡ q → NamesOption (stored_of w) (Some v) (field_at (view_of w) (act_of w (act.Context o)) 1)
       go (Some n) h =
           let s = count_named w.heap.objects v.0 n h in
           names_word v 1 (ref.Small (pos n)) s.named s.is (get_pc (view_of w) context ∙ ap (λ q. Some (pc_value (nil_of (view_of w)) q)) (pc_is ∙ h))
       go None h =
           let s = (sound_at w.heap.objects a c.x good.whole.heap c.there).context c.context in
           let word : v.0 ≡ slice_index c.x.words 1 = e ∙ slot_is c 1 in
-          let first : (slice_index c.x.words 1 == heap_nil w.heap.objects) ≡ true = or_right _ (is_some (count_of (slice_index c.x.words 1))) s.pc (ap is_some (ap count_of (sym word) ∙ h)) in
+          let first : (slice_index c.x.words 1 == heap_nil w.heap.objects) ≡ true = or_right _ (is_some (natural_of_word (slice_index c.x.words 1))) s.pc (ap is_some (ap natural_of_word (sym word) ∙ h)) in
           let is_nil : v.0 ≡ nil = elim (eqb_tells (slice_index c.x.words 1) (heap_nil w.heap.objects)) [
             | inl t ↦ word ∙ t.1 ∙ good.whole.nil
             | inr t ↦ absurd (let no : true ≡ false = sym first ∙ t.0 in cc)

@@ -5,9 +5,10 @@ use Rattle.std.specs.List.{AllPass}
 use Rattle.std.specs.FinMap.{get, insert}
 use Rattle.std.proofs.lemmas.Bool.{cases_eq, eq-eqb}
 use Rattle.std.proofs.lemmas.List.{length-map}
+use Rattle.cs_word.specs.Word.{natural_of_word}
 use Rattle.cs_heap.specs.Object.{Object, heap_object, hash_at}
 use Rattle.cs_heap.proofs.Laws.{field_of-old, object_at-old}
-use Rattle.cs_classes.specs.Meaning.{code_in, count_of, is_heap_context, literal_words, meaning_at, obj_of, objects_of, ref_of, used_bytes}
+use Rattle.cs_classes.specs.Meaning.{code_in, is_heap_context, literal_words, meaning_at, obj_of, objects_of, ref_of, used_bytes}
 use Rattle.cs_classes.specs.Sound.{is_reference}
 use Rattle.cs_classes.proofs.Heaps.{is_object-object_at, object_at-push, slice_get-push}
 use Rattle.cs_classes.proofs.Objects.{objects_of-push}
@@ -85,7 +86,7 @@ module _ (os : List Object) (y : Object) where
   pub pcs_grown : PcFits (os ++ y ∷ []) y ⊎ (is_heap_context y ≡ false) → ((j : ℕ) (x : Object) → slice_get os j ≡ Some x → is_heap_context x ≡ true → PcFits os x)
       → (j : ℕ) (x : Object) → slice_get (os ++ y ∷ []) j ≡ Some x → is_heap_context x ≡ true → PcFits (os ++ y ∷ []) x
   pcs_grown new pcs j x e c = elim (slice_get-push os y j x e) [
-    | inl old ↦ live_grown (slice_index x.words 3) (count_of (slice_index x.words 1)) (pcs j x old c)
+    | inl old ↦ live_grown (slice_index x.words 3) (natural_of_word (slice_index x.words 1)) (pcs j x old c)
     | inr last ↦ elim new [
       | inl fits ↦ subst (PcFits grown) last.1 fits
       | inr other ↦ absurd (let no : true ≡ false = sym c ∙ ap is_heap_context (sym last.1) ∙ other in cc)
@@ -147,7 +148,7 @@ module _ (w : Parts) (good : IsGood w) (y : Object) where
   sender_grown f (g ∷ gs) h = refl
 
   method_named : {f : Frame} {gs : List Frame} → FrameFits old w.roots.next_birth f gs → is_reference old f.method ≡ true
-  method_named {f = f} h = let l = lives old f.method (count_of f.saved_pc) h.lies in is_reference-object old f.method (is_object-object_at old f.method l.object l.there)
+  method_named {f = f} h = let l = lives old f.method (natural_of_word f.saved_pc) h.lies in is_reference-object old f.method (is_object-object_at old f.method l.object l.there)
 
   -- a frame is the same context
   pub context_grown : {f : Frame} {gs : List Frame} (p : ℕ) → IsOn f gs (frames_of w.frames p) → frame_context (w.heap.objects ++ y ∷ []) f gs ≡ frame_context w.heap.objects f gs
@@ -164,7 +165,7 @@ module _ (w : Parts) (good : IsGood w) (y : Object) where
       λ i. record {
         hash = hash i;
         sender = sender i;
-        pc = count_of f.saved_pc;
+        pc = natural_of_word f.saved_pc;
         method = method i;
         closure = closure i;
         receiver = receiver i;
@@ -201,7 +202,7 @@ module _ (w : Parts) (good : IsGood w) (y : Object) where
               receiver = is_reference-push old y f.receiver h.names.receiver;
               stack = stack_grown f.stack h.names.stack;
             };
-            lies = index_grown old y f.method (count_of f.saved_pc) h.lies;
+            lies = index_grown old y f.method (natural_of_word f.saved_pc) h.lies;
             fits = omega (arith, h.fits, size_grown p (on f fs here));
             stands = h.stands;
             room = h.room;

@@ -7,11 +7,12 @@ use Rattle.std.specs.Ordering.{nat_cmp}
 use Rattle.std.specs.FinMap.{FinMap}
 use Rattle.std.proofs.lemmas.Bool.{cases_eq, false≢true}
 use Rattle.std.proofs.lemmas.List.Elements.{All-append, All-drop, All-replicate, All-take}
+use Rattle.cs_word.specs.Word.{natural_of_word}
 use Rattle.cs_heap.specs.Format.{format_allows, is_pointers}
 use Rattle.cs_heap.specs.Object.{Object, at_index, object_place, heap_object, set_word, used, with_object}
 use Rattle.cs_heap.proofs.Laws.{object_at-with_object_other, object_at-with_object_same, used-with_object}
 use Rattle.cs_classes.specs.declared.Roots.{Roots}
-use Rattle.cs_classes.specs.Meaning.{count_of, is_heap_context, meaning_at, obj_of, ref_of}
+use Rattle.cs_classes.specs.Meaning.{is_heap_context, meaning_at, obj_of, ref_of}
 use Rattle.cs_classes.specs.Sound.{IsSoundObject, IsWhole, is_reference, is_sender, nil_word}
 use Rattle.cs_classes.proofs.Heaps.{IsEdit, slice_get-at_index_other, slice_get-at_index_same, stands, with_object-stands}
 use Rattle.cs_classes.proofs.Refs.{is_nil_or_closure, is_nil_or_method, is_reference-with_object, ref_of-with_object}
@@ -34,8 +35,8 @@ use Rattle.cs_stack.proofs.Addresses.{all_words, place_reference, place_sender, 
 
 -- ---- words
 
-pub nil_counts : count_of nil ≡ None
-unfolding count_of
+pub nil_counts : natural_of_word nil ≡ None
+unfolding natural_of_word
 nil_counts = refl
 
 pub linked_edit : (r : FrameRef) → IsEdit (linked r)
@@ -88,17 +89,17 @@ sound_cleared os z s c place named =
         format = old.format;
         slots = subst (λ (n : ℕ). IsTrue (n == 22 || n == 62)) (sym slots) old.slots;
         sender = subst (λ (u : ℕ). IsTrue (is_sender os u)) (sym (get_or-cleared 6 z.words 0 (omega arith))) old.sender;
-        pc = subst (λ (u : ℕ). IsTrue (u == nil_word os || is_some (count_of u))) (sym first) old.pc;
-        stackp = subst (λ (u : ℕ). IsTrue (u == nil_word os || is_some (count_of u))) (sym second) old.stackp;
-        depth = omega (arith, ap (λ u. unwrap_or (count_of u) 0) second, old.depth, slots);
+        pc = subst (λ (u : ℕ). IsTrue (u == nil_word os || is_some (natural_of_word u))) (sym first) old.pc;
+        stackp = subst (λ (u : ℕ). IsTrue (u == nil_word os || is_some (natural_of_word u))) (sym second) old.stackp;
+        depth = omega (arith, ap (λ u. unwrap_or (natural_of_word u) 0) second, old.depth, slots);
         method = subst (λ (u : ℕ). IsTrue (is_nil_or_method os u)) (sym (get_or-cleared 6 z.words 3 (omega arith))) old.method;
         closure = subst (λ (u : ℕ). IsTrue (is_nil_or_closure os u)) (sym (get_or-cleared 6 z.words 4 (omega arith))) old.closure;
       };
       method = λ m. absurd (false≢true (sym (not_pointers z.format m) ∙ pointers));
     }
 
-nil_passes : (os : List Object) → nil_word os ≡ nil → (nil == nil_word os || is_some (count_of nil)) ≡ true
-nil_passes os e = ap (λ n. nil == n || is_some (count_of nil)) e
+nil_passes : (os : List Object) → nil_word os ≡ nil → (nil == nil_word os || is_some (natural_of_word nil)) ≡ true
+nil_passes os e = ap (λ n. nil == n || is_some (natural_of_word nil)) e
 
 pub sound_linked : (os : List Object) (r : FrameRef) (x : Object) → IsSoundObject os x → is_heap_context x ≡ true → is_reference os nil ≡ true → nil_word os ≡ nil → IsSoundObject os (linked r x)
 sound_linked os r x s c named at_base =
@@ -189,9 +190,9 @@ module _ {os : List Object} {table : FinMap nat_cmp ℕ} {roots : Roots} (a : �
 
   pub linked_pcs : ((j : ℕ) (y : Object) → slice_get os j ≡ Some y → is_heap_context y ≡ true → PcFits os y) → (j : ℕ) (y : Object) → slice_get us j ≡ Some y → is_heap_context y ≡ true → PcFits us y
   linked_pcs pcs j y h is = elim (cases j y h) [
-    | inl e ↦ subst (PcFits us) e (ap (λ w. lies_if_live (meaning_at us (slice_index (linked r x).words 3)) (count_of w)) (linked_pc r x long)
+    | inl e ↦ subst (PcFits us) e (ap (λ w. lies_if_live (meaning_at us (slice_index (linked r x).words 3)) (natural_of_word w)) (linked_pc r x long)
         ∙ ap (lies_if_live (meaning_at us (slice_index (linked r x).words 3))) nil_counts)
-    | inr old ↦ live_kept (slice_index y.words 3) (count_of (slice_index y.words 1)) ∙ pcs j y old is
+    | inr old ↦ live_kept (slice_index y.words 3) (natural_of_word (slice_index y.words 1)) ∙ pcs j y old is
   ]
 
   pub linked_senders : ((j : ℕ) (y : Object) → slice_get os j ≡ Some y → is_heap_context y ≡ true → SenderFits os y) → (j : ℕ) (y : Object) → slice_get us j ≡ Some y → is_heap_context y ≡ true → SenderFits us y

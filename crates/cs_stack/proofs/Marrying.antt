@@ -9,12 +9,13 @@ use Rattle.std.specs.Cmp.{nat_cmp_total}
 use Rattle.std.proofs.lemmas.Bool.{cases_eq, eq-eqb, ne_eqb, or_right}
 use Rattle.std.proofs.lemmas.List.{length-replicate}
 use Rattle.std.proofs.lemmas.List.Elements.{All-cons, All-replicate}
+use Rattle.cs_word.specs.Word.{natural_of_word}
 use Rattle.cs_heap.specs.Format.{format_allows, is_code}
 use Rattle.cs_classes.specs.declared.Roots.{Roots}
 use Rattle.cs_word.specs.declared.Oop.{Oop}
 use Rattle.cs_heap.specs.Object.{Memory, Object, birth_at, class_at, format_at, hash_at, object_place as place_of, is_object, next_address, heap_object, size, used}
 use Rattle.cs_heap.proofs.Laws.{field_of-new, field_of-old, is_object-new, is_object-old, is_object-pushed, no_object-next, object_at-old, used-pushed}
-use Rattle.cs_classes.specs.Meaning.{nth_birth, classes_of, count_of, is_heap_context, kept_of, meaning_at, obj_of, objects_of, ref_of}
+use Rattle.cs_classes.specs.Meaning.{nth_birth, classes_of, is_heap_context, kept_of, meaning_at, obj_of, objects_of, ref_of}
 use Rattle.cs_classes.specs.Sound.{AreSoundObjects, IsSoundObject, IsWhole, is_method_address, is_reference, nil_word}
 use Rattle.cs_classes.proofs.Heaps.{birth_of-push, object_at-push, slice_get-push}
 use Rattle.cs_classes.proofs.Objects.{IsFresh, get-objects_of-element, objects_of-push}
@@ -203,8 +204,8 @@ spouse_sound us r f header nil_is nil_named method closure receiver =
         format = refl;
         slots = allowed.1;
         sender = place_sender us (link_word r) (link_names r);
-        pc = ap (λ b. b || is_some (count_of nil)) (eq-eqb nil (nil_word us) (sym nil_is));
-        stackp = ap (λ b. b || is_some (count_of nil)) (eq-eqb nil (nil_word us) (sym nil_is));
+        pc = ap (λ b. b || is_some (natural_of_word nil)) (eq-eqb nil (nil_word us) (sym nil_is));
+        stackp = ap (λ b. b || is_some (natural_of_word nil)) (eq-eqb nil (nil_word us) (sym nil_is));
         depth = omega (arith, ap (λ n. unwrap_or n 0) nil_counts);
         method = or_right (f.method == nil_word us) (is_method_address us f.method) method;
         closure = closure_sound us f.closure nil_is closure;
@@ -303,7 +304,7 @@ module _ (w : Parts) (good : IsGood w) (r : FrameRef) (is : IsFrame w.frames r) 
   -- ---- sizes and hashes
 
   header_same : {f : Frame} {gs : List Frame} (p : ℕ) → IsOn f gs (frames_of w.frames p) → header_at us f.method ≡ header_at os f.method
-  header_same {f = f} p on = ap (λ n. unwrap_or (count_of n) 0) (field_of-old (λ x. slice_index x.words 0) os y f.method (method_named p on))
+  header_same {f = f} p on = ap (λ n. unwrap_or (natural_of_word n) 0) (field_of-old (λ x. slice_index x.words 0) os y f.method (method_named p on))
 
   abbrev Same : Frame → Frame → Type 0
   Same f g = (frame_size us g ≡ frame_size os f) × (frame_hash us g ≡ frame_hash os f)
@@ -350,7 +351,7 @@ module _ (w : Parts) (good : IsGood w) (r : FrameRef) (is : IsFrame w.frames r) 
       let hash = same.1 in
       let size_is = same.0 in
       let sender = sender_same f gs fits in
-      let pc = ap count_of (wed_keeps (λ g. g.saved_pc) b a f refl) in
+      let pc = ap natural_of_word (wed_keeps (λ g. g.saved_pc) b a f refl) in
       let method = ap (ref_of us) (wed_keeps (λ g. g.method) b a f refl) ∙ refer f.method (is_reference-object os f.method (method_named p on)) in
       let closure = ap (ref_of us) (wed_keeps (λ g. g.closure) b a f refl) ∙ refer f.closure (nil_or_named closure_class os f.closure fits.names.closure) in
       let receiver = ap (ref_of us) (wed_keeps (λ g. g.receiver) b a f refl) ∙ refer f.receiver fits.names.receiver in
@@ -600,7 +601,7 @@ module _ (w : Parts) (good : IsGood w) (r : FrameRef) (is : IsFrame w.frames r) 
   pcs k x h context = go (slice_get-push os y k x h)
     where
       go : (slice_get os k ≡ Some x) ⊎ ((k ≡ length os) × (y ≡ x)) → PcFits us x
-      go (inl e) = live_pushed os y (slice_index x.words 3) (count_of (slice_index x.words 1)) good.whole.heap (good.pcs k x e context)
+      go (inl e) = live_pushed os y (slice_index x.words 3) (natural_of_word (slice_index x.words 1)) good.whole.heap (good.pcs k x e context)
       go (inr e) = subst (PcFits us) e.1 (ap (lies_if_live (meaning_at us fr.method)) nil_counts)
 
   senders : (k : ℕ) (x : Object) → slice_get us k ≡ Some x → is_heap_context x ≡ true → SenderFits us x
@@ -649,7 +650,7 @@ module _ (w : Parts) (good : IsGood w) (r : FrameRef) (is : IsFrame w.frames r) 
           receiver = ap (is_reference us) (wed_keeps (λ g. g.receiver) b a f refl) ∙ refers f.receiver fits.names.receiver;
           stack = subst (AllPass (is_reference us)) (sym stack) (λ k d l. refers _ (fits.names.stack k d l));
         };
-        lies = ap₂ (λ m v. lies_if_index (meaning_at us m) (count_of v)) method saved ∙ index_pushed os y f.method (count_of f.saved_pc) good.whole.heap fits.lies;
+        lies = ap₂ (λ m v. lies_if_index (meaning_at us m) (natural_of_word v)) method saved ∙ index_pushed os y f.method (natural_of_word f.saved_pc) good.whole.heap fits.lies;
         fits = omega (arith, fits.fits, ap length stack, (wed_same p on).0);
         stands = place ∙ fits.stands ∙ sym (used_wed b a gs);
         room = omega (arith, fits.room, place);

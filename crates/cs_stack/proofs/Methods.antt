@@ -3,9 +3,9 @@ use Rattle.std.proofs.Common.{◌≡◌, ℕ, pos, ◌+◌, ◌-◌, ◌<◌, �
 use Rattle.std.specs.Prelude.{slice_get, slice_index}
 use Rattle.std.proofs.lemmas.List.{append-nil}
 use Rattle.cs_word.specs.declared.Oop.{Oop}
-use Rattle.cs_word.specs.Word.{small_word}
+use Rattle.cs_word.specs.Word.{small_word, natural_of_word}
 use Rattle.cs_heap.specs.Object.{Object, slot_count_of}
-use Rattle.cs_classes.specs.Meaning.{count_of, ref_of}
+use Rattle.cs_classes.specs.Meaning.{ref_of}
 use Rattle.cs_classes.specs.Sound.{is_reference}
 use Rattle.cs_classes.proofs.Refs.{count_of-small}
 use Rattle.cs_frame.specs.declared.NewFrame.{NewFrame}
@@ -70,8 +70,8 @@ module _ {w : Parts} (ready : IsReady (stored_of w) (view_of w)) (o : Opened w) 
     small : entry_of e.header skip < 2 ^ 30
     small = omega (arith, pc_small (stored_of w) k method (entry_of e.header skip) ready.sound.holds named e.lies)
 
-    pc_is : count_of pc.0 ≡ Some (entry_of e.header skip)
-    pc_is = ap count_of entered ∙ ap (λ h. count_of (small_word (pos (entry_of h skip)))) e.header_is ∙ count_of-small (entry_of e.header skip) small
+    pc_is : natural_of_word pc.0 ≡ Some (entry_of e.header skip)
+    pc_is = ap natural_of_word entered ∙ ap (λ h. natural_of_word (small_word (pos (entry_of h skip)))) e.header_is ∙ count_of-small (entry_of e.header skip) small
 
     temporaries : temporary_count (header_at os method.0) ≡ temporary_count (header_in (object_of k x))
     temporaries = ap temporary_count (e.header_is ∙ sym e.model_header)

@@ -8,12 +8,12 @@ use Rattle.std.proofs.lemmas.Bool.{eq-eqb, or_right}
 use Rattle.std.proofs.lemmas.List.{length-replicate}
 use Rattle.cs_word.specs.declared.Kind.{Kind}
 use Rattle.cs_word.specs.declared.Kind.TheVariants as kind
-use Rattle.cs_word.specs.Word.{kind_of}
+use Rattle.cs_word.specs.Word.{kind_of, natural_of_word}
 use Rattle.cs_heap.specs.Object.{Object, address_of, class_at, is_object, heap_object as object_of_heap, used}
 use Rattle.cs_heap.proofs.Laws.{address_of-below, index_of-address, object_at-address}
 use Rattle.cs_classes.specs.declared.Loaded.{Loaded}
 use Rattle.cs_classes.specs.declared.Roots.{Roots}
-use Rattle.cs_classes.specs.Meaning.{context_of, count_of, is_heap_context, kept_of, meaning_at, objects_of, ref_of, ref_of_kind, loaded_kept}
+use Rattle.cs_classes.specs.Meaning.{context_of, is_heap_context, kept_of, meaning_at, objects_of, ref_of, ref_of_kind, loaded_kept}
 use Rattle.cs_classes.specs.Senders.{SendersStand}
 use Rattle.cs_classes.specs.Sound.{AreSoundObjects, IsSoundContext, IsWhole, is_reference, is_reference_kind, is_sender, is_sender_kind, nil_word}
 use Rattle.cs_classes.proofs.Heaps.{element_within}
@@ -67,7 +67,7 @@ pub pcs_fit : (os : List Object) (table : FinMap nat_cmp ℕ) (roots : Roots) �
     → ((i : ℕ) (c : Context) → state.object_at (kept_of os table roots None) i ≡ Some (Ctx c) → PcLies (kept_of os table roots None) c)
     → (j : ℕ) (x : Object) → slice_get os j ≡ Some x → is_heap_context x ≡ true → PcFits os x
 unfolding context_of
-pcs_fit os table roots whole pcs j x h is = go (count_of (slice_index x.words 1)) refl
+pcs_fit os table roots whole pcs j x h is = go (natural_of_word (slice_index x.words 1)) refl
   where
     found : get (objects_of os) x.birth ≡ Some (Ctx (context_of (ref_of os) x.hash x.words))
     found = get-objects_of-element os j x whole.heap.apart h ∙ ap (λ o. Some o) (obj_of-context (ref_of os) x is)
@@ -75,7 +75,7 @@ pcs_fit os table roots whole pcs j x h is = go (count_of (slice_index x.words 1)
     named : is_reference os (slice_index x.words 3) ≡ true
     named = let c = whole_context os x (whole.heap.each j x h) is in c.references 3 (omega arith) (omega (arith, c.fields))
 
-    go : (p : Option ℕ) → count_of (slice_index x.words 1) ≡ p → lies_if_live (meaning_at os (slice_index x.words 3)) p ≡ true
+    go : (p : Option ℕ) → natural_of_word (slice_index x.words 1) ≡ p → lies_if_live (meaning_at os (slice_index x.words 3)) p ≡ true
     go None e = refl
     go (Some pc) e = means_there os table roots (slice_index x.words 3) pc whole.heap named (pcs x.birth (context_of (ref_of os) x.hash x.words) found pc e)
 

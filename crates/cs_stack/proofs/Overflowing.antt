@@ -3,8 +3,8 @@ use Rattle.std.proofs.Common.{◌≡◌, ◌≢◌, ℕ, ◌+◌, ◌<◌, ◌�
 use Rattle.std.specs.Prelude.{◌==◌, nat_le, if◌then◌else◌, ◌||◌}
 use Rattle.std.specs.FinMap.{get, insert}
 use Rattle.std.proofs.lemmas.Bool.Decides.{eqb_tells}
+use Rattle.cs_word.specs.Word.{natural_of_word}
 use Rattle.cs_word.specs.declared.Oop.{Oop}
-use Rattle.cs_classes.specs.Meaning.{count_of}
 use Rattle.cs_frame.specs.declared.FrameRef.{FrameRef}
 use Rattle.cs_frame.specs.declared.NewFrame.{NewFrame}
 use Rattle.cs_frame.specs.Frame.{Frame}
@@ -141,7 +141,7 @@ module _ {s t : Store} {k l : Kept} (names : KeepsNames s t) (view : l ≡ k) {n
     kind = ap (λ x. is_nil k x || has_class_index closure_class (object_of k x)) (names new.closure can.closure).is ∙ can.kind;
     receiver = (names new.receiver can.receiver).sound;
     code = ap (λ x. is_method (object_of k x)) (names new.method can.method).is ∙ can.code;
-    lies = ap (λ x. lies_if_index (object_of k x) (count_of pc.0)) (names new.method can.method).is ∙ can.lies;
+    lies = ap (λ x. lies_if_index (object_of k x) (natural_of_word pc.0)) (names new.method can.method).is ∙ can.lies;
     copied = subst (λ x. copies ≤ length (copied_values k x)) (sym (names new.closure can.closure).is) can.copied;
     there = can.there;
     fits = subst (λ x. new.args + (new.fill + copies) ≤ context_size (header_in (object_of k x))) (sym (names new.method can.method).is) can.fits;
@@ -155,7 +155,7 @@ module _ {s t : Store} {k l : Kept} (names : KeepsNames s t) (view : l ≡ k) {n
       ∙ (λ i. enter_with k new.args (λ _. record {
         hash = 0;
         sender = ref.Obj (active_birth k);
-        pc = count_of pc.0;
+        pc = natural_of_word pc.0;
         method = (names new.method can.method).is i;
         closure = (names new.closure can.closure).is i;
         receiver = (names new.receiver can.receiver).is i;

@@ -7,8 +7,8 @@ use Rattle.std.specs.FinMap.{FinMap, get, same_map, nat_cmp-IsAntisymmetric}
 use Rattle.std.specs.Cmp.{nat_cmp_total}
 use Rattle.std.proofs.lemmas.Bool.{eqb-true, or_right}
 use Rattle.cs_heap.specs.Object.{Object, birth_at, is_object, heap_object, slot_count_of, slot_of}
-use Rattle.cs_classes.specs.Meaning.{context_of, count_of, is_heap_context, meaning_at, obj_of, objects_of, ref_of}
-use Rattle.cs_word.specs.Word.{kind_of}
+use Rattle.cs_classes.specs.Meaning.{context_of, is_heap_context, meaning_at, obj_of, objects_of, ref_of}
+use Rattle.cs_word.specs.Word.{kind_of, natural_of_word}
 use Rattle.cs_word.proofs.Words.{kind_of-link}
 use Rattle.cs_heap.specs.Format.{is_code}
 use Rattle.cs_classes.specs.declared.Roots.{Roots}
@@ -67,7 +67,7 @@ pub record IsLive (os : List Object) (s : ℕ) : Type 0 where
   pub context : is_heap_context object ≡ true
   pub single : is_linked object ≡ false
   pub sender : is_nil_or context_class os (slice_index object.words 0) ≡ true
-  pub live : IsSome (count_of (slice_index object.words 1))
+  pub live : IsSome (natural_of_word (slice_index object.words 1))
 
 pub live_at : (os : List Object) (table : FinMap nat_cmp ℕ) (roots : Roots) (s t : ℕ) (c : Context) → IsWhole os table roots
     → ((j : ℕ) (x : Object) → slice_get os j ≡ Some x → is_heap_context x ≡ true → SenderFits os x) → is_object os s ≡ true → birth_at os s ≡ t
@@ -80,7 +80,7 @@ live_at os table roots s t c heap senders is birth found live =
     sym (bare_element os k.0 y.0 heap.heap k.1.element) ∙ ap (get (objects_of (bare os))) (sym (birth_of-object_at os s y.0 y.1) ∙ birth) ∙ found in
     let means = context_is (ref_of os) (unframed y.0) c (cc) in
     let class : is_heap_context y.0 ≡ true = sym (unframed_context y.0) ∙ means.context in
-    let pc : count_of (slice_index (unframed y.0).words 1) ≡ c.pc = ap (λ (d : Context). d.pc) means.value in
+    let pc : natural_of_word (slice_index (unframed y.0).words 1) ≡ c.pc = ap (λ (d : Context). d.pc) means.value in
     let long = (whole_context os y.0 (sound_at os s y.0 heap.heap y.1) class).fields in
     let alone = unlinked_live y.0 long c pc live in
     record {
@@ -89,16 +89,16 @@ live_at os table roots s t c heap senders is birth found live =
       context = class;
       single = alone;
       sender = sender_single os y.0 (senders k.0 y.0 k.1.element class) (sym (ap (λ b. b && names_place (slice_index y.0.words 0)) class) ∙ alone);
-      live = ap (λ (z : Object). is_some (count_of (slice_index z.words 1))) (sym (unlinked y.0 alone)) ∙ ap is_some pc ∙ live;
+      live = ap (λ (z : Object). is_some (natural_of_word (slice_index z.words 1))) (sym (unlinked y.0 alone)) ∙ ap is_some pc ∙ live;
     }
   where
-    unlinked_live : (y : Object) → 6 ≤ length y.words → (c : Context) → count_of (slice_index (unframed y).words 1) ≡ c.pc → is_some c.pc ≡ true → is_linked y ≡ false
+    unlinked_live : (y : Object) → 6 ≤ length y.words → (c : Context) → natural_of_word (slice_index (unframed y).words 1) ≡ c.pc → is_some c.pc ≡ true → is_linked y ≡ false
     unlinked_live y long c pc live = go (is_linked y) refl
       where
         go : (b : Bool) → is_linked y ≡ b → is_linked y ≡ false
         go false e = e
         go true e = absurd (
-            let none : c.pc ≡ None = sym pc ∙ ap (λ (z : Object). count_of (slice_index z.words 1)) (unframed_linked y e) ∙ ap count_of (dead_pc y.words long) ∙ nil_counts in
+            let none : c.pc ≡ None = sym pc ∙ ap (λ (z : Object). natural_of_word (slice_index z.words 1)) (unframed_linked y e) ∙ ap natural_of_word (dead_pc y.words long) ∙ nil_counts in
             let no : is_some c.pc ≡ false = ap is_some none in cc)
 
 module _ {os : List Object} {table : FinMap nat_cmp ℕ} {roots : Roots} {s : ℕ} (heap : IsWhole os table roots) (at : IsLive os s)
@@ -126,9 +126,9 @@ module _ {os : List Object} {table : FinMap nat_cmp ℕ} {roots : Roots} {s : �
   pub live_sender : is_nil_or context_class os (slot_of os s 0) ≡ true
   live_sender = ap (is_nil_or context_class os) (live_slot 0) ∙ at.sender
 
-  pub live_lies : lies_if_live (meaning_at os (slot_of os s 3)) (count_of (slot_of os s 1)) ≡ true
+  pub live_lies : lies_if_live (meaning_at os (slot_of os s 3)) (natural_of_word (slot_of os s 1)) ≡ true
   live_lies = let k = stands os s at.object at.there in
-      ap₂ (λ (m : ℕ) (p : ℕ). lies_if_live (meaning_at os m) (count_of p)) (live_slot 3) (live_slot 1) ∙ pcs k.0 at.object k.1.element at.context
+      ap₂ (λ (m : ℕ) (p : ℕ). lies_if_live (meaning_at os m) (natural_of_word p)) (live_slot 3) (live_slot 1) ∙ pcs k.0 at.object k.1.element at.context
 
   either_slots : (n : ℕ) → (n == 22 || n == 62) ≡ true → (n ≡ 22) ⊎ (n ≡ 62)
   either_slots n h = go (n == 22) refl (n == 62) refl h
@@ -146,12 +146,12 @@ module _ {os : List Object} {table : FinMap nat_cmp ℕ} {roots : Roots} {s : �
   }
 
   method_there : IsMethodAt os (slot_of os s 3)
-  method_there = go (count_of (slot_of os s 1)) refl (ap (λ n. is_some (count_of n)) (live_slot 1) ∙ at.live)
+  method_there = go (natural_of_word (slot_of os s 1)) refl (ap (λ n. is_some (natural_of_word n)) (live_slot 1) ∙ at.live)
     where
-      go : (p : Option ℕ) → count_of (slot_of os s 1) ≡ p → is_some p ≡ true → IsMethodAt os (slot_of os s 3)
+      go : (p : Option ℕ) → natural_of_word (slot_of os s 1) ≡ p → is_some p ≡ true → IsMethodAt os (slot_of os s 3)
       go None e h = absurd (cc)
       go (Some pc) e h =
-          let l = lives_if_live os (slot_of os s 3) (count_of (slot_of os s 1)) pc live_lies e in
+          let l = lives_if_live os (slot_of os s 3) (natural_of_word (slot_of os s 1)) pc live_lies e in
           let method = (sound_at os (slot_of os s 3) l.object heap.heap l.there).method l.format in
           record {
             format = ap (λ (o : Option Object). is_code (option_map_or (λ (y : Object). y.format) o 0)) l.there ∙ l.format;
@@ -162,9 +162,9 @@ module _ {os : List Object} {table : FinMap nat_cmp ℕ} {roots : Roots} {s : �
   can_base = record {
     context = live_context;
     single = ap names_place (live_slot 0) ∙ sym (ap (λ b. b && names_place (slice_index at.object.words 0)) at.context) ∙ at.single;
-    live = ap (λ n. is_some (count_of n)) (live_slot 1) ∙ at.live;
+    live = ap (λ n. is_some (natural_of_word n)) (live_slot 1) ∙ at.live;
     birth = omega (arith, live_below, few);
     method = method_there;
     values = λ i h. reference_value os (slot_of os s i) (live_named i h);
-    stack = omega (arith, live_count, live_whole.fields, live_whole.depth, ap (λ n. unwrap_or (count_of n) 0) (live_slot 2));
+    stack = omega (arith, live_count, live_whole.fields, live_whole.depth, ap (λ n. unwrap_or (natural_of_word n) 0) (live_slot 2));
   }

@@ -10,12 +10,12 @@ use Rattle.cs_model.specs.Words.{small_value}
 use Rattle.cs_word.specs.declared.Oop.{Oop}
 use Rattle.cs_word.specs.declared.Kind.{Kind}
 use Rattle.cs_word.specs.declared.Kind.TheVariants as kind
-use Rattle.cs_word.specs.Word.{kind_of}
+use Rattle.cs_word.specs.Word.{kind_of, natural_of_word}
 use Rattle.cs_heap.specs.Format.{is_code}
 use Rattle.cs_heap.specs.Object.{Memory, Object, at_index, birth_at, class_at, format_at, object_place, is_object, heap_object, set_word, slot_count_of, slot_set}
 use Rattle.cs_heap.specs.Writes.{slot_stored, slots_stored}
 use Rattle.cs_heap.proofs.Laws.{hash_of-with_slot, object_at-with_object_other, object_at-with_object_same, slot_count_of-with_slot, slot_of-with_slot_other_object, slot_of-with_slot_other_slot, used-with_slot}
-use Rattle.cs_classes.specs.Meaning.{code_in, count_of, method_header, is_heap_context, kept_of, literal_words, meaning_at, method_meaning, obj_of, objects_of, ref_of, ref_of_kind, used_bytes}
+use Rattle.cs_classes.specs.Meaning.{code_in, method_header, is_heap_context, kept_of, literal_words, meaning_at, method_meaning, obj_of, objects_of, ref_of, ref_of_kind, used_bytes}
 use Rattle.cs_classes.specs.Sound.{IsWhole, is_reference, is_reference_kind}
 use Rattle.cs_classes.proofs.Edits.{obj_of-set_literal, obj_of-set_word}
 use Rattle.cs_classes.proofs.Heaps.{birth_of-object_at, is_object-object_at, object_there, set_word-IsEdit, slice_get-at_index_other, slice_get-at_index_same, stands, with_object-stands}
@@ -196,7 +196,7 @@ module _ (s : Store) (o i v : ℕ) (can : Storable s o i v) (whole : IsWhole s.m
 
   -- the header of a method stays
   pub header_kept : (m : ℕ) (at : Option ℕ) → Lives old m at → header_at new m ≡ header_at old m
-  header_kept m at l = ap (λ n. unwrap_or (count_of n) 0) (elim (eqb_tells m o) [
+  header_kept m at l = ap (λ n. unwrap_or (natural_of_word n) 0) (elim (eqb_tells m o) [
     | inl e ↦
         let is : Some l.object ≡ Some can.x = sym l.there ∙ ap (heap_object old) e.1 ∙ can.there in
         let same : l.object ≡ can.x = cc in
@@ -207,7 +207,7 @@ module _ (s : Store) (o i v : ℕ) (can : Storable s o i v) (whole : IsWhole s.m
 
   pub size_kept : (next : ℕ) (f : Frame) (fs : List Frame) → FrameFits old next f fs → frame_size new f ≡ frame_size old f
   size_kept next f fs fits =
-      ap (λ n. if f.context == nil then obj.context_size n else slot_count_of new f.context - 6) (header_kept f.method (count_of f.saved_pc) (lives old f.method (count_of f.saved_pc) fits.lies))
+      ap (λ n. if f.context == nil then obj.context_size n else slot_count_of new f.context - 6) (header_kept f.method (natural_of_word f.saved_pc) (lives old f.method (natural_of_word f.saved_pc) fits.lies))
       ∙ ap (λ n. if f.context == nil then obj.context_size (header_at old f.method) else n - 6) (slot_count_of-with_slot old o i v f.context)
 
   hash_kept : (f : Frame) → frame_hash new f ≡ frame_hash old f
@@ -220,7 +220,7 @@ module _ (s : Store) (o i v : ℕ) (can : Storable s o i v) (whole : IsWhole s.m
   pub context_kept : (next : ℕ) (f : Frame) (fs : List Frame) → FrameFits old next f fs → frame_context new f fs ≡ frame_context old f fs
   unfolding frame_context
   context_kept next f fs fits =
-      let at : ℕ → Ref → (ℕ → Ref) → ℕ → Context = λ hash sender r size. record { hash = hash; sender = sender; pc = count_of f.saved_pc; method = r f.method; closure = r f.closure; receiver = r f.receiver; stack = map r f.stack; size = size } in
+      let at : ℕ → Ref → (ℕ → Ref) → ℕ → Context = λ hash sender r size. record { hash = hash; sender = sender; pc = natural_of_word f.saved_pc; method = r f.method; closure = r f.closure; receiver = r f.receiver; stack = map r f.stack; size = size } in
       ap (λ h. at h (frame_sender new f fs) (ref_of new) (frame_size new f)) (hash_kept f)
       ∙ ap (λ s. at (frame_hash old f) s (ref_of new) (frame_size new f)) (sender_kept f fs)
       ∙ ap (λ r. at (frame_hash old f) (frame_sender old f fs) r (frame_size new f)) refers
@@ -272,7 +272,7 @@ module _ (s : Store) (o i v : ℕ) (can : Storable s o i v) (whole : IsWhole s.m
             receiver = ap (λ p. p f.receiver) sound ∙ h.names.receiver;
             stack = subst (λ p. AllPass p f.stack) (sym sound) h.names.stack;
           };
-          lies = index_kept f.method (count_of f.saved_pc) ∙ h.lies;
+          lies = index_kept f.method (natural_of_word f.saved_pc) ∙ h.lies;
           fits = subst (λ n. length f.stack ≤ n) (sym (size_kept next f fs h)) h.fits;
           stands = h.stands;
           room = h.room;
@@ -299,7 +299,7 @@ module _ (s : Store) (o i v : ℕ) (can : Storable s o i v) (whole : IsWhole s.m
       ]
 
   pub pcs_kept : ((j : ℕ) (y : Object) → slice_get old j ≡ Some y → is_heap_context y ≡ true → PcFits old y) → (j : ℕ) (y : Object) → slice_get new j ≡ Some y → is_heap_context y ≡ true → PcFits new y
-  pcs_kept pcs j y e c = live_kept (slice_index y.words 3) (count_of (slice_index y.words 1)) ∙ pcs j y (context_old j y e c) c
+  pcs_kept pcs j y e c = live_kept (slice_index y.words 3) (natural_of_word (slice_index y.words 1)) ∙ pcs j y (context_old j y e c) c
 
   pub senders_kept : ((j : ℕ) (y : Object) → slice_get old j ≡ Some y → is_heap_context y ≡ true → SenderFits old y) → (j : ℕ) (y : Object) → slice_get new j ≡ Some y → is_heap_context y ≡ true → SenderFits new y
   senders_kept senders j y e c = sender_fits-with_object old o (set_word i v) y (set_word-IsEdit i v) (senders j y (context_old j y e c) c)

@@ -3,8 +3,9 @@ use Rattle.std.proofs.Common.{◌≡◌, ◌≢◌, ℕ, ◌<◌, true, refl, sy
 use Rattle.std.specs.Prelude.{◌↔◌, Contains}
 use Rattle.std.specs.FinMap.{get, insert}
 use Rattle.std.proofs.lemmas.Bool.{cases_eq}
+use Rattle.cs_word.specs.Word.{natural_of_word}
 use Rattle.cs_heap.specs.Object.{Object}
-use Rattle.cs_classes.specs.Meaning.{count_of, kept_of, meaning_at, objects_of}
+use Rattle.cs_classes.specs.Meaning.{kept_of, meaning_at, objects_of}
 use Rattle.cs_frame.specs.Frame.{Frame}
 use Rattle.cs_frame.specs.Page.{frames_of, on_page}
 use Rattle.cs_frame.proofs.PageLaws.{frames_of-on_page, frames_of-on_page_other, length-on_page, on_page-on_page, page_in}
@@ -92,11 +93,11 @@ good_ready w good o =
     let v = view_of w in
     let found : object_at v o.f.birth ≡ Some (Ctx (frame_context os o.f o.fs)) =
     ap (λ m. get m o.f.birth) o.objects ∙ get_here (frames_onto os o.fs (under w o.p)) o.f.birth (Ctx (frame_context os o.f o.fs)) in
-    let l = lives os o.f.method (count_of o.f.saved_pc) o.fits.lies in
+    let l = lives os o.f.method (natural_of_word o.f.saved_pc) o.fits.lies in
     let live : (active_context v).pc ≡ Some l.pc = ap (λ (c : Context). c.pc) o.context ∙ l.at_is in
     let pc_is : pc_of v ≡ l.pc = ap (λ p. unwrap_or p 0) live in
     let method : method_of v ≡ meaning_at os o.f.method =
-    ap (λ (c : Context). object_of v c.method) o.context ∙ method_there w good o.f.method (count_of o.f.saved_pc) l in
+    ap (λ (c : Context). object_of v c.method) o.context ∙ method_there w good o.f.method (natural_of_word o.f.saved_pc) l in
     record {
       sound = good_sound w good;
       running = record {

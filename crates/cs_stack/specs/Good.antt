@@ -2,8 +2,9 @@
 use Rattle.std.specs.Prelude.{◌≡◌, ◌≢◌, ◌↔◌, ℕ, ◌+◌, ◌<◌, ◌≤◌, ◌==◌, ◌&&◌, ◌||◌, Bool, true, List, [], ◌∷◌, length, slice_index, slice_get, Some, None, Contains}
 use Rattle.std.specs.List.{AllPass}
 use Rattle.std.specs.FinMap.{get}
+use Rattle.cs_word.specs.Word.{natural_of_word}
 use Rattle.cs_heap.specs.Object.{Object, class_at, is_object, used}
-use Rattle.cs_classes.specs.Meaning.{count_of, is_heap_context, meaning_at, objects_of}
+use Rattle.cs_classes.specs.Meaning.{is_heap_context, meaning_at, objects_of}
 use Rattle.cs_classes.specs.Sound.{IsWhole, is_reference}
 use Rattle.cs_frame.specs.Frame.{Frame, blank_frame, nil}
 use Rattle.cs_frame.specs.Page as page
@@ -45,7 +46,7 @@ HasSender os f (g ∷ gs) = Unit {0}
 -- context, no object of the heap has its birth.
 pub record FrameFits (os : List Object) (next : ℕ) (f : Frame) (fs : List Frame) : Type 0 where
   pub names : FrameNames os f
-  pub lies : lies_if_index (meaning_at os f.method) (count_of f.saved_pc) ≡ true
+  pub lies : lies_if_index (meaning_at os f.method) (natural_of_word f.saved_pc) ≡ true
   pub fits : length f.stack ≤ frame_size os f
   pub stands : f.at ≡ page.frames_used fs
   pub room : f.at + 66 ≤ 4096
@@ -60,7 +61,7 @@ FramesFit os next (f ∷ fs) = FrameFits os next f fs × FramesFit os next fs
 
 -- a live context of the heap has a pc that lies in its method
 abbrev pub PcFits : List Object → Object → Type 0
-PcFits os x = lies_if_live (meaning_at os (slice_index x.words 3)) (count_of (slice_index x.words 1)) ≡ true
+PcFits os x = lies_if_live (meaning_at os (slice_index x.words 3)) (natural_of_word (slice_index x.words 1)) ≡ true
 
 -- the sender of a context is nil or a context, where its word names no place
 abbrev pub SenderFits : List Object → Object → Type 0

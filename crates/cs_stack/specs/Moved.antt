@@ -1,10 +1,10 @@
 -- What entering and leaving make of the parts.
 use Rattle.std.specs.Prelude.{◌≡◌, ◌≢◌, ◌⊎◌, ℕ, ◌+◌, ◌-◌, ◌*◌, ◌<◌, ◌≤◌, ◌||◌, Bool, true, if◌then◌else◌, List, [], ◌∷◌, ◌++◌, length, take, drop, replicate, slice_index, Option, Some, None, option_and_then}
 use Rattle.std.specs.Option.{option_map_or}
+use Rattle.cs_word.specs.Word.{natural_of_word}
 use Rattle.cs_word.specs.declared.Oop.{Oop}
 use Rattle.cs_heap.specs.Object.{Object, heap_object, with_object, words_at}
 use Rattle.cs_heap.specs.Writes.{slots_stored}
-use Rattle.cs_classes.specs.Meaning.{count_of}
 use Rattle.cs_frame.specs.declared.FrameRef.{FrameRef}
 use Rattle.cs_frame.specs.declared.NewFrame.{NewFrame}
 use Rattle.cs_frame.specs.Frame.{Frame, call_cut, nil}
@@ -96,7 +96,7 @@ pub record CanBegin (s : Store) (k : Kept) (new : NewFrame) (pc : Oop) (copies :
   pub kind : (is_nil k (name_of s new.closure) || has_class_index closure_class (object_of k (name_of s new.closure))) ≡ true
   pub receiver : IsNamed s new.receiver
   pub code : is_method (object_of k (name_of s new.method)) ≡ true
-  pub lies : lies_if_index (object_of k (name_of s new.method)) (count_of pc.0) ≡ true
+  pub lies : lies_if_index (object_of k (name_of s new.method)) (natural_of_word pc.0) ≡ true
   pub copied : copies ≤ length (copied_values k (name_of s new.closure))
   pub there : new.args < depth_of k
   pub fits : new.args + (new.fill + copies) ≤ context_size (header_in (object_of k (name_of s new.method)))
@@ -108,7 +108,7 @@ abbrev pub begun_context : Store → Kept → NewFrame → Oop → ℕ → Conte
 begun_context s k new pc copies = record {
   hash = 0;
   sender = ref.Obj (active_birth k);
-  pc = count_of pc.0;
+  pc = natural_of_word pc.0;
   method = name_of s new.method;
   closure = name_of s new.closure;
   receiver = name_of s new.receiver;

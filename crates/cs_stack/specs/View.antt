@@ -4,9 +4,9 @@ use Rattle.std.specs.Prelude.{ℕ, pos, ◌==◌, ◌&&◌, Bool, List, [], ◌�
 use Rattle.std.specs.List.{list_any}
 use Rattle.std.specs.Ordering.{nat_cmp}
 use Rattle.std.specs.FinMap.{FinMap, insert}
-use Rattle.cs_word.specs.Word.{small_word}
+use Rattle.cs_word.specs.Word.{small_word, natural_of_word}
 use Rattle.cs_heap.specs.Object.{Object, hash_at, heap_object}
-use Rattle.cs_classes.specs.Meaning.{count_of, is_heap_context, kept_of, ref_of}
+use Rattle.cs_classes.specs.Meaning.{is_heap_context, kept_of, ref_of}
 use Rattle.cs_classes.specs.declared.Loaded.{Loaded}
 use Rattle.cs_frame.specs.Frame.{Frame, nil}
 use Rattle.cs_frame.specs.Page.{frames_of}
@@ -55,7 +55,7 @@ unfoldable pub frame_context : List Object → Frame → List Frame → Context
 frame_context os f fs = record {
   hash = frame_hash os f;
   sender = frame_sender os f fs;
-  pc = count_of f.saved_pc;
+  pc = natural_of_word f.saved_pc;
   method = ref_of os f.method;
   closure = ref_of os f.closure;
   receiver = ref_of os f.receiver;

@@ -1,10 +1,10 @@
 //! The three states of a context, on a small heap and two pages.
 
 ghost use Rattle.std.specs.Prelude.{◌≡◌, ◌≢◌, ℕ, ◌+◌, ◌<◌, ◌≤◌, true, length};
+ghost use Rattle.cs_word.specs.Word.{natural_of_word};
 ghost use Rattle.cs_heap.specs.Object.{class_at, is_object, slot_count_of, slot_of};
 ghost use Rattle.cs_frame.specs.Frame.{IsValue};
 ghost use Rattle.cs_frame.specs.Page.{HasArguments, IsFrame, AreStacked, IsTop, frames_of, top, frames_used};
-ghost use Rattle.cs_classes.specs.Meaning.{count_of};
 ghost use Rattle.cs_model.specs.Ref.{natural_of};
 ghost use Rattle.cs_marriage.specs.Place.{names_place};
 ghost use Rattle.cs_marriage.specs.Marriage.{CanBase};
@@ -177,9 +177,9 @@ fn natural(value: i32) -> Option<u32>
 }
 
 /// The number that a word is.
-#[tactic(auto, unfolding(cs_classes::specs::Meaning::count_of))]
+#[tactic(auto, unfolding(cs_word::specs::Word::natural_of_word))]
 fn count(word: Oop) -> Option<u32>
-    ensures { result ≡ count_of word.0 }
+    ensures { result ≡ natural_of_word word.0 }
 {
     match word.kind() {
         Kind::Small(value) => natural(value),

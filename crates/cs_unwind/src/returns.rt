@@ -120,7 +120,8 @@ fn past_home<W: World>(w: &mut W, value: Oop, home: Act, target: Option<Act>, di
 fn may_arrive<W: World>(w: &W, target: Option<Act>, dies: bool) -> Arrival
     requires sound { IsSound (W.stored w.now) (W.view w.now) }
     requires stands { IfSome target (λ t. IsSome (W.act w.now t)) }
-    ensures { (birth : Option ℕ) → ActStands (W.act w.now) target birth → result ≡ arrival_of (W.view w.now) dies birth }
+    ensures { (birth : Option ℕ) → ActStands (W.act w.now) target birth
+        → result ≡ arrival_of (W.view w.now) dies birth }
 {
     let Some(target) = target else {
         return Arrival::Never;

@@ -1,5 +1,5 @@
 use Rattle.std.proofs.Common.{ℕ, ◌+◌, ◌*◌, ap, arith}
-use Rattle.cs_frame.specs.declared.Head.{Head}
+use Rattle.cs_frame.specs.declared.PageHead.{PageHead}
 use Rattle.cs_frame.proofs.Pages.{opened, page_count}
 use Rattle.cs_frame.proofs.Builds.{callable, Begins, room_for, built_by, build_done, built_top, end_with}
 use Rattle.cs_frame.proofs.Frames.build.Goals as goal
@@ -157,7 +157,7 @@ returns-clause-frame c =
     c.write_overhead.ensures.outside c.write_overhead.ensures.overhead c.fill_nil.ensures.outside c.fill_nil.ensures.nils in
     let d = build_done c.self.invariant c.self.view_is c.args.page c.requires.page c.index-head.ensures
     c.requires.room c.requires.size c.requires.caller c.requires.values be x in
-    let new : Head = record { frame = c.begin_of-begin.result.frame; end = end_with c.begin_of-begin.result c.args.new; count = h.count + 1 } in
+    let new : PageHead = record { frame = c.begin_of-begin.result.frame; end = end_with c.begin_of-begin.result c.args.new; count = h.count + 1 } in
     let t = built_top c.self.inside.heads.items new d.0 o.page_in (omega arith) in
     ap (λ (a : ℕ). record { page = c.args.page; at = a }) t.1
 
@@ -171,6 +171,6 @@ returns-clause-top c =
     c.write_overhead.ensures.outside c.write_overhead.ensures.overhead c.fill_nil.ensures.outside c.fill_nil.ensures.nils in
     let d = build_done c.self.invariant c.self.view_is c.args.page c.requires.page c.index-head.ensures
     c.requires.room c.requires.size c.requires.caller c.requires.values be x in
-    let new : Head = record { frame = c.begin_of-begin.result.frame; end = end_with c.begin_of-begin.result c.args.new; count = h.count + 1 } in
+    let new : PageHead = record { frame = c.begin_of-begin.result.frame; end = end_with c.begin_of-begin.result c.args.new; count = h.count + 1 } in
     let t = built_top c.self.inside.heads.items new d.0 o.page_in (omega arith) in
     t

@@ -1,6 +1,6 @@
 use Rattle.std.proofs.Common.{◌≡◌, ℕ, ◌+◌, ◌*◌, ◌/◌, ◌<◌, ◌≤◌, length, sym, ◌∙◌, subst, arith}
 use Rattle.std.proofs.lemmas.List.{get_or_default}
-use Rattle.cs_frame.specs.declared.Head.{Head}
+use Rattle.cs_frame.specs.declared.PageHead.{PageHead}
 use Rattle.cs_frame.specs.Page.{frame, index_in}
 use Rattle.cs_frame.proofs.PageLaws.{page_in}
 use Rattle.cs_frame.proofs.Pages.{found, page_count}
@@ -32,8 +32,8 @@ loop-frame-init c =
     let d = depth_is f in
     let over = f.overhead in
     let end : f.end ≡ c.place-at.result + 10 + length (frame c.args.self.now c.args.f).stack = omega arith in
-    let W : Head → Type 0 = λ k. Walk s.zone (c.args.f.page * 4096) c.place-at.result (c.place-at.result + 10 + length (frame c.args.self.now c.args.f).stack) k.frame k.end in
-    let H : Head → Type 0 = λ k. k.end ≤ length s.zone in
+    let W : PageHead → Type 0 = λ k. Walk s.zone (c.args.f.page * 4096) c.place-at.result (c.place-at.result + 10 + length (frame c.args.self.now c.args.f).stack) k.frame k.end in
+    let H : PageHead → Type 0 = λ k. k.end ≤ length s.zone in
     let top = f.open'.high in let fits = f.fits in
     record {
       walk = subst W same (record {

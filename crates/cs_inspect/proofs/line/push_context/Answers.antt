@@ -1,6 +1,6 @@
 use Rattle.std.proofs.Common.{arith, ap, ◌-◌, ◌++◌, ℕ, List}
 use Rattle.std.specs.Prelude.{codes, decimal}
-use Rattle.cs_inspect.specs.Texts.{activation_text, activation_text}
+use Rattle.cs_inspect.specs.Texts.{activation_text}
 use Rattle.cs_inspect.proofs.Meanings.{context_there, context_whole, depth_read}
 use Rattle.cs_inspect.proofs.Texts.{ends, joins}
 use Rattle.cs_inspect.proofs.line.push_context.Goals as goal

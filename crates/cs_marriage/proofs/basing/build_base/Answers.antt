@@ -1,5 +1,5 @@
 use Rattle.std.proofs.Common.{◌≡◌, ℕ, List, [], ap, set, sym, subst, IsSome, ◌∙◌}
-use Rattle.cs_classes.specs.Meaning.{count_of}
+use Rattle.cs_word.specs.Word.{natural_of_word}
 use Rattle.cs_frame.specs.declared.FrameRef.{FrameRef}
 use Rattle.cs_frame.specs.declared.NewFrame.{NewFrame}
 use Rattle.cs_frame.specs.Frame.{Frame, with_caller, with_context, with_saved_pc, with_values}
@@ -9,7 +9,7 @@ use Rattle.cs_marriage.proofs.Based.{alone, alone_frames, alone_on_frame, alone_
 use Rattle.cs_marriage.proofs.basing.build_base.Goals as goal
 
 pub set_saved_pc-requires-clause-pc : goal.set_saved_pc-requires-clause-pc
-set_saved_pc-requires-clause-pc c = number_pc c.slot-5.result.0 (subst (λ n. IsSome (count_of n)) (sym c.slot-5.ensures) c.requires.context.live)
+set_saved_pc-requires-clause-pc c = number_pc c.slot-5.result.0 (subst (λ n. IsSome (natural_of_word n)) (sym c.slot-5.ensures) c.requires.context.live)
 
 pub set_context-requires-clause-value : goal.set_context-requires-clause-value
 set_context-requires-clause-value c = context_value c.args.heap.now.objects c.args.ctx.0 c.requires.context.context

@@ -1,6 +1,5 @@
 use Rattle.std.proofs.Common.{ap, unwrap_or, ◌∙◌, arith}
-use Rattle.cs_classes.specs.Meaning.{count_of}
-use Rattle.cs_classes.proofs.Naturals.{natural_is}
+use Rattle.cs_word.specs.Word.{natural_of_word}
 use Rattle.cs_plain.proofs.Active.{active_is}
 use Rattle.cs_plain.proofs.Slots.{depth_is_read, depth_within, fields_within, size_is_read, slot_is, slots_are}
 use Rattle.cs_plain.proofs.PlainWorldWorld.depth.Goals as goal
@@ -11,7 +10,7 @@ slot-requires c = let a = active_is _ _ c.requires c.active_context.ensures in o
 pub returns-clause-value : goal.returns-clause-value
 returns-clause-value c =
     let a = active_is _ _ c.requires c.active_context.ensures in
-    (c.unwrap_or.ensures ∙ ap (λ o. unwrap_or o 0) (c.natural.ensures.value ∙ natural_is _)) ∙ ap (λ n. unwrap_or (count_of n) 0) (c.slot.ensures ∙ slot_is c.requires a.1 2) ∙ depth_is_read c.requires a.1
+    (c.unwrap_or.ensures ∙ ap (λ o. unwrap_or o 0) (c.natural.ensures.value)) ∙ ap (λ n. unwrap_or (natural_of_word n) 0) (c.slot.ensures ∙ slot_is c.requires a.1 2) ∙ depth_is_read c.requires a.1
 
 pub returns-clause-fits : goal.returns-clause-fits
 returns-clause-fits c =

@@ -1,6 +1,5 @@
 use Rattle.std.proofs.Common.{unwrap_or, ap, ap₂, arith, refl, subst, sym, ◌∙◌, ◌-◌, IsSome}
 use Rattle.std.specs.Prelude.{nat_lt}
-use Rattle.cs_classes.proofs.Naturals.{natural_is}
 use Rattle.cs_stack.specs.View.{act_of}
 use Rattle.cs_stack.proofs.Acts.{answers, context_act, context_room, frame_act, frame_room, if_some, object, slot_within, slots_are}
 use Rattle.cs_stack.proofs.Spouses.{not_less}
@@ -27,4 +26,4 @@ pub returns-in-Context : goal.returns-in-Context
 returns-in-Context c =
     let x = context_act c.args.self.now c.in-Context.context c.requires.good (subst (λ a. IsSome (act_of c.args.self.now a)) c.in-Context.is c.requires.stands) in
     if_some _ _ _ (ap (act_of c.args.self.now) c.in-Context.is ∙ answers x c.in-Context.context refl)
-    (not_less c.unwrap_or-depth.result (c.slot_count.result - 6) ∙ ap₂ (λ n m. nat_lt n (m - 6)) (c.unwrap_or-depth.ensures ∙ ap (λ o. unwrap_or o 0) (c.natural.ensures.value ∙ natural_is _)) c.slot_count.ensures.value ∙ sym (context_room x c.slot.result.0 c.slot.ensures))
+    (not_less c.unwrap_or-depth.result (c.slot_count.result - 6) ∙ ap₂ (λ n m. nat_lt n (m - 6)) (c.unwrap_or-depth.ensures ∙ ap (λ o. unwrap_or o 0) (c.natural.ensures.value)) c.slot_count.ensures.value ∙ sym (context_room x c.slot.result.0 c.slot.ensures))

@@ -2,7 +2,6 @@ use Rattle.std.proofs.Common.{unwrap_or, Some, ap, arith, refl, subst, sym, ◌�
 use Rattle.std.specs.Prelude.{pos}
 use Rattle.cs_word.specs.Word.{small_word}
 use Rattle.cs_heap.specs.Object.{slot_of}
-use Rattle.cs_classes.proofs.Naturals.{natural_is}
 use Rattle.cs_acts.specs.declared.act.Act.TheVariants as act
 use Rattle.cs_acts.specs.Names.{NamesOption}
 use Rattle.cs_stack.specs.Moved.{field_at}
@@ -20,7 +19,7 @@ pub from_natural-requires : goal.from_natural-requires
 from_natural-requires c =
     let w = c.args.self.now in
     let x = context_act w c.args.ctx c.requires.good c.requires.stands in
-    omega (arith, (c.unwrap_or.ensures ∙ ap (λ o. unwrap_or o 0) (c.natural.ensures.value ∙ natural_is _)), depth_few c.requires.good x c.args.ctx refl c.slot-word.result.0 (c.slot-word.ensures ∙ ap (λ (i : ℕ). slot_of w.heap.objects c.args.ctx.0 i) c.in-2.is))
+    omega (arith, (c.unwrap_or.ensures ∙ ap (λ o. unwrap_or o 0) (c.natural.ensures.value)), depth_few c.requires.good x c.args.ctx refl c.slot-word.result.0 (c.slot-word.ensures ∙ ap (λ (i : ℕ). slot_of w.heap.objects c.args.ctx.0 i) c.in-2.is))
 
 pub returns-in-0 : goal.returns-in-0
 returns-in-0 c =
@@ -35,7 +34,7 @@ returns-in-2 c =
     let x = context_act w c.args.ctx c.requires.good c.requires.stands in
     subst (λ i. NamesOption (stored_of w) (Some c.from_natural.result) (field_at (view_of w) (act_of w (act.Context c.args.ctx)) i)) (sym c.in-2.is)
     (word_get_depth c.requires.good x c.args.ctx refl c.from_natural.result c.slot-word.result.0 (c.slot-word.ensures ∙ ap (λ (i : ℕ). slot_of w.heap.objects c.args.ctx.0 i) c.in-2.is)
-    (c.from_natural.ensures ∙ ap (λ (n : ℕ). small_word (pos n)) (c.unwrap_or.ensures ∙ ap (λ o. unwrap_or o 0) (c.natural.ensures.value ∙ natural_is _))))
+    (c.from_natural.ensures ∙ ap (λ (n : ℕ). small_word (pos n)) (c.unwrap_or.ensures ∙ ap (λ o. unwrap_or o 0) (c.natural.ensures.value))))
 
 pub returns-in_default : goal.returns-in_default
 returns-in_default c =
