@@ -93,8 +93,8 @@ AreRead-next lines i inside next read d line h skipped reads e number so_far =
     so_far
     ∙ ap (λ rest. lines_by read ++ rest)
     (ap (rest_by inside (i + 1)) (first-line lines i d h)
-        ∙ said inside next (i + 1) (get_or lines i d) (drop (i + 1) lines) line.form _ refl skipped reads e
-        ∙ ap (λ n. (n, Some (form_by line.form)) ∷ rest_by next (i + 1 + 1) (drop (i + 1) lines)) (sym number))
+    ∙ said inside next (i + 1) (get_or lines i d) (drop (i + 1) lines) line.form _ refl skipped reads e
+    ∙ ap (λ n. (n, Some (form_by line.form)) ∷ rest_by next (i + 1 + 1) (drop (i + 1) lines)) (sym number))
     ∙ lines_by-push read line (rest_by next (i + 1 + 1) (drop (i + 1) lines))
 
 -- a line without one
@@ -107,10 +107,11 @@ AreRead-bad lines i inside read d h skipped reads so_far =
     by : (o : Option Form) → form_in inside (get_or lines i d).now ≡ o → Reads None o
         → (rest : List (ℕ × Option Form)) × (rest_by false 1 lines ≡ lines_by read ++ (i + 1, None) ∷ rest)
     by (Some g) is reads = absurd cc
-    by None is reads =
-        (rest_by (is_inside inside None) (i + 1 + 1) (drop (i + 1) lines),
-            so_far ∙ ap (λ rest. lines_by read ++ rest) (ap (rest_by inside (i + 1)) (first-line lines i d h)
-            ∙ step (get_or lines i d) (drop (i + 1) lines) is skipped))
+    by None is reads = (
+      rest_by (is_inside inside None) (i + 1 + 1) (drop (i + 1) lines),
+      so_far ∙ ap (λ rest. lines_by read ++ rest) (ap (rest_by inside (i + 1)) (first-line lines i d h)
+          ∙ step (get_or lines i d) (drop (i + 1) lines) is skipped),
+    )
       where
         step : (line : Bor (List ℕ)) (rest : List (Bor (List ℕ))) → form_in inside line.now ≡ None → is_skipped line.now ≡ false
             → rest_by inside (i + 1) (line ∷ rest) ≡ (i + 1, None) ∷ rest_by (is_inside inside None) (i + 1 + 1) rest

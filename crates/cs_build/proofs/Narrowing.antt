@@ -142,18 +142,21 @@ numbers-narrow : (most : ℕ) (a t : ℤ) (p : Option ℤ) → most < 2147483647
 numbers-narrow most a t p h =
     both _ _ _ _
     (both _ _ _ _
-        (both _ _ _ _ (between-narrow 0 15 a (omega arith) (omega arith)) (λ k. between-narrow 0 most t (omega arith) h))
-        (λ k. rw (narrow-between 0 15 a (omega arith) (left (is_between 0 15 a) (is_between 0 most t) k), narrow-between 0 most t h (right (is_between 0 15 a) (is_between 0 most t) k)) refl))
+    (both _ _ _ _ (between-narrow 0 15 a (omega arith) (omega arith)) (λ k. between-narrow 0 most t (omega arith) h))
+    (λ k. rw (narrow-between 0 15 a (omega arith) (left (is_between 0 15 a) (is_between 0 most t) k), narrow-between 0 most t h (right (is_between 0 15 a) (is_between 0 most t) k)) refl))
     (λ k. primitive-narrow p)
 
 narrow-numbers : (most : ℕ) (a t : ℤ) (p : Option ℤ) → most < 2147483647 → numbers_fit most a t p ≡ true
     → (narrow a ≡ a) × ((narrow t ≡ t) × (option_map narrow p ≡ p))
 narrow-numbers most a t p h is =
     let first = left (is_between 0 15 a && is_between 0 most t && not (int_lt t a)) (option_map_or (is_between 0 65535) p true) is in
-    let two = left (is_between 0 15 a && is_between 0 most t) (not (int_lt t a)) first in
-    (narrow-between 0 15 a (omega arith) (left (is_between 0 15 a) (is_between 0 most t) two),
-        (narrow-between 0 most t h (right (is_between 0 15 a) (is_between 0 most t) two),
-        narrow-primitive p (right (is_between 0 15 a && is_between 0 most t && not (int_lt t a)) (option_map_or (is_between 0 65535) p true) is)))
+    let two = left (is_between 0 15 a && is_between 0 most t) (not (int_lt t a)) first in (
+      narrow-between 0 15 a (omega arith) (left (is_between 0 15 a) (is_between 0 most t) two),
+      (
+        narrow-between 0 most t h (right (is_between 0 15 a) (is_between 0 most t) two),
+        narrow-primitive p (right (is_between 0 15 a && is_between 0 most t && not (int_lt t a)) (option_map_or (is_between 0 65535) p true) is),
+      ),
+    )
 
 -- ---- instructions
 
@@ -195,6 +198,7 @@ closure-narrow (pos c) args = by (nat_lt c 2147483647) refl
         small : (b : Bool) → nat_lt a 2147483647 ≡ b → some (pos c) (narrow (pos a)) ≡ some (pos c) (pos a)
         small true e = ap (some (pos c)) (narrow-small a (grind (arith, nat_tests)))
         small false e = ap (some (pos c)) (narrow-wide a (grind (arith, nat_tests))) ∙ closure-args 2147483647 (pos c) (omega arith) ∙ sym (closure-args a (pos c) (grind (arith, nat_tests)))
+
     by : (b : Bool) → nat_lt c 2147483647 ≡ b → some (narrow (pos c)) (narrow args) ≡ some (pos c) args
     by true e = ap (λ z. some z (narrow args)) (narrow-small c (grind (arith, nat_tests))) ∙ byte args
     by false e =

@@ -29,7 +29,7 @@ abbrev pub IsRead : List (ℕ × Option text.Form) → Reading → Type 0
 IsRead lines reading = MatchOption reading.bad
     (map narrow_line lines ≡ lines_by reading.lines.items)
     (λ number. (rest : List (ℕ × Option text.Form))
-        × (map narrow_line lines ≡ lines_by reading.lines.items ++ (number, None) ∷ rest))
+    × (map narrow_line lines ≡ lines_by reading.lines.items ++ (number, None) ∷ rest))
 
 -- An error tells this fault. Want of memory is free.
 abbrev pub TellsFault : Option BuildFault → BuildError → Type 0
