@@ -99,20 +99,20 @@ stacked-words from at start n y first rest place h few words =
 
 -- the object of a context that is made: its fields, values of a stack, copied values, and nil
 unfoldable pub context_object : Fields → List ℕ → List ℕ → ℕ → ℕ → ℕ → ℕ → ℕ → Object
-context_object f from more at args values_copied size birth = stacked more 3 (6 + args) values_copied (stacked from at 6 args (fielded f (new_object 36 3 (6 + size) birth)))
+context_object f from more at args copied size birth = stacked more 3 (6 + args) copied (stacked from at 6 args (fielded f (new_object 36 3 (6 + size) birth)))
 
 abbrev pub context_words : Fields → List ℕ → List ℕ → ℕ → List ℕ
 context_words f values more left = f.sender.0 ∷ f.pc.0 ∷ f.stackp.0 ∷ f.method.0 ∷ f.closure.0 ∷ f.receiver.0 ∷ (values ++ (more ++ replicate left base))
 
 -- a closure has its copied values
 abbrev pub HasCopied : List ℕ → ℕ → Type 0
-HasCopied more values_copied = length (take values_copied (drop 3 more)) ≡ values_copied
+HasCopied more copied = length (take copied (drop 3 more)) ≡ copied
 
-pub context_object-is : (f : Fields) (from more : List ℕ) (at args values_copied size birth : ℕ) → at + args ≤ length from → HasCopied more values_copied → args + values_copied ≤ size
-    → context_object f from more at args values_copied size birth
-    ≡ record (new_object 36 3 (6 + size) birth) { words = context_words f (take args (drop at from)) (take values_copied (drop 3 more)) (size - (args + values_copied)) }
+pub context_object-is : (f : Fields) (from more : List ℕ) (at args copied size birth : ℕ) → at + args ≤ length from → HasCopied more copied → args + copied ≤ size
+    → context_object f from more at args copied size birth
+    ≡ record (new_object 36 3 (6 + size) birth) { words = context_words f (take args (drop at from)) (take copied (drop 3 more)) (size - (args + copied)) }
 unfolding fielded context_object stacked
-context_object-is f from more at args values_copied size birth h long l =
+context_object-is f from more at args copied size birth h long l =
     let y : Object = new_object 36 3 (6 + size) birth in
     let six : 6 + size ≡ suc (suc (suc (suc (suc (suc size))))) = omega arith in
     let first : List ℕ = f.sender.0 ∷ f.pc.0 ∷ f.stackp.0 ∷ f.method.0 ∷ f.closure.0 ∷ f.receiver.0 ∷ [] in
@@ -124,14 +124,14 @@ context_object-is f from more at args values_copied size birth h long l =
     ∙ ap (λ us. first ++ (values ++ us)) (drop-replicate args size base) ∙ sym (append_assoc first values (replicate (size - args) base)) in
     let values_long : length (first ++ values) ≡ 6 + args = omega (arith, h, length-append first values, length-take args (drop at from), length-drop at from) in
     let two = second (stacked from at 6 args (fielded f y)) (first ++ values) (size - args) (sym values_long) one (omega (arith, l)) in
-    let all = two ∙ ap (λ n. (first ++ values) ++ (take values_copied (drop 3 more) ++ replicate n base)) (omega (arith, l)) ∙ append_assoc first values (take values_copied (drop 3 more) ++ replicate (size - (args + values_copied)) base) in
-    stacked-is more 3 (6 + args) values_copied (stacked from at 6 args (fielded f y))
-    ∙ ap (λ (z : Object). record z { words = (stacked more 3 (6 + args) values_copied (stacked from at 6 args (fielded f y))).words }) (stacked-is from at 6 args (fielded f y))
+    let all = two ∙ ap (λ n. (first ++ values) ++ (take copied (drop 3 more) ++ replicate n base)) (omega (arith, l)) ∙ append_assoc first values (take copied (drop 3 more) ++ replicate (size - (args + copied)) base) in
+    stacked-is more 3 (6 + args) copied (stacked from at 6 args (fielded f y))
+    ∙ ap (λ (z : Object). record z { words = (stacked more 3 (6 + args) copied (stacked from at 6 args (fielded f y))).words }) (stacked-is from at 6 args (fielded f y))
     ∙ ap (λ us. record y { words = us }) all
   where
-    second : (z : Object) (first : List ℕ) (left : ℕ) → 6 + args ≡ length first → z.words ≡ first ++ replicate left base → values_copied ≤ left
-        → (stacked more 3 (6 + args) values_copied z).words ≡ first ++ (take values_copied (drop 3 more) ++ replicate (left - values_copied) base)
-    second z first left place words few = go values_copied long few
+    second : (z : Object) (first : List ℕ) (left : ℕ) → 6 + args ≡ length first → z.words ≡ first ++ replicate left base → copied ≤ left
+        → (stacked more 3 (6 + args) copied z).words ≡ first ++ (take copied (drop 3 more) ++ replicate (left - copied) base)
+    second z first left place words few = go copied long few
       where
         minus : (n : ℕ) → n ≡ n - 0
         minus n = omega arith

@@ -218,15 +218,15 @@ impl PlainWorld {
     ) -> Result<(), Full>
         requires ready { IsReady (plain_stored self.old) (plain_view self.old) }
         requires sender { self.old.active ≡ Some fields.sender }
-        requires fits { CanCall (plain_stored self.old) (plain_view self.old) header.0 args values_copied fields }
+        requires fits { CanCall (plain_stored self.old) (plain_view self.old) header.0 args copied fields }
         ensures view { OnOk result (plain_view self.new ≡ called_of (plain_view self.old) args
-            (called_context (plain_stored self.old) (plain_view self.old) header.0 args values_copied fields)) }
+            (called_context (plain_stored self.old) (plain_view self.old) header.0 args copied fields)) }
         ensures ready { OnOk result (IsReady (plain_stored self.new) (plain_view self.new)) }
         ensures names { OnOk result (KeepsNames (plain_stored self.old) (plain_stored self.new)) }
         ensures limit { self.new.heap.limit ≡ self.old.heap.limit }
         ensures full { IfErr result (CausesFull (plain_stored self.new) None (plain_view self.old) 0
             (called_of (plain_view self.old) args
-            (called_context (plain_stored self.old) (plain_view self.old) header.0 args values_copied fields))) }
+            (called_context (plain_stored self.old) (plain_view self.old) header.0 args copied fields))) }
     {
         let sender = fields.sender;
         let closure = fields.closure;

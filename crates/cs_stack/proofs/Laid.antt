@@ -119,11 +119,11 @@ module _ (w : Parts) (good : IsGood w) where
   Used rs = (p : ℕ) → Contains rs p → Contains w.pages.recent p
 
   behind : (r : ℕ) (rs : List ℕ) → Used (r ∷ rs) → Used rs
-  behind r rs frames_used p (k, within, is) = frames_used p (suc k, omega (arith, within), is)
+  behind r rs used p (k, within, is) = used p (suc k, omega (arith, within), is)
 
   pages : (rs : List ℕ) → Used rs → AllByRecursion (IsPage (view_of w)) (laid_pages w.frames rs)
-  pages [] frames_used = tt
-  pages (r ∷ rs) frames_used = (is_page r ((good.used_pages r).0 (frames_used r (0, omega arith, refl))), pages rs (behind r rs frames_used))
+  pages [] used = tt
+  pages (r ∷ rs) used = (is_page r ((good.used_pages r).0 (used r (0, omega arith, refl))), pages rs (behind r rs used))
 
   -- the births of a part of a page, and of other pages
   apart_page : (p : ℕ) (es : List Frame) (ys : List ℕ) → Within p es → FramesFit w.heap.objects w.roots.next_birth es → IsApart ys
@@ -138,10 +138,10 @@ module _ (w : Parts) (good : IsGood w) where
   apart [] distinct = tt
   apart (r ∷ rs) distinct =
       apart_page r (frames_of w.frames r) (concat (laid_pages w.frames rs)) (λ g gs on. on) (good.frames r) (apart rs (IsDistinct-tail eqb r rs distinct))
-      (λ f gs on. off_laid w.frames rs f.birth (λ p frames_used. apart_on (frames_of w.frames p) on (good.apart r p (other p frames_used))))
+      (λ f gs on. off_laid w.frames rs f.birth (λ p used. apart_on (frames_of w.frames p) on (good.apart r p (other p used))))
     where
       other : (p : ℕ) → Contains rs p → r ≢ p
-      other p frames_used e = lacks_not r rs (IsDistinct-head eqb r rs distinct) (subst (λ n. Contains rs n) (sym e) frames_used)
+      other p used e = lacks_not r rs (IsDistinct-head eqb r rs distinct) (subst (λ n. Contains rs n) (sym e) used)
 
   active : (rs : List ℕ) (i : ℕ) → active_in (first_frames w.frames rs) ≡ Some i → last_frame (first_page (laid_pages w.frames rs)) ≡ Some i
   active [] i e = e
@@ -175,7 +175,7 @@ module _ (w : Parts) (good : IsGood w) where
 pub good_laid : (w : Parts) → IsGood w → IsLaidOut (stored_of w) (view_of w) (layout_of w)
 good_laid w good = record {
   few = omega (arith, length_laid w.frames w.pages.recent, length-le_total w.pages.total w.pages.recent good.order.distinct good.order.in_range);
-  pages = pages w good w.pages.recent (λ p frames_used. frames_used);
+  pages = pages w good w.pages.recent (λ p used. used);
   apart = apart w good w.pages.recent good.order.distinct;
   active = active w good w.pages.recent;
   whole = λ i c h. whole w good i c h (which i w.frames);

@@ -1,0 +1,31 @@
+use Rattle.std.proofs.Common.{◌∙◌}
+use Rattle.cs_core.specs.Deep.{run_of}
+use Rattle.cs_core.specs.Running.{ending_of, place_by}
+use Rattle.cs_cli.specs.Answer as answer
+use Rattle.cs_cli.proofs.Breaking.{heap_reported, stack_reported}
+use Rattle.cs_cli.proofs.Writings.{run_printed}
+use Rattle.cs_cli.proofs.running.run_and_report.Goals as goal
+
+pub returns-in-Ok : goal.returns-in-Ok
+returns-in-Ok g c =
+    let r = c.in-Ok.ensures.ran in
+    let ran = c.in-Ok.ran in
+    answer.ended (run_printed (run_of (g.W.World.view c.args.world) c.args.steps) (ending_of ran.ending) ran.steps (place_by ran.place)
+    (g.K.Sink.taken c.args.out.now) (g.K.Sink.taken c.run.new.out) (g.K.Sink.taken c.print.new.out)
+    (g.K.Sink.fault_count c.args.out.now) (g.K.Sink.fault_count c.run.new.out) (g.K.Sink.fault_count c.print.new.out)
+    c.status_of.result c.as_str.result.now c.print.result
+    r.ending r.steps r.place r.written c.in-Ok.ensures.never_falls c.status_of.ensures (c.as_str.ensures.value ∙ c.report-text.ensures)
+    c.print.ensures.printed)
+
+pub returns-in-Err-Full-Heap : goal.returns-in-Err-Full-Heap
+returns-in-Err-Full-Heap g c =
+    heap_reported (g.W.World.view c.args.world) (g.W.World.stored c.run.new.w) (g.W.World.layout c.args.world) (g.K.Sink.taken c.args.out.now) (g.K.Sink.taken c.run.new.out)
+    (g.K.Sink.fault_count c.args.out.now) (g.K.Sink.fault_count c.run.new.out) c.args.steps (g.W.World.stored c.args.world).memory.limit c.in-Err-Full-Heap.field-0 c.in-Err-Full-Heap.field-0-0 c.in-Err-Full-Heap.field-0-is c.in-Err-Full-Heap.field-0-0-is
+    c.run.ensures.limit c.in-Err-Full-Heap.ensures.failed
+
+pub returns-in-Err-Full-Stack : goal.returns-in-Err-Full-Stack
+returns-in-Err-Full-Stack g c =
+    stack_reported (g.W.World.view c.args.world) (g.W.World.stored c.run.new.w) (g.W.World.layout c.args.world) (g.K.Sink.taken c.args.out.now) (g.K.Sink.taken c.run.new.out) (g.K.Sink.taken c.print-in-Err-Full-Stack.new.out)
+    (g.K.Sink.fault_count c.args.out.now) (g.K.Sink.fault_count c.run.new.out) (g.K.Sink.fault_count c.print-in-Err-Full-Stack.new.out) c.args.steps
+    (g.W.World.stored c.args.world).memory.limit c.in-Err-Full-Stack.field-0 c.in-Err-Full-Stack.field-0-0 c.print-in-Err-Full-Stack.result c.in-Err-Full-Stack.field-0-is c.in-Err-Full-Stack.field-0-0-is
+    c.in-Err-Full-Stack.ensures.failed c.run.ensures.never_falls c.print-in-Err-Full-Stack.ensures.printed
