@@ -1,5 +1,5 @@
 -- How many bytes of code an instruction makes, and which jumps and blocks don't fit.
-use Rattle.std.proofs.Common.{◌≡◌, ℕ, ◌+◌, ◌&&◌, Bool, true, false, List, [], ◌∷◌, Some, None, length, ap, sym, ◌∙◌, refl, if◌then◌else◌}
+use Rattle.std.proofs.Common.{◌≡◌, ℕ, ◌+◌, ◌&&◌, Bool, true, List, [], ◌∷◌, Some, None, length, ap, sym, ◌∙◌, if◌then◌else◌}
 use Rattle.std.specs.Prelude.{ℤ, pos, ◌-ℤ◌, Option, find, is_none, is_some, not, option_and_then}
 use Rattle.std.specs.Option.{option_map_or}
 use Rattle.cs_model.specs.declared.instruction.Op.{Op}

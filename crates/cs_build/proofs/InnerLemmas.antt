@@ -1,12 +1,12 @@
 -- Instructions with numbers, and the forms of lines in methods.
-use Rattle.std.proofs.Common.{◌≡◌, ℕ, ◌+◌, ◌<◌, ◌≤◌, Bool, true, false, List, [], ◌∷◌, Some, None, option_map, length, refl, arith, ap, sym, ◌∙◌, if◌then◌else◌, nat_lt}
+use Rattle.std.proofs.Common.{◌≡◌, ℕ, ◌<◌, ◌≤◌, Bool, true, false, List, [], ◌∷◌, Some, None, option_map, length, refl, arith, ap, sym, ◌∙◌, nat_lt}
 use Rattle.std.specs.Prelude.{ℤ, pos, negsuc, Option, option_and_then}
 use Rattle.std.specs.Borrow.{Bor}
 use Rattle.std.proofs.lemmas.Bool.Decides.{nat_tests}
 use Rattle.cs_model.specs.declared.instruction.Op.{Op}
 use Rattle.cs_model.specs.Ref.{natural_of}
 use Rattle.cs_model.specs.Assemble.{op_name}
-use Rattle.cs_model.specs.BuilderText.{Form, Plain, inner_form, op_named, ops_of_one, ops_of_two}
+use Rattle.cs_model.specs.BuilderText.{Plain, inner_form, op_named, ops_of_one, ops_of_two}
 use Rattle.std.specs.Str.{bytes_eq}
 use Rattle.cs_build.specs.Narrow.{narrow, narrow_byte, narrow_form, narrow_op, two_numbered, word_texts}
 use Rattle.cs_build.proofs.OpLemmas.{formless, formless-find}

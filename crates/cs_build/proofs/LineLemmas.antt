@@ -1,5 +1,5 @@
 -- Where a byte stands first in a text.
-use Rattle.std.proofs.Common.{◌≡◌, ℕ, Bool, true, false, ◌+◌, ◌<◌, ◌≤◌, ◌==◌, ◌||◌, cond, Some, None, nat_lt, if◌then◌else◌, List, [], ◌∷◌, length, zero, suc, get_or, take, ap, refl, sym, ◌∙◌, ◌-◌, arith, rules}
+use Rattle.std.proofs.Common.{◌≡◌, ℕ, Bool, true, false, ◌+◌, ◌<◌, ◌≤◌, ◌==◌, ◌||◌, cond, Some, None, nat_lt, if◌then◌else◌, List, [], ◌∷◌, length, suc, take, ap, refl, sym, ◌∙◌, ◌-◌, arith, rules}
 use Rattle.std.specs.Prelude.{not, Option, IfSome, IfNone}
 use Rattle.std.proofs.lemmas.Bool.Decides.{nat_tests}
 use Rattle.std.specs.List.{before_first, position_or_len, slice_get}

@@ -1,8 +1,8 @@
 -- Lines read one after another.
-use Rattle.std.proofs.Common.{◌≡◌, ℕ, ◌+◌, ◌<◌, ◌≤◌, Bool, true, false, List, [], ◌∷◌, ◌++◌, Some, None, option_map, length, map, get_or, drop, drop-cons, add-one, refl, arith, ap, sym, ◌∙◌, if◌then◌else◌, append_assoc, suc}
+use Rattle.std.proofs.Common.{◌≡◌, ℕ, ◌+◌, ◌<◌, ◌≤◌, Bool, true, false, List, [], ◌∷◌, ◌++◌, Some, None, length, map, get_or, drop, drop-cons, add-one, refl, arith, ap, sym, ◌∙◌, if◌then◌else◌}
 use Rattle.std.proofs.lemmas.List.{append-nil, drop_all}
 use Rattle.std.proofs.lemmas.List.Sums.{sum_by-cons}
-use Rattle.std.specs.Prelude.{Option, codes, count_by, ◌==◌}
+use Rattle.std.specs.Prelude.{Option, count_by}
 use Rattle.std.specs.Borrow.{Bor}
 use Rattle.cs_model.specs.BuilderText as text
 use Rattle.cs_model.specs.BuilderText.{Form, form_in, forms_from, is_inside, is_skipped}

@@ -1,13 +1,12 @@
 -- A line whose numbers fit is the same with narrow numbers, and one whose numbers don't is refused with either.
-use Rattle.std.proofs.Common.{◌≡◌, ◌≢◌, ℕ, zero, suc, Bool, true, false, ◌+◌, ◌-◌, ◌<◌, ◌≤◌, ◌&&◌, ◌||◌, ◌^◌, ◌==◌, List, [], ◌∷◌, ◌++◌, Some, None, option_map, length, map, refl, arith, ap, sym, ◌∙◌, if◌then◌else◌, nat_lt, min}
-use Rattle.std.specs.Prelude.{ℤ, pos, negsuc, ◌-ℤ◌, not, int_lt, Option, is_some, is_none, option_and_then, option_to_list}
+use Rattle.std.proofs.Common.{◌≡◌, ℕ, suc, Bool, true, false, ◌<◌, ◌≤◌, ◌&&◌, ◌^◌, List, [], ◌∷◌, ◌++◌, Some, None, option_map, length, map, refl, arith, ap, sym, ◌∙◌, if◌then◌else◌, nat_lt}
+use Rattle.std.specs.Prelude.{ℤ, pos, negsuc, ◌-ℤ◌, not, int_lt, Option, is_some, option_to_list}
 use Rattle.std.specs.Option.{option_map_or, option_or}
-use Rattle.std.specs.List.{list_all, list_any}
+use Rattle.std.specs.List.{list_all}
 use Rattle.std.proofs.lemmas.Bool.Decides.{nat_tests}
 use Rattle.std.proofs.lemmas.Bool.{false≢true}
 use Rattle.std.proofs.lemmas.Int.{ints}
 use Rattle.cs_model.specs.declared.instruction.Op.{Op}
-use Rattle.cs_model.specs.Ref.{natural_of}
 use Rattle.cs_model.specs.Assemble.{is_within}
 use Rattle.cs_model.specs.BuilderText as text
 use Rattle.cs_model.specs.BuilderText.{Mention, Form, ClassLine, MethodLine, ProcessLine}

@@ -1,21 +1,20 @@
 -- What one line more changes of what the lines above say, and of the tables that hold it.
-use Rattle.std.proofs.Common.{◌≡◌, ◌≢◌, ℕ, zero, suc, Bool, true, false, ◌+◌, ◌*◌, ◌-◌, ◌<◌, ◌≤◌, ◌&&◌, ◌||◌, List, [], ◌∷◌, ◌++◌, Some, None, option_map, length, map, reverse, take, drop, refl, arith, ap, sym, subst, ◌∙◌, if◌then◌else◌, append_assoc, cond}
-use Rattle.std.specs.Prelude.{ℤ, Option, not, find, flat_map, count_by, is_some, option_and_then, codes}
+use Rattle.std.proofs.Common.{◌≡◌, ℕ, Bool, true, false, ◌+◌, ◌-◌, ◌≤◌, ◌&&◌, ◌||◌, List, [], ◌∷◌, ◌++◌, Some, None, option_map, length, drop, refl, arith, ap, sym, subst, ◌∙◌, if◌then◌else◌, append_assoc, cond}
+use Rattle.std.specs.Prelude.{ℤ, Option, not, find, flat_map, count_by, is_some, option_and_then}
 use Rattle.std.specs.Option.{option_map_or, option_or}
 use Rattle.std.specs.List.{list_any, after_last, prefix_len, suffix_len}
 use Rattle.std.specs.Str.{bytes_eq}
-use Rattle.std.specs.Bool.{Decides}
 use Rattle.std.specs.Borrow.{Bor}
 use Rattle.std.proofs.lemmas.Bool.{false≢true}
 use Rattle.std.proofs.lemmas.Grind.{flat_map-append}
 use Rattle.std.proofs.lemmas.List.{append-nil, drop_all, drop-append-le, length_push, reverse-append}
 use Rattle.std.proofs.lemmas.List.Folds.{find-append, list_any-append}
-use Rattle.std.proofs.lemmas.List.Sums.{suffix_len-le-length, sum_by-append, sum_by-cons, count_by-le-length}
+use Rattle.std.proofs.lemmas.List.Sums.{sum_by-append, sum_by-cons}
 use Rattle.std.proofs.lemmas.Slice.Eq.{bytes_eq-Decides}
 use Rattle.indexmap.specs.IndexMap.{IndexMap}
 use Rattle.cs_model.specs.BuilderText as text
 use Rattle.cs_model.specs.BuilderText.{ClassLine, Form, MethodLine, ProcessLine, is_inside}
-use Rattle.cs_model.specs.BuilderFault.{all_classes, byte_count, class_lines_in, class_named, is_active_line, is_end_line, is_label, is_literal, is_method_line, is_open, is_process_name, is_taken, is_twice, known_classes, label_place, method_named, methods_in, names_in, open_body, place_where, plain_bytes, process_lines_in}
+use Rattle.cs_model.specs.BuilderFault.{all_classes, byte_count, class_lines_in, class_named, is_active_line, is_end_line, is_label, is_literal, is_method_line, is_open, is_process_name, is_taken, is_twice, known_classes, label_place, method_named, methods_in, names_in, open_body, place_where, process_lines_in}
 use Rattle.cs_build.specs.declared.form.Form as code
 use Rattle.cs_build.specs.declared.tables.Named.{Named}
 use Rattle.cs_build.specs.declared.tables.Body.{Body}

@@ -1,6 +1,6 @@
 -- Texts whose lines are read and judged.
 use Rattle.std.proofs.Common.{◌≡◌, ℕ, suc, ◌+◌, ◌<◌, ◌≤◌, Bool, true, false, List, [], ◌∷◌, ◌++◌, Some, None, Err, length, map, refl, arith, ap, sym, subst, ◌∙◌, if◌then◌else◌, nat_lt}
-use Rattle.std.specs.Prelude.{◌||◌, ◌==◌, Option, codes, count_by, flat_map, option_map, option_to_list, MatchOption}
+use Rattle.std.specs.Prelude.{◌||◌, ◌==◌, Option, codes, count_by, flat_map, option_to_list, MatchOption}
 use Rattle.std.specs.Option.{option_or}
 use Rattle.std.specs.List.{before_first}
 use Rattle.std.specs.Str.{bytes_eq}

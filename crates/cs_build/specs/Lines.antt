@@ -1,5 +1,5 @@
 -- What the lines of the code mean, and what its reader and its judge answer.
-use Rattle.std.specs.Prelude.{◌≡◌, ℕ, List, [], ◌∷◌, ◌++◌, map, Option, Some, None, option_map, MatchOption, Result, Ok, Err, ⊤}
+use Rattle.std.specs.Prelude.{◌≡◌, ℕ, List, ◌∷◌, ◌++◌, map, Option, Some, None, option_map, MatchOption, Result, Ok, Err, ⊤}
 use Rattle.cs_model.specs.BuilderText as text
 use Rattle.cs_model.specs.BuilderFault as fault
 use Rattle.cs_model.specs.BuilderFault.{BuildFault}

@@ -1,6 +1,6 @@
 -- What the code keeps of the numbers of a line: a number beyond 32 bits becomes the nearest of 32 bits, and an instruction
 -- that comes in no form becomes none. No line with such a number is without fault.
-use Rattle.std.specs.Prelude.{ℕ, ℤ, Bool, false, List, [], ◌∷◌, Option, None, Some, codes, map, option_map, option_and_then, is_some, nat_lt, if◌then◌else◌}
+use Rattle.std.specs.Prelude.{ℕ, ℤ, List, [], ◌∷◌, Option, None, Some, codes, map, option_map, option_and_then, is_some, nat_lt, if◌then◌else◌}
 use Rattle.std.specs.Int.{saturate_signed, w32}
 use Rattle.std.specs.Prelude.{◌≡◌}
 use Rattle.std.specs.Borrow.{Bor}
@@ -11,7 +11,7 @@ use Rattle.cs_model.specs.declared.instruction.Op.{Op}
 use Rattle.cs_model.specs.Ref.{natural_of}
 use Rattle.cs_model.specs.BuilderFault.{plain_bytes}
 use Rattle.cs_model.specs.BuilderText.{Mention, Number, Code, ClassLine, MethodLine, ProcessLine, Form, Class, Object, Method, Process, Special, Active, Ready, Literal, Byte, Plain, ClosureTo, method_form, process_form, special_form, name_form, one_form, two_form}
-use Rattle.cs_model.specs.Text.{is_empty, is_name}
+use Rattle.cs_model.specs.Text.{is_name}
 use Rattle.std.specs.Str.{bytes_eq}
 
 abbrev pub narrow : ℤ → ℤ

@@ -7,7 +7,6 @@ use Rattle.std.specs.Cmp.Lexicographic.{pointwise}
 use Rattle.indexmap.specs.IndexMap.{IndexMap, get_by}
 use Rattle.cs_model.specs.BuilderText as text
 use Rattle.cs_model.specs.BuilderFault.{byte_count, class_named, is_active_line, is_label_lost, is_literal, is_open, is_process_name, is_taken, label_place, line_bytes, method_named, open_body}
-use Rattle.cs_build.specs.declared.form.ClassLine.{ClassLine}
 use Rattle.cs_build.specs.declared.tables.Named.{Named}
 use Rattle.cs_build.specs.declared.tables.Named.TheVariants as named
 use Rattle.cs_build.specs.declared.tables.Tables.{Tables}

@@ -1,13 +1,14 @@
 //! The faults of the lines of a text.
 
-ghost use Rattle.std.specs.Prelude.{◌≡◌, ◌≤◌, ◌<◌, [], ◌||◌, ◌^◌, length, map, is_some, option_map, IfOk, IfErr, None, not, true};
+ghost use Rattle.std.specs.Prelude.{◌≡◌, ◌≤◌, ◌<◌, ◌||◌, ◌^◌, [], None, true, not};
+ghost use Rattle.std.specs.Prelude.{length, map, is_some, option_map, IfOk, IfErr};
 ghost use Rattle.std.specs.Option.{option_map_or};
 ghost use Rattle.std.specs.List.{list_all, list_any};
 ghost use Rattle.cs_model.specs.Assemble.{is_within};
 ghost use Rattle.cs_model.specs.BuilderFault.{closure_bytes, fits, form_fault, has_literal_room, has_misfit, has_names};
 ghost use Rattle.cs_model.specs.BuilderFault.{has_pointers, is_between, is_class_format, is_in_range, is_known};
-ghost use Rattle.cs_model.specs.BuilderFault.{is_label_lost, is_object_class, is_twice, jump_code, lines_fault, may_have};
-ghost use Rattle.cs_model.specs.BuilderFault.{mention_fault, mentions_in, method_fits, plain_bytes};
+ghost use Rattle.cs_model.specs.BuilderFault.{is_label_lost, is_object_class, is_twice, jump_code, lines_fault};
+ghost use Rattle.cs_model.specs.BuilderFault.{may_have, mention_fault, mentions_in, method_fits, plain_bytes};
 ghost use Rattle.cs_build.specs.Lines.{Judges, TellsFault, forms_by, line_by, lines_by};
 ghost use Rattle.cs_build.specs.Meaning.{class_by, form_by, jump_by, mention_by, method_line_by};
 ghost use Rattle.cs_build.specs.Tabled.{AreTables, IsAbove, above_by, body_by, is_misfit as is_misfit_in};
@@ -148,7 +149,8 @@ fn all_fit(mentions: &[Mention<'_>]) -> bool
 
 /// Whether an instance of a class, if it is one of pointers, may have so many slots.
 fn slots_fit(class: Option<ClassLine<'_>>, count: usize) -> bool
-    ensures { result ≡ option_map_or (λ c. not (has_pointers c) || may_have count c) (option_map class_by class.entry) true }
+    ensures { result
+        ≡ option_map_or (λ c. not (has_pointers c) || may_have count c) (option_map class_by class.entry) true }
 {
     match class {
         Some(line) => !has_pointers(&line) || may_have(count, &line),

@@ -1,6 +1,6 @@
 //! The lines of a text, and those of them that say something.
 
-ghost use Rattle.std.specs.Prelude.{◌≡◌, ◌==◌, ◌<◌, ◌≤◌, ◌^◌, Some, codes, count_by, false, length, IfOk, MatchOption, if◌then◌else◌};
+ghost use Rattle.std.specs.Prelude.{◌≡◌, ◌==◌, ◌<◌, ◌≤◌, Some, codes, count_by, false, length, IfOk};
 ghost use Rattle.std.specs.List.{before_first};
 ghost use Rattle.std.specs.Str.{bytes_eq};
 ghost use Rattle.cs_model.specs.BuilderText.{form_in, forms_from, is_inside as is_inside_of, is_skipped};

@@ -4,7 +4,8 @@ ghost use Rattle.std.specs.Prelude.{◌≡◌, ◌+◌, ◌++◌, ◌&&◌, ◌|
 ghost use Rattle.std.specs.Prelude.{length, map, nat_eq, option_map, IfOk, OnOk, Some};
 ghost use Rattle.std.specs.Cmp.Lexicographic.{pointwise};
 ghost use Rattle.cs_model.specs.BuilderText as text;
-ghost use Rattle.cs_model.specs.BuilderFault.{byte_count as byte_count_of, is_active_line, is_twice, kind_of_object, known};
+ghost use Rattle.cs_model.specs.BuilderFault.{byte_count as byte_count_of, is_active_line, is_twice};
+ghost use Rattle.cs_model.specs.BuilderFault.{kind_of_object, known};
 ghost use Rattle.cs_model.specs.BuilderFault.{known_classes as known_class_lines, open_body};
 ghost use Rattle.cs_build.specs.Lines.{forms_by};
 ghost use Rattle.cs_build.specs.Meaning.{class_by, form_by};
@@ -230,7 +231,7 @@ fn put_method<'a>(methods: &mut Methods<'a>, line: &MethodLine<'a>) -> Result<()
     }
 }
 
-/// Takes up a line behind so many: the first line of a method begins a body, and others belong to the one that is there.
+/// Takes up a line behind so many: the first line of a method begins a body, and others belong to the one there.
 fn note_body<'a>(
     alloc: Global,
     body: &mut Body<'a>,
@@ -251,7 +252,7 @@ fn note_body<'a>(
     Ok(())
 }
 
-/// Whether there is an active process behind this line, if there is one above it or not.
+/// Whether there is an active process with this line, which may stand above it already.
 fn has_active(above: bool, form: &Form<'_>) -> bool
     ensures { result ≡ (above || is_active_line (form_by form.now)) }
 {

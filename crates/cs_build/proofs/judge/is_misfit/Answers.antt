@@ -1,4 +1,4 @@
-use Rattle.std.proofs.Common.{◌≡◌, ◌+◌, rules, arith, ap, sym, ◌∙◌, to_z, of_z, w32}
+use Rattle.std.proofs.Common.{◌≡◌, rules, arith, ap, sym, ◌∙◌, to_z, of_z, w32}
 use Rattle.std.proofs.lemmas.Int.{ints}
 use Rattle.cs_build.specs.Meaning.{form_by, jump_by}
 use Rattle.cs_build.specs.Tabled.{body_by, is_misfit}

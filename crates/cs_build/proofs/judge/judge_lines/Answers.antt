@@ -1,4 +1,4 @@
-use Rattle.std.proofs.Common.{◌≡◌, ◌<◌, length, take, arith}
+use Rattle.std.proofs.Common.{◌<◌, length, take, arith}
 use Rattle.std.proofs.lemmas.Result.{err_from_is_err_and}
 use Rattle.cs_build.specs.Lines.{forms_by}
 use Rattle.cs_build.specs.Meaning.{form_by}

@@ -1,4 +1,4 @@
-use Rattle.std.proofs.Common.{◌≡◌, ◌&&◌, [], ap, refl, nat_eq}
+use Rattle.std.proofs.Common.{◌&&◌, [], ap, refl, nat_eq}
 use Rattle.std.specs.Map.{lookup}
 use Rattle.std.specs.Cmp.Lexicographic.{pointwise}
 use Rattle.cs_build.proofs.tables.first_tables.Goals as goal

@@ -1,4 +1,4 @@
-use Rattle.std.proofs.Common.{◌≡◌, ◌||◌, ◌∙◌, ap, sym, arith}
+use Rattle.std.proofs.Common.{◌||◌, ◌∙◌, ap, sym, arith}
 use Rattle.std.specs.Prelude.{Some}
 use Rattle.cs_model.specs.BuilderText.{is_inside}
 use Rattle.cs_model.specs.BuilderFault.{is_active_line}

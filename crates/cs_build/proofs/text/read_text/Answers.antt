@@ -6,7 +6,7 @@ use Rattle.cs_model.specs.BuilderFault as fault
 use Rattle.cs_model.specs.BuilderFault.{is_open, lines_fault, mention_fault, text_fault}
 use Rattle.cs_build.specs.Lines.{IsRead, forms_by, lines_by}
 use Rattle.cs_build.specs.Narrow.{word_texts}
-use Rattle.cs_build.proofs.TextLemmas.{all-said, allowed, fault-bad, fault-judged, fault-mention, fault-open, judged_by, tells-as, tells-judged, too-long, too-many-classes, too-many-lines}
+use Rattle.cs_build.proofs.TextLemmas.{all-said, allowed, fault-bad, fault-judged, fault-mention, fault-open, tells-as, tells-judged, too-long, too-many-classes, too-many-lines}
 use Rattle.cs_build.proofs.text.read_text.Goals as goal
 use Rattle.cs_build.proofs.text.read_text.Goals.{then-len-gt-MOST_LINES-via-then-len-gt-MOST_LINES, then-len-gt-MOST_LINES-via-else-len-gt-MOST_LINES+then-class_lines-gt-MOST_CLASSES}
 
