@@ -10,3 +10,4 @@ pub mod Writings
 pub mod Images
 pub mod Breaking
 pub mod Answering
+pub mod Within

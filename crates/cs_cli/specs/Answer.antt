@@ -1,12 +1,13 @@
 -- What the program answers to the words behind its name, and what it prints.
-use Rattle.std.specs.Prelude.{◌≡◌, ◌⊎◌, ℕ, ◌<◌, true, List, ◌++◌, codes, Option, Some, None, Ok, Err, IfSome, IsSomeAnd}
+use Rattle.std.specs.Prelude.{◌≡◌, ◌⊎◌, ℕ, zero, suc, ◌+◌, ◌<◌, ◌≤◌, true, if◌then◌else◌, List, ◌++◌, codes, Option, Some, None, Ok, Err, IfSome, IsSomeAnd}
 use Rattle.cs_shelf.specs.Outside.{Appends, AppendsPart, Fault, Rose, read_fault}
-use Rattle.cs_model.specs.State.{Kept}
+use Rattle.cs_model.specs.Obj.{Obj, is_context}
+use Rattle.cs_model.specs.State.{Kept, object_at}
 use Rattle.cs_model.specs.Image.{image_of}
 use Rattle.cs_model.specs.ImageFault.{ImageFault, image_fault_name}
 use Rattle.cs_model.specs.Settle.{open_kept}
 use Rattle.cs_model.specs.CommandLine.{Command, Run, Build, Inspect, Same, Gen, CommandLine, Options, run_pages}
-use Rattle.cs_model.specs.Demand.{words_held}
+use Rattle.cs_model.specs.Demand.{words_held, words_taken}
 use Rattle.cs_model.specs.End as ends
 use Rattle.cs_model.specs.End.{Out}
 use Rattle.cs_model.specs.Built.{is_built_bytecode}
@@ -112,10 +113,11 @@ pub record IsImage (content : Option (List ℕ)) (limit : ℕ) (k : Kept) : Type
   pub told : IfSome content (λ held. bytes ≡ held)
   pub state : image_of bytes limit ≡ Ok k
 
--- the file of a line can't be read, or isn't the image of a heap of so many words
+-- the file of a line can't be read, or isn't the image of a heap of so many words, or memory is wanted
 pub data Refused (file : List ℕ) (limit : ℕ) (shelf : Reading) (out : Writing) (status : ℕ) : Type 0 where
   read : ReadFailed shelf file → Printed (failed_read file) out status → Refused file limit shelf out status
   image : (fault : ImageFault) → HasFault (shelf.content file) limit fault → Printed (refused_image fault) out status → Refused file limit shelf out status
+  memory : Printed no_memory out status → Refused file limit shelf out status
 
 -- ---- a run
 
@@ -132,25 +134,46 @@ full_heap k done = answering 5 (run_of k done).state.run.output
 abbrev pub full_stack : Kept → ℕ → Answer
 full_stack k done = answering 10 ((run_of k done).state.run.output ++ codes "cogstack: stack\n")
 
--- n bytecodes from k are run and reported; or the state to which the next one leads has more words than the heap's limit, or one on its
+-- what is no context
+abbrev pub unless_context : Option Obj → Option Obj
+unless_context None = None
+unless_context (Some o) = if is_context o then None else Some o
+
+-- the words of the objects that have births below n, without contexts
+unfoldable pub object_words_below : ℕ → Kept → ℕ
+object_words_below zero k = 0
+object_words_below (suc n) k = object_words_below n k + words_taken (unless_context (object_at k n))
+
+abbrev pub object_words_held : Kept → ℕ
+object_words_held k = object_words_below k.rest.next k
+
+-- n bytecodes from k are run and reported, and where the status is 0 the objects of the state have no more words than the heap may have,
+-- contexts aside; or the state to which the next one leads has more words than the heap's limit, or one on its
 -- way has; or it enters a method or block, and the contexts that have begun in the run and await a return need more than 3,900 words for
 -- each of the stack pages
 pub data Reported (k : Kept) (n : ℕ) (pages : Option ℕ) (limit : ℕ) (out : Writing) (status : ℕ) : Type 0 where
-  ended : Printed (run_answer (run_of k n)) out status → Reported k n pages limit out status
+  ended : (status ≡ 0 → object_words_held (state_of k n) ≤ limit) → Printed (run_answer (run_of k n)) out status → Reported k n pages limit out status
   heap : (done : ℕ) (o : Out) → IsUnderWay k n done → Needs (next_turn (run_of k done).state) Heap o → limit < words_held o.state → Printed (full_heap k done) out status → Reported k n pages limit out status
   stack : (done : ℕ) → IsUnderWay k n done → is_built_bytecode (state_of k done) ≡ true → (bytecode (run_of k done).state).out.end ≡ ends.Entered → IsSomeAnd pages (λ most. IsDeep most k done) → Printed (full_stack k done) out status → Reported k n pages limit out status
+
+-- or memory is wanted before the run begins
+abbrev pub Begun : Kept → ℕ → Option ℕ → ℕ → Writing → ℕ → Type 0
+Begun k n pages limit out status = OrMemory out status (Reported k n pages limit out status)
 
 -- ---- commands
 
 -- an image is run
 pub data RunAnswered (file : List ℕ) (o : Options) (shelf : Reading) (out : Writing) (status : ℕ) : Type 0 where
   run_refused : Refused file o.heap shelf out status → RunAnswered file o shelf out status
-  ran : (k : Kept) → IsImage (shelf.content file) o.heap k → Reported (open_kept k) o.steps (Some (run_pages o)) o.heap out status → RunAnswered file o shelf out status
+  ran : (k : Kept) → IsImage (shelf.content file) o.heap k → Begun (open_kept k) o.steps (Some (run_pages o)) o.heap out status → RunAnswered file o shelf out status
 
 -- an image is printed
+abbrev pub Inspected : Kept → Writing → ℕ → Type 0
+Inspected k out status = OrMemory out status (Printed (inspect_answer k) out status)
+
 pub data InspectAnswered (file : List ℕ) (o : Options) (shelf : Reading) (out : Writing) (status : ℕ) : Type 0 where
   inspect_refused : Refused file o.heap shelf out status → InspectAnswered file o shelf out status
-  printed : (k : Kept) → IsImage (shelf.content file) o.heap k → Printed (inspect_answer k) out status → InspectAnswered file o shelf out status
+  printed : (k : Kept) → IsImage (shelf.content file) o.heap k → Inspected k out status → InspectAnswered file o shelf out status
 
 -- what is answered to each command; those that aren't there yet are refused with their lines
 abbrev pub CommandAnswered : Command → List ℕ → Options → Reading → Writing → ℕ → Type 0
@@ -167,6 +190,6 @@ abbrev pub LineAnswered : Option CommandLine → Reading → Writing → ℕ →
 LineAnswered None shelf out status = Printed refused_line out status
 LineAnswered (Some line) shelf out status = CommandAnswered line.command line.file line.options shelf out status
 
--- What the call answers to its words. Memory may be wanted at any place, before anything else is printed; all else is as said.
+-- What the call answers to its words. Memory may be wanted while the line is read; all else is as said.
 abbrev pub Answered : Option CommandLine → Reading → Writing → ℕ → Type 0
 Answered line shelf out status = OrMemory out status (LineAnswered line shelf out status)

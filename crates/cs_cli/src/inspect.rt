@@ -3,7 +3,7 @@
 ghost use Rattle.std.specs.Prelude.{◌≡◌, List, ℕ};
 ghost use Rattle.cs_classes.specs.Meaning.{loaded_kept};
 ghost use Rattle.cs_classes.specs.Sound.{IsWhole};
-ghost use Rattle.cs_cli.specs.Answer.{InspectAnswered, OrMemory, Printed, inspect_answer};
+ghost use Rattle.cs_cli.specs.Answer.{InspectAnswered, Inspected};
 ghost use Rattle.cs_cli.specs.Meaning.{line_by, options_by};
 ghost use Rattle.cs_cli.specs.Possible.{IsInRange};
 
@@ -26,13 +26,7 @@ pub(crate) fn inspect<S: Shelf, K: Sink>(
     out: &mut K,
 ) -> u8
     requires range { IsInRange (line_by line.now) }
-    ensures answered { OrMemory (record {
-      old = K.taken out.old;
-      new = K.taken out.new;
-      before = K.fault_count out.old;
-      behind = K.fault_count out.new;
-    }) result
-        (InspectAnswered line.now.file.now (options_by line.now.options)
+    ensures answered { InspectAnswered line.now.file.now (options_by line.now.options)
         (record {
           content = S.content shelf.old;
           before = S.fault_count shelf.old;
@@ -44,7 +38,7 @@ pub(crate) fn inspect<S: Shelf, K: Sink>(
           new = K.taken out.new;
           before = K.fault_count out.old;
           behind = K.fault_count out.new;
-        }) result) }
+        }) result }
     ensures contents { (name : List ℕ) → S.content shelf.new name ≡ S.content shelf.old name }
 {
     match load_file(alloc, shelf, line.file, line.options.heap) {
@@ -56,18 +50,12 @@ pub(crate) fn inspect<S: Shelf, K: Sink>(
 /// Prints an image, and gives the status.
 fn print_image<K: Sink>(alloc: Global, loaded: &Loaded, out: &mut K) -> u8
     requires whole { IsWhole loaded.now.heap.objects loaded.now.classes loaded.now.roots }
-    ensures { OrMemory (record {
-      old = K.taken out.old;
-      new = K.taken out.new;
-      before = K.fault_count out.old;
-      behind = K.fault_count out.new;
-    }) result
-        (Printed (inspect_answer (loaded_kept loaded.now)) (record {
+    ensures { Inspected (loaded_kept loaded.now) (record {
           old = K.taken out.old;
           new = K.taken out.new;
           before = K.fault_count out.old;
           behind = K.fault_count out.new;
-        }) result) }
+        }) result }
 {
     match cs_inspect::print(alloc, loaded) {
         Ok(text) => print_bytes(out, INSPECTED, text.as_slice()),

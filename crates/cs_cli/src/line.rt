@@ -9,7 +9,8 @@ ghost use Rattle.cs_model.specs.CommandLine.{Part, is_short_name, line_in as lin
 ghost use Rattle.cs_model.specs.Text.{number_between};
 ghost use Rattle.cs_cli.specs.LineApp.{flag_rule, line_app, option_rule, place_rule};
 ghost use Rattle.cs_cli.specs.Meaning.{command_by, line_by, name_by, options_by};
-ghost use Rattle.cs_cli.specs.Possible.{HasRanges, IsInRange, IsPageChoice, can_do, has_known_options, is_possible, line_of, possible};
+ghost use Rattle.cs_cli.specs.Possible.{HasRanges, IsInRange, IsPageChoice, can_do, has_known_options, is_possible};
+ghost use Rattle.cs_cli.specs.Possible.{line_of, possible};
 ghost use Rattle.cs_cli.specs.Told.{IsTold};
 
 use crate::number::{MOST, number_from};

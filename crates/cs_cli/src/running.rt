@@ -10,7 +10,7 @@ ghost use Rattle.cs_acts.specs.Layout.{IsFresh};
 ghost use Rattle.cs_acts.specs.Ready.{IsSound};
 ghost use Rattle.cs_core.specs.Deep.{most_of};
 ghost use Rattle.cs_core.specs.Running.{ending_of};
-ghost use Rattle.cs_cli.specs.Answer.{OrMemory, Reported, RunAnswered, run_status};
+ghost use Rattle.cs_cli.specs.Answer.{Begun, Reported, RunAnswered, run_status};
 ghost use Rattle.cs_cli.specs.Loading.{IsOpenable};
 ghost use Rattle.cs_cli.specs.Meaning.{line_by, options_by};
 ghost use Rattle.cs_cli.specs.Possible.{IsInRange};
@@ -45,13 +45,7 @@ pub(crate) fn run_file<S: Shelf, K: Sink>(
     out: &mut K,
 ) -> u8
     requires range { IsInRange (line_by line.now) }
-    ensures answered { OrMemory (record {
-      old = K.taken out.old;
-      new = K.taken out.new;
-      before = K.fault_count out.old;
-      behind = K.fault_count out.new;
-    }) result
-        (RunAnswered line.now.file.now (options_by line.now.options)
+    ensures answered { RunAnswered line.now.file.now (options_by line.now.options)
         (record {
           content = S.content shelf.old;
           before = S.fault_count shelf.old;
@@ -63,7 +57,7 @@ pub(crate) fn run_file<S: Shelf, K: Sink>(
           new = K.taken out.new;
           before = K.fault_count out.old;
           behind = K.fault_count out.new;
-        }) result) }
+        }) result }
     ensures contents { (name : List ℕ) → S.content shelf.new name ≡ S.content shelf.old name }
 {
     match load_file(alloc, shelf, line.file, line.options.heap) {
@@ -83,18 +77,12 @@ fn open_and_run<K: Sink>(alloc: Global, loaded: Loaded, pages: u32, steps: u64, 
     requires openable { IsOpenable loaded }
     requires few { 2 ≤ pages }
     requires many { pages ≤ 64 }
-    ensures { OrMemory (record {
-      old = K.taken out.old;
-      new = K.taken out.new;
-      before = K.fault_count out.old;
-      behind = K.fault_count out.new;
-    }) result
-        (Reported (open_kept (loaded_kept loaded)) steps (Some pages) loaded.heap.limit (record {
+    ensures { Begun (open_kept (loaded_kept loaded)) steps (Some pages) loaded.heap.limit (record {
           old = K.taken out.old;
           new = K.taken out.new;
           before = K.fault_count out.old;
           behind = K.fault_count out.new;
-        }) result) }
+        }) result }
 {
     match StackWorld::new(alloc, loaded, pages) {
         Ok(world) => begin(alloc, world, steps, out),
@@ -107,18 +95,12 @@ fn begin<W: World + Drop, K: Sink>(alloc: Global, world: W, steps: u64, out: &mu
     requires sound { IsSound (W.stored world) (W.view world) }
     requires running { is_idle (W.view world) ≡ false → IsRunning (W.view world) }
     requires fresh { IsFresh (W.view world) (W.layout world) }
-    ensures { OrMemory (record {
-      old = K.taken out.old;
-      new = K.taken out.new;
-      before = K.fault_count out.old;
-      behind = K.fault_count out.new;
-    }) result
-        (Reported (W.view world) steps (most_of (W.layout world)) (W.stored world).memory.limit (record {
+    ensures { Begun (W.view world) steps (most_of (W.layout world)) (W.stored world).memory.limit (record {
           old = K.taken out.old;
           new = K.taken out.new;
           before = K.fault_count out.old;
           behind = K.fault_count out.new;
-        }) result) }
+        }) result }
 {
     match Sender::new(alloc) {
         Ok(sender) => run_and_report(world, sender, steps, out),

@@ -1,7 +1,7 @@
 //! The call that the program makes.
 
 ghost use Rattle.std.specs.Prelude.{◌≡◌, List, ℕ, true, map, string_bytes};
-ghost use Rattle.cs_cli.specs.Answer.{Answered, CommandAnswered, OrMemory};
+ghost use Rattle.cs_cli.specs.Answer.{Answered, CommandAnswered};
 ghost use Rattle.cs_cli.specs.Meaning.{command_by, line_by, options_by};
 ghost use Rattle.cs_cli.specs.Possible.{IsInRange, is_possible, line_of};
 
@@ -48,13 +48,7 @@ pub fn cogstack<S: Shelf, K: Sink>(
 fn answer<S: Shelf, K: Sink>(alloc: Global, line: &Line<'_>, shelf: &mut S, out: &mut K) -> u8
     requires possible { is_possible (line_by line.now) ≡ true }
     requires range { IsInRange (line_by line.now) }
-    ensures answered { OrMemory (record {
-      old = K.taken out.old;
-      new = K.taken out.new;
-      before = K.fault_count out.old;
-      behind = K.fault_count out.new;
-    }) result
-        (CommandAnswered (command_by line.now.command) line.now.file.now (options_by line.now.options)
+    ensures answered { CommandAnswered (command_by line.now.command) line.now.file.now (options_by line.now.options)
         (record {
           content = S.content shelf.old;
           before = S.fault_count shelf.old;
@@ -66,7 +60,7 @@ fn answer<S: Shelf, K: Sink>(alloc: Global, line: &Line<'_>, shelf: &mut S, out:
           new = K.taken out.new;
           before = K.fault_count out.old;
           behind = K.fault_count out.new;
-        }) result) }
+        }) result }
     ensures contents { (name : List ℕ) → S.content shelf.new name ≡ S.content shelf.old name }
 {
     match line.command {

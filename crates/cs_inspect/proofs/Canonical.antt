@@ -23,7 +23,7 @@ use Rattle.cs_classes.proofs.Refs.{same_births}
 use Rattle.cs_classes.proofs.Sorts.{AContext, AMethod, Bytes, Pointers, Sort, obj_of-alike, obj_of-bytes, obj_of-context, obj_of-method, obj_of-pointers, sort_of}
 use Rattle.cs_classes.proofs.Sounds.{whole_context}
 use Rattle.cs_classes.proofs.Wholes.{get-classes_of}
-use Rattle.cs_inspect.specs.Comparing.{address_number, class_numbers, difference_from, number_of, numbered, numbered_kind, numbered_object, numbered_objects, same_class_numbers}
+use Rattle.cs_inspect.specs.Comparing.{address_number, class_numbers, difference_from, place_number, numbered_word, numbered_kind, numbered_object, numbered_objects, same_class_numbers}
 use Rattle.cs_inspect.specs.Numbering.{IsNumbering}
 use Rattle.cs_inspect.specs.Reading.{names_object}
 use Rattle.cs_inspect.proofs.Meanings.{named_reference}
@@ -51,11 +51,11 @@ same_prefix os a (k ∷ keys) sound h all =
 number_is : (os : List Object) (a : ℕ) (keys : List ℕ) → AreSoundObjects os → is_object os a ≡ true → AllPass (is_object os) keys
     → canon_number (map (birth_at os) keys) (birth_at os a) ≡ address_number keys a
 number_is os a keys sound h all =
-    ap₂ (λ (n m : ℕ). number_of (cond (nat_lt n m) (Some n) None)) (same_prefix os a keys sound h all) (length-map keys (birth_at os))
+    ap₂ (λ (n m : ℕ). place_number (cond (nat_lt n m) (Some n) None)) (same_prefix os a keys sound h all) (length-map keys (birth_at os))
 
 -- what a word refers to
-numbered_is : (os : List Object) (keys : List ℕ) (w : ℕ) → AreSoundObjects os → AllPass (is_object os) keys → names_object os w ≡ true → ref_in (map (birth_at os) keys) (ref_of os w) ≡ numbered keys w
-unfolding ref_of is_reference is_sender numbered
+numbered_is : (os : List Object) (keys : List ℕ) (w : ℕ) → AreSoundObjects os → AllPass (is_object os) keys → names_object os w ≡ true → ref_in (map (birth_at os) keys) (ref_of os w) ≡ numbered_word keys w
+unfolding ref_of is_reference is_sender numbered_word
 numbered_is os keys w sound all n = at (kind_of w) n
   where
     either : (x y : Bool) → (x || (x && y)) ≡ true → x ≡ true
@@ -90,10 +90,10 @@ object_in-of order refer x = go (sort_of x)
         ∙ sym (obj_of-method (λ w. ref_in order (refer w)) x o p m)
     go (Bytes o p m) = ap (canon_object order) (obj_of-bytes refer x o p m) ∙ sym (obj_of-bytes (λ w. ref_in order (refer w)) x o p m)
 
-object_is : (os : List Object) (keys : List ℕ) (a : ℕ) (t : There os a) → AreSoundObjects os → AllPass (is_object os) keys → canon_object (map (birth_at os) keys) (obj_of (ref_of os) t.x) ≡ obj_of (numbered keys) t.x
+object_is : (os : List Object) (keys : List ℕ) (a : ℕ) (t : There os a) → AreSoundObjects os → AllPass (is_object os) keys → canon_object (map (birth_at os) keys) (obj_of (ref_of os) t.x) ≡ obj_of (numbered_word keys) t.x
 object_is os keys a t sound all =
     object_in-of (map (birth_at os) keys) (ref_of os) t.x
-    ∙ obj_of-alike (is_reference os) (λ w. ref_in (map (birth_at os) keys) (ref_of os w)) (numbered keys) (λ w r. numbered_is os keys w sound all (named_reference os w r)) t.x t.sound.references
+    ∙ obj_of-alike (is_reference os) (λ w. ref_in (map (birth_at os) keys) (ref_of os w)) (numbered_word keys) (λ w r. numbered_is os keys w sound all (named_reference os w r)) t.x t.sound.references
     (λ c. let w = whole_context os t.x t.sound c in (w.format, (w.fields, numbered_is os keys (slice_index t.x.words 0) sound all (named_sender (slice_index t.x.words 0) w.sender))))
   where
     named_sender : (w : ℕ) → is_sender os w ≡ true → names_object os w ≡ true
@@ -112,7 +112,7 @@ module _ (os : List Object) (table : FinMap nat_cmp ℕ) (roots : Roots) (whole 
       ap (option_map (canon_object order)) (get-objects_of os a whole.heap h)
       ∙ ap (λ (o : Option Object). option_map (canon_object order) (option_map (obj_of (ref_of os)) o)) t.at
       ∙ ap Some (object_is os keys a t whole.heap all)
-      ∙ sym (ap (option_map (obj_of (numbered keys))) t.at)
+      ∙ sym (ap (option_map (obj_of (numbered_word keys))) t.at)
 
   objects_are : (ks : List ℕ) → AllPass (is_object os) ks
       → filter_map (λ birth. option_map (canon_object order) (kept_at K birth)) (map (birth_at os) ks) ≡ filter_map (numbered_object keys os) ks

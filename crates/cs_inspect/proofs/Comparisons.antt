@@ -10,7 +10,7 @@ use Rattle.cs_model.specs.Canon.{same_list, same_numbers, same_pc, same_refs}
 use Rattle.cs_model.specs.Obj.{literal_count}
 use Rattle.cs_model.specs.Ref.{same_ref}
 use Rattle.cs_classes.specs.Meaning.{code_in, depth_in, method_header, literal_words, used_bytes}
-use Rattle.cs_inspect.specs.Comparing.{numbered}
+use Rattle.cs_inspect.specs.Comparing.{numbered_word}
 use Rattle.cs_word.specs.Word.{natural_of_word}
 use Rattle.cs_inspect.proofs.Meanings.{MethodThere}
 use Rattle.cs_inspect.proofs.Reading.{bytes_of-drop, byte_is, length-bytes_at, length-words_at, word_is}
@@ -58,37 +58,37 @@ other_lengths f xs ys h = false_of (same_list f xs ys) (λ s. h (same_list_lengt
 module _ (ka : List ℕ) (osa : List Object) (a : ℕ) (kb : List ℕ) (osb : List Object) (b : ℕ) where
   -- whether the slots between two places are the same
   abbrev pub same_window : ℕ → ℕ → Bool
-  same_window from end = same_refs (map (numbered ka) (take (end - from) (drop from (words_at osa a)))) (map (numbered kb) (take (end - from) (drop from (words_at osb b))))
+  same_window from end = same_refs (map (numbered_word ka) (take (end - from) (drop from (words_at osa a)))) (map (numbered_word kb) (take (end - from) (drop from (words_at osb b))))
 
   window_step : (i end : ℕ) → i < end → end ≤ slot_count_of osa a → end ≤ slot_count_of osb b
-      → same_window i end ≡ (same_ref (numbered ka (slot_of osa a i)) (numbered kb (slot_of osb b i)) && same_window (i + 1) end)
+      → same_window i end ≡ (same_ref (numbered_word ka (slot_of osa a i)) (numbered_word kb (slot_of osb b i)) && same_window (i + 1) end)
   window_step i end less p q =
-      ap₂ (λ (xs ys : List ℕ). same_refs (map (numbered ka) xs) (map (numbered kb) ys))
+      ap₂ (λ (xs ys : List ℕ). same_refs (map (numbered_word ka) xs) (map (numbered_word kb) ys))
       (window_more (words_at osa a) i end 0 less (omega (arith, p, length-words_at osa a)))
       (window_more (words_at osb b) i end 0 less (omega (arith, q, length-words_at osb b)))
-      ∙ ap₂ (λ (x y : ℕ). same_ref (numbered ka x) (numbered kb y) && same_window (i + 1) end) (word_is osa a i) (word_is osb b i)
+      ∙ ap₂ (λ (x y : ℕ). same_ref (numbered_word ka x) (numbered_word kb y) && same_window (i + 1) end) (word_is osa a i) (word_is osb b i)
 
   pub slots_more : (i end : ℕ) (r : Bool) → i < end → end ≤ slot_count_of osa a → end ≤ slot_count_of osb b
-      → r ≡ same_ref (numbered ka (slot_of osa a i)) (numbered kb (slot_of osb b i)) → r ≡ true → same_window (i + 1) end ≡ same_window i end
+      → r ≡ same_ref (numbered_word ka (slot_of osa a i)) (numbered_word kb (slot_of osb b i)) → r ≡ true → same_window (i + 1) end ≡ same_window i end
   slots_more i end r less p q e t = sym (window_step i end less p q ∙ ap (λ (x : Bool). x && same_window (i + 1) end) (sym e ∙ t))
 
   pub slots_stop : (i end : ℕ) (r : Bool) → i < end → end ≤ slot_count_of osa a → end ≤ slot_count_of osb b
-      → r ≡ same_ref (numbered ka (slot_of osa a i)) (numbered kb (slot_of osb b i)) → r ≡ false → false ≡ same_window i end
+      → r ≡ same_ref (numbered_word ka (slot_of osa a i)) (numbered_word kb (slot_of osb b i)) → r ≡ false → false ≡ same_window i end
   slots_stop i end r less p q e t = sym (window_step i end less p q ∙ ap (λ (x : Bool). x && same_window (i + 1) end) (sym e ∙ t))
 
   pub slots_end : (i end : ℕ) → end ≤ i → true ≡ same_window i end
-  slots_end i end past = sym (ap₂ (λ (xs ys : List ℕ). same_refs (map (numbered ka) xs) (map (numbered kb) ys)) (window_none (words_at osa a) i end past) (window_none (words_at osb b) i end past))
+  slots_end i end past = sym (ap₂ (λ (xs ys : List ℕ). same_refs (map (numbered_word ka) xs) (map (numbered_word kb) ys)) (window_none (words_at osa a) i end past) (window_none (words_at osb b) i end past))
 
   -- all slots
-  pub slots_whole : (n : ℕ) → n ≡ slot_count_of osa a → n ≡ slot_count_of osb b → same_window 0 n ≡ same_refs (map (numbered ka) (words_at osa a)) (map (numbered kb) (words_at osb b))
+  pub slots_whole : (n : ℕ) → n ≡ slot_count_of osa a → n ≡ slot_count_of osb b → same_window 0 n ≡ same_refs (map (numbered_word ka) (words_at osa a)) (map (numbered_word kb) (words_at osb b))
   slots_whole n p q =
-      ap₂ (λ (xs ys : List ℕ). same_refs (map (numbered ka) xs) (map (numbered kb) ys))
+      ap₂ (λ (xs ys : List ℕ). same_refs (map (numbered_word ka) xs) (map (numbered_word kb) ys))
       (take_all (n - 0) (words_at osa a) (omega (arith, p, length-words_at osa a))) (take_all (n - 0) (words_at osb b) (omega (arith, q, length-words_at osb b)))
 
-  pub slots_other : (n m : ℕ) → n ≡ slot_count_of osa a → m ≡ slot_count_of osb b → (n ≡ m → ⊥) → false ≡ same_refs (map (numbered ka) (words_at osa a)) (map (numbered kb) (words_at osb b))
+  pub slots_other : (n m : ℕ) → n ≡ slot_count_of osa a → m ≡ slot_count_of osb b → (n ≡ m → ⊥) → false ≡ same_refs (map (numbered_word ka) (words_at osa a)) (map (numbered_word kb) (words_at osb b))
   slots_other n m p q ne =
-      other_lengths same_ref (map (numbered ka) (words_at osa a)) (map (numbered kb) (words_at osb b))
-      (λ e. ne (omega (arith, p, q, e, length-map (words_at osa a) (numbered ka), length-map (words_at osb b) (numbered kb), length-words_at osa a, length-words_at osb b)))
+      other_lengths same_ref (map (numbered_word ka) (words_at osa a)) (map (numbered_word kb) (words_at osb b))
+      (λ e. ne (omega (arith, p, q, e, length-map (words_at osa a) (numbered_word ka), length-map (words_at osb b) (numbered_word kb), length-words_at osa a, length-words_at osb b)))
 
 -- ---- bytes
 
@@ -145,9 +145,9 @@ literals_window : (ws : List ℕ) (k : ℕ) → k ≡ 1 + literal_count (method_
 literals_window ws k e = ap (λ (n : ℕ). take n (drop 1 ws)) (omega (arith, e))
 
 pub literals_same : (ka : List ℕ) (osa : List Object) (a : ℕ) (kb : List ℕ) (osb : List Object) (b k : ℕ) → k ≡ 1 + literal_count (method_header (words_at osa a)) → method_header (words_at osa a) ≡ method_header (words_at osb b)
-    → same_window ka osa a kb osb b 1 k ≡ same_refs (map (numbered ka) (literal_words (words_at osa a))) (map (numbered kb) (literal_words (words_at osb b)))
+    → same_window ka osa a kb osb b 1 k ≡ same_refs (map (numbered_word ka) (literal_words (words_at osa a))) (map (numbered_word kb) (literal_words (words_at osb b)))
 literals_same ka osa a kb osb b k e h =
-    ap₂ (λ (xs ys : List ℕ). same_refs (map (numbered ka) xs) (map (numbered kb) ys)) (literals_window (words_at osa a) k e) (literals_window (words_at osb b) k (e ∙ ap (λ (n : ℕ). 1 + literal_count n) h))
+    ap₂ (λ (xs ys : List ℕ). same_refs (map (numbered_word ka) xs) (map (numbered_word kb) ys)) (literals_window (words_at osa a) k e) (literals_window (words_at osb b) k (e ∙ ap (λ (n : ℕ). 1 + literal_count n) h))
 
 code_window : (os : List Object) (a k end : ℕ) → k ≡ 1 + literal_count (method_header (words_at os a)) → end ≡ 4 * slot_count_of os a - unused_bytes (format_at os a)
     → take (end - 4 * k) (drop (4 * k) (bytes_of_words (words_at os a))) ≡ used_bytes (format_at os a) (code_in (words_at os a))
@@ -183,18 +183,18 @@ length-stack : (os : List Object) (a : ℕ) → 6 + depth_in (words_at os a) ≤
 length-stack os a h = omega (arith, h, length-take (depth_in (words_at os a)) (drop 6 (words_at os a)), length-drop 6 (words_at os a), length-words_at os a)
 
 pub stacks_same : (ka : List ℕ) (osa : List Object) (a : ℕ) (kb : List ℕ) (osb : List Object) (b m n : ℕ) → m ≡ depth_in (words_at osa a) → n ≡ depth_in (words_at osb b) → m ≡ n
-    → same_window ka osa a kb osb b 6 (6 + m) ≡ same_refs (map (numbered ka) (take (depth_in (words_at osa a)) (drop 6 (words_at osa a)))) (map (numbered kb) (take (depth_in (words_at osb b)) (drop 6 (words_at osb b))))
+    → same_window ka osa a kb osb b 6 (6 + m) ≡ same_refs (map (numbered_word ka) (take (depth_in (words_at osa a)) (drop 6 (words_at osa a)))) (map (numbered_word kb) (take (depth_in (words_at osb b)) (drop 6 (words_at osb b))))
 stacks_same ka osa a kb osb b m n e f s =
     let one : 6 + m - 6 ≡ depth_in (words_at osa a) = omega (arith, e) in
     let two : 6 + m - 6 ≡ depth_in (words_at osb b) = omega (arith, f, s) in
-    ap₂ (λ (i j : ℕ). same_refs (map (numbered ka) (take i (drop 6 (words_at osa a)))) (map (numbered kb) (take j (drop 6 (words_at osb b))))) one two
+    ap₂ (λ (i j : ℕ). same_refs (map (numbered_word ka) (take i (drop 6 (words_at osa a)))) (map (numbered_word kb) (take j (drop 6 (words_at osb b))))) one two
 
 pub stacks_other : (ka : List ℕ) (osa : List Object) (a : ℕ) (kb : List ℕ) (osb : List Object) (b m n : ℕ) → 6 + depth_in (words_at osa a) ≤ slot_count_of osa a → 6 + depth_in (words_at osb b) ≤ slot_count_of osb b
     → m ≡ depth_in (words_at osa a) → n ≡ depth_in (words_at osb b) → (m ≡ n → ⊥)
-    → false ≡ same_refs (map (numbered ka) (take (depth_in (words_at osa a)) (drop 6 (words_at osa a)))) (map (numbered kb) (take (depth_in (words_at osb b)) (drop 6 (words_at osb b))))
+    → false ≡ same_refs (map (numbered_word ka) (take (depth_in (words_at osa a)) (drop 6 (words_at osa a)))) (map (numbered_word kb) (take (depth_in (words_at osb b)) (drop 6 (words_at osb b))))
 stacks_other ka osa a kb osb b m n h i e f ne =
-    other_lengths same_ref (map (numbered ka) (take (depth_in (words_at osa a)) (drop 6 (words_at osa a)))) (map (numbered kb) (take (depth_in (words_at osb b)) (drop 6 (words_at osb b))))
-    (λ s. ne (omega (arith, s, e, f, length-map (take (depth_in (words_at osa a)) (drop 6 (words_at osa a))) (numbered ka), length-map (take (depth_in (words_at osb b)) (drop 6 (words_at osb b))) (numbered kb), length-stack osa a h, length-stack osb b i)))
+    other_lengths same_ref (map (numbered_word ka) (take (depth_in (words_at osa a)) (drop 6 (words_at osa a)))) (map (numbered_word kb) (take (depth_in (words_at osb b)) (drop 6 (words_at osb b))))
+    (λ s. ne (omega (arith, s, e, f, length-map (take (depth_in (words_at osa a)) (drop 6 (words_at osa a))) (numbered_word ka), length-map (take (depth_in (words_at osb b)) (drop 6 (words_at osb b))) (numbered_word kb), length-stack osa a h, length-stack osb b i)))
 
 -- ---- places
 

@@ -20,7 +20,7 @@ use Rattle.cs_classes.proofs.Sorts.{obj_of-bytes, obj_of-context, obj_of-method,
 use Rattle.cs_classes.proofs.Sounds.{whole_context}
 use Rattle.cs_inspect.specs.declared.comparison.Sort.{Sort}
 use Rattle.cs_inspect.specs.declared.comparison.Sort.TheVariants.{Context, Pointers, Raw, Method}
-use Rattle.cs_inspect.specs.Comparing.{address_number, class_numbers, difference_from, numbered, numbered_object, numbered_objects, same_class_numbers, same_contexts_of, same_entry, same_found, same_methods_of, same_objects_of, same_pointers_of, same_raw_of, sort_at}
+use Rattle.cs_inspect.specs.Comparing.{address_number, class_numbers, difference_from, numbered_word, numbered_object, numbered_objects, same_class_numbers, same_contexts_of, same_entry, same_found, same_methods_of, same_objects_of, same_pointers_of, same_raw_of, sort_at}
 use Rattle.cs_inspect.proofs.Comparisons.{false_of}
 use Rattle.cs_inspect.proofs.Reaching.{head_of_all, tail_of_all}
 use Rattle.cs_inspect.proofs.Reading.{There, there}
@@ -57,8 +57,8 @@ is_raw_by false false false h = (refl, refl, refl)
 sort_there : (os : List Object) (a : ℕ) (t : There os a) → sort_at os a ≡ sort_by (is_heap_context t.x) (is_pointers t.x.format) (is_code t.x.format)
 sort_there os a t = ap₂ (λ (n f : ℕ). sort_by (n == 36) (is_pointers f) (is_code f)) t.class t.format
 
-numbered_there : (k : List ℕ) (os : List Object) (a : ℕ) (t : There os a) → numbered_object k os a ≡ Some (obj_of (numbered k) t.x)
-numbered_there k os a t = ap (option_map (obj_of (numbered k))) t.at
+numbered_there : (k : List ℕ) (os : List Object) (a : ℕ) (t : There os a) → numbered_object k os a ≡ Some (obj_of (numbered_word k) t.x)
+numbered_there k os a t = ap (option_map (obj_of (numbered_word k))) t.at
 
 -- ---- contexts
 
@@ -81,24 +81,24 @@ sizes m n h i = go (m == n) refl
 
 context_tests : (ka kb : List ℕ) (x y : Object) → 6 ≤ length x.words → 6 ≤ length y.words
     → (x.hash == y.hash && length x.words == length y.words
-    && (same_ref (numbered ka (slice_index x.words 0)) (numbered kb (slice_index y.words 0)) && same_pc (natural_of_word (slice_index x.words 1)) (natural_of_word (slice_index y.words 1)))
-    && (same_ref (numbered ka (slice_index x.words 3)) (numbered kb (slice_index y.words 3)) && same_ref (numbered ka (slice_index x.words 4)) (numbered kb (slice_index y.words 4)) && same_ref (numbered ka (slice_index x.words 5)) (numbered kb (slice_index y.words 5)))
-    && same_refs (map (numbered ka) (take (depth_in x.words) (drop 6 x.words))) (map (numbered kb) (take (depth_in y.words) (drop 6 y.words))))
-    ≡ same_context (context_of (numbered ka) x.hash x.words) (context_of (numbered kb) y.hash y.words)
+    && (same_ref (numbered_word ka (slice_index x.words 0)) (numbered_word kb (slice_index y.words 0)) && same_pc (natural_of_word (slice_index x.words 1)) (natural_of_word (slice_index y.words 1)))
+    && (same_ref (numbered_word ka (slice_index x.words 3)) (numbered_word kb (slice_index y.words 3)) && same_ref (numbered_word ka (slice_index x.words 4)) (numbered_word kb (slice_index y.words 4)) && same_ref (numbered_word ka (slice_index x.words 5)) (numbered_word kb (slice_index y.words 5)))
+    && same_refs (map (numbered_word ka) (take (depth_in x.words) (drop 6 x.words))) (map (numbered_word kb) (take (depth_in y.words) (drop 6 y.words))))
+    ≡ same_context (context_of (numbered_word ka) x.hash x.words) (context_of (numbered_word kb) y.hash y.words)
 unfolding context_of
 context_tests ka kb x y h i =
     regroup (x.hash == y.hash) (length x.words == length y.words)
-    (same_ref (numbered ka (slice_index x.words 0)) (numbered kb (slice_index y.words 0))) (same_pc (natural_of_word (slice_index x.words 1)) (natural_of_word (slice_index y.words 1)))
-    (same_ref (numbered ka (slice_index x.words 3)) (numbered kb (slice_index y.words 3))) (same_ref (numbered ka (slice_index x.words 4)) (numbered kb (slice_index y.words 4))) (same_ref (numbered ka (slice_index x.words 5)) (numbered kb (slice_index y.words 5)))
-    (same_refs (map (numbered ka) (take (depth_in x.words) (drop 6 x.words))) (map (numbered kb) (take (depth_in y.words) (drop 6 y.words))))
-    ∙ ap (λ (s : Bool). x.hash == y.hash && s && same_ref (numbered ka (slice_index x.words 0)) (numbered kb (slice_index y.words 0)) && same_pc (natural_of_word (slice_index x.words 1)) (natural_of_word (slice_index y.words 1))
-    && same_ref (numbered ka (slice_index x.words 3)) (numbered kb (slice_index y.words 3)) && same_ref (numbered ka (slice_index x.words 4)) (numbered kb (slice_index y.words 4)) && same_ref (numbered ka (slice_index x.words 5)) (numbered kb (slice_index y.words 5))
-    && same_refs (map (numbered ka) (take (depth_in x.words) (drop 6 x.words))) (map (numbered kb) (take (depth_in y.words) (drop 6 y.words)))) (sizes (length x.words) (length y.words) h i)
+    (same_ref (numbered_word ka (slice_index x.words 0)) (numbered_word kb (slice_index y.words 0))) (same_pc (natural_of_word (slice_index x.words 1)) (natural_of_word (slice_index y.words 1)))
+    (same_ref (numbered_word ka (slice_index x.words 3)) (numbered_word kb (slice_index y.words 3))) (same_ref (numbered_word ka (slice_index x.words 4)) (numbered_word kb (slice_index y.words 4))) (same_ref (numbered_word ka (slice_index x.words 5)) (numbered_word kb (slice_index y.words 5)))
+    (same_refs (map (numbered_word ka) (take (depth_in x.words) (drop 6 x.words))) (map (numbered_word kb) (take (depth_in y.words) (drop 6 y.words))))
+    ∙ ap (λ (s : Bool). x.hash == y.hash && s && same_ref (numbered_word ka (slice_index x.words 0)) (numbered_word kb (slice_index y.words 0)) && same_pc (natural_of_word (slice_index x.words 1)) (natural_of_word (slice_index y.words 1))
+    && same_ref (numbered_word ka (slice_index x.words 3)) (numbered_word kb (slice_index y.words 3)) && same_ref (numbered_word ka (slice_index x.words 4)) (numbered_word kb (slice_index y.words 4)) && same_ref (numbered_word ka (slice_index x.words 5)) (numbered_word kb (slice_index y.words 5))
+    && same_refs (map (numbered_word ka) (take (depth_in x.words) (drop 6 x.words))) (map (numbered_word kb) (take (depth_in y.words) (drop 6 y.words)))) (sizes (length x.words) (length y.words) h i)
 
 -- ---- two objects
 
 module _ (ka : List ℕ) (osa : List Object) (a : ℕ) (kb : List ℕ) (osb : List Object) (b : ℕ) (sa : AreSoundObjects osa) (sb : AreSoundObjects osb) (ha : is_object osa a ≡ true) (hb : is_object osb b ≡ true) where
-  found : (x y : Obj) → (t : There osa a) → (u : There osb b) → obj_of (numbered ka) t.x ≡ x → obj_of (numbered kb) u.x ≡ y → same_object x y ≡ same_objects_of ka osa a kb osb b
+  found : (x y : Obj) → (t : There osa a) → (u : There osb b) → obj_of (numbered_word ka) t.x ≡ x → obj_of (numbered_word kb) u.x ≡ y → same_object x y ≡ same_objects_of ka osa a kb osb b
   found x y t u e f = sym (ap₂ same_found (numbered_there ka osa a t ∙ ap Some e) (numbered_there kb osb b u ∙ ap Some f))
 
   pub contexts_found : sort_at osa a ≡ Context → sort_at osb b ≡ Context → same_contexts_of ka osa a kb osb b ≡ same_objects_of ka osa a kb osb b
@@ -107,9 +107,9 @@ module _ (ka : List ℕ) (osa : List Object) (a : ℕ) (kb : List ℕ) (osb : Li
       let u = there osb b sb hb in
       let p : is_heap_context t.x ≡ true = is_context_by (is_heap_context t.x) (is_pointers t.x.format) (is_code t.x.format) (sym (sort_there osa a t) ∙ e) in
       let q : is_heap_context u.x ≡ true = is_context_by (is_heap_context u.x) (is_pointers u.x.format) (is_code u.x.format) (sym (sort_there osb b u) ∙ f) in
-      let first : same_contexts_of ka osa a kb osb b ≡ same_context (context_of (numbered ka) t.x.hash t.x.words) (context_of (numbered kb) u.x.hash u.x.words) =
+      let first : same_contexts_of ka osa a kb osb b ≡ same_context (context_of (numbered_word ka) t.x.hash t.x.words) (context_of (numbered_word kb) u.x.hash u.x.words) =
       rw (t.at, u.at) (context_tests ka kb t.x u.x (whole_context osa t.x t.sound p).fields (whole_context osb u.x u.sound q).fields) in
-      first ∙ found _ _ t u (obj_of-context (numbered ka) t.x p) (obj_of-context (numbered kb) u.x q)
+      first ∙ found _ _ t u (obj_of-context (numbered_word ka) t.x p) (obj_of-context (numbered_word kb) u.x q)
 
   pub pointers_found : sort_at osa a ≡ Pointers → sort_at osb b ≡ Pointers → same_pointers_of ka osa a kb osb b ≡ same_objects_of ka osa a kb osb b
   pointers_found e f =
@@ -117,8 +117,8 @@ module _ (ka : List ℕ) (osa : List Object) (a : ℕ) (kb : List ℕ) (osb : Li
       let u = there osb b sb hb in
       let p = is_pointers_by (is_heap_context t.x) (is_pointers t.x.format) (is_code t.x.format) (sym (sort_there osa a t) ∙ e) in
       let q = is_pointers_by (is_heap_context u.x) (is_pointers u.x.format) (is_code u.x.format) (sym (sort_there osb b u) ∙ f) in
-      let x = obj_of-pointers (numbered ka) t.x p.0 p.1 in
-      let y = obj_of-pointers (numbered kb) u.x q.0 q.1 in
+      let x = obj_of-pointers (numbered_word ka) t.x p.0 p.1 in
+      let y = obj_of-pointers (numbered_word kb) u.x q.0 q.1 in
       rw (t.at, u.at) (ap₂ same_object (sym x) (sym y))
 
   pub raw_found : sort_at osa a ≡ Raw → sort_at osb b ≡ Raw → same_raw_of ka osa a kb osb b ≡ same_objects_of ka osa a kb osb b
@@ -127,8 +127,8 @@ module _ (ka : List ℕ) (osa : List Object) (a : ℕ) (kb : List ℕ) (osb : Li
       let u = there osb b sb hb in
       let p = is_raw_by (is_heap_context t.x) (is_pointers t.x.format) (is_code t.x.format) (sym (sort_there osa a t) ∙ e) in
       let q = is_raw_by (is_heap_context u.x) (is_pointers u.x.format) (is_code u.x.format) (sym (sort_there osb b u) ∙ f) in
-      let x = obj_of-bytes (numbered ka) t.x p.0 p.1 p.2 in
-      let y = obj_of-bytes (numbered kb) u.x q.0 q.1 q.2 in
+      let x = obj_of-bytes (numbered_word ka) t.x p.0 p.1 p.2 in
+      let y = obj_of-bytes (numbered_word kb) u.x q.0 q.1 q.2 in
       rw (t.at, u.at) (ap₂ same_object (sym x) (sym y))
 
   pub methods_found : sort_at osa a ≡ Method → sort_at osb b ≡ Method → same_methods_of ka osa a kb osb b ≡ same_objects_of ka osa a kb osb b
@@ -137,8 +137,8 @@ module _ (ka : List ℕ) (osa : List Object) (a : ℕ) (kb : List ℕ) (osb : Li
       let u = there osb b sb hb in
       let p = is_method_by (is_heap_context t.x) (is_pointers t.x.format) (is_code t.x.format) (sym (sort_there osa a t) ∙ e) in
       let q = is_method_by (is_heap_context u.x) (is_pointers u.x.format) (is_code u.x.format) (sym (sort_there osb b u) ∙ f) in
-      let x = obj_of-method (numbered ka) t.x p.0 p.1 p.2 in
-      let y = obj_of-method (numbered kb) u.x q.0 q.1 q.2 in
+      let x = obj_of-method (numbered_word ka) t.x p.0 p.1 p.2 in
+      let y = obj_of-method (numbered_word kb) u.x q.0 q.1 q.2 in
       rw (t.at, u.at) (ap₂ same_object (sym x) (sym y))
 
   -- objects of two kinds differ
@@ -152,20 +152,20 @@ module _ (ka : List ℕ) (osa : List Object) (a : ℕ) (kb : List ℕ) (osb : Li
       go : (t : There osa a) (u : There osb b) (b1 c1 d1 b2 c2 d2 : Bool) → is_heap_context t.x ≡ b1 → is_pointers t.x.format ≡ c1 → is_code t.x.format ≡ d1 → is_heap_context u.x ≡ b2 → is_pointers u.x.format ≡ c2 → is_code u.x.format ≡ d2
           → (sort_by (is_heap_context t.x) (is_pointers t.x.format) (is_code t.x.format) ≡ sort_by (is_heap_context u.x) (is_pointers u.x.format) (is_code u.x.format) → ⊥) → false ≡ same_objects_of ka osa a kb osb b
       go t u true c1 d1 true c2 d2 e1 e2 e3 e4 e5 e6 ne = absurd (ne (rw (e1, e4) refl))
-      go t u true c1 d1 false true d2 e1 e2 e3 e4 e5 e6 ne = found _ _ t u (obj_of-context (numbered ka) t.x e1) (obj_of-pointers (numbered kb) u.x e4 e5)
-      go t u true c1 d1 false false true e1 e2 e3 e4 e5 e6 ne = found _ _ t u (obj_of-context (numbered ka) t.x e1) (obj_of-method (numbered kb) u.x e4 e5 e6)
-      go t u true c1 d1 false false false e1 e2 e3 e4 e5 e6 ne = found _ _ t u (obj_of-context (numbered ka) t.x e1) (obj_of-bytes (numbered kb) u.x e4 e5 e6)
-      go t u false true d1 true c2 d2 e1 e2 e3 e4 e5 e6 ne = found _ _ t u (obj_of-pointers (numbered ka) t.x e1 e2) (obj_of-context (numbered kb) u.x e4)
+      go t u true c1 d1 false true d2 e1 e2 e3 e4 e5 e6 ne = found _ _ t u (obj_of-context (numbered_word ka) t.x e1) (obj_of-pointers (numbered_word kb) u.x e4 e5)
+      go t u true c1 d1 false false true e1 e2 e3 e4 e5 e6 ne = found _ _ t u (obj_of-context (numbered_word ka) t.x e1) (obj_of-method (numbered_word kb) u.x e4 e5 e6)
+      go t u true c1 d1 false false false e1 e2 e3 e4 e5 e6 ne = found _ _ t u (obj_of-context (numbered_word ka) t.x e1) (obj_of-bytes (numbered_word kb) u.x e4 e5 e6)
+      go t u false true d1 true c2 d2 e1 e2 e3 e4 e5 e6 ne = found _ _ t u (obj_of-pointers (numbered_word ka) t.x e1 e2) (obj_of-context (numbered_word kb) u.x e4)
       go t u false true d1 false true d2 e1 e2 e3 e4 e5 e6 ne = absurd (ne (rw (e1, e2, e4, e5) refl))
-      go t u false true d1 false false true e1 e2 e3 e4 e5 e6 ne = found _ _ t u (obj_of-pointers (numbered ka) t.x e1 e2) (obj_of-method (numbered kb) u.x e4 e5 e6)
-      go t u false true d1 false false false e1 e2 e3 e4 e5 e6 ne = found _ _ t u (obj_of-pointers (numbered ka) t.x e1 e2) (obj_of-bytes (numbered kb) u.x e4 e5 e6)
-      go t u false false true true c2 d2 e1 e2 e3 e4 e5 e6 ne = found _ _ t u (obj_of-method (numbered ka) t.x e1 e2 e3) (obj_of-context (numbered kb) u.x e4)
-      go t u false false true false true d2 e1 e2 e3 e4 e5 e6 ne = found _ _ t u (obj_of-method (numbered ka) t.x e1 e2 e3) (obj_of-pointers (numbered kb) u.x e4 e5)
+      go t u false true d1 false false true e1 e2 e3 e4 e5 e6 ne = found _ _ t u (obj_of-pointers (numbered_word ka) t.x e1 e2) (obj_of-method (numbered_word kb) u.x e4 e5 e6)
+      go t u false true d1 false false false e1 e2 e3 e4 e5 e6 ne = found _ _ t u (obj_of-pointers (numbered_word ka) t.x e1 e2) (obj_of-bytes (numbered_word kb) u.x e4 e5 e6)
+      go t u false false true true c2 d2 e1 e2 e3 e4 e5 e6 ne = found _ _ t u (obj_of-method (numbered_word ka) t.x e1 e2 e3) (obj_of-context (numbered_word kb) u.x e4)
+      go t u false false true false true d2 e1 e2 e3 e4 e5 e6 ne = found _ _ t u (obj_of-method (numbered_word ka) t.x e1 e2 e3) (obj_of-pointers (numbered_word kb) u.x e4 e5)
       go t u false false true false false true e1 e2 e3 e4 e5 e6 ne = absurd (ne (rw (e1, e2, e3, e4, e5, e6) refl))
-      go t u false false true false false false e1 e2 e3 e4 e5 e6 ne = found _ _ t u (obj_of-method (numbered ka) t.x e1 e2 e3) (obj_of-bytes (numbered kb) u.x e4 e5 e6)
-      go t u false false false true c2 d2 e1 e2 e3 e4 e5 e6 ne = found _ _ t u (obj_of-bytes (numbered ka) t.x e1 e2 e3) (obj_of-context (numbered kb) u.x e4)
-      go t u false false false false true d2 e1 e2 e3 e4 e5 e6 ne = found _ _ t u (obj_of-bytes (numbered ka) t.x e1 e2 e3) (obj_of-pointers (numbered kb) u.x e4 e5)
-      go t u false false false false false true e1 e2 e3 e4 e5 e6 ne = found _ _ t u (obj_of-bytes (numbered ka) t.x e1 e2 e3) (obj_of-method (numbered kb) u.x e4 e5 e6)
+      go t u false false true false false false e1 e2 e3 e4 e5 e6 ne = found _ _ t u (obj_of-method (numbered_word ka) t.x e1 e2 e3) (obj_of-bytes (numbered_word kb) u.x e4 e5 e6)
+      go t u false false false true c2 d2 e1 e2 e3 e4 e5 e6 ne = found _ _ t u (obj_of-bytes (numbered_word ka) t.x e1 e2 e3) (obj_of-context (numbered_word kb) u.x e4)
+      go t u false false false false true d2 e1 e2 e3 e4 e5 e6 ne = found _ _ t u (obj_of-bytes (numbered_word ka) t.x e1 e2 e3) (obj_of-pointers (numbered_word kb) u.x e4 e5)
+      go t u false false false false false true e1 e2 e3 e4 e5 e6 ne = found _ _ t u (obj_of-bytes (numbered_word ka) t.x e1 e2 e3) (obj_of-method (numbered_word kb) u.x e4 e5 e6)
       go t u false false false false false false e1 e2 e3 e4 e5 e6 ne = absurd (ne (rw (e1, e2, e3, e4, e5, e6) refl))
 
 -- ---- all objects

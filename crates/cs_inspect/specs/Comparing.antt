@@ -22,12 +22,12 @@ use Rattle.cs_inspect.specs.Reading.{head_at}
 use Rattle.cs_inspect.specs.declared.comparison.Sort.TheVariants.{Context, Pointers, Raw, Method}
 
 -- the number of a place, counted from 1, and 0 where there is none
-abbrev pub number_of : Option ℕ → ℕ
-number_of place = option_map_or (λ p. p + 1) place 0
+abbrev pub place_number : Option ℕ → ℕ
+place_number place = option_map_or (λ p. p + 1) place 0
 
 -- the number of an address among the numbered ones
 abbrev pub address_number : List ℕ → ℕ → ℕ
-address_number addresses address = number_of (position (nat_eq address) addresses)
+address_number addresses address = place_number (position (nat_eq address) addresses)
 
 abbrev pub numbered_kind : List ℕ → Kind → Ref
 numbered_kind addresses (kind.Small value) = ref.Small value
@@ -36,13 +36,13 @@ numbered_kind addresses (kind.Object address) = ref.Obj (address_number addresse
 numbered_kind addresses (kind.Link word) = ref.Small (pos 0)
 
 -- what a word refers to, where objects are named by their numbers
-unfoldable pub numbered : List ℕ → ℕ → Ref
-numbered addresses word = numbered_kind addresses (kind_of word)
+unfoldable pub numbered_word : List ℕ → ℕ → Ref
+numbered_word addresses word = numbered_kind addresses (kind_of word)
 
 abbrev pub ref_said : Reference → Ref
 ref_said (said.Small value) = ref.Small value
 ref_said (said.Character code) = ref.Char code
-ref_said (said.Object place) = ref.Obj (number_of place)
+ref_said (said.Object place) = ref.Obj (place_number place)
 
 -- the kind of an object
 abbrev pub sort_at : List Object → ℕ → Sort
@@ -53,7 +53,7 @@ sort_at objects a =
 
 -- the object at an address, where objects are named by their numbers
 abbrev pub numbered_object : List ℕ → List Object → ℕ → Option Obj
-numbered_object addresses objects a = option_map (obj_of (numbered addresses)) (heap_object objects a)
+numbered_object addresses objects a = option_map (obj_of (numbered_word addresses)) (heap_object objects a)
 
 abbrev pub same_found : Option Obj → Option Obj → Bool
 same_found None y = false
@@ -91,11 +91,11 @@ place_told (Differ place) = Some place
 
 module _ (ka : List ℕ) (osa : List Object) (a : ℕ) (kb : List ℕ) (osb : List Object) (b : ℕ) where
   abbrev pub same_slot_of : ℕ → Bool
-  same_slot_of i = same_ref (numbered ka (slot_of osa a i)) (numbered kb (slot_of osb b i))
+  same_slot_of i = same_ref (numbered_word ka (slot_of osa a i)) (numbered_word kb (slot_of osb b i))
 
   -- what these words of the two refer to
   abbrev pub same_words_of : List ℕ → List ℕ → Bool
-  same_words_of us vs = same_refs (map (numbered ka) us) (map (numbered kb) vs)
+  same_words_of us vs = same_refs (map (numbered_word ka) us) (map (numbered_word kb) vs)
 
   abbrev pub same_pointers_of : Bool
   same_pointers_of = same_head (head_at osa a) (head_at osb b) && same_words_of (words_at osa a) (words_at osb b)

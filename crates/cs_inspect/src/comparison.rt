@@ -13,7 +13,8 @@ ghost use Rattle.cs_model.specs.Obj.{literal_count};
 ghost use Rattle.cs_classes.specs.Meaning.{code_in, depth_in, method_header};
 ghost use Rattle.cs_classes.specs.Meaning.{used_bytes};
 ghost use Rattle.cs_classes.specs.Sound.{AreSoundObjects, IsWhole};
-ghost use Rattle.cs_inspect.specs.Comparing.{address_number, class_numbers, difference_from, number_of, numbered};
+ghost use Rattle.cs_inspect.specs.Comparing.{address_number, class_numbers, difference_from, numbered_word};
+ghost use Rattle.cs_inspect.specs.Comparing.{place_number};
 ghost use Rattle.cs_inspect.specs.Comparing.{numbered_objects, ref_said, same_activations_of, same_class_numbers};
 ghost use Rattle.cs_inspect.specs.Comparing.{same_contexts_of, same_entry, same_literals_of, same_methods_of};
 ghost use Rattle.cs_inspect.specs.Comparing.{same_objects_of, same_places_of, same_pointers_of, same_slot_of};
@@ -67,7 +68,7 @@ enum Sort {
 
 /// What a word refers to.
 fn reference_of(addresses: &IndexSet<u32>, word: Oop) -> Reference
-    ensures { ref_said result ≡ numbered addresses.now.keys word.0 }
+    ensures { ref_said result ≡ numbered_word addresses.now.keys word.0 }
 {
     match word.kind() {
         Kind::Small(value) => Reference::Small(value),
@@ -469,7 +470,7 @@ fn first_difference(a: &Numbered, b: &Numbered) -> Option<usize>
 
 /// Whether two places in the orders of two images are the same, or there are none.
 fn same_numbers_of(place: Option<usize>, other: Option<usize>) -> bool
-    ensures { result ≡ (number_of place == number_of other) }
+    ensures { result ≡ (place_number place == place_number other) }
 {
     match place {
         Some(index) => match other {
