@@ -1,5 +1,6 @@
 pub mod NumberLemmas
 pub mod LineLemmas
+pub mod LineReading
 pub mod RangeLemmas
 pub mod Putting
 pub mod Filing
@@ -7,7 +8,13 @@ pub mod Fitting
 pub mod Reading
 pub mod Naming
 pub mod Storing
+pub mod TableLemmas
+pub mod TextLemmas
 pub mod Describing
 pub mod OpLemmas
 pub mod OuterLemmas
+pub mod CodeLemmas
 pub mod HexLemmas
+pub mod InnerLemmas
+pub mod Judging
+pub mod Narrowing
