@@ -20,9 +20,9 @@ use Rattle.cs_build.specs.declared.lines.Line.{Line}
 use Rattle.cs_build.specs.declared.tables.Named.{Named}
 use Rattle.cs_build.specs.declared.tables.Named.TheVariants as named
 use Rattle.cs_build.specs.declared.tables.Tables.{Tables}
-use Rattle.cs_build.specs.Lines.{Judges, TellsFault, forms_by, line_by, lines_by}
+use Rattle.cs_build.specs.Lines.{Judges, TellsFault, forms_by, numbered_by, lines_by}
 use Rattle.cs_build.specs.Meaning.{class_by, form_by}
-use Rattle.cs_build.specs.Tabled.{AreNames, AreTables, class_in_entry, entry_at, is_misfit, is_process_entry}
+use Rattle.cs_build.specs.Tabled.{AreNames, AreTables, class_in_entry, entry_named, is_misfit, is_process_entry}
 
 -- Of lines so many are judged, and the tables are theirs.
 pub record AreJudged (lines : List Line) (i : ℕ) (tables : Tables) : Type 0 where
@@ -31,9 +31,9 @@ pub record AreJudged (lines : List Line) (i : ℕ) (tables : Tables) : Type 0 wh
 
 -- A table has these classes and nothing else. Of two with one name the first counts.
 pub record HasClasses {S : Type 0} (names : IndexMap (Bor (List ℕ)) Named S) (classes : List ClassLine) : Type 0 where
-  pub taken : (q : List ℕ) → is_some (entry_at names q) ≡ list_any (λ c. bytes_eq c.name q) (map class_by classes)
-  pub found : (q : List ℕ) → option_and_then class_in_entry (entry_at names q) ≡ find (λ c. bytes_eq c.name q) (map class_by classes)
-  pub process : (q : List ℕ) → option_map_or is_process_entry (entry_at names q) false ≡ false
+  pub taken : (q : List ℕ) → is_some (entry_named names q) ≡ list_any (λ c. bytes_eq c.name q) (map class_by classes)
+  pub found : (q : List ℕ) → option_and_then class_in_entry (entry_named names q) ≡ find (λ c. bytes_eq c.name q) (map class_by classes)
+  pub process : (q : List ℕ) → option_map_or is_process_entry (entry_named names q) false ≡ false
 
 -- ---- lines one after another
 
@@ -107,9 +107,9 @@ known-find : (forms : List Form) (line : Line) (lines : List Line) (b : Bool)
     → list_all (is_known forms) (mentions_in (form_by line.form)) ≡ b
     → mention_fault forms (lines_by (line ∷ lines)) ≡ (if not b then Some (fault.BadName line.number) else mention_fault forms (lines_by lines))
 known-find forms line lines true e =
-    ap (λ b. option_map (λ l. fault.BadName l.0) (if not b then Some (line_by line) else find (λ l. not (all_known forms l.1)) (lines_by lines))) e
+    ap (λ b. option_map (λ l. fault.BadName l.0) (if not b then Some (numbered_by line) else find (λ l. not (all_known forms l.1)) (lines_by lines))) e
 known-find forms line lines false e =
-    ap (λ b. option_map (λ l. fault.BadName l.0) (if not b then Some (line_by line) else find (λ l. not (all_known forms l.1)) (lines_by lines))) e
+    ap (λ b. option_map (λ l. fault.BadName l.0) (if not b then Some (numbered_by line) else find (λ l. not (all_known forms l.1)) (lines_by lines))) e
 
 pub mentions-known : (forms : List Form) (lines : List Line) (i : ℕ) (d : Line) → i < length lines
     → list_all (is_known forms) (mentions_in (form_by (get_or lines i d).form)) ≡ true
@@ -154,7 +154,7 @@ lost-end body lines i h = ap (λ ls. list_any (is_label_lost body) (forms_by ls)
 drop-one : {X : Type 0} (xs : List X) (i : ℕ) (d : X) → i < length xs → drop i xs ≡ get_or xs i d ∷ drop (i + 1) xs
 drop-one xs i d h = rw (add-one, drop-cons xs i d) refl
 
-pub HasClasses-none : {S : Type 0} (names : IndexMap (Bor (List ℕ)) Named S) → ((q : List ℕ) → entry_at names q ≡ None) → HasClasses names []
+pub HasClasses-none : {S : Type 0} (names : IndexMap (Bor (List ℕ)) Named S) → ((q : List ℕ) → entry_named names q ≡ None) → HasClasses names []
 HasClasses-none names none = record {
   taken = λ q. ap is_some (none q);
   found = λ q. ap (option_and_then class_in_entry) (none q);
@@ -163,14 +163,14 @@ HasClasses-none names none = record {
 
 pub HasClasses-next : {S : Type 0} (old new : IndexMap (Bor (List ℕ)) Named S) (classes : List ClassLine) (i j : ℕ) (line : ClassLine) (d : ClassLine)
     → j ≡ i + 1 → i < length classes → line ≡ get_or classes i d → HasClasses old (drop j classes)
-    → ((q : List ℕ) → entry_at new q ≡ (if bytes_eq line.name.now q then Some (named.Class line) else entry_at old q))
+    → ((q : List ℕ) → entry_named new q ≡ (if bytes_eq line.name.now q then Some (named.Class line) else entry_named old q))
     → HasClasses new (drop i classes)
 HasClasses-next old new classes i j line d at h is were put =
     let all : drop i classes ≡ line ∷ drop j classes = drop-one classes i d h ∙ (λ k. sym is k ∷ drop (sym at k) classes) in
     subst (HasClasses new) (sym all) (record {
-      taken = λ q. ap is_some (put q) ∙ by (entry_at old q) _ (bytes_eq line.name.now q) (were.taken q);
-      found = λ q. ap (option_and_then class_in_entry) (put q) ∙ find_by (entry_at old q) _ (bytes_eq line.name.now q) (were.found q);
-      process = λ q. ap (λ o. option_map_or is_process_entry o false) (put q) ∙ no (entry_at old q) (bytes_eq line.name.now q) (were.process q);
+      taken = λ q. ap is_some (put q) ∙ by (entry_named old q) _ (bytes_eq line.name.now q) (were.taken q);
+      found = λ q. ap (option_and_then class_in_entry) (put q) ∙ find_by (entry_named old q) _ (bytes_eq line.name.now q) (were.found q);
+      process = λ q. ap (λ o. option_map_or is_process_entry o false) (put q) ∙ no (entry_named old q) (bytes_eq line.name.now q) (were.process q);
     })
   where
     by : (o : Option Named) (rest b : Bool) → is_some o ≡ rest → is_some (if b then Some (named.Class line) else o) ≡ (b || rest)

@@ -10,7 +10,7 @@ use Rattle.cs_build.specs.declared.form.Form as code
 use Rattle.cs_build.specs.declared.lines.Line.{Line}
 use Rattle.cs_build.specs.Meaning.{form_by}
 use Rattle.cs_build.specs.Narrow.{Reads, narrow_form, word_texts}
-use Rattle.cs_build.specs.Lines.{line_by, lines_by, narrow_line}
+use Rattle.cs_build.specs.Lines.{numbered_by, lines_by, narrow_line}
 
 -- ---- how many lines pass a test
 
@@ -62,9 +62,9 @@ rest_by inside number lines = map narrow_line (forms_from inside number (word_te
 abbrev pub AreRead : List (Bor (List ℕ)) → ℕ → Bool → List Line → Type 0
 AreRead lines i inside read = rest_by false 1 lines ≡ lines_by read ++ rest_by inside (i + 1) (drop i lines)
 
-lines_by-push : (read : List Line) (line : Line) (rest : List (ℕ × Option Form)) → lines_by read ++ (line_by line ∷ rest) ≡ lines_by (read ++ line ∷ []) ++ rest
+lines_by-push : (read : List Line) (line : Line) (rest : List (ℕ × Option Form)) → lines_by read ++ (numbered_by line ∷ rest) ≡ lines_by (read ++ line ∷ []) ++ rest
 lines_by-push [] line rest = refl
-lines_by-push (x ∷ read) line rest = ap (λ l. line_by x ∷ l) (lines_by-push read line rest)
+lines_by-push (x ∷ read) line rest = ap (λ l. numbered_by x ∷ l) (lines_by-push read line rest)
 
 -- a line that says nothing
 pub AreRead-skip : (lines : List (Bor (List ℕ))) (i : ℕ) (inside : Bool) (read : List Line) (d : Bor (List ℕ)) → i < length lines

@@ -19,7 +19,7 @@ use Rattle.cs_build.specs.declared.form.Form as code
 use Rattle.cs_build.specs.declared.tables.Named.{Named}
 use Rattle.cs_build.specs.declared.tables.Body.{Body}
 use Rattle.cs_build.specs.Meaning.{form_by}
-use Rattle.cs_build.specs.Tabled.{AreMethods, AreNames, IsBody, class_in_entry, code_size, entry_at, entry_at_two, is_process_entry}
+use Rattle.cs_build.specs.Tabled.{AreMethods, AreNames, IsBody, class_in_entry, code_size, entry_named, entry_at_two, is_process_entry}
 
 -- ---- texts of bytes
 
@@ -88,7 +88,7 @@ some-or (Some x) p e = refl
 
 pub names-put : {S : Type 0} (old new : IndexMap (Bor (List ℕ)) Named S) (above : List Form) (f : Form) (name : List ℕ) (v : Named)
     → AreNames old above → is_taken above name ≡ false → Names f name v
-    → ((q : List ℕ) → entry_at new q ≡ (if bytes_eq name q then Some v else entry_at old q))
+    → ((q : List ℕ) → entry_named new q ≡ (if bytes_eq name q then Some v else entry_named old q))
     → AreNames new (above ++ f ∷ [])
 names-put old new above f name v were fresh names put = record {
   taken = λ q. ap is_some (put q) ∙ taken q (bytes_eq name q) refl ∙ sym (taken-more above f q ∙ ap (λ b. is_taken above q || b) (names.taken q));
@@ -98,31 +98,31 @@ names-put old new above f name v were fresh names put = record {
       ∙ sym (process-more above f q ∙ ap (λ b. is_process_name above q || b) (names.process q));
 }
   where
-    gone : (q : List ℕ) → bytes_eq name q ≡ true → entry_at old q ≡ None
-    gone q e = none-some (entry_at old q) (were.taken q ∙ ap (is_taken above) (sym ((bytes_eq-Decides name q).0 e)) ∙ fresh)
+    gone : (q : List ℕ) → bytes_eq name q ≡ true → entry_named old q ≡ None
+    gone q e = none-some (entry_named old q) (were.taken q ∙ ap (is_taken above) (sym ((bytes_eq-Decides name q).0 e)) ∙ fresh)
 
-    taken : (q : List ℕ) (b : Bool) → bytes_eq name q ≡ b → is_some (if bytes_eq name q then Some v else entry_at old q) ≡ (is_taken above q || bytes_eq name q)
-    taken q true e = ap (λ b. is_some (if b then Some v else entry_at old q)) e
+    taken : (q : List ℕ) (b : Bool) → bytes_eq name q ≡ b → is_some (if bytes_eq name q then Some v else entry_named old q) ≡ (is_taken above q || bytes_eq name q)
+    taken q true e = ap (λ b. is_some (if b then Some v else entry_named old q)) e
         ∙ sym (ap (λ b. is_taken above q || b) e ∙ ap (λ b. b || true) (sym (were.taken q) ∙ ap is_some (gone q e)))
-    taken q false e = ap (λ b. is_some (if b then Some v else entry_at old q)) e ∙ were.taken q
+    taken q false e = ap (λ b. is_some (if b then Some v else entry_named old q)) e ∙ were.taken q
         ∙ sym (ap (λ b. is_taken above q || b) e ∙ or-false (is_taken above q))
 
     class : (q : List ℕ) (b : Bool) → bytes_eq name q ≡ b
-        → option_and_then class_in_entry (if bytes_eq name q then Some v else entry_at old q)
+        → option_and_then class_in_entry (if bytes_eq name q then Some v else entry_named old q)
         ≡ option_or (class_named above q) (if bytes_eq name q then class_in_entry v else None)
-    class q true e = ap (λ b. option_and_then class_in_entry (if b then Some v else entry_at old q)) e
+    class q true e = ap (λ b. option_and_then class_in_entry (if b then Some v else entry_named old q)) e
         ∙ sym (ap (λ b. option_or (class_named above q) (if b then class_in_entry v else None)) e
         ∙ ap (λ o. option_or o (class_in_entry v)) (sym (were.classes q) ∙ ap (option_and_then class_in_entry) (gone q e)))
-    class q false e = ap (λ b. option_and_then class_in_entry (if b then Some v else entry_at old q)) e ∙ were.classes q
+    class q false e = ap (λ b. option_and_then class_in_entry (if b then Some v else entry_named old q)) e ∙ were.classes q
         ∙ sym (ap (λ b. option_or (class_named above q) (if b then class_in_entry v else None)) e ∙ some-or (class_named above q) None refl)
 
     process : (q : List ℕ) (b : Bool) → bytes_eq name q ≡ b
-        → option_map_or is_process_entry (if bytes_eq name q then Some v else entry_at old q) false
+        → option_map_or is_process_entry (if bytes_eq name q then Some v else entry_named old q) false
         ≡ (is_process_name above q || (if bytes_eq name q then is_process_entry v else false))
-    process q true e = ap (λ b. option_map_or is_process_entry (if b then Some v else entry_at old q) false) e
+    process q true e = ap (λ b. option_map_or is_process_entry (if b then Some v else entry_named old q) false) e
         ∙ sym (ap (λ b. is_process_name above q || (if b then is_process_entry v else false)) e
         ∙ ap (λ b. b || is_process_entry v) (sym (were.processes q) ∙ ap (λ o. option_map_or is_process_entry o false) (gone q e)))
-    process q false e = ap (λ b. option_map_or is_process_entry (if b then Some v else entry_at old q) false) e ∙ were.processes q
+    process q false e = ap (λ b. option_map_or is_process_entry (if b then Some v else entry_named old q) false) e ∙ were.processes q
         ∙ sym (ap (λ b. is_process_name above q || (if b then is_process_entry v else false)) e ∙ or-false (is_process_name above q))
 
 -- a line that names nothing
@@ -383,7 +383,7 @@ drop-more n above f h = drop-append-le n above (f ∷ []) h
 
 -- a line that no method begins with
 pub body-keep : (old new : Body) (above : List Form) (f : Form) → IsBody old above → is_method_line f ≡ false
-    → ((q : List ℕ) → entry_at new.labels q ≡ option_or (entry_at old.labels q) (if is_label q f then Some old.place else None))
+    → ((q : List ℕ) → entry_named new.labels q ≡ option_or (entry_named old.labels q) (if is_label q f then Some old.place else None))
     → new.place ≡ old.place + byte_count f → byte_count f ≤ 4 → new.literals ≡ old.literals + (if is_literal f then 1 else 0) → new.start ≡ old.start
     → IsBody new (above ++ f ∷ [])
 body-keep old new above f were e labels place short literals start = record {
@@ -405,21 +405,21 @@ body-keep old new above f were e labels place short literals start = record {
 
 -- a label
 pub body-label : (old new : Body) (above : List Form) (name : List ℕ) → IsBody old above → is_twice above (text.Label name) ≡ false
-    → ((q : List ℕ) → entry_at new.labels q ≡ (if bytes_eq name q then Some old.place else entry_at old.labels q))
+    → ((q : List ℕ) → entry_named new.labels q ≡ (if bytes_eq name q then Some old.place else entry_named old.labels q))
     → new.place ≡ old.place → new.literals ≡ old.literals → new.start ≡ old.start → IsBody new (above ++ text.Label name ∷ [])
 body-label old new above name were fresh put place literals start =
     body-keep old new above (text.Label name) were refl (λ q. put q ∙ by q (bytes_eq name q) refl) (place ∙ omega arith) (omega arith) (literals ∙ omega arith) start
   where
-    gone : (q : List ℕ) → bytes_eq name q ≡ true → entry_at old.labels q ≡ None
-    gone q e = none-some (entry_at old.labels q)
+    gone : (q : List ℕ) → bytes_eq name q ≡ true → entry_named old.labels q ≡ None
+    gone q e = none-some (entry_named old.labels q)
         (ap is_some (were.labels q) ∙ place-any (is_label q) 0 (open_body above) ∙ ap (λ n. list_any (is_label n) (open_body above)) (sym ((bytes_eq-Decides name q).0 e)) ∙ fresh)
 
     by : (q : List ℕ) (b : Bool) → bytes_eq name q ≡ b
-        → (if bytes_eq name q then Some old.place else entry_at old.labels q) ≡ option_or (entry_at old.labels q) (if bytes_eq q name then Some old.place else None)
-    by q true e = ap (λ b. if b then Some old.place else entry_at old.labels q) e
+        → (if bytes_eq name q then Some old.place else entry_named old.labels q) ≡ option_or (entry_named old.labels q) (if bytes_eq q name then Some old.place else None)
+    by q true e = ap (λ b. if b then Some old.place else entry_named old.labels q) e
         ∙ sym ((λ i. option_or (gone q e i) (if (bytes_eq-sym q name ∙ e) i then Some old.place else None)))
-    by q false e = ap (λ b. if b then Some old.place else entry_at old.labels q) e
-        ∙ sym (ap (λ b. option_or (entry_at old.labels q) (if b then Some old.place else None)) (bytes_eq-sym q name ∙ e) ∙ some-or (entry_at old.labels q) None refl)
+    by q false e = ap (λ b. if b then Some old.place else entry_named old.labels q) e
+        ∙ sym (ap (λ b. option_or (entry_named old.labels q) (if b then Some old.place else None)) (bytes_eq-sym q name ∙ e) ∙ some-or (entry_named old.labels q) None refl)
 
 -- a line that isn't one
 pub body-other : (old new : Body) (above : List Form) (f : Form) → IsBody old above → is_method_line f ≡ false → ((q : List ℕ) → is_label q f ≡ false)
@@ -427,13 +427,13 @@ pub body-other : (old new : Body) (above : List Form) (f : Form) → IsBody old 
     → new.literals ≡ old.literals + (if is_literal f then 1 else 0) → new.start ≡ old.start → IsBody new (above ++ f ∷ [])
 body-other old new above f were e none labels place short literals start =
     body-keep old new above f were e
-    (λ q. ap (λ table. entry_at table q) labels ∙ sym (ap (λ b. option_or (entry_at old.labels q) (if b then Some old.place else None)) (none q) ∙ some-or (entry_at old.labels q) None refl))
+    (λ q. ap (λ table. entry_named table q) labels ∙ sym (ap (λ b. option_or (entry_named old.labels q) (if b then Some old.place else None)) (none q) ∙ some-or (entry_named old.labels q) None refl))
     place short literals start
 
 -- what a line names, by the code's line
 pub noted : {S : Type 0} (old new : IndexMap (Bor (List ℕ)) Named S) (form : code.Form) (f : Form) (name : List ℕ) (v : Named) → form_by form ≡ f
     → names_in f ≡ name ∷ [] → ((above : List Form) → is_twice above f ≡ list_any (is_taken above) (names_in f)) → Names f name v
-    → ((q : List ℕ) → entry_at new q ≡ (if bytes_eq name q then Some v else entry_at old q))
+    → ((q : List ℕ) → entry_named new q ≡ (if bytes_eq name q then Some v else entry_named old q))
     → (above : List Form) → AreNames old above → is_twice above (form_by form) ≡ false → AreNames new (above ++ form_by form ∷ [])
 noted old new form f name v is one twice names put above were fresh =
     subst (λ g. AreNames new (above ++ g ∷ [])) (sym is)

@@ -11,11 +11,11 @@ use Rattle.cs_build.specs.Meaning.{form_by}
 use Rattle.cs_build.specs.Narrow.{narrow_form}
 
 -- a line with a form, and the forms of lines
-abbrev pub line_by : Line → ℕ × Option text.Form
-line_by line = (line.number, Some (form_by line.form))
+abbrev pub numbered_by : Line → ℕ × Option text.Form
+numbered_by line = (line.number, Some (form_by line.form))
 
 abbrev pub lines_by : List Line → List (ℕ × Option text.Form)
-lines_by lines = map line_by lines
+lines_by lines = map numbered_by lines
 
 abbrev pub forms_by : List Line → List text.Form
 forms_by lines = map (λ line. form_by line.form) lines

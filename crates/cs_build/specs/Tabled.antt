@@ -16,8 +16,8 @@ use Rattle.cs_build.specs.Lines.{forms_by}
 use Rattle.cs_build.specs.Meaning.{class_by}
 
 -- what a table has at a name, and at a class and a selector
-abbrev pub entry_at : {V S : Type 0} → IndexMap (Bor (List ℕ)) V S → List ℕ → Option V
-entry_at table name = get_by (λ key. pointwise nat_eq name key.now) table
+abbrev pub entry_named : {V S : Type 0} → IndexMap (Bor (List ℕ)) V S → List ℕ → Option V
+entry_named table name = get_by (λ key. pointwise nat_eq name key.now) table
 
 abbrev pub entry_at_two : {V S : Type 0} → IndexMap (Bor (List ℕ) × Bor (List ℕ)) V S → List ℕ → List ℕ → Option V
 entry_at_two table class selector =
@@ -41,9 +41,9 @@ code_size (form ∷ forms) = byte_count form + code_size forms
 
 -- the tables of names: classes, objects and processes
 pub record AreNames {S : Type 0} (names : IndexMap (Bor (List ℕ)) Named S) (above : List text.Form) : Type 0 where
-  pub taken : (name : List ℕ) → is_some (entry_at names name) ≡ is_taken above name
-  pub classes : (name : List ℕ) → option_and_then class_in_entry (entry_at names name) ≡ class_named above name
-  pub processes : (name : List ℕ) → option_map_or is_process_entry (entry_at names name) false ≡ is_process_name above name
+  pub taken : (name : List ℕ) → is_some (entry_named names name) ≡ is_taken above name
+  pub classes : (name : List ℕ) → option_and_then class_in_entry (entry_named names name) ≡ class_named above name
+  pub processes : (name : List ℕ) → option_map_or is_process_entry (entry_named names name) false ≡ is_process_name above name
 
 -- the number of arguments of each method
 pub record AreMethods {S : Type 0} (methods : IndexMap (Bor (List ℕ) × Bor (List ℕ)) ℤ S) (above : List text.Form) : Type 0 where
@@ -52,7 +52,7 @@ pub record AreMethods {S : Type 0} (methods : IndexMap (Bor (List ℕ) × Bor (L
 
 -- the labels, size and literals of the lines behind the last line that begins a method
 pub record IsBody (body : Body) (above : List text.Form) : Type 0 where
-  pub labels : (label : List ℕ) → entry_at body.labels label ≡ label_place (open_body above) label
+  pub labels : (label : List ℕ) → entry_named body.labels label ≡ label_place (open_body above) label
   pub place : body.place ≡ code_size (open_body above)
   pub literals : body.literals ≡ count_by is_literal (open_body above)
   pub start : drop body.start above ≡ open_body above

@@ -9,7 +9,7 @@ ghost use Rattle.cs_model.specs.BuilderFault.{closure_bytes, fits, form_fault, h
 ghost use Rattle.cs_model.specs.BuilderFault.{has_pointers, is_between, is_class_format, is_in_range, is_known};
 ghost use Rattle.cs_model.specs.BuilderFault.{is_label_lost, is_object_class, is_twice, jump_code, lines_fault};
 ghost use Rattle.cs_model.specs.BuilderFault.{may_have, mention_fault, mentions_in, method_fits, plain_bytes};
-ghost use Rattle.cs_build.specs.Lines.{Judges, TellsFault, forms_by, line_by, lines_by};
+ghost use Rattle.cs_build.specs.Lines.{Judges, TellsFault, forms_by, numbered_by, lines_by};
 ghost use Rattle.cs_build.specs.Meaning.{class_by, form_by, jump_by, mention_by, method_line_by};
 ghost use Rattle.cs_build.specs.Tabled.{AreTables, IsAbove, above_by, body_by, is_misfit as is_misfit_in};
 

@@ -9,7 +9,7 @@ ghost use Rattle.cs_model.specs.BuilderFault.{kind_of_object, known};
 ghost use Rattle.cs_model.specs.BuilderFault.{known_classes as known_class_lines, open_body};
 ghost use Rattle.cs_build.specs.Lines.{forms_by};
 ghost use Rattle.cs_build.specs.Meaning.{class_by, form_by};
-ghost use Rattle.cs_build.specs.Tabled.{AreMethods, AreNames, AreTables, IsBody, entry_at, entry_at_two};
+ghost use Rattle.cs_build.specs.Tabled.{AreMethods, AreNames, AreTables, IsBody, entry_named, entry_at_two};
 
 use crate::code::first_form;
 use crate::form::{ClassLine, Form, MethodLine};
@@ -164,7 +164,7 @@ fn kind_of_object(name: &'static str, format: u8, fields: u8) -> ClassLine<'stat
 /// Puts a name into a table.
 fn put<'a, V: Drop>(table: &mut ByName<'a, V>, name: &'a [u8], value: V) -> Result<(), AllocError>
     ensures { OnOk result ((q : List ℕ)
-        → entry_at table.new q ≡ (if pointwise nat_eq name.now q then Some value else entry_at table.old q)) }
+        → entry_named table.new q ≡ (if pointwise nat_eq name.now q then Some value else entry_named table.old q)) }
 {
     match table.insert(name, value) {
         Ok(_) => Ok(()),
