@@ -10,4 +10,5 @@ pub mod Writings
 pub mod Images
 pub mod Breaking
 pub mod Answering
+pub mod Comparing
 pub mod Within

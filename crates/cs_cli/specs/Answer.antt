@@ -1,5 +1,5 @@
 -- What the program answers to the words behind its name, and what it prints.
-use Rattle.std.specs.Prelude.{◌≡◌, ◌⊎◌, ℕ, zero, suc, ◌+◌, ◌<◌, ◌≤◌, true, if◌then◌else◌, List, ◌++◌, codes, Option, Some, None, Ok, Err, IfSome, IsSomeAnd}
+use Rattle.std.specs.Prelude.{◌≡◌, ◌⊎◌, ℕ, zero, suc, ◌+◌, ◌<◌, ◌≤◌, true, if◌then◌else◌, List, ◌++◌, codes, decimal, Option, Some, None, Ok, Err, IfSome, IsSomeAnd}
 use Rattle.cs_shelf.specs.Outside.{Appends, AppendsPart, Fault, Rose, read_fault}
 use Rattle.cs_model.specs.Obj.{Obj, is_context}
 use Rattle.cs_model.specs.State.{Kept, object_at}
@@ -11,6 +11,7 @@ use Rattle.cs_model.specs.Demand.{words_held, words_taken}
 use Rattle.cs_model.specs.End as ends
 use Rattle.cs_model.specs.End.{Out}
 use Rattle.cs_model.specs.Built.{is_built_bytecode}
+use Rattle.cs_model.specs.Canon.{canon, difference}
 use Rattle.cs_model.specs.Print.{print_of}
 use Rattle.cs_model.specs.Step as model
 use Rattle.cs_model.specs.Step.{bytecode}
@@ -82,6 +83,14 @@ run_answer m = answering (run_status m.ending) (m.state.run.output ++ report_of 
 -- the printed image
 abbrev pub inspect_answer : Kept → Answer
 inspect_answer k = answering 0 (print_of k)
+
+-- two images are the same, or differ first at a place
+abbrev pub sameness_answer : Option ℕ → Answer
+sameness_answer None = answering 0 (codes "same\n")
+sameness_answer (Some place) = answering 9 (codes "differ " ++ decimal place ++ codes "\n")
+
+abbrev pub same_answer : Kept → Kept → Answer
+same_answer k l = sameness_answer (difference (canon k) (canon l))
 
 -- ---- what is printed
 
@@ -175,12 +184,26 @@ pub data InspectAnswered (file : List ℕ) (o : Options) (shelf : Reading) (out 
   inspect_refused : Refused file o.heap shelf out status → InspectAnswered file o shelf out status
   printed : (k : Kept) → IsImage (shelf.content file) o.heap k → Inspected k out status → InspectAnswered file o shelf out status
 
+-- two images are compared
+abbrev pub Compared : Kept → Kept → Writing → ℕ → Type 0
+Compared k l out status = OrMemory out status (Printed (same_answer k l) out status)
+
+-- the image of a state is compared with that of another file, which is read and loaded only then
+pub data OtherAnswered (k : Kept) (other : List ℕ) (limit : ℕ) (shelf : Reading) (out : Writing) (status : ℕ) : Type 0 where
+  other_refused : Refused other limit shelf out status → OtherAnswered k other limit shelf out status
+  compared : (l : Kept) → IsImage (shelf.content other) limit l → Compared k l out status → OtherAnswered k other limit shelf out status
+
+pub data SameAnswered (file : List ℕ) (o : Options) (shelf : Reading) (out : Writing) (status : ℕ) : Type 0 where
+  same_refused : Refused file o.heap shelf out status → SameAnswered file o shelf out status
+  first_loaded : (k : Kept) → IsImage (shelf.content file) o.heap k → IsSomeAnd o.other (λ other. OtherAnswered k other o.heap shelf out status)
+      → SameAnswered file o shelf out status
+
 -- what is answered to each command; those that aren't there yet are refused with their lines
 abbrev pub CommandAnswered : Command → List ℕ → Options → Reading → Writing → ℕ → Type 0
 CommandAnswered Run file o shelf out status = RunAnswered file o shelf out status
 CommandAnswered Build file o shelf out status = ⊥
 CommandAnswered Inspect file o shelf out status = InspectAnswered file o shelf out status
-CommandAnswered Same file o shelf out status = ⊥
+CommandAnswered Same file o shelf out status = SameAnswered file o shelf out status
 CommandAnswered (Gen k) file o shelf out status = ⊥
 
 -- ---- the call

@@ -27,6 +27,7 @@ pub(crate) fn load_file<S: Shelf>(
       behind = S.fault_count shelf.new;
       last = S.last_fault shelf.new;
     }) result }
+    ensures never_falls { S.fault_count shelf.old ≤ S.fault_count shelf.new }
     ensures contents { (other : List ℕ) → S.content shelf.new other ≡ S.content shelf.old other }
 {
     let bytes = match read_whole(alloc, shelf, name, LONGEST_IMAGE) {

@@ -51,11 +51,11 @@ pub(crate) fn inspect<S: Shelf, K: Sink>(
 fn print_image<K: Sink>(alloc: Global, loaded: &Loaded, out: &mut K) -> u8
     requires whole { IsWhole loaded.now.heap.objects loaded.now.classes loaded.now.roots }
     ensures { Inspected (loaded_kept loaded.now) (record {
-          old = K.taken out.old;
-          new = K.taken out.new;
-          before = K.fault_count out.old;
-          behind = K.fault_count out.new;
-        }) result }
+      old = K.taken out.old;
+      new = K.taken out.new;
+      before = K.fault_count out.old;
+      behind = K.fault_count out.new;
+    }) result }
 {
     match cs_inspect::print(alloc, loaded) {
         Ok(text) => print_bytes(out, INSPECTED, text.as_slice()),

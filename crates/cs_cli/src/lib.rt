@@ -12,6 +12,7 @@ mod printing;
 mod refusal;
 mod report;
 mod running;
+mod same;
 mod top;
 
 pub use top::cogstack;

@@ -331,7 +331,8 @@ impl Line<'_> {
         match self.command {
             Command::Run => self.options.save.is_none(),
             Command::Inspect => true,
-            Command::Build | Command::Same | Command::Gen(_) => false,
+            Command::Same => self.options.other.is_some(),
+            Command::Build | Command::Gen(_) => false,
         }
     }
 }

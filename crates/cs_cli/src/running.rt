@@ -78,11 +78,11 @@ fn open_and_run<K: Sink>(alloc: Global, loaded: Loaded, pages: u32, steps: u64, 
     requires few { 2 ≤ pages }
     requires many { pages ≤ 64 }
     ensures { Begun (open_kept (loaded_kept loaded)) steps (Some pages) loaded.heap.limit (record {
-          old = K.taken out.old;
-          new = K.taken out.new;
-          before = K.fault_count out.old;
-          behind = K.fault_count out.new;
-        }) result }
+      old = K.taken out.old;
+      new = K.taken out.new;
+      before = K.fault_count out.old;
+      behind = K.fault_count out.new;
+    }) result }
 {
     match StackWorld::new(alloc, loaded, pages) {
         Ok(world) => begin(alloc, world, steps, out),
@@ -96,11 +96,11 @@ fn begin<W: World + Drop, K: Sink>(alloc: Global, world: W, steps: u64, out: &mu
     requires running { is_idle (W.view world) ≡ false → IsRunning (W.view world) }
     requires fresh { IsFresh (W.view world) (W.layout world) }
     ensures { Begun (W.view world) steps (most_of (W.layout world)) (W.stored world).memory.limit (record {
-          old = K.taken out.old;
-          new = K.taken out.new;
-          before = K.fault_count out.old;
-          behind = K.fault_count out.new;
-        }) result }
+      old = K.taken out.old;
+      new = K.taken out.new;
+      before = K.fault_count out.old;
+      behind = K.fault_count out.new;
+    }) result }
 {
     match Sender::new(alloc) {
         Ok(sender) => run_and_report(world, sender, steps, out),

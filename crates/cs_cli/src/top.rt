@@ -9,6 +9,7 @@ use crate::inspect::inspect;
 use crate::line::{Command, Line, parse};
 use crate::printing::{NO_MEMORY, print};
 use crate::running::run_file;
+use crate::same::same;
 use cs_shelf::{Shelf, Sink};
 use std::alloc::Global;
 
@@ -66,7 +67,8 @@ fn answer<S: Shelf, K: Sink>(alloc: Global, line: &Line<'_>, shelf: &mut S, out:
     match line.command {
         Command::Run => run_file(alloc, line, shelf, out),
         Command::Inspect => inspect(alloc, line, shelf, out),
+        Command::Same => same(alloc, line, shelf, out),
         // a line with one of these isn't possible yet
-        Command::Build | Command::Same | Command::Gen(_) => unreachable!(),
+        Command::Build | Command::Gen(_) => unreachable!(),
     }
 }

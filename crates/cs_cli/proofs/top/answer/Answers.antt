@@ -5,3 +5,6 @@ returns-in-Run-clause-answered g c = rw c.in-Run.is c.run_file.ensures.answered
 
 pub returns-in-Inspect-clause-answered : goal.returns-in-Inspect-clause-answered
 returns-in-Inspect-clause-answered g c = rw c.in-Inspect.is c.inspect.ensures.answered
+
+pub returns-in-Same-clause-answered : goal.returns-in-Same-clause-answered
+returns-in-Same-clause-answered g c = rw c.in-Same.is c.same.ensures.answered
