@@ -20,7 +20,9 @@ const SHOWN: usize = 120;
 struct Given {
     /// What the name `a` holds.
     image: Vec<u8>,
-    /// How many zeros stand behind it, on a shelf that computes them.
+    /// What the name `b` holds; nothing where this is empty.
+    other: Vec<u8>,
+    /// How many zeros stand behind the image, on a shelf that computes them.
     zeros: u64,
     /// The bytes that the sink takes.
     room: usize,
@@ -38,7 +40,7 @@ pub fn take(rt: &(impl Files + Print + Alloc<A = Global>), given: &str, words: &
     let words = words_of(alloc, words)?;
     let mut out = MemSink::new(alloc, given.room, &[given.write])?;
     if given.zeros == 0 {
-        let mut shelf = shelf_with(alloc, given.image.as_slice(), &[given.read])?;
+        let mut shelf = shelf_with(alloc, &given)?;
         let status = cogstack(alloc, words.as_slice(), &mut shelf, &mut out);
         tell(rt, status, shelf.faults(), &out)
     } else {
@@ -68,12 +70,13 @@ fn tell(rt: &impl Print, status: u8, reads: u64, out: &MemSink) -> Result<()> {
     Ok(())
 }
 
-/// Each word of `text` is `file=NAME`, `length=BYTES`, `zeros=BYTES`, `room=BYTES`, `read=CALL`, `write=CALL`, or a
+/// Each word of `text` is `file=NAME`, `other=NAME`, `length=BYTES`, `zeros=BYTES`, `room=BYTES`, `read=CALL`, `write=CALL`, or a
 /// place in the image and the bytes that stand there, in hexadecimal digits, as `71=01`.
 fn given_by(rt: &(impl Files + Alloc<A = Global>), text: &str) -> Result<Given> {
     let alloc = rt.alloc();
     let mut given = Given {
         image: Vec::new(alloc),
+        other: Vec::new(alloc),
         zeros: 0,
         room: 99,
         read: NEVER,
@@ -83,6 +86,7 @@ fn given_by(rt: &(impl Files + Alloc<A = Global>), text: &str) -> Result<Given> 
         let (key, value) = word.split_once('=').unwrap_or((word, ""));
         match key {
             "file" => given.image = fs::read(rt, value)?,
+            "other" => given.other = fs::read(rt, value)?,
             "length" => given.image.truncate(value.parse::<usize>()?),
             "zeros" => given.zeros = value.parse::<u64>()?,
             "room" => given.room = value.parse::<usize>()?,
@@ -134,13 +138,17 @@ fn words_of(alloc: Global, line: &str) -> Result<Vec<String>> {
     Ok(words)
 }
 
-/// A shelf on which the name `a` holds this image, and `b` nothing. These of its calls fail.
-fn shelf_with(alloc: Global, image: &[u8], fail: &[u64]) -> Result<MemShelf, AllocError> {
+/// A shelf on which the names `a` and `b` hold what a row gives. One of its calls fails.
+fn shelf_with(alloc: Global, given: &Given) -> Result<MemShelf, AllocError> {
     let names = vec![in alloc;
         String::from_str(alloc, "a")?,
         String::from_str(alloc, "b")?,
     ]?;
-    let mut shelf = MemShelf::new(alloc, names, image.len(), fail)?;
-    shelf.put(0, image);
+    let room = given.image.len().max(given.other.len());
+    let mut shelf = MemShelf::new(alloc, names, room, &[given.read])?;
+    shelf.put(0, given.image.as_slice());
+    if !given.other.is_empty() {
+        shelf.put(1, given.other.as_slice());
+    }
     Ok(shelf)
 }
