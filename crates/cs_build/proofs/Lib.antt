@@ -11,3 +11,7 @@ pub mod Describing
 pub mod OpLemmas
 pub mod OuterLemmas
 pub mod HexLemmas
+pub mod Walking
+pub mod Noting
+pub mod Numbers
+pub mod Standing
