@@ -1,5 +1,5 @@
 -- What a table has at each name after one was noted, and the places of names in lists.
-use Rattle.std.proofs.Common.{◌≡◌, ℕ, suc, ◌+◌, ◌<◌, ◌≤◌, Bool, true, false, cond, List, [], ◌∷◌, ◌++◌, length, map, Some, None, Option, refl, ap, sym, subst, ◌∙◌, arith, if◌then◌else◌, nat_lt, Bor}
+use Rattle.std.proofs.Common.{◌≡◌, ℕ, suc, ◌+◌, Bool, true, false, cond, List, [], ◌∷◌, ◌++◌, length, Some, None, Option, refl, ap, sym, ◌∙◌, arith, if◌then◌else◌, nat_lt, Bor}
 use Rattle.std.specs.Prelude.{position, option_map, ◌||◌, not, fold}
 use Rattle.std.specs.Option.{option_or}
 use Rattle.std.specs.List.{list_any, position_or_len}
@@ -78,6 +78,7 @@ position_cons p x xs = go (p x)
   where
     behind : (k l : ℕ) → cond (nat_lt (1 + k) (suc l)) (Some (1 + k)) None ≡ option_map (λ n. n + 1) (cond (nat_lt k l) (Some k) None)
     behind k l = grind (arith, nat_tests)
+
     go : (b : Bool) → cond (nat_lt (cond (not b) (1 + position_or_len p xs) 0) (suc (length xs))) (Some (cond (not b) (1 + position_or_len p xs) 0)) None
         ≡ (if b then Some 0 else option_map (λ n. n + 1) (position p xs))
     go true = let e : nat_lt 0 (suc (length xs)) ≡ true = grind (arith, nat_tests) in rw e refl
@@ -90,6 +91,7 @@ first_from p n (x ∷ xs) = ap (option_map (λ k. k + n)) (position_cons p x xs)
     shift : (o : Option ℕ) → option_map (λ k. k + n) (option_map (λ k. k + 1) o) ≡ option_map (λ k. k + (n + 1)) o
     shift (Some k) = ap Some (omega arith)
     shift None = refl
+
     go : (b : Bool) → option_map (λ k. k + (n + 1)) (position p xs) ≡ first_at p (n + 1) xs
         → option_map (λ k. k + n) (if b then Some 0 else option_map (λ k. k + 1) (position p xs)) ≡ (if b then Some n else first_at p (n + 1) xs)
     go true h = ap Some (omega arith)

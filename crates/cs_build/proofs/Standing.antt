@@ -1,16 +1,13 @@
 -- The numbers of all objects of a text.
-use Rattle.std.proofs.Common.{◌≡◌, ℕ, zero, suc, ◌+◌, ◌-◌, ◌*◌, ◌^◌, ◌<◌, ◌≤◌, Bool, true, false, cond, List, [], ◌∷◌, ◌++◌, length, map, Some, None, Option, refl, ap, sym, subst, ◌∙◌, arith, if◌then◌else◌, nat_lt, get_or}
-use Rattle.std.specs.Prelude.{position, find, option_map, sum_by, flat_map, fold, IfSome, unwrap_or}
-use Rattle.std.specs.Option.{option_map_or}
-use Rattle.std.specs.List.{position_or_len}
+use Rattle.std.proofs.Common.{◌≡◌, ℕ, suc, ◌+◌, ◌-◌, ◌<◌, ◌≤◌, Bool, true, false, List, [], ◌∷◌, ◌++◌, length, map, Some, None, Option, refl, ap, sym, subst, ◌∙◌, arith, if◌then◌else◌, get_or}
+use Rattle.std.specs.Prelude.{position, find, sum_by, flat_map, fold, IfSome, unwrap_or}
 use Rattle.std.specs.Str.{bytes_eq}
 use Rattle.std.proofs.lemmas.List.Sums.{fold-append, sum_by-cons}
-use Rattle.std.proofs.lemmas.Bool.Decides.{nat_tests}
 use Rattle.cs_model.specs.Ref.{Ref}
 use Rattle.cs_model.specs.Ref as ref
 use Rattle.cs_model.specs.BuilderText as text
-use Rattle.cs_model.specs.BuilderFault.{place_where, all_classes, class_lines_in, is_named}
-use Rattle.cs_model.specs.Builder.{all_forms, symbols_of, symbols_in, symbol_ref, with_new, selector_names, special_symbols, dictionary_birth, first_symbol, first_dictionary, birth_where, object_count, first_class}
+use Rattle.cs_model.specs.BuilderFault.{place_where, all_classes, class_lines_in}
+use Rattle.cs_model.specs.Builder.{all_forms, symbols_in, symbol_ref, with_new, selector_names, special_symbols, first_symbol, first_dictionary, birth_where, object_count, first_class}
 use Rattle.cs_build.specs.Numbered.{first_at, mentioned, selector_words, special_names_of, method_in}
 use Rattle.cs_build.specs.Standing.{symbol_names}
 use Rattle.cs_build.proofs.Noting.{position_is}

@@ -1,5 +1,5 @@
 -- The numbers of all objects of a text, as the code keeps them.
-use Rattle.std.specs.Prelude.{◌≡◌, ℕ, ◌+◌, ◌*◌, ◌^◌, ◌<◌, List, length, map, drop, Option, option_map, position}
+use Rattle.std.specs.Prelude.{◌≡◌, ℕ, ◌^◌, ◌<◌, List, length, map, drop, Option, option_map, position}
 use Rattle.std.specs.Str.{bytes_eq}
 use Rattle.cs_model.specs.BuilderText as text
 use Rattle.cs_model.specs.BuilderFault.{all_classes, is_named}

@@ -40,10 +40,7 @@ pub(crate) fn note<'a>(
 }
 
 /// The classes that the lines of a text say.
-pub(crate) fn classes_of<'a>(
-    alloc: Global,
-    forms: &[Form<'a>],
-) -> Result<Classes<'a>, AllocError>
+pub(crate) fn classes_of<'a>(alloc: Global, forms: &[Form<'a>]) -> Result<Classes<'a>, AllocError>
     requires { length forms.now < 2 ^ 30 }
     ensures lines { IfOk result (λ c. map class_by c.lines.items ≡ flat_map class_lines_in (map form_by forms.now)) }
     ensures few { IfOk result (λ c. length c.lines.items ≤ length forms.now) }

@@ -97,10 +97,10 @@ fn note_method<'f, 'a>(
 ) -> Result<(), AllocError>
     ensures numbers { OnOk result ((c s : List ℕ) → option_map number_in (method_of methods.new c s)
         ≡ option_or (option_map number_in (method_of methods.old c s))
-            (if is_method_of c s (form_by form.now) then Some number else None)) }
+        (if is_method_of c s (form_by form.now) then Some number else None)) }
     ensures bodies { OnOk result ((c s : List ℕ) → option_map body_in (method_of methods.new c s)
         ≡ option_or (option_map body_in (method_of methods.old c s))
-            (method_at c s (form_by form.now) (map form_by behind.now))) }
+        (method_at c s (form_by form.now) (map form_by behind.now))) }
     ensures counted { OnOk result (AreCounted methods.old → AreCounted methods.new) }
 {
     let Form::Method(line) = form else {
@@ -162,10 +162,7 @@ impl<'f, 'a> Births<'f, 'a> {
 }
 
 /// The numbers of what the lines of a text make.
-fn births_of<'f, 'a>(
-    alloc: Global,
-    forms: &'f [Form<'a>],
-) -> Result<Births<'f, 'a>, AllocError>
+fn births_of<'f, 'a>(alloc: Global, forms: &'f [Form<'a>]) -> Result<Births<'f, 'a>, AllocError>
     requires { length forms.now < 2 ^ 28 }
     ensures { IfOk result (λ births. Counts births (map form_by forms.now) []) }
 {

@@ -1,4 +1,4 @@
-use Rattle.std.proofs.Common.{◌≡◌, ◌≤◌, ℕ, List, length, map, drop, ◌++◌, []}
+use Rattle.std.proofs.Common.{◌≡◌, ◌≤◌, ℕ, List, length, map, drop, ◌++◌}
 use Rattle.std.specs.Prelude.{flat_map}
 use Rattle.cs_model.specs.BuilderFault.{class_lines_in}
 use Rattle.cs_build.specs.Meaning.{form_by, class_by}

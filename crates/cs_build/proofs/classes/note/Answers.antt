@@ -1,4 +1,4 @@
-use Rattle.std.proofs.Common.{◌≡◌, Some, None, Bor, List, ℕ, refl, ap, ◌∙◌, rules, Option, false, is_some}
+use Rattle.std.proofs.Common.{◌≡◌, Some, None, ℕ, refl, ◌∙◌, rules, Option, false, is_some}
 use Rattle.std.proofs.lemmas.Map.Text.{hash_map_updates_str}
 use Rattle.cs_build.specs.Numbered.{number_of}
 use Rattle.cs_build.proofs.Noting.{note_new}

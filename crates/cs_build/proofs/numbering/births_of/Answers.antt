@@ -1,4 +1,4 @@
-use Rattle.std.proofs.Common.{◌≡◌, ℕ, ◌+◌, ◌-◌, List, ◌∷◌, length, map, take, drop, sym, subst, arith}
+use Rattle.std.proofs.Common.{◌≡◌, ◌+◌, ◌-◌, List, ◌∷◌, length, map, take, drop, sym, subst, arith}
 use Rattle.std.proofs.lemmas.List.{take_rest, drop_all, length-map}
 use Rattle.cs_model.specs.BuilderText as text
 use Rattle.cs_build.specs.declared.form.Form.{Form}

@@ -1,4 +1,4 @@
-use Rattle.std.proofs.Common.{◌≡◌, map, drop}
+use Rattle.std.proofs.Common.{map, drop}
 use Rattle.cs_build.specs.Meaning.{form_by}
 use Rattle.cs_build.specs.Counted.{Counts}
 use Rattle.cs_build.proofs.numbering.births_of.Given as goal

@@ -1,4 +1,4 @@
-use Rattle.std.proofs.Common.{◌≡◌, ◌+◌, [], map, drop, get_or, sym, ◌∙◌}
+use Rattle.std.proofs.Common.{◌+◌, map, drop, get_or, sym, ◌∙◌}
 use Rattle.std.specs.Prelude.{flat_map, pos}
 use Rattle.cs_model.specs.Builder.{symbol_in}
 use Rattle.cs_build.specs.declared.form.Mention.TheVariants.{Number}

@@ -1,4 +1,4 @@
-use Rattle.std.proofs.Common.{◌≡◌, ap, ◌∙◌}
+use Rattle.std.proofs.Common.{ap, ◌∙◌}
 use Rattle.cs_build.specs.Numbered.{names_of}
 use Rattle.cs_build.proofs.Noting.{mention_new}
 use Rattle.cs_build.proofs.symbols.mention_symbol.Goals as goal

@@ -1,4 +1,4 @@
-use Rattle.std.proofs.Common.{◌≡◌, ◌+◌, List, ℕ, [], map, drop, ap, sym, ◌∙◌}
+use Rattle.std.proofs.Common.{◌+◌, map, drop, ap, sym, ◌∙◌}
 use Rattle.std.specs.Prelude.{flat_map}
 use Rattle.cs_model.specs.Builder.{symbols_in}
 use Rattle.cs_build.specs.Meaning.{form_by}

@@ -1,12 +1,12 @@
-use Rattle.std.proofs.Common.{◌≡◌, ℕ, Bool, ◌<◌, ◌≤◌, List, Some, None, Option, length, get_or, map, ap, sym, subst, ◌∙◌, arith, refl}
-use Rattle.std.specs.Prelude.{find, position, IfSome}
+use Rattle.std.proofs.Common.{ℕ, Bool, ◌<◌, Some, Option, length, ap, sym, subst, ◌∙◌, arith}
+use Rattle.std.specs.Prelude.{IfSome}
 use Rattle.std.specs.Option.{option_map_or}
 use Rattle.std.specs.Str.{bytes_eq}
 use Rattle.std.proofs.lemmas.List.{length-map, get_or-map}
 use Rattle.cs_model.specs.BuilderText as text
 use Rattle.cs_model.specs.Builder.{natural}
 use Rattle.cs_build.specs.Meaning.{class_by}
-use Rattle.cs_build.specs.Standing.{lines_in, place_in}
+use Rattle.cs_build.specs.Standing.{lines_in}
 use Rattle.cs_build.proofs.Standing.{position_within, find_position, find_none}
 use Rattle.cs_build.proofs.classes.Classes.format.Goals as goal
 

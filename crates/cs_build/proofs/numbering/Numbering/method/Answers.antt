@@ -1,4 +1,4 @@
-use Rattle.std.proofs.Common.{◌≡◌, List, ℕ, Option, ap, sym, subst, ◌∙◌}
+use Rattle.std.proofs.Common.{◌≡◌, Option, ap, sym, subst, ◌∙◌}
 use Rattle.std.specs.Prelude.{option_map, IfSome, count_by}
 use Rattle.cs_model.specs.BuilderFault.{is_literal}
 use Rattle.cs_build.specs.declared.form.Form.{Form}

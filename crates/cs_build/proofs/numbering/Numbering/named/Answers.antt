@@ -1,4 +1,4 @@
-use Rattle.std.proofs.Common.{◌≡◌, ℕ, Option, ap, ◌∙◌}
+use Rattle.std.proofs.Common.{ℕ, Option, ap, ◌∙◌}
 use Rattle.std.specs.Option.{option_or}
 use Rattle.cs_model.specs.BuilderFault.{is_named}
 use Rattle.cs_model.specs.Builder.{birth_where}

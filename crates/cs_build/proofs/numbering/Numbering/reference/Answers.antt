@@ -1,4 +1,4 @@
-use Rattle.std.proofs.Common.{◌≡◌, ap, sym, ◌∙◌}
+use Rattle.std.proofs.Common.{ap, sym, ◌∙◌}
 use Rattle.cs_model.specs.Builder.{obj_or_nil, mention_ref}
 use Rattle.cs_build.specs.Meaning.{mention_by}
 use Rattle.cs_build.specs.Standing.{forms_in}
