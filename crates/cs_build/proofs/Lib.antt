@@ -15,3 +15,4 @@ pub mod Walking
 pub mod Noting
 pub mod Numbers
 pub mod Standing
+pub mod Queueing

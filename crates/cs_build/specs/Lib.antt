@@ -6,3 +6,5 @@ pub mod Stored
 pub mod Numbered
 pub mod Counted
 pub mod Standing
+pub mod Queued
+pub mod Readied

@@ -15,6 +15,7 @@ mod number;
 mod numbering;
 mod object;
 mod outer;
+mod ready;
 mod symbols;
 mod word;
 

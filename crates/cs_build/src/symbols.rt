@@ -72,8 +72,8 @@ pub(crate) fn symbols_of<'a>(
     alloc: Global,
     forms: &[Form<'a>],
 ) -> Result<IndexSet<&'a [u8]>, AllocError>
-    ensures { IfOk result (λ symbols. names_of symbols.keys
-        ≡ mentioned (mentioned (mentioned [] selector_words) special_names_of) (flat_map symbols_in (map form_by forms.now))) }
+    ensures { IfOk result (λ symbols. names_of symbols.keys ≡ mentioned
+        (mentioned (mentioned [] selector_words) special_names_of) (flat_map symbols_in (map form_by forms.now))) }
 {
     let mut symbols = IndexSet::new(alloc);
     mention_selectors(&mut symbols)?;
@@ -85,7 +85,7 @@ pub(crate) fn symbols_of<'a>(
 }
 
 /// A symbol is mentioned.
-fn mention_symbol<'a>(symbols: &mut IndexSet<&'a [u8]>, name: &'a [u8]) -> Result<(), AllocError>
+pub(crate) fn mention_symbol<'a>(symbols: &mut IndexSet<&'a [u8]>, name: &'a [u8]) -> Result<(), AllocError>
     ensures { OnOk result (names_of symbols.new.keys ≡ with_new (names_of symbols.old.keys) name.now) }
 {
     symbols.insert(name)?;
