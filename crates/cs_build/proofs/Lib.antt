@@ -16,3 +16,4 @@ pub mod Noting
 pub mod Numbers
 pub mod Standing
 pub mod Queueing
+pub mod Coding

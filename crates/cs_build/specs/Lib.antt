@@ -8,3 +8,4 @@ pub mod Counted
 pub mod Standing
 pub mod Queued
 pub mod Readied
+pub mod Sound

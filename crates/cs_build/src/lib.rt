@@ -1,6 +1,7 @@
 //! The builder of images: from a text in lines to the bytes of an image, and the generator of large texts.
 #![tactic(auto)]
 
+mod bytecodes;
 mod classes;
 mod code;
 mod error;
