@@ -1,6 +1,6 @@
 -- The bytes of instructions, and the labels of a method.
-use Rattle.std.proofs.Common.{◌≡◌, ℕ, ◌+◌, ◌*◌, ◌≤◌, Bool, true, false, List, [], ◌∷◌, ◌++◌, Some, None, Option, length, ap, sym, ◌∙◌, refl, arith, if◌then◌else◌}
-use Rattle.std.specs.Prelude.{find, option_map, option_and_then, unwrap_or, IfSome, sum_by}
+use Rattle.std.proofs.Common.{◌≡◌, ℕ, ◌+◌, ◌*◌, ◌≤◌, ◌<◌, Bool, true, false, List, [], ◌∷◌, ◌++◌, Some, None, Option, length, ap, sym, ◌∙◌, refl, arith, if◌then◌else◌}
+use Rattle.std.specs.Prelude.{find, option_map, option_and_then, unwrap_or, ◌&&◌, IfSome, sum_by}
 use Rattle.std.specs.Option.{option_map_or, option_or}
 use Rattle.std.proofs.lemmas.List.Sums.{sum_by-cons}
 use Rattle.cs_model.specs.declared.instruction.Op.{Op}
@@ -8,6 +8,8 @@ use Rattle.cs_model.specs.declared.instruction.Instr.{Instr}
 use Rattle.cs_model.specs.Assemble.{IsInstr, assembled, bytes_of, has_form}
 use Rattle.cs_model.specs.BuilderText as text
 use Rattle.cs_model.specs.BuilderFault.{first_bytes, form_bytes, place_where, byte_count}
+use Rattle.std.specs.List.{list_all}
+use Rattle.cs_build.specs.Sound.{is_sound}
 use Rattle.cs_decode.proofs.HasForm.{IsInstr-has_form}
 use Rattle.cs_build.proofs.Noting.{or_noted}
 
@@ -47,3 +49,21 @@ pub label_more : (passes : text.Form → Bool) (new old : Option ℕ) (n : ℕ) 
     → option_or new (place_where byte_count passes (n + byte_count form) rest) ≡ option_or old (place_where byte_count passes n (form ∷ rest))
 label_more passes new old n form rest e = ap (λ o. option_or o (place_where byte_count passes (n + byte_count form) rest)) e
     ∙ or_noted old (passes form) n (place_where byte_count passes (n + byte_count form) rest)
+
+-- a place that was noted is no later one
+pub within_more : (o : Option ℕ) (b : Bool) (n m : ℕ) → IfSome o (λ k. k ≤ n) → n ≤ m → IfSome (option_or o (if b then Some n else None)) (λ k. k ≤ m)
+within_more (Some k) b n m h l = omega (arith, h, l)
+within_more None true n m h l = l
+within_more None false n m h l = tt
+
+pub within_most : (o : Option ℕ) (n m : ℕ) → IfSome o (λ k. k ≤ n) → n < m → IfSome o (λ k. k < m)
+within_most None n m h l = tt
+within_most (Some k) n m h l = omega (arith, h, l)
+
+pub both_sound : (form : text.Form) (forms : List text.Form) → list_all is_sound (form ∷ forms) ≡ true → (is_sound form ≡ true) × (list_all is_sound forms ≡ true)
+both_sound form forms e = go (is_sound form) (list_all is_sound forms) e
+  where
+    go : (a b : Bool) → a && b ≡ true → (a ≡ true) × (b ≡ true)
+    go true true h = (refl, refl)
+    go true false h = absurd (cc)
+    go false b h = absurd (cc)

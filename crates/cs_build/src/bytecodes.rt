@@ -159,6 +159,15 @@ fn label_at(places: &IndexMap<&[u8], u32>, label: &[u8]) -> Option<u32>
     places.get(label).copied()
 }
 
+/// How far it is from a place to another.
+fn offset(to: u32, from: u32) -> i32
+    requires to { to < 2 ^ 28 }
+    requires from { from < 2 ^ 29 }
+    ensures { result ≡ pos to -ℤ pos from }
+{
+    to as i32 - from as i32
+}
+
 /// The jump of a line at a place to a label, if it fits.
 fn jump_at(places: &IndexMap<&[u8], u32>, place: u32, jump: Jump, label: &[u8]) -> Option<Instr>
     requires place { place < 2 ^ 28 }
@@ -168,7 +177,7 @@ fn jump_at(places: &IndexMap<&[u8], u32>, place: u32, jump: Jump, label: &[u8]) 
     ensures form { IfSome result IsInstr }
 {
     match label_at(places, label) {
-        Some(to) => jump_form(jump, to as i32 - (place as i32 + 2)),
+        Some(to) => jump_form(jump, offset(to, place + 2)),
         None => None,
     }
 }
@@ -188,7 +197,7 @@ fn closure_at(
     ensures form { IfSome result IsInstr }
 {
     match label_at(places, label) {
-        Some(to) => closure_form(copied, args, to as i32 - (place as i32 + 4)),
+        Some(to) => closure_form(copied, args, offset(to, place + 4)),
         None => None,
     }
 }
@@ -200,11 +209,11 @@ fn put_line(
     place: u32,
     form: &Form<'_>,
 ) -> Result<(), AllocError>
-    ghost body: { List text.Form }
     requires place { place < 2 ^ 28 }
-    requires places { AreLabels places.now body }
+    requires places { (q : List ℕ) → IfSome (number_of places.now q) (λ to. to < 2 ^ 28) }
     requires sound { is_sound (form_by form.now) ≡ true }
-    ensures { OnOk result (code.new.items ≡ code.old.items ++ unwrap_or (line_bytes body place (form_by form.now)) []) }
+    ensures { OnOk result ((body : List text.Form) → AreLabels places.now body
+        → code.new.items ≡ code.old.items ++ unwrap_or (line_bytes body place (form_by form.now)) []) }
 {
     match form {
         Form::Byte(value) => put_byte(code, *value),
