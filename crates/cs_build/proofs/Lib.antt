@@ -17,3 +17,4 @@ pub mod Numbers
 pub mod Standing
 pub mod Queueing
 pub mod Coding
+pub mod Sounding

@@ -1,6 +1,6 @@
 -- Steps of a loop whose invariant says what the rest of the list still gives.
-use Rattle.std.proofs.Common.{◌≡◌, ℕ, ◌+◌, ◌<◌, ◌≤◌, List, [], ◌∷◌, length, drop, get_or, ap, sym, ◌∙◌}
-use Rattle.std.proofs.lemmas.List.{drop_more, drop_all}
+use Rattle.std.proofs.Common.{◌≡◌, ℕ, ◌+◌, ◌<◌, ◌≤◌, List, [], ◌∷◌, ◌++◌, map, length, drop, get_or, ap, sym, ◌∙◌}
+use Rattle.std.proofs.lemmas.List.{drop_more, drop_all, map_push, append_assoc}
 
 pub drop_read : {X : Type 0} (xs : List X) (i : ℕ) (x : X) → x ≡ get_or xs i x → i < length xs → drop i xs ≡ x ∷ drop (i + 1) xs
 drop_read xs i x e h = drop_more xs i x h ∙ ap (λ z. z ∷ drop (i + 1) xs) (sym e)
@@ -19,3 +19,9 @@ pub walk_at : {S X T : Type 0} (F : S → List X → T) (s n : S) (xs : List X) 
     → i < length xs → F n (drop (i + 1) xs) ≡ F s (get_or xs i d ∷ drop (i + 1) xs) → F s (drop i xs) ≡ t
     → F n (drop (i + 1) xs) ≡ t
 walk_at F s n xs i d t h step was = step ∙ ap (F s) (sym (drop_more xs i d h)) ∙ was
+
+-- one element more at the end
+pub pushed : {X Y : Type 0} (h : X → Y) (old new : List X) (x : X) (y : Y) (rest : List Y) → new ≡ old ++ x ∷ [] → h x ≡ y
+    → map h new ++ rest ≡ map h old ++ y ∷ rest
+pushed h old new x y rest e same = ap (λ v. map h v ++ rest) e ∙ ap (λ l. l ++ rest) (map_push h old x)
+    ∙ append_assoc (map h old) (h x ∷ []) rest ∙ ap (λ z. map h old ++ z ∷ rest) same

@@ -3,12 +3,12 @@ use Rattle.std.specs.Prelude.{◌≡◌, ℕ, ◌^◌, ◌<◌, ◌&&◌, Bool, 
 use Rattle.std.specs.Borrow.{Bor}
 use Rattle.indexmap.specs.IndexMap.{IndexMap}
 use Rattle.cs_model.specs.BuilderText.{Form, Class, Method, Process, Byte}
-use Rattle.cs_model.specs.BuilderFault.{is_between, is_class_format, label_place, method_fits}
+use Rattle.cs_model.specs.BuilderFault.{is_between, label_place, method_fits}
 use Rattle.cs_build.specs.Numbered.{number_of}
 
 -- the numbers of a line fit what is made of it
 abbrev pub is_sound : Form → Bool
-is_sound (Class line) = is_class_format line.format && is_between 0 65535 line.fields
+is_sound (Class line) = is_between 0 31 line.format && is_between 0 65535 line.fields
 is_sound (Method line) = method_fits line
 is_sound (Process line) = is_between 1 8 line.priority
 is_sound (Byte value) = is_between 0 255 value

@@ -1,5 +1,6 @@
 -- The numbers of all objects of a text, as the code keeps them.
-use Rattle.std.specs.Prelude.{◌≡◌, ℕ, ◌^◌, ◌<◌, List, length, map, drop, Option, option_map, position}
+use Rattle.std.specs.Prelude.{◌≡◌, ℕ, ◌^◌, ◌<◌, true, List, length, map, drop, Option, option_map, position}
+use Rattle.std.specs.List.{list_all}
 use Rattle.std.specs.Str.{bytes_eq}
 use Rattle.cs_model.specs.BuilderText as text
 use Rattle.cs_model.specs.BuilderFault.{all_classes, is_named}
@@ -8,6 +9,7 @@ use Rattle.cs_build.specs.declared.classes.Classes.{Classes}
 use Rattle.cs_build.specs.declared.numbering.Numbering.{Numbering}
 use Rattle.cs_build.specs.Meaning.{form_by, class_by}
 use Rattle.cs_build.specs.Numbered.{names_of, number_of, method_of, method_in}
+use Rattle.cs_build.specs.Sound.{is_sound}
 use Rattle.cs_build.specs.Counted.{AreCounted, number_in, body_in}
 
 -- the lines of a text behind those of the known classes
@@ -37,6 +39,8 @@ pub record AreClasses (c : Classes) : Type 0 where
 -- what has a number has that of the model
 pub record StandsFor (n : Numbering) (forms : List text.Form) : Type 0 where
   pub whole : map form_by n.forms.now ≡ all_forms forms
+  pub sound : list_all is_sound (map form_by n.forms.now) ≡ true
+  pub lines_few : length n.forms.now < 2 ^ 26
   pub few : n.births.next < 2 ^ 28
   pub few_symbols : length n.symbols.keys < 2 ^ 28
   pub classes : AreClasses n.classes

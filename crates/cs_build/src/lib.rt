@@ -15,6 +15,7 @@ mod method;
 mod number;
 mod numbering;
 mod object;
+mod objects;
 mod outer;
 mod ready;
 mod symbols;

@@ -1,17 +1,20 @@
 //! The numbers of the objects of a text, which are their places in the order of the image.
 
-ghost use Rattle.std.specs.Prelude.{◌≡◌, ◌∷◌, [], ◌+◌, ◌<◌, ◌^◌, ℕ, List, Option, Some, None, if◌then◌else◌, length, map, count_by, option_map, OnOk, IfOk, IfSome, position, unwrap_or};
+ghost use Rattle.std.specs.Prelude.{◌≡◌, ◌∷◌, [], ◌+◌, ◌<◌, ◌^◌, ℕ, List, Option, Some, None, if◌then◌else◌};
+ghost use Rattle.std.specs.Prelude.{true, length, map, count_by, option_map, OnOk, IfOk, IfSome, position, unwrap_or};
 ghost use Rattle.std.specs.Option.{option_or};
-ghost use Rattle.std.specs.List.{before_first};
+ghost use Rattle.std.specs.List.{before_first, list_all};
 ghost use Rattle.std.specs.Str.{bytes_eq};
 ghost use Rattle.cs_model.specs.BuilderText.{Form as FormOf};
 ghost use Rattle.cs_model.specs.BuilderFault.{is_named, is_end_line as is_end_of, is_literal as is_literal_of};
 ghost use Rattle.cs_model.specs.Builder.{is_process_named, is_method_of, all_forms, birth_where, process_birth};
 ghost use Rattle.cs_model.specs.Builder.{named_birth, method_birth, dictionary_birth, values_birth, class_place};
+ghost use Rattle.cs_model.specs.Builder.{class_index, class_format};
 ghost use Rattle.cs_model.specs.Builder.{symbol_ref, mention_ref};
 ghost use Rattle.cs_build.specs.Laid.{reference_by};
 ghost use Rattle.cs_build.specs.Meaning.{form_by, mention_by};
 ghost use Rattle.cs_build.specs.Numbered.{number_of, method_of, method_at, method_in};
+ghost use Rattle.cs_build.specs.Sound.{is_sound};
 ghost use Rattle.cs_build.specs.Standing.{Stands, forms_in, own_forms, symbol_names};
 ghost use Rattle.cs_build.specs.Counted.{Counts, AreCounted, number_in, body_in};
 
@@ -196,6 +199,7 @@ pub(crate) fn numbering_of<'f, 'a>(
 ) -> Result<Numbering<'f, 'a>, AllocError>
     requires few { length forms.now < 2 ^ 26 }
     requires whole { map form_by forms.now ≡ all_forms (own_forms (map form_by forms.now)) }
+    requires sound { list_all is_sound (map form_by forms.now) ≡ true }
     ensures stands { IfOk result Stands }
     ensures forms { IfOk result (λ n. n.forms.now ≡ forms.now) }
 {
@@ -305,8 +309,25 @@ impl<'f, 'a> Numbering<'f, 'a> {
         }
     }
 
+    /// The index of a class in the class table, or 0 where there is none.
+    pub(crate) fn class_index(&self, name: &[u8]) -> u32
+        requires { Stands self.now }
+        ensures { result ≡ class_index (forms_in self.now) name.now }
+    {
+        self.classes.index(name)
+    }
+
+    /// The format of the instances of a class, or 0 where there is none.
+    pub(crate) fn class_format(&self, name: &[u8]) -> u32
+        requires { Stands self.now }
+        ensures value { result ≡ class_format (forms_in self.now) name.now }
+        ensures few { result < 32 }
+    {
+        self.classes.format(name)
+    }
+
     /// The number of the dictionary of a class.
-    fn dictionary_of(&self, class: &[u8]) -> Option<u32>
+    pub(crate) fn dictionary_of(&self, class: &[u8]) -> Option<u32>
         requires { Stands self.now }
         ensures { result ≡ option_map (dictionary_birth (forms_in self.now)) (class_place (forms_in self.now) class.now) }
     {

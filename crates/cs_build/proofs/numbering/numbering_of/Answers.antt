@@ -25,6 +25,8 @@ returns c =
     record {
       stands = record {
         whole = whole;
+        sound = c.requires.sound;
+        lines_few = c.requires.few;
         few = omega (arith, total, few_objects (map form_by c.args.forms.now), length-map c.args.forms.now form_by, c.requires.few);
         few_symbols = omega (arith, c.len.ensures.len);
         classes = record {
