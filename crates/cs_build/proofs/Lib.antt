@@ -18,3 +18,4 @@ pub mod Standing
 pub mod Queueing
 pub mod Coding
 pub mod Sounding
+pub mod Literals

@@ -25,3 +25,7 @@ pub pushed : {X Y : Type 0} (h : X → Y) (old new : List X) (x : X) (y : Y) (re
     → map h new ++ rest ≡ map h old ++ y ∷ rest
 pushed h old new x y rest e same = ap (λ v. map h v ++ rest) e ∙ ap (λ l. l ++ rest) (map_push h old x)
     ∙ append_assoc (map h old) (h x ∷ []) rest ∙ ap (λ z. map h old ++ z ∷ rest) same
+
+-- the same for some elements
+pub put_more : {A : Type 0} (old new some rest : List A) → new ≡ old ++ some → new ++ rest ≡ old ++ (some ++ rest)
+put_more old new some rest e = ap (λ l. l ++ rest) e ∙ append_assoc old some rest

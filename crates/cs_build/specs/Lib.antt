@@ -9,3 +9,4 @@ pub mod Standing
 pub mod Queued
 pub mod Readied
 pub mod Sound
+pub mod Making

@@ -2,20 +2,27 @@
 
 ghost use Rattle.std.specs.Prelude.{◌≡◌, ◌∷◌, ◌++◌, ◌+◌, ◌^◌, ◌<◌, ◌*ℤ◌, ◌+ℤ◌, [], pos, true, length, map};
 ghost use Rattle.std.specs.Prelude.{option_map, IfOk, OnOk};
+ghost use Rattle.std.specs.Prelude.{count_by};
+ghost use Rattle.std.specs.List.{list_all};
 ghost use Rattle.std.specs.Option.{option_map_or};
+ghost use Rattle.cs_model.specs.Ref.{Small};
 ghost use Rattle.cs_model.specs.BuilderText.{Class};
-ghost use Rattle.cs_model.specs.BuilderFault.{is_between};
+ghost use Rattle.cs_model.specs.BuilderFault.{is_between, is_literal as is_literal_of, method_fits};
 ghost use Rattle.cs_model.specs.Builder.{class_object as class_object_of, class_ref, class_slots, nil_ref};
 ghost use Rattle.cs_model.specs.Builder.{mention_ref, method_birth, obj_or_nil, pointer_object as pointer_object_of};
-ghost use Rattle.cs_model.specs.Builder.{process_ref, symbol_ref};
+ghost use Rattle.cs_model.specs.Builder.{process_ref, symbol_ref, built_header};
+ghost use Rattle.cs_model.specs.Builder.{dictionary_object as dictionary_object_of, values_object as values_object_of};
+ghost use Rattle.cs_build.specs.Making.{literals_in, method_made};
 ghost use Rattle.cs_build.specs.Laid.{laid, laid_by, reference_by};
 ghost use Rattle.cs_build.specs.Meaning.{class_by, form_by, mention_by, method_line_by};
 ghost use Rattle.cs_build.specs.Sound.{is_sound};
 ghost use Rattle.cs_build.specs.Standing.{Stands, forms_in};
 
-use crate::form::{ClassLine, Mention, MethodLine};
-use crate::making::{NIL, hashed_pointers, object_or_nil, plain_format, pointers};
-use crate::numbering::Numbering;
+use crate::bytecodes::bytecodes_of;
+use crate::form::{ClassLine, Form, Mention, MethodLine};
+use crate::making::{NIL, hashed_pointers, object_or_nil, natural, plain_format, pointers, spare};
+use crate::method::method_header;
+use crate::numbering::{Numbered, Numbering};
 use crate::object::{Object, Reference};
 use std::alloc::{AllocError, Global};
 
@@ -136,4 +143,118 @@ fn put_methods(
         slots.push(object_or_nil(number))?;
     }
     Ok(())
+}
+
+/// The method dictionary of the class at a place: the tally, the array of values, and the selectors.
+pub(crate) fn dictionary_object(
+    alloc: Global,
+    numbering: &Numbering<'_, '_>,
+    place: u32,
+    methods: &[MethodLine<'_>],
+) -> Result<Object, AllocError>
+    requires stands { Stands numbering.now }
+    requires place { place < 2 ^ 28 }
+    requires few { length methods.now < 2 ^ 28 }
+    ensures { IfOk result (λ o. laid_by o
+        ≡ laid (dictionary_object_of (forms_in numbering.now) place (map method_line_by methods.now))) }
+{
+    let mut slots = Vec::new(alloc);
+    slots.push(Reference::Small(methods.len() as i32))?;
+    slots.push(Reference::Object(numbering.dictionary(place) + 1))?;
+    put_selectors(&mut slots, numbering, methods)?;
+    pointers(alloc, 50, 3, &slots)
+}
+
+/// The array of the methods of a class.
+pub(crate) fn values_object(
+    alloc: Global,
+    numbering: &Numbering<'_, '_>,
+    methods: &[MethodLine<'_>],
+) -> Result<Object, AllocError>
+    requires { Stands numbering.now }
+    ensures { IfOk result (λ o. laid_by o
+        ≡ laid (values_object_of (forms_in numbering.now) (map method_line_by methods.now))) }
+{
+    let mut slots = Vec::new(alloc);
+    put_methods(&mut slots, numbering, methods)?;
+    pointers(alloc, 39, 2, &slots)
+}
+
+/// Appends what a line refers to, if it is a literal.
+fn put_literal(
+    slots: &mut Vec<Reference>,
+    numbering: &Numbering<'_, '_>,
+    form: &Form<'_>,
+) -> Result<(), AllocError>
+    requires { Stands numbering.now }
+    ensures { OnOk result (map reference_by slots.new.items ≡ map reference_by slots.old.items
+        ++ literals_in (forms_in numbering.now) (form_by form.now ∷ [])) }
+{
+    match form {
+        Form::Literal(value) => {
+            slots.push(numbering.reference(value))?;
+            Ok(())
+        }
+        _ => Ok(()),
+    }
+}
+
+/// Appends the literals of a method.
+fn put_literals(
+    slots: &mut Vec<Reference>,
+    numbering: &Numbering<'_, '_>,
+    body: &[Form<'_>],
+) -> Result<(), AllocError>
+    requires { Stands numbering.now }
+    ensures { OnOk result (map reference_by slots.new.items ≡ map reference_by slots.old.items
+        ++ literals_in (forms_in numbering.now) (map form_by body.now)) }
+{
+    for form in body {
+        put_literal(slots, numbering, form)?;
+    }
+    Ok(())
+}
+
+/// The slots of a method: its header and its literals.
+fn method_slots(
+    alloc: Global,
+    numbering: &Numbering<'_, '_>,
+    method: &Numbered<'_, '_>,
+) -> Result<Vec<Reference>, AllocError>
+    requires stands { Stands numbering.now }
+    requires line { method_fits (method_line_by method.now.line) ≡ true }
+    requires few { method.now.literals < 2 ^ 28 }
+    ensures { IfOk result (λ slots. map reference_by slots.items
+        ≡ Small (pos (built_header (method_line_by method.now.line) method.now.literals))
+            ∷ literals_in (forms_in numbering.now) (map form_by method.now.body.now)) }
+{
+    let mut slots = Vec::new(alloc);
+    slots.push(Reference::Small(method_header(&method.line, method.literals)))?;
+    put_literals(&mut slots, numbering, method.body)?;
+    Ok(slots)
+}
+
+/// A method.
+fn method_object(
+    alloc: Global,
+    numbering: &Numbering<'_, '_>,
+    method: &Numbered<'_, '_>,
+) -> Result<Object, AllocError>
+    requires stands { Stands numbering.now }
+    requires line { method_fits (method_line_by method.now.line) ≡ true }
+    requires few { length method.now.body.now < 2 ^ 26 }
+    requires sound { list_all is_sound (map form_by method.now.body.now) ≡ true }
+    requires literals { method.now.literals ≡ count_by (λ form. is_literal_of (form_by form)) method.now.body.now }
+    ensures { IfOk result (λ o. laid_by o ≡ laid (method_made (forms_in numbering.now)
+        (method_line_by method.now.line) (map form_by method.now.body.now))) }
+{
+    let slots = method_slots(alloc, numbering, method)?;
+    let bytes = bytecodes_of(alloc, &method.line, method.body)?;
+    Ok(Object {
+        class: 43,
+        format: 24 + spare(bytes.len()),
+        hash: 0,
+        slots,
+        bytes,
+    })
 }
