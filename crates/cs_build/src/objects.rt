@@ -2,28 +2,31 @@
 
 ghost use Rattle.std.specs.Prelude.{◌≡◌, ◌∷◌, ◌++◌, ◌+◌, ◌^◌, ◌<◌, ◌*ℤ◌, ◌+ℤ◌, [], pos, true, length, map};
 ghost use Rattle.std.specs.Prelude.{option_map, IfOk, OnOk};
-ghost use Rattle.std.specs.Prelude.{count_by};
+ghost use Rattle.std.specs.Prelude.{ℕ, List, ◌≤◌, count_by, replicate};
 ghost use Rattle.std.specs.List.{list_all};
 ghost use Rattle.std.specs.Option.{option_map_or};
 ghost use Rattle.cs_model.specs.Ref.{Small};
-ghost use Rattle.cs_model.specs.BuilderText.{Class};
-ghost use Rattle.cs_model.specs.BuilderFault.{is_between, is_literal as is_literal_of, method_fits};
+ghost use Rattle.cs_model.specs.BuilderText.{Form as FormOf};
+ghost use Rattle.cs_model.specs.Obj.{Ctx};
+ghost use Rattle.cs_model.specs.BuilderFault.{is_between, is_literal as is_literal_of, method_fits, most_temporaries};
 ghost use Rattle.cs_model.specs.Builder.{class_object as class_object_of, class_ref, class_slots, nil_ref};
 ghost use Rattle.cs_model.specs.Builder.{mention_ref, method_birth, obj_or_nil, pointer_object as pointer_object_of};
-ghost use Rattle.cs_model.specs.Builder.{process_ref, symbol_ref, built_header};
+ghost use Rattle.cs_model.specs.Builder.{process_ref, symbol_ref, built_header, list_if_ready, natural as natural_in};
 ghost use Rattle.cs_model.specs.Builder.{dictionary_object as dictionary_object_of, values_object as values_object_of};
-ghost use Rattle.cs_build.specs.Making.{literals_in, method_made};
+ghost use Rattle.cs_build.specs.Making.{begin_at, context_made, literals_in, method_made, process_made};
+ghost use Rattle.cs_build.specs.Readied.{IsReady};
 ghost use Rattle.cs_build.specs.Laid.{laid, laid_by, reference_by};
-ghost use Rattle.cs_build.specs.Meaning.{class_by, form_by, mention_by, method_line_by};
+ghost use Rattle.cs_build.specs.Meaning.{class_by, form_by, mention_by, method_line_by, process_by};
 ghost use Rattle.cs_build.specs.Sound.{is_sound};
 ghost use Rattle.cs_build.specs.Standing.{Stands, forms_in};
 
 use crate::bytecodes::bytecodes_of;
-use crate::form::{ClassLine, Form, Mention, MethodLine};
+use crate::form::{ClassLine, Form, Mention, MethodLine, ProcessLine};
 use crate::making::{NIL, hashed_pointers, object_or_nil, natural, plain_format, pointers, spare};
 use crate::method::method_header;
 use crate::numbering::{Numbered, Numbering};
 use crate::object::{Object, Reference};
+use crate::ready::{Ready, priority_in};
 use std::alloc::{AllocError, Global};
 
 /// The process of a name, and nil where there is none.
@@ -145,6 +148,14 @@ fn put_methods(
     Ok(())
 }
 
+/// A number that isn't negative.
+pub(crate) fn small(value: usize) -> Reference
+    requires { value < 2 ^ 30 }
+    ensures { reference_by result ≡ Small (pos value) }
+{
+    Reference::Small(value as i32)
+}
+
 /// The method dictionary of the class at a place: the tally, the array of values, and the selectors.
 pub(crate) fn dictionary_object(
     alloc: Global,
@@ -158,11 +169,11 @@ pub(crate) fn dictionary_object(
     ensures { IfOk result (λ o. laid_by o
         ≡ laid (dictionary_object_of (forms_in numbering.now) place (map method_line_by methods.now))) }
 {
-    let mut slots = Vec::new(alloc);
-    slots.push(Reference::Small(methods.len() as i32))?;
-    slots.push(Reference::Object(numbering.dictionary(place) + 1))?;
+    let values = Reference::Object(numbering.dictionary(place) + 1);
+    let mut slots = Vec::from_slice(alloc, &[small(methods.len()), values])?;
     put_selectors(&mut slots, numbering, methods)?;
-    pointers(alloc, 50, 3, &slots)
+    let object = pointers(alloc, 50, 3, &slots)?;
+    Ok(object)
 }
 
 /// The array of the methods of a class.
@@ -177,7 +188,8 @@ pub(crate) fn values_object(
 {
     let mut slots = Vec::new(alloc);
     put_methods(&mut slots, numbering, methods)?;
-    pointers(alloc, 39, 2, &slots)
+    let object = pointers(alloc, 39, 2, &slots)?;
+    Ok(object)
 }
 
 /// Appends what a line refers to, if it is a literal.
@@ -215,6 +227,15 @@ fn put_literals(
     Ok(())
 }
 
+/// The slot of a method that holds its header.
+fn header_slot(line: &MethodLine<'_>, literals: usize) -> Reference
+    requires line { method_fits (method_line_by line.now) ≡ true }
+    requires few { literals < 2 ^ 28 }
+    ensures { reference_by result ≡ Small (pos (built_header (method_line_by line.now) literals)) }
+{
+    Reference::Small(method_header(line, literals))
+}
+
 /// The slots of a method: its header and its literals.
 fn method_slots(
     alloc: Global,
@@ -228,8 +249,8 @@ fn method_slots(
         ≡ Small (pos (built_header (method_line_by method.now.line) method.now.literals))
             ∷ literals_in (forms_in numbering.now) (map form_by method.now.body.now)) }
 {
-    let mut slots = Vec::new(alloc);
-    slots.push(Reference::Small(method_header(&method.line, method.literals)))?;
+    let header = header_slot(&method.line, method.literals);
+    let mut slots = Vec::from_slice(alloc, &[header])?;
     put_literals(&mut slots, numbering, method.body)?;
     Ok(slots)
 }
@@ -257,4 +278,105 @@ fn method_object(
         slots,
         bytes,
     })
+}
+
+// ---- processes
+
+/// Appends nil so many times.
+fn put_nils(slots: &mut Vec<Reference>, count: u32) -> Result<(), AllocError>
+    ensures { OnOk result (map reference_by slots.new.items ≡ map reference_by slots.old.items ++ replicate count nil_ref) }
+{
+    for _ in 0..count {
+        slots.push(NIL)?;
+    }
+    Ok(())
+}
+
+/// The first pc of a method, behind the bytecode that names its primitive.
+fn first_pc(method: &Numbered<'_, '_>) -> Reference
+    requires { method.now.literals < 2 ^ 26 }
+    ensures { reference_by result ≡ Small (pos (begin_at method.now.literals (method_line_by method.now.line))) }
+{
+    let prefix = if method.line.primitive.is_some() { 3 } else { 0 };
+    small(4 * (method.literals + 1) + 1 + prefix)
+}
+
+/// How many slots the contexts of a method have.
+fn context_slots(line: &MethodLine<'_>) -> u32
+    ensures { result ≡ most_temporaries (method_line_by line.now) }
+{
+    if line.large { 56 } else { 16 }
+}
+
+/// How many temporaries a method has.
+fn temporaries_in(line: &MethodLine<'_>) -> u32
+    ensures { result ≡ natural_in line.now.temporaries }
+{
+    natural(line.temporaries)
+}
+
+/// The context in which a process begins.
+fn context_object(
+    alloc: Global,
+    numbering: &Numbering<'_, '_>,
+    receiver: &Mention<'_>,
+    method: &Numbered<'_, '_>,
+) -> Result<Object, AllocError>
+    requires stands { Stands numbering.now }
+    requires line { method_fits (method_line_by method.now.line) ≡ true }
+    requires few { method.now.literals < 2 ^ 26 }
+    requires literals { method.now.literals ≡ count_by (λ form. is_literal_of (form_by form)) method.now.body.now }
+    ensures { IfOk result (λ o. laid_by o ≡ laid (Ctx (context_made (forms_in numbering.now)
+        (method_line_by method.now.line) (map form_by method.now.body.now) (mention_by receiver.now)))) }
+{
+    let line = &method.line;
+    let head = [
+        NIL,
+        first_pc(method),
+        small(temporaries_in(line) as usize),
+        object_or_nil(numbering.method_number(line.class, line.selector)),
+        NIL,
+        numbering.reference(receiver),
+    ];
+    let mut slots = Vec::from_slice(alloc, &head)?;
+    put_nils(&mut slots, context_slots(line))?;
+    let object = pointers(alloc, 36, 3, &slots)?;
+    Ok(object)
+}
+
+/// The process of a line.
+fn process_object(
+    alloc: Global,
+    numbering: &Numbering<'_, '_>,
+    ready: &Ready<'_>,
+    line: &ProcessLine<'_>,
+) -> Result<Object, AllocError>
+    requires stands { Stands numbering.now }
+    requires ready { IsReady (forms_in numbering.now) ready.now }
+    requires priority { is_between 1 8 line.now.priority ≡ true }
+    ensures { IfOk result (λ o. laid_by o ≡ laid (process_made (forms_in numbering.now) (process_by line.now))) }
+{
+    let priority = priority_in(line);
+    let behind = ready.queues[priority as usize - 1].behind(line.name);
+    let slots = [
+        process_or_nil(numbering, behind),
+        object_or_nil(numbering.context(line.name)),
+        Reference::Small(line.priority),
+        list_if_ready(ready, priority, line.name),
+    ];
+    let object = pointers(alloc, 45, 1, &slots)?;
+    Ok(object)
+}
+
+/// The list of a priority, if a process is ready, and nil otherwise.
+fn list_if_ready(ready: &Ready<'_>, priority: u32, name: &[u8]) -> Reference
+    requires { priority < 2 ^ 16 }
+    ensures { (forms : List FormOf) → IsReady forms ready.now → 1 ≤ priority
+        → reference_by result ≡ list_if_ready forms priority name.now }
+{
+    if ready.has(name) {
+        Reference::Object(7 + priority)
+    } else {
+        NIL
+    }
 }
