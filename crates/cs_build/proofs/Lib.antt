@@ -19,3 +19,5 @@ pub mod Queueing
 pub mod Coding
 pub mod Sounding
 pub mod Literals
+pub mod Contexts
+pub mod MethodsFound

@@ -4,6 +4,7 @@ use Rattle.std.specs.Prelude.{ℤ, pos, negsuc, find, flat_map, ◌&&◌, not, I
 use Rattle.std.specs.Option.{option_map_or}
 use Rattle.std.specs.List.{list_all}
 use Rattle.std.specs.Str.{bytes_eq}
+use Rattle.std.proofs.lemmas.Bool.{false≢true}
 use Rattle.std.proofs.lemmas.Bool.Decides.{nat_tests}
 use Rattle.std.proofs.lemmas.Int.{ints}
 use Rattle.cs_model.specs.BuilderText as text
@@ -20,9 +21,18 @@ and_true false b h = absurd (cc)
 -- a number between two isn't above the higher one
 pub natural_between : (low high : ℕ) (z : ℤ) → is_between low high z ≡ true → natural z ≤ high
 natural_between low high (pos n) e =
-    let below : int_lt (pos n) (pos (high + 1)) ≡ true = (and_true _ _ e).1 in
+    let below : int_lt (pos n) (pos (high + 1)) ≡ true = (and_true (not (int_lt (pos n) (pos low))) (int_lt (pos n) (pos (high + 1))) e).1 in
     first_of (grind (arith, nat_tests, below), omega (arith, ints, below))
 natural_between low high (negsuc n) e = omega arith
+
+-- nor below the lower one
+pub natural_least : (low high : ℕ) (z : ℤ) → is_between low high z ≡ true → low ≤ natural z
+natural_least low high (pos n) e =
+    let least : not (int_lt (pos n) (pos low)) ≡ true = (and_true (not (int_lt (pos n) (pos low))) (int_lt (pos n) (pos (high + 1))) e).0 in
+    first_of (grind (arith, nat_tests, least), omega (arith, ints, least))
+natural_least low high (negsuc n) e =
+    let least : not (int_lt (negsuc n) (pos low)) ≡ true = (and_true (not (int_lt (negsuc n) (pos low))) (int_lt (negsuc n) (pos (high + 1))) e).0 in
+    absurd (false≢true least)
 
 formats_sound : (forms : List text.Form) → list_all is_sound forms ≡ true → list_all (λ c. is_between 0 31 c.format) (flat_map class_lines_in forms) ≡ true
 formats_sound [] e = refl

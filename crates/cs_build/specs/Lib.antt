@@ -10,3 +10,4 @@ pub mod Queued
 pub mod Readied
 pub mod Sound
 pub mod Making
+pub mod Made

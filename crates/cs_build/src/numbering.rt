@@ -15,6 +15,7 @@ ghost use Rattle.cs_build.specs.Laid.{reference_by};
 ghost use Rattle.cs_build.specs.Meaning.{form_by, mention_by};
 ghost use Rattle.cs_build.specs.Numbered.{number_of, method_of, method_at, method_in};
 ghost use Rattle.cs_build.specs.Sound.{is_sound};
+ghost use Rattle.cs_build.specs.Made.{IsMade};
 ghost use Rattle.cs_build.specs.Standing.{Stands, forms_in, own_forms, symbol_names};
 ghost use Rattle.cs_build.specs.Counted.{Counts, AreCounted, number_in, body_in};
 
@@ -293,7 +294,7 @@ impl<'f, 'a> Numbering<'f, 'a> {
         requires { Stands self.now }
         ensures number { option_map number_in result ≡ method_birth (forms_in self.now) class.now selector.now }
         ensures body { option_map body_in result ≡ method_in class.now selector.now (forms_in self.now) }
-        ensures counted { IfSome result (λ m. m.literals ≡ count_by (λ form. is_literal_of (form_by form)) m.body.now) }
+        ensures made { IfSome result IsMade }
     {
         self.births.methods.get(&(class, selector)).copied()
     }

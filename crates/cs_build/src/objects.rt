@@ -344,6 +344,13 @@ fn context_object(
     Ok(object)
 }
 
+/// The slot of a process that holds its priority.
+fn priority_slot(line: &ProcessLine<'_>) -> Reference
+    ensures { reference_by result ≡ Small line.now.priority }
+{
+    Reference::Small(line.priority)
+}
+
 /// The process of a line.
 fn process_object(
     alloc: Global,
@@ -361,7 +368,7 @@ fn process_object(
     let slots = [
         process_or_nil(numbering, behind),
         object_or_nil(numbering.context(line.name)),
-        Reference::Small(line.priority),
+        priority_slot(line),
         list_if_ready(ready, priority, line.name),
     ];
     let object = pointers(alloc, 45, 1, &slots)?;
