@@ -11,9 +11,10 @@ ghost use Rattle.cs_model.specs.Obj.{Ctx};
 ghost use Rattle.cs_model.specs.BuilderFault.{is_between, is_literal as is_literal_of, method_fits, most_temporaries};
 ghost use Rattle.cs_model.specs.Builder.{class_object as class_object_of, class_ref, class_slots, nil_ref};
 ghost use Rattle.cs_model.specs.Builder.{mention_ref, method_birth, obj_or_nil, pointer_object as pointer_object_of};
-ghost use Rattle.cs_model.specs.Builder.{process_ref, symbol_ref, built_header, list_if_ready, natural as natural_in};
+ghost use Rattle.cs_model.specs.Builder.{method_object as method_object_of, process_objects, process_ref, symbol_ref, built_header, list_if_ready, natural as natural_in};
 ghost use Rattle.cs_model.specs.Builder.{dictionary_object as dictionary_object_of, values_object as values_object_of};
-ghost use Rattle.cs_build.specs.Making.{begin_at, context_made, literals_in, method_made, process_made};
+ghost use Rattle.cs_build.specs.Making.{begin_at, context_made, contexts_made, literals_in, method_made, process_made};
+ghost use Rattle.cs_build.specs.Made.{IsMade};
 ghost use Rattle.cs_build.specs.Readied.{IsReady};
 ghost use Rattle.cs_build.specs.Laid.{laid, laid_by, reference_by};
 ghost use Rattle.cs_build.specs.Meaning.{class_by, form_by, mention_by, method_line_by, process_by};
@@ -240,16 +241,17 @@ fn header_slot(line: &MethodLine<'_>, literals: usize) -> Reference
 fn method_slots(
     alloc: Global,
     numbering: &Numbering<'_, '_>,
+    line: &MethodLine<'_>,
     method: &Numbered<'_, '_>,
 ) -> Result<Vec<Reference>, AllocError>
     requires stands { Stands numbering.now }
-    requires line { method_fits (method_line_by method.now.line) ≡ true }
+    requires line { method_fits (method_line_by line.now) ≡ true }
     requires few { method.now.literals < 2 ^ 28 }
     ensures { IfOk result (λ slots. map reference_by slots.items
-        ≡ Small (pos (built_header (method_line_by method.now.line) method.now.literals))
+        ≡ Small (pos (built_header (method_line_by line.now) method.now.literals))
             ∷ literals_in (forms_in numbering.now) (map form_by method.now.body.now)) }
 {
-    let header = header_slot(&method.line, method.literals);
+    let header = header_slot(line, method.literals);
     let mut slots = Vec::from_slice(alloc, &[header])?;
     put_literals(&mut slots, numbering, method.body)?;
     Ok(slots)
@@ -259,18 +261,17 @@ fn method_slots(
 fn method_object(
     alloc: Global,
     numbering: &Numbering<'_, '_>,
+    line: &MethodLine<'_>,
     method: &Numbered<'_, '_>,
 ) -> Result<Object, AllocError>
     requires stands { Stands numbering.now }
-    requires line { method_fits (method_line_by method.now.line) ≡ true }
-    requires few { length method.now.body.now < 2 ^ 26 }
-    requires sound { list_all is_sound (map form_by method.now.body.now) ≡ true }
-    requires literals { method.now.literals ≡ count_by (λ form. is_literal_of (form_by form)) method.now.body.now }
+    requires line { method_fits (method_line_by line.now) ≡ true }
+    requires made { IsMade method.now }
     ensures { IfOk result (λ o. laid_by o ≡ laid (method_made (forms_in numbering.now)
-        (method_line_by method.now.line) (map form_by method.now.body.now))) }
+        (method_line_by line.now) (map form_by method.now.body.now))) }
 {
-    let slots = method_slots(alloc, numbering, method)?;
-    let bytes = bytecodes_of(alloc, &method.line, method.body)?;
+    let slots = method_slots(alloc, numbering, line, method)?;
+    let bytes = bytecodes_of(alloc, line, method.body)?;
     Ok(Object {
         class: 43,
         format: 24 + spare(bytes.len()),
@@ -294,7 +295,7 @@ fn put_nils(slots: &mut Vec<Reference>, count: u32) -> Result<(), AllocError>
 
 /// The first pc of a method, behind the bytecode that names its primitive.
 fn first_pc(method: &Numbered<'_, '_>) -> Reference
-    requires { method.now.literals < 2 ^ 26 }
+    requires { method.now.literals < 2 ^ 27 }
     ensures { reference_by result ≡ Small (pos (begin_at method.now.literals (method_line_by method.now.line))) }
 {
     let prefix = if method.line.primitive.is_some() { 3 } else { 0 };
@@ -323,9 +324,7 @@ fn context_object(
     method: &Numbered<'_, '_>,
 ) -> Result<Object, AllocError>
     requires stands { Stands numbering.now }
-    requires line { method_fits (method_line_by method.now.line) ≡ true }
-    requires few { method.now.literals < 2 ^ 26 }
-    requires literals { method.now.literals ≡ count_by (λ form. is_literal_of (form_by form)) method.now.body.now }
+    requires made { IsMade method.now }
     ensures { IfOk result (λ o. laid_by o ≡ laid (Ctx (context_made (forms_in numbering.now)
         (method_line_by method.now.line) (map form_by method.now.body.now) (mention_by receiver.now)))) }
 {
@@ -386,4 +385,64 @@ fn list_if_ready(ready: &Ready<'_>, priority: u32, name: &[u8]) -> Reference
     } else {
         NIL
     }
+}
+
+// ---- lines
+
+/// Appends a process: its context, and itself.
+fn put_process(
+    objects: &mut Vec<Object>,
+    alloc: Global,
+    numbering: &Numbering<'_, '_>,
+    ready: &Ready<'_>,
+    line: &ProcessLine<'_>,
+) -> Result<(), AllocError>
+    requires stands { Stands numbering.now }
+    requires ready { IsReady (forms_in numbering.now) ready.now }
+    requires priority { is_between 1 8 line.now.priority ≡ true }
+    ensures { OnOk result (map laid_by objects.new.items ≡ map laid_by objects.old.items
+        ++ map laid (process_objects (forms_in numbering.now) (process_by line.now))) }
+{
+    put_context(objects, alloc, numbering, line)?;
+    objects.push(process_object(alloc, numbering, ready, line)?)?;
+    Ok(())
+}
+
+/// Appends the context in which a process begins.
+fn put_context(
+    objects: &mut Vec<Object>,
+    alloc: Global,
+    numbering: &Numbering<'_, '_>,
+    line: &ProcessLine<'_>,
+) -> Result<(), AllocError>
+    requires { Stands numbering.now }
+    ensures { OnOk result (map laid_by objects.new.items ≡ map laid_by objects.old.items
+        ++ map laid (contexts_made (forms_in numbering.now) (process_by line.now))) }
+{
+    match numbering.method(line.class, line.selector) {
+        Some(method) => {
+            objects.push(context_object(alloc, numbering, &line.receiver, &method)?)?;
+            Ok(())
+        }
+        None => Ok(()),
+    }
+}
+
+/// Appends a method. It is one of the text's, so it has a number.
+fn put_method(
+    objects: &mut Vec<Object>,
+    alloc: Global,
+    numbering: &Numbering<'_, '_>,
+    line: &MethodLine<'_>,
+) -> Result<(), AllocError>
+    requires stands { Stands numbering.now }
+    requires line { method_fits (method_line_by line.now) ≡ true }
+    ensures { OnOk result (map laid_by objects.new.items ≡ map laid_by objects.old.items
+        ++ laid (method_object_of (forms_in numbering.now) (method_line_by line.now)) ∷ []) }
+{
+    let Some(method) = numbering.method(line.class, line.selector) else {
+        return Err(AllocError);
+    };
+    objects.push(method_object(alloc, numbering, line, &method)?)?;
+    Ok(())
 }

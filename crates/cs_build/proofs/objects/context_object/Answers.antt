@@ -22,7 +22,7 @@ returns c =
     let pc : Ref = Small (pos (begin_at (length (literals_in forms (map form_by c.args.method.now.body.now))) line)) in
     let method : Ref = obj_or_nil (method_birth forms line.class line.selector) in
     let receiver : Ref = mention_ref forms (mention_by c.args.receiver.now) in
-    let p1 : reference_by c.first_pc.result ≡ pc = c.first_pc.ensures ∙ ap (λ (n : ℕ). Small (pos (begin_at n line))) (c.requires.literals ∙ count_is forms c.args.method.now.body.now) in
+    let p1 : reference_by c.first_pc.result ≡ pc = c.first_pc.ensures ∙ ap (λ (n : ℕ). Small (pos (begin_at n line))) (c.requires.made.counted ∙ count_is forms c.args.method.now.body.now) in
     let p2 : reference_by c.small.result ≡ Small (pos (natural line.temporaries)) = c.small.ensures ∙ ap (λ (n : ℕ). Small (pos n)) c.temporaries_in.ensures in
     let p3 : reference_by c.object_or_nil.result ≡ method = c.object_or_nil.ensures ∙ ap obj_or_nil c.method_number.ensures in
     let p4 : reference_by c.reference.result ≡ receiver = c.reference.ensures in
@@ -31,4 +31,4 @@ returns c =
     (c.in_ok-put_nils.ensures ∙ ap (λ (s : List Reference). map reference_by s ++ replicate c.context_slots.result nil_ref) c.in_ok-slots.ensures.items
     ∙ ap (λ (k : ℕ). (nil_ref ∷ reference_by c.first_pc.result ∷ reference_by c.small.result ∷ reference_by c.object_or_nil.result ∷ nil_ref ∷ reference_by c.reference.result ∷ []) ++ replicate k nil_ref) c.context_slots.ensures
     ∙ (λ i. (nil_ref ∷ p1 i ∷ p2 i ∷ p3 i ∷ nil_ref ∷ p4 i ∷ []) ++ replicate most nil_ref)
-    ∙ refs_of_context pc method receiver (natural line.temporaries) most (context_size (built_header line 0)) (temporaries_fit line c.requires.line) (size_is line))
+    ∙ refs_of_context pc method receiver (natural line.temporaries) most (context_size (built_header line 0)) (temporaries_fit line c.requires.made.fits) (size_is line))

@@ -15,11 +15,11 @@ use Rattle.cs_build.proofs.objects.method_object.Goals as goal
 pub returns : goal.returns
 returns c =
     let forms : List text.Form = forms_in c.args.numbering.now in
-    let line : text.MethodLine = method_line_by c.args.method.now.line in
+    let line : text.MethodLine = method_line_by c.args.line.now in
     let body : List text.Form = map form_by c.args.method.now.body.now in
-    let code : List ℕ = primitive_bytes c.args.method.now.line.primitive ++ code_from body 0 body in
+    let code : List ℕ = primitive_bytes c.args.line.now.primitive ++ code_from body 0 body in
     let count : c.len.result ≡ length c.in_ok-bytes.bytes.items = omega (arith, c.len.ensures, c.in_ok-bytes.bytes.ok.0) in
     ap (λ (k : ℕ). laid_head (new_head 43 (24 + k)) (map reference_by c.in_ok-slots.slots.items) c.in_ok-bytes.bytes.items) (c.spare.ensures ∙ ap spare count)
     ∙ ap (λ (b : List ℕ). laid_head (new_head 43 (24 + spare (length b))) (map reference_by c.in_ok-slots.slots.items) b) c.in_ok-bytes.ensures
     ∙ ap (λ (r : List Ref). laid_head (new_head 43 (24 + spare (length code))) r code)
-    (c.in_ok-slots.ensures ∙ ap (λ (n : ℕ). Small (pos (built_header line n)) ∷ literals_in forms body) (c.requires.literals ∙ count_is forms c.args.method.now.body.now))
+    (c.in_ok-slots.ensures ∙ ap (λ (n : ℕ). Small (pos (built_header line n)) ∷ literals_in forms body) (c.requires.made.counted ∙ count_is forms c.args.method.now.body.now))

@@ -18,8 +18,12 @@ returns-clause-body c =
     let got : c.copied.result ≡ method_of c.args.self.now.births.methods c.args.class.now c.args.selector.now = c.copied.ensures ∙ c.get.ensures.value in
     ap (option_map body_in) got ∙ c.requires.bodies c.args.class.now c.args.selector.now
 
-pub returns-clause-counted : goal.returns-clause-counted
-returns-clause-counted c =
+pub returns-clause-made : goal.returns-clause-made
+returns-clause-made c =
     let got : c.copied.result ≡ method_of c.args.self.now.births.methods c.args.class.now c.args.selector.now = c.copied.ensures ∙ c.get.ensures.value in
-    subst (λ (o : Option Numbered). IfSome o (λ (n : Numbered). n.literals ≡ count_by (λ (form : Form). is_literal (form_by form)) n.body.now)) (sym got)
-    (c.requires.counted c.args.class.now c.args.selector.now)
+    made_from c.args.class.now c.args.selector.now (forms_in c.args.self.now) c.copied.result
+    (ap (option_map body_in) got ∙ c.requires.bodies c.args.class.now c.args.selector.now)
+    (own_sound (forms_in c.args.self.now) (subst (λ (fs : List text.Form). list_all is_sound fs ≡ true) c.requires.whole c.requires.sound))
+    (omega (arith, own_few (forms_in c.args.self.now), ap length c.requires.whole, length-map c.args.self.now.forms.now form_by, c.requires.lines_few))
+    (subst (λ (o : Option Numbered). IfSome o (λ (n : Numbered). n.literals ≡ count_by (λ (form : Form). is_literal (form_by form)) n.body.now)) (sym got)
+    (c.requires.counted c.args.class.now c.args.selector.now))
