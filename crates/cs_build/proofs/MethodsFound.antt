@@ -30,7 +30,7 @@ pub record IsFound (c s : List ℕ) (forms : List text.Form) (m : text.MethodLin
   pub class : m.class ≡ c
   pub selector : m.selector ≡ s
   pub first : find (λ n. bytes_eq n.selector s) (methods_of forms c) ≡ Some m
-  pub body : body_behind c s forms ≡ body
+  pub behind : body_behind c s forms ≡ body
 
 pub found : (c s : List ℕ) (forms : List text.Form) (m : text.MethodLine) (body : List text.Form) → method_in c s forms ≡ Some (m, body) → IsFound c s forms m body
 found c s [] m body e = absurd (cc)
@@ -39,7 +39,7 @@ found c s (text.Method line ∷ forms) m body e =
         × ((if bytes_eq line.class c then (if bytes_eq line.selector s then Some line else find (λ n. bytes_eq n.selector s) (methods_of forms c)) else find (λ n. bytes_eq n.selector s) (methods_of forms c)) ≡ Some m)
         × ((if bytes_eq line.class c && bytes_eq line.selector s then before_first is_end_line forms else body_behind c s forms) ≡ body) =
     go (bytes_eq line.class c) (bytes_eq line.selector s) refl refl e (found c s forms m body) in
-    record { class = all.0; selector = all.1; first = find_if (λ n. bytes_eq n.selector s) (bytes_eq line.class c) line (methods_of forms c) ∙ all.2; body = all.3 }
+    record { class = all.0; selector = all.1; first = find_if (λ n. bytes_eq n.selector s) (bytes_eq line.class c) line (methods_of forms c) ∙ all.2; behind = all.3 }
   where
     go : (a b : Bool) → bytes_eq line.class c ≡ a → bytes_eq line.selector s ≡ b
         → option_or (if a && b then Some (line, before_first is_end_line forms) else None) (method_in c s forms) ≡ Some (m, body)
@@ -53,11 +53,11 @@ found c s (text.Method line ∷ forms) m body e =
         let is : line ≡ m = ap (λ (p : text.MethodLine × List text.Form). p.0) pair in
         (ap (λ (l : text.MethodLine). l.class) (sym is) ∙ (bytes_eq-Decides line.class c).0 ea, ap (λ (l : text.MethodLine). l.selector) (sym is) ∙ (bytes_eq-Decides line.selector s).0 eb,
           ap Some is, ap (λ (p : text.MethodLine × List text.Form). p.1) pair)
-    go true false ea eb e h = let r : IsFound c s forms m body = h e in (r.class, r.selector, r.first, r.body)
-    go false b ea eb e h = let r : IsFound c s forms m body = h e in (r.class, r.selector, r.first, r.body)
+    go true false ea eb e h = let r : IsFound c s forms m body = h e in (r.class, r.selector, r.first, r.behind)
+    go false b ea eb e h = let r : IsFound c s forms m body = h e in (r.class, r.selector, r.first, r.behind)
 found c s (form ∷ forms) m body e =
     let rest : IsFound c s forms m body = found c s forms m body e in
-    record { class = rest.class; selector = rest.selector; first = rest.first; body = rest.body }
+    record { class = rest.class; selector = rest.selector; first = rest.first; behind = rest.behind }
 
 pub not_found : (c s : List ℕ) (forms : List text.Form) → method_in c s forms ≡ None → find (λ n. bytes_eq n.selector s) (methods_of forms c) ≡ None
 not_found c s [] e = refl
@@ -78,7 +78,7 @@ take_sound : (n : ℕ) (forms : List text.Form) → list_all is_sound forms ≡ 
 take_sound zero forms e = refl
 take_sound (suc n) [] e = refl
 take_sound (suc n) (form ∷ forms) e =
-    let both : (is_sound form ≡ true) × (list_all is_sound forms ≡ true) = and_true _ _ e in
+    let both : (is_sound form ≡ true) × (list_all is_sound forms ≡ true) = and_true (is_sound form) (list_all is_sound forms) e in
     ap (λ b. b && list_all is_sound (take n forms)) both.0 ∙ take_sound n forms both.1
 
 before_sound : (forms : List text.Form) → list_all is_sound forms ≡ true → list_all is_sound (before_first is_end_line forms) ≡ true
@@ -107,7 +107,7 @@ sound_found c s (text.Method line ∷ forms) m body e h =
         let all : (method_fits m ≡ true) × (list_all is_sound body ≡ true) × (length body ≤ length forms) = h e rest in
         (all.0, all.1, omega (arith, all.2))
 sound_found c s (form ∷ forms) m body e h =
-    let rest : (method_fits m ≡ true) × (list_all is_sound body ≡ true) × (length body ≤ length forms) = sound_found c s forms m body e (and_true _ _ h).1 in
+    let rest : (method_fits m ≡ true) × (list_all is_sound body ≡ true) × (length body ≤ length forms) = sound_found c s forms m body e (and_true (is_sound form) (list_all is_sound forms) h).1 in
     (rest.0, rest.1, omega (arith, rest.2))
 
 pub made_from : (c s : List ℕ) (forms : List text.Form) (o : Option Numbered) → option_map body_in o ≡ method_in c s forms → list_all is_sound forms ≡ true

@@ -29,3 +29,6 @@ pushed h old new x y rest e same = ap (λ v. map h v ++ rest) e ∙ ap (λ l. l 
 -- the same for some elements
 pub put_more : {A : Type 0} (old new some rest : List A) → new ≡ old ++ some → new ++ rest ≡ old ++ (some ++ rest)
 put_more old new some rest e = ap (λ l. l ++ rest) e ∙ append_assoc old some rest
+
+pub pushed_one : {X Y : Type 0} (h : X → Y) (old new : List X) (x : X) (y : Y) → new ≡ old ++ x ∷ [] → h x ≡ y → map h new ≡ map h old ++ y ∷ []
+pushed_one h old new x y e same = ap (map h) e ∙ map_push h old x ∙ ap (λ z. map h old ++ z ∷ []) same

@@ -6,12 +6,12 @@ ghost use Rattle.std.specs.Prelude.{ℕ, List, ◌≤◌, count_by, replicate};
 ghost use Rattle.std.specs.List.{list_all};
 ghost use Rattle.std.specs.Option.{option_map_or};
 ghost use Rattle.cs_model.specs.Ref.{Small};
-ghost use Rattle.cs_model.specs.BuilderText.{Form as FormOf};
+ghost use Rattle.cs_model.specs.BuilderText.{Class, Form as FormOf};
 ghost use Rattle.cs_model.specs.Obj.{Ctx};
 ghost use Rattle.cs_model.specs.BuilderFault.{is_between, is_literal as is_literal_of, method_fits, most_temporaries};
 ghost use Rattle.cs_model.specs.Builder.{class_object as class_object_of, class_ref, class_slots, nil_ref};
 ghost use Rattle.cs_model.specs.Builder.{mention_ref, method_birth, obj_or_nil, pointer_object as pointer_object_of};
-ghost use Rattle.cs_model.specs.Builder.{method_object as method_object_of, process_objects, process_ref, symbol_ref, built_header, list_if_ready, natural as natural_in};
+ghost use Rattle.cs_model.specs.Builder.{class_index, method_object as method_object_of, objects_in, process_objects, raw_object as raw_object_of, process_ref, symbol_ref, built_header, list_if_ready, natural as natural_in};
 ghost use Rattle.cs_model.specs.Builder.{dictionary_object as dictionary_object_of, values_object as values_object_of};
 ghost use Rattle.cs_build.specs.Making.{begin_at, context_made, contexts_made, literals_in, method_made, process_made};
 ghost use Rattle.cs_build.specs.Made.{IsMade};
@@ -23,7 +23,7 @@ ghost use Rattle.cs_build.specs.Standing.{Stands, forms_in};
 
 use crate::bytecodes::bytecodes_of;
 use crate::form::{ClassLine, Form, Mention, MethodLine, ProcessLine};
-use crate::making::{NIL, hashed_pointers, object_or_nil, natural, plain_format, pointers, spare};
+use crate::making::{NIL, hashed_pointers, object_or_nil, natural, plain_format, pointers, raw_object, spare};
 use crate::method::method_header;
 use crate::numbering::{Numbered, Numbering};
 use crate::object::{Object, Reference};
@@ -404,7 +404,8 @@ fn put_process(
         ++ map laid (process_objects (forms_in numbering.now) (process_by line.now))) }
 {
     put_context(objects, alloc, numbering, line)?;
-    objects.push(process_object(alloc, numbering, ready, line)?)?;
+    let object = process_object(alloc, numbering, ready, line)?;
+    objects.push(object)?;
     Ok(())
 }
 
@@ -421,7 +422,8 @@ fn put_context(
 {
     match numbering.method(line.class, line.selector) {
         Some(method) => {
-            objects.push(context_object(alloc, numbering, &line.receiver, &method)?)?;
+            let object = context_object(alloc, numbering, &line.receiver, &method)?;
+            objects.push(object)?;
             Ok(())
         }
         None => Ok(()),
@@ -443,6 +445,82 @@ fn put_method(
     let Some(method) = numbering.method(line.class, line.selector) else {
         return Err(AllocError);
     };
-    objects.push(method_object(alloc, numbering, line, &method)?)?;
+    let object = method_object(alloc, numbering, line, &method)?;
+    objects.push(object)?;
     Ok(())
+}
+
+/// Appends a class.
+fn put_class(
+    objects: &mut Vec<Object>,
+    alloc: Global,
+    numbering: &Numbering<'_, '_>,
+    line: &ClassLine<'_>,
+) -> Result<(), AllocError>
+    requires stands { Stands numbering.now }
+    requires sound { is_sound (Class (class_by line.now)) ≡ true }
+    ensures { OnOk result (map laid_by objects.new.items ≡ map laid_by objects.old.items
+        ++ laid (class_object_of (forms_in numbering.now) (class_by line.now)) ∷ []) }
+{
+    let object = class_object(alloc, numbering, line)?;
+    objects.push(object)?;
+    Ok(())
+}
+
+/// Appends an object of slots.
+fn put_pointers(
+    objects: &mut Vec<Object>,
+    alloc: Global,
+    numbering: &Numbering<'_, '_>,
+    class: &[u8],
+    values: &[Mention<'_>],
+) -> Result<(), AllocError>
+    requires { Stands numbering.now }
+    ensures { OnOk result (map laid_by objects.new.items ≡ map laid_by objects.old.items
+        ++ laid (pointer_object_of (forms_in numbering.now) class.now (map mention_by values.now)) ∷ []) }
+{
+    let object = pointer_object(alloc, numbering, class, values)?;
+    objects.push(object)?;
+    Ok(())
+}
+
+/// Appends an object of bytes.
+fn put_raw(
+    objects: &mut Vec<Object>,
+    alloc: Global,
+    numbering: &Numbering<'_, '_>,
+    class: &[u8],
+    bytes: &[u8],
+) -> Result<(), AllocError>
+    requires { Stands numbering.now }
+    ensures { OnOk result (map laid_by objects.new.items ≡ map laid_by objects.old.items
+        ++ laid (raw_object_of (class_index (forms_in numbering.now) class.now) bytes.now) ∷ []) }
+{
+    let object = raw_object(alloc, numbering.class_index(class), bytes)?;
+    objects.push(object)?;
+    Ok(())
+}
+
+/// Appends what a line makes.
+pub(crate) fn put_form(
+    objects: &mut Vec<Object>,
+    alloc: Global,
+    numbering: &Numbering<'_, '_>,
+    ready: &Ready<'_>,
+    form: &Form<'_>,
+) -> Result<(), AllocError>
+    requires stands { Stands numbering.now }
+    requires ready { IsReady (forms_in numbering.now) ready.now }
+    requires sound { is_sound (form_by form.now) ≡ true }
+    ensures { OnOk result (map laid_by objects.new.items ≡ map laid_by objects.old.items
+        ++ map laid (objects_in (forms_in numbering.now) (form_by form.now))) }
+{
+    match form {
+        Form::Class(line) => put_class(objects, alloc, numbering, line),
+        Form::Object { class, slots, .. } => put_pointers(objects, alloc, numbering, class, slots),
+        Form::Bytes { class, bytes, .. } => put_raw(objects, alloc, numbering, class, bytes),
+        Form::Method(line) => put_method(objects, alloc, numbering, line),
+        Form::Process(line) => put_process(objects, alloc, numbering, ready, line),
+        _ => Ok(()),
+    }
 }

@@ -1,4 +1,4 @@
-use Rattle.std.proofs.Common.{◌≡◌, ℕ, ◌∷◌, ◌++◌, List, [], length, map, replicate, ap, ◌∙◌, sym}
+use Rattle.std.proofs.Common.{◌≡◌, ℕ, ◌∷◌, ◌++◌, List, [], length, map, replicate, ap, ◌∙◌, sym, arith, ◌<◌, ◌≤◌}
 use Rattle.std.specs.Prelude.{pos}
 use Rattle.cs_model.specs.Ref.{Ref, Small}
 use Rattle.cs_model.specs.Obj.{Ptr, new_head, context_size}
@@ -10,7 +10,7 @@ use Rattle.cs_build.specs.Laid.{laid, reference_by}
 use Rattle.cs_build.specs.Making.{begin_at, literals_in}
 use Rattle.cs_build.specs.Meaning.{form_by, mention_by, method_line_by}
 use Rattle.cs_build.specs.Standing.{forms_in}
-use Rattle.cs_build.proofs.Literals.{count_is}
+use Rattle.cs_build.proofs.Literals.{count_is, count_few}
 use Rattle.cs_build.proofs.Contexts.{four, refs_of_context, size_is, temporaries_fit}
 use Rattle.cs_build.proofs.objects.context_object.Goals as goal
 
@@ -32,3 +32,6 @@ returns c =
     ∙ ap (λ (k : ℕ). (nil_ref ∷ reference_by c.first_pc.result ∷ reference_by c.small.result ∷ reference_by c.object_or_nil.result ∷ nil_ref ∷ reference_by c.reference.result ∷ []) ++ replicate k nil_ref) c.context_slots.ensures
     ∙ (λ i. (nil_ref ∷ p1 i ∷ p2 i ∷ p3 i ∷ nil_ref ∷ p4 i ∷ []) ++ replicate most nil_ref)
     ∙ refs_of_context pc method receiver (natural line.temporaries) most (context_size (built_header line 0)) (temporaries_fit line c.requires.made.fits) (size_is line))
+
+pub first_pc-requires : goal.first_pc-requires
+first_pc-requires c = omega (arith, c.requires.made.counted, c.requires.made.few, count_few c.args.method.now.body.now)

@@ -1,3 +1,10 @@
+use Rattle.std.proofs.Common.{◌≤◌, ◌<◌, true, length, List, arith}
+use Rattle.std.specs.List.{list_all}
+use Rattle.std.proofs.lemmas.List.{length-map}
+use Rattle.cs_model.specs.BuilderText as text
+use Rattle.cs_build.specs.Sound.{is_sound}
+use Rattle.cs_build.specs.Standing.{forms_in}
+use Rattle.cs_build.proofs.MethodsFound.{made_from, own_sound, own_few}
 use Rattle.std.proofs.Common.{◌≡◌, Option, ap, sym, subst, ◌∙◌}
 use Rattle.std.specs.Prelude.{option_map, IfSome, count_by}
 use Rattle.cs_model.specs.BuilderFault.{is_literal}
