@@ -21,3 +21,4 @@ pub mod Sounding
 pub mod Literals
 pub mod Contexts
 pub mod MethodsFound
+pub mod Grouping

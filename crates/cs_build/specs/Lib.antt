@@ -11,3 +11,4 @@ pub mod Readied
 pub mod Sound
 pub mod Making
 pub mod Made
+pub mod Grouped

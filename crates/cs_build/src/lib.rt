@@ -7,6 +7,7 @@ mod code;
 mod error;
 mod form;
 mod generate;
+mod groups;
 mod image;
 mod known;
 mod making;
