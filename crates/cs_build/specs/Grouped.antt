@@ -21,7 +21,7 @@ pub record AreGroups {Z S : Type 0} (groups : IndexMap (Bor (List ℕ)) (Vec Met
   pub at : (q : List ℕ) → group_at groups q ≡ methods_of forms q
 
 -- the dictionaries of all classes and their arrays, and the symbols
-abbrev pub all_dictionaries : List text.Form → List Obj
+unfoldable pub all_dictionaries : List text.Form → List Obj
 all_dictionaries forms = flat_map (λ e. dictionary_objects forms e.0 e.1) (enumerate_from 0 (all_classes forms))
 
 abbrev pub symbol_objects : List text.Form → List Obj

@@ -1,7 +1,12 @@
-use Rattle.std.proofs.Common.{◌≡◌, ℕ, ◌+◌, ◌∷◌, ◌++◌, List, [], Bor, map, drop, ap, sym, ◌∙◌, append_assoc, append-nil}
+use Rattle.std.proofs.Common.{◌≡◌, ℕ, ◌+◌, ◌∷◌, ◌++◌, List, [], Bor, Vec, Global, map, drop, ap, sym, ◌∙◌, append_assoc, append-nil}
 use Rattle.cs_model.specs.BuilderText as text
 use Rattle.cs_model.specs.Builder.{methods_of}
 use Rattle.cs_build.specs.declared.form.Form.{Form}
+use Rattle.std.specs.Map.{lookup}
+use Rattle.std.specs.Str.{bytes_eq}
+use Rattle.std.specs.Option.{option_map_or}
+use Rattle.cs_build.specs.declared.form.MethodLine.{MethodLine}
+use Rattle.cs_build.specs.Meaning.{method_line_by}
 use Rattle.cs_build.specs.Grouped.{group_at}
 use Rattle.cs_build.specs.Meaning.{form_by}
 use Rattle.cs_build.proofs.Walking.{walk_more, walk_all, put_more}
@@ -9,7 +14,8 @@ use Rattle.cs_build.proofs.Grouping.{methods_cons}
 use Rattle.cs_build.proofs.groups.groups_of.Goals as goal
 
 pub loop-form-init : goal.loop-form-init
-loop-form-init c = λ q. let h = c.new-groups.ensures.empty in ?
+loop-form-init c = λ q.
+    ap (λ (es : List (Bor (List ℕ) × Vec MethodLine Global)). option_map_or (λ (v : Vec MethodLine Global). map method_line_by v.items) (lookup (λ k. bytes_eq q k.now) es) [] ++ methods_of (map form_by c.args.forms.now) q) c.new-groups.ensures.empty
 
 pub loop-form-preserved : goal.loop-form-preserved
 loop-form-preserved c = λ q.
