@@ -22,3 +22,4 @@ pub mod Literals
 pub mod Contexts
 pub mod MethodsFound
 pub mod Grouping
+pub mod Firsting

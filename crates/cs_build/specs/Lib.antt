@@ -12,3 +12,4 @@ pub mod Sound
 pub mod Making
 pub mod Made
 pub mod Grouped
+pub mod Firsts

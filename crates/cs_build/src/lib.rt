@@ -5,6 +5,7 @@ mod bytecodes;
 mod classes;
 mod code;
 mod error;
+mod first;
 mod form;
 mod generate;
 mod groups;

@@ -1,0 +1,5 @@
+use Rattle.std.proofs.Common.{◌≡◌}
+use Rattle.cs_build.proofs.first.special_array.Goals as goal
+
+pub returns : goal.returns
+returns c = ?
