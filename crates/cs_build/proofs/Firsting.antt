@@ -1,6 +1,8 @@
 -- The objects in front of the classes.
-use Rattle.std.proofs.Common.{◌≡◌, ℕ, ◌<◌, ◌≤◌, Bool, true, false, List, [], ◌∷◌, ◌++◌, length, map, Some, None, Option, Bor, refl, ap, ap₂, sym, ◌∙◌, arith}
-use Rattle.std.specs.Prelude.{ℤ, filter_map, flat_map, option_map}
+use Rattle.std.proofs.Common.{◌≡◌, ℕ, zero, suc, ◌+◌, ◌<◌, ◌≤◌, Bool, true, false, List, [], ◌∷◌, ◌++◌, length, map, Some, None, Option, Bor, refl, ap, ap₂, sym, ◌∙◌, arith}
+use Rattle.std.specs.Prelude.{ℤ, filter_map, flat_map, fold, option_map, slice_set}
+use Rattle.std.specs.List.{range_with_len}
+use Rattle.std.proofs.lemmas.List.Sums.{fold-append}
 use Rattle.std.specs.Option.{option_or}
 use Rattle.cs_model.specs.Ref.{Ref}
 use Rattle.cs_model.specs.BuilderText as text
@@ -36,3 +38,16 @@ pairs_flat f g (x ∷ xs) (y ∷ ys) e h =
     let more : map (λ e. e.0.now) xs ≡ map (λ e. e.0) ys = cc in
     let rest : map (λ e. e.1) xs ≡ map (λ e. g e.1) ys = cc in
     ap₂ (λ r rs. r ++ rs) (ap₂ f first second) (pairs_flat f g xs ys more rest)
+
+pub set_more : (new old mid : List Ref) (k : ℕ) (r v : Ref) → new ≡ slice_set old k r → r ≡ v → old ≡ mid → new ≡ slice_set mid k v
+set_more new old mid k r v e same was = e ∙ ap₂ (λ s x. slice_set s k x) was same
+
+pub three_folds : {A B : Type 0} (f : B → A → B) (z : B) (a b c : List A) → fold f (fold f (fold f z a) b) c ≡ fold f z ((a ++ b) ++ c)
+three_folds f z a b c = sym (fold-append f z (a ++ b) c ∙ ap (λ s. fold f s c) (fold-append f z a b))
+
+range_end : (a i j : ℕ) → a + i ≡ j → range_with_len a (suc i) ≡ range_with_len a i ++ j ∷ []
+range_end a zero j e = let same : a ≡ j = omega (arith, e) in ap (λ b. b ∷ []) same
+range_end a (suc i) j e = ap (λ xs. a ∷ xs) (range_end (a + 1) i j (omega (arith, e)))
+
+pub range_more : (k : ℕ) → range_with_len 1 (k + 1) ≡ range_with_len 1 k ++ (k + 1) ∷ []
+range_more k = let on : k + 1 ≡ suc k = omega arith in ap (range_with_len 1) on ∙ range_end 1 k (k + 1) (omega arith)

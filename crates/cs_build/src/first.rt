@@ -131,14 +131,14 @@ fn special_array(alloc: Global, numbering: &Numbering<'_, '_>) -> Result<Object,
 fn put_selector(
     slots: &mut Vec<Reference>,
     numbering: &Numbering<'_, '_>,
-    name: &[u8],
-    arguments: i32,
+    selector: &(&'static str, i32),
 ) -> Result<(), AllocError>
     requires { Stands numbering.now }
     ensures { OnOk result (map reference_by slots.new.items ≡ map reference_by slots.old.items
-        ++ (symbol_ref (forms_in numbering.now) name.now ∷ Small arguments ∷ [])) }
+        ++ (symbol_ref (forms_in numbering.now) selector.now.0.now ∷ Small selector.now.1 ∷ [])) }
 {
-    slots.extend_from_slice(&[numbering.symbol(name), Reference::Small(arguments)])
+    let symbol = numbering.symbol(selector.0.as_bytes());
+    slots.extend_from_slice(&[symbol, Reference::Small(selector.1)])
 }
 
 /// The array of the special selectors, each with its number of arguments.
@@ -148,7 +148,7 @@ fn selector_array(alloc: Global, numbering: &Numbering<'_, '_>) -> Result<Object
 {
     let mut slots = Vec::new(alloc);
     for selector in &selectors() {
-        put_selector(&mut slots, numbering, selector.0.as_bytes(), selector.1)?;
+        put_selector(&mut slots, numbering, selector)?;
     }
     let object = pointers(alloc, 39, 2, &slots)?;
     Ok(object)
