@@ -1,6 +1,7 @@
 -- An instruction has four bytes at most, so four bytes ahead tell it.
-use Rattle.std.proofs.Common.{◌≡◌, ℕ, ◌+◌, ◌-◌, ◌*◌, ◌<◌, ◌≤◌, Bool, true, false, refl, sym, ap, ap₂, ◌∙◌, arith, min, Option, None, List, [], ◌∷◌, length, take, get_or, option_map, nat_lt, nat_le}
+use Rattle.std.proofs.Common.{◌≡◌, ℕ, zero, suc, ◌+◌, ◌-◌, ◌*◌, ◌<◌, ◌≤◌, Bool, true, false, refl, sym, ap, ap₂, subst, ◌∙◌, arith, min, Option, None, List, [], ◌∷◌, length, take, get_or, option_map, nat_lt, nat_le}
 use Rattle.std.specs.Prelude.{if◌then◌else◌, ◌==◌}
+use Rattle.std.proofs.lemmas.Bool.{eqb-false, eqb-true, false≢true}
 use Rattle.std.proofs.lemmas.Bool.Decides.{nat_tests}
 use Rattle.std.proofs.lemmas.List.{get_or-take, get_or_past, length-take}
 use Rattle.cs_model.specs.Words.{unused_bytes}
@@ -113,3 +114,70 @@ instruction_read os k w pc end count a b c d m place is end_is count_is p q r s 
     (r ∙ byte_ahead os k w m (pc - 1 + 2) end (at + 2) end_is (omega (arith, place.first, place.above)))
     (s ∙ byte_ahead os k w m (pc - 1 + 3) end (at + 3) end_is (omega (arith, place.first, place.above)))
     ∙ ap (λ n. decode_at (bytecodes_of k) (n - first_pc (literals_of k))) is
+
+-- ---- an instruction of one byte
+
+-- how many bytes an instruction has, by what its first byte is below or equal to
+abbrev len_by : (a b c d e f g h i j : Bool) → ℕ
+len_by a b c d e f g h i j = if a then 1 else (if b then 2 else (if c then 3 else (if d then 2 else (if e then 1 else (if f then 2 else (if g then 3 else (if h then 4 else (if i then 1 else (if j then 2 else 1)))))))))
+
+-- of the codes that may have numbers in further bytes, three have none
+in_the_middle : (code : ℕ) → nat_lt code 128 ≡ false → nat_lt code 144 ≡ true → (len_of code == 1) ≡ true → (135 ≤ code) × (code < 138)
+in_the_middle code from to one =
+    tests (nat_lt code 128) (nat_lt code 132) (code == 132) (nat_lt code 135) (nat_lt code 138) (code == 138) (nat_lt code 143) (code == 143) (nat_lt code 160) (nat_lt code 176) from refl refl refl refl one
+  where
+    tests : (a b c d e f g h i j : Bool) → a ≡ false → nat_lt code 135 ≡ d → nat_lt code 138 ≡ e → nat_lt code 143 ≡ g → (code == 143) ≡ h
+        → (len_by a b c d e f g h i j == 1) ≡ true → (135 ≤ code) × (code < 138)
+    tests true b c d e f g h i j z r s u v n = absurd (false≢true (sym z))
+    tests false true c d e f g h i j z r s u v n = absurd (cc)
+    tests false false true d e f g h i j z r s u v n = absurd (cc)
+    tests false false false true e f g h i j z r s u v n = absurd (cc)
+    tests false false false false true f g h i j z r s u v n = (grind (arith, nat_tests, r), grind (arith, nat_tests, s))
+    tests false false false false false true g h i j z r s u v n = absurd (cc)
+    tests false false false false false false true h i j z r s u v n = absurd (cc)
+    tests false false false false false false false true i j z r s u v n = absurd (cc)
+    tests false false false false false false false false i j z r s u v n =
+        let past : 143 ≤ code = grind (arith, nat_tests, u) in
+        let below : code < 144 = grind (arith, nat_tests, to) in
+        absurd (eqb-false code 143 v (omega (arith, past, below)))
+
+-- the longer jumps have their offsets in a further byte
+is_longer : (code : ℕ) → nat_lt code 144 ≡ false → nat_lt code 160 ≡ false → nat_lt code 176 ≡ true → len_of code ≡ 2
+is_longer code p q r =
+    let least : 160 ≤ code = grind (arith, nat_tests, q) in
+    longer (nat_lt code 128) (nat_lt code 132) (code == 132) (nat_lt code 135) (nat_lt code 138) (code == 138) (nat_lt code 143) (code == 143) (nat_lt code 160) (nat_lt code 176)
+    (grind (arith, nat_tests, least)) (grind (arith, nat_tests, least)) (grind (arith, nat_tests, least)) (grind (arith, nat_tests, least)) (grind (arith, nat_tests, least)) (grind (arith, nat_tests, least)) (grind (arith, nat_tests, least)) (grind (arith, nat_tests, least)) q r
+  where
+    longer : (a b c d e f g h i j : Bool) → a ≡ false → b ≡ false → c ≡ false → d ≡ false → e ≡ false → f ≡ false → g ≡ false → h ≡ false → i ≡ false → j ≡ true
+        → len_by a b c d e f g h i j ≡ 2
+    longer a b c d e f g h i j o p q r s t u v w x = rw (o, p, q, r, s, t, u, v, w, x) refl
+
+-- what it does is told by that byte
+op_alone : (code b c d x y z : ℕ) → (len_of code == 1) ≡ true → op_of code b c d ≡ op_of code x y z
+op_alone code b c d x y z one = go (nat_lt code 128) refl (nat_lt code 144) refl (nat_lt code 160) refl (nat_lt code 176) refl
+  where
+    three : (p : Bool) → (code == 135) ≡ p → (q : Bool) → (code == 136) ≡ q → (135 ≤ code) × (code < 138) → op_of code b c d ≡ op_of code x y z
+    three true p q r h = subst (λ n. op_of n b c d ≡ op_of n x y z) (sym (eqb-true code 135 p)) refl
+    three false p true r h = subst (λ n. op_of n b c d ≡ op_of n x y z) (sym (eqb-true code 136 r)) refl
+    three false p false r h =
+        let left = eqb-false code 135 p in
+        let right = eqb-false code 136 r in
+        let last : code ≡ 137 = omega (arith, h.0, h.1, left, right) in
+        subst (λ n. op_of n b c d ≡ op_of n x y z) (sym last) refl
+
+    go : (t : Bool) → nat_lt code 128 ≡ t → (u : Bool) → nat_lt code 144 ≡ u → (v : Bool) → nat_lt code 160 ≡ v → (w : Bool) → nat_lt code 176 ≡ w → op_of code b c d ≡ op_of code x y z
+    go true e u f v g w h = rw e refl
+    go false e true f v g w h = three (code == 135) refl (code == 136) refl (in_the_middle code e f one)
+    go false e false f true g w h = rw (f, g) refl
+    go false e false f false g true h = absurd (false≢true (sym (ap (λ n. n == 1) (is_longer code f g h)) ∙ one))
+    go false e false f false g false h = rw (f, h) refl
+
+pub decode_alone : (n code b c d x y z : ℕ) → (len_of code == 1) ≡ true → decode_at (take n (code ∷ b ∷ c ∷ d ∷ [])) 0 ≡ decode_at (take n (code ∷ x ∷ y ∷ z ∷ [])) 0
+unfolding decode_at
+decode_alone zero code b c d x y z one = refl
+decode_alone (suc n) code b c d x y z one =
+    ap (λ l. decoded (nat_le (0 + len_of code) (suc l)) code (get_or (take n (b ∷ c ∷ d ∷ [])) 0 0) (get_or (take n (b ∷ c ∷ d ∷ [])) 1 0) (get_or (take n (b ∷ c ∷ d ∷ [])) 2 0))
+    (length-take n (b ∷ c ∷ d ∷ []) ∙ sym (length-take n (x ∷ y ∷ z ∷ [])))
+    ∙ ap (λ (o : Option Op). if nat_le (0 + len_of code) (suc (length (take n (x ∷ y ∷ z ∷ [])))) then option_map (λ (op : Op). let i : Instr = record { op = op; len = len_of code } in i) o else None)
+    (op_alone code (get_or (take n (b ∷ c ∷ d ∷ [])) 0 0) (get_or (take n (b ∷ c ∷ d ∷ [])) 1 0) (get_or (take n (b ∷ c ∷ d ∷ [])) 2 0)
+    (get_or (take n (x ∷ y ∷ z ∷ [])) 0 0) (get_or (take n (x ∷ y ∷ z ∷ [])) 1 0) (get_or (take n (x ∷ y ∷ z ∷ [])) 2 0) one)

@@ -63,6 +63,28 @@ place os w = go (is_object os w) refl
     go true e = let x = object_there os w e in There x.0 (ap (object_of_kind os) (kind_of-object w (object_placed os w e).aligned) ∙ x.1) x.1 e
     go false e = Nowhere (nowhere (w % 2 == 1) (w % 4 == 2) (w % 8 == 0) e) e
 
+-- the low bits of a word that names something tell whether it is an address
+pub address_told : (os : List Object) (w : ℕ) → is_reference os w ≡ true → (w % 8 == 0) ≡ is_object os w
+unfolding is_reference
+address_told os w named = go (w % 2 == 1) refl (w % 4 == 2) refl (w % 8 == 0) refl named
+  where
+    apart : (b : Bool) → is_object os w ≡ b → (w % 8 == 0) ≡ false → b ≡ false
+    apart false h r = refl
+    apart true h r = absurd (false≢true (sym r ∙ ap (λ n. n == 0) (object_placed os w h).aligned))
+
+    odd : (w % 2 == 1) ≡ true → (w % 8 == 0) ≡ true → ⊥
+    odd p r = let e = eqb-true (w % 2) 1 p in let f = eqb-true (w % 8) 0 r in omega (arith, e, f)
+
+    even : (w % 4 == 2) ≡ true → (w % 8 == 0) ≡ true → ⊥
+    even p r = let e = eqb-true (w % 4) 2 p in let f = eqb-true (w % 8) 0 r in omega (arith, e, f)
+
+    go : (a : Bool) → (w % 2 == 1) ≡ a → (b : Bool) → (w % 4 == 2) ≡ b → (c : Bool) → (w % 8 == 0) ≡ c
+        → is_reference_kind os (if a then kind.Small (small_value w) else (if b then kind.Character (w / 4) else (if c then kind.Object w else kind.Link w))) ≡ true → (w % 8 == 0) ≡ is_object os w
+    go a p b q false r n = r ∙ sym (apart (is_object os w) refl r)
+    go true p b q true r n = absurd (odd p r)
+    go false p true q true r n = absurd (even q r)
+    go false p false q true r n = r ∙ sym n
+
 pub field_at : (g : Object → ℕ) (os : List Object) (w : ℕ) (x : Object) → heap_object os w ≡ Some x → part_at g os w ≡ g x
 field_at g os w x e = ap (λ (o : Option Object). option_map_or g o 0) e
 
@@ -319,6 +341,33 @@ special_names s k r i o e holds names =
     ap (λ (q : Roots). name_of s q.special) e ∙ ref_of-object s.memory.objects s.roots.special.0 holds.whole.special
     ∙ ap (λ (q : Rest). ref.Obj q.special) holds.rest in
     subst (λ x. NamesOption s o (option_and_then (λ (slots : List Ref). slice_get slots i) (slots_in (object_of k x)))) name names
+
+-- the special-object array is there, and has slots
+pub special_there : (s : Store) (k : Kept) (m : Memory) (r : Roots) → m ≡ s.memory → r ≡ s.roots → Holds s k → is_object m.objects r.special.0 ≡ true
+special_there s k m r e f holds = ap₂ (λ (n : Memory) (q : Roots). is_object n.objects q.special.0) e f ∙ holds.whole.special
+
+pub special_has : (s : Store) (k : Kept) (m : Memory) (r : Roots) → m ≡ s.memory → r ≡ s.roots → Holds s k → has_slots m.objects 0 r.special.0 ≡ true
+special_has s k m r e f holds = ap₂ (λ (n : Memory) (q : Roots). has_slots n.objects 0 q.special.0) e f ∙ go (place s.memory.objects s.roots.special.0)
+  where
+    least : (n : ℕ) → nat_le 0 n ≡ true
+    least n = grind (arith, nat_tests)
+
+    other : (x : Object) → heap_object s.memory.objects s.roots.special.0 ≡ Some x → (b : Bool) → is_heap_context x ≡ b → b ≡ false
+    other x at false c = refl
+    other x at true c =
+        let three = ((sound_at s.memory.objects s.roots.special.0 x holds.whole.heap at).context c).format in
+        let two = sym (field_at (λ y. y.format) s.memory.objects s.roots.special.0 x at) ∙ holds.whole.array.format in
+        absurd (omega (arith, three, two))
+
+    has : (a b c d : Bool) → a ≡ true → b ≡ false → c ≡ true → d ≡ true → (a && not b && c && d) ≡ true
+    has a b c d p q r t = rw (p, q, r, t) refl
+
+    go : Place s.memory.objects s.roots.special.0 → has_slots s.memory.objects 0 s.roots.special.0 ≡ true
+    go (There x named at is) =
+        has (is_object s.memory.objects s.roots.special.0) (class_at s.memory.objects s.roots.special.0 == context_class) (is_pointers (format_at s.memory.objects s.roots.special.0)) (nat_le 0 (slot_count_of s.memory.objects s.roots.special.0)) is
+        (ap (λ c. c == context_class) (field_at (λ y. y.class) s.memory.objects s.roots.special.0 x at) ∙ other x at (is_heap_context x) refl)
+        (ap is_pointers holds.whole.array.format) (least (slot_count_of s.memory.objects s.roots.special.0))
+    go (Nowhere named is) = absurd (false≢true (sym is ∙ holds.whole.special))
 
 class_in_context : (o : Option Obj) → is_context_at o ≡ true → index_of_class o ≡ context_class
 class_in_context None h = absurd (cc)

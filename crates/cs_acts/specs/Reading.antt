@@ -1,5 +1,5 @@
 -- What is read of the heap by a word.
-use Rattle.std.specs.Prelude.{◌≡◌, ℕ, ◌+◌, ◌*◌, Bool, true, not, ◌==◌, ◌&&◌, if◌then◌else◌, nat_le, nat_lt, List, length, Option, Some, None}
+use Rattle.std.specs.Prelude.{◌≡◌, ℕ, ◌+◌, ◌*◌, Bool, true, not, ◌==◌, ◌&&◌, if◌then◌else◌, nat_le, nat_lt, List, [], ◌∷◌, length, Option, Some, None}
 use Rattle.cs_word.specs.declared.Oop.{Oop}
 use Rattle.cs_word.specs.declared.Kind.{Kind}
 use Rattle.cs_word.specs.declared.Kind.TheVariants as kind
@@ -51,6 +51,11 @@ word_class objects word = class_index_of_kind objects (kind_of word)
 -- byte i of an object, where it is before the end; else 0
 abbrev pub byte_before : List Object → ℕ → ℕ → ℕ → ℕ
 byte_before objects address i end = if nat_lt i end then byte_of objects address i else 0
+
+-- the three bytes behind place at
+abbrev pub further_bytes : List Object → ℕ → ℕ → ℕ → List ℕ
+further_bytes objects address at end =
+    byte_before objects address (at + 1) end ∷ byte_before objects address (at + 2) end ∷ byte_before objects address (at + 3) end ∷ []
 
 -- a number behind the bytecode 139, the lower byte first: three bytes before the end
 abbrev pub bounded_number : List Object → ℕ → ℕ → ℕ → Option ℕ

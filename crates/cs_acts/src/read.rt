@@ -15,7 +15,8 @@ ghost use Rattle.cs_acts.specs.Ready.{IsReady, IsSound};
 
 use crate::World;
 use crate::words::{
-    self, behind, byte_before, byte_count, class_index, count_of_literals, is_between,
+    self, behind, byte_before, byte_count, class_index, count_of_literals, further_bytes,
+    is_between,
 };
 use cs_classes::slots::{ACTIVE_PROCESS, ASSOCIATION_SLOTS, SCHEDULER_SLOTS, VALUE};
 use cs_decode::decode;
@@ -150,7 +151,13 @@ pub fn special<W: World>(w: &W, i: u32) -> Option<Oop>
     requires { IsSound (W.stored w.now) (W.view w.now) }
     ensures { NamesOption (W.stored w.now) result (special_at (W.view w.now) i) }
 {
-    slot_if_any(w, w.roots().special, i)
+    let heap = w.heap();
+    let special = w.roots().special;
+    if i < heap.slot_count(special) {
+        Some(heap.slot(special, i))
+    } else {
+        None
+    }
 }
 
 /// The class of what a word names, by the class table; None exactly where the table has none.
@@ -256,12 +263,9 @@ pub fn instruction<W: World>(w: &W) -> Option<Instr>
     let method = w.method();
     let at = w.pc() - 1;
     let end = byte_count(heap, method);
-    let bytes = [
-        byte_before(heap, method, at, end),
-        byte_before(heap, method, at + 1, end),
-        byte_before(heap, method, at + 2, end),
-        byte_before(heap, method, at + 3, end),
-    ];
+    let code = byte_before(heap, method, at, end);
+    let further = further_bytes(heap, method, at, end, code);
+    let bytes = [code, further.second, further.third, further.fourth];
     let count = (end - at).min(4);
     match decode(&bytes[..count as usize], 0) {
         Ok(instruction) => Some(instruction),

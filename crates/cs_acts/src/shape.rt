@@ -1,15 +1,15 @@
 //! What is asked of scheduler and active process between two steps.
-ghost use Rattle.std.specs.Prelude.{◌≡◌, IfSome, None, Option, Some, option_map};
+ghost use Rattle.std.specs.Prelude.{◌≡◌, IfSome, None, Some};
 ghost use Rattle.cs_model.specs.Due.{is_idle};
 ghost use Rattle.cs_model.specs.State.{active_process};
-ghost use Rattle.cs_model.specs.Step.{is_process, is_ref, shape_fault};
-ghost use Rattle.cs_acts.specs.Names.{IsNamed, NamesOption, name_of};
+ghost use Rattle.cs_model.specs.Step.{is_process, shape_fault};
+ghost use Rattle.cs_acts.specs.Names.{NamesOption, name_of};
 ghost use Rattle.cs_acts.specs.Ready.{IsSound};
-ghost use Rattle.cs_acts.specs.Shaped.{fault_in, is_idle_in, process_in};
+ghost use Rattle.cs_acts.specs.Shaped.{IsScheduled, fault_in, is_idle_in, process_in};
 
 use crate::World;
-use crate::read::{active_process, has_slots, nil, same, scheduler, special};
-use cs_classes::slots::PROCESS_SLOTS;
+use crate::read::{has_slots, nil, same, slot, special};
+use cs_classes::slots::{ACTIVE_PROCESS, ASSOCIATION_SLOTS, PROCESS_SLOTS, SCHEDULER_SLOTS, VALUE};
 use cs_model::Stop;
 use cs_word::Oop;
 
@@ -36,36 +36,58 @@ pub fn shape_of<W: World>(w: &W) -> Shape
     ensures process { IfSome (process_in result) (λ p. NamesOption (W.stored w.now) (Some p)
         (active_process (W.view w.now))) }
 {
-    let Some(process) = active_process(w) else {
+    let Some(found) = read_scheduling(w) else {
         return Shape::Fault(Stop::BadSpecial);
     };
-    if same(w, process, nil(w)) {
+    if same(w, found.process, nil(w)) {
         Shape::Idle
-    } else if is_process(w, process) {
-        Shape::Active(process)
+    } else if is_process(w, found) {
+        Shape::Active(found.process)
     } else {
         Shape::Fault(Stop::BadProcess)
     }
 }
 
-/// Whether a word names a process: a pointer object with four slots that is neither the scheduler nor special object 3.
-fn is_process<W: World>(w: &W, p: Oop) -> bool
-    requires sound { IsSound (W.stored w.now) (W.view w.now) }
-    requires named { IsNamed (W.stored w.now) p }
-    ensures { result ≡ is_process (W.view w.now) (name_of (W.stored w.now) p) }
-{
-    has_slots(w, p, PROCESS_SLOTS) && !is(w, scheduler(w), p) && !is(w, special(w, 3), p)
+/// What is read on the way to the active process.
+#[derive(Clone, Copy)]
+struct Scheduling {
+    /// Special object 3.
+    association: Oop,
+    /// The scheduler.
+    scheduler: Oop,
+    /// The active process, or nil.
+    process: Oop,
 }
 
-/// Whether two words name the same, where the first may be none.
-fn is<W: World>(w: &W, a: Option<Oop>, b: Oop) -> bool
-    requires sound { IsSound (W.stored w.now) (W.view w.now) }
-    requires left { IfSome a (λ o. IsNamed (W.stored w.now) o) }
-    requires right { IsNamed (W.stored w.now) b }
-    ensures { result ≡ is_ref (option_map (λ o. name_of (W.stored w.now) o) a) (name_of (W.stored w.now) b) }
+/// The active process, and what leads to it; None exactly where the scheduler is not there, with two slots.
+#[tactic(auto, unfolding(cs_model::specs::State::active_process, cs_model::specs::State::scheduler_of))]
+fn read_scheduling<W: World>(w: &W) -> Option<Scheduling>
+    requires { IsSound (W.stored w.now) (W.view w.now) }
+    ensures { IsScheduled (W.stored w.now) (W.view w.now) result }
 {
-    match a {
-        Some(a) => same(w, a, b),
-        None => false,
+    let Some(association) = special(w, 3) else {
+        return None;
+    };
+    let Some(scheduler) = slot(w, association, ASSOCIATION_SLOTS, VALUE) else {
+        return None;
+    };
+    match slot(w, scheduler, SCHEDULER_SLOTS, ACTIVE_PROCESS) {
+        Some(process) => Some(Scheduling {
+            association,
+            scheduler,
+            process,
+        }),
+        None => None,
     }
+}
+
+/// Whether the active process is a pointer object with four slots that is neither the scheduler nor special object 3.
+fn is_process<W: World>(w: &W, found: Scheduling) -> bool
+    requires sound { IsSound (W.stored w.now) (W.view w.now) }
+    requires found { IsScheduled (W.stored w.now) (W.view w.now) (Some found) }
+    ensures { result ≡ is_process (W.view w.now) (name_of (W.stored w.now) found.process) }
+{
+    has_slots(w, found.process, PROCESS_SLOTS)
+        && !same(w, found.scheduler, found.process)
+        && !same(w, found.association, found.process)
 }

@@ -1,6 +1,6 @@
 //! The trait of all worlds.
 ghost use Rattle.std.specs.Prelude.{◌≡◌, ◌<◌, ◌≤◌, ◌-◌, ℕ, true, not, IfErr, IsSome, IsSomeAnd, is_some, IfOk, IfSome};
-ghost use Rattle.std.specs.Prelude.{OnOk, Option, None, Some, slice_get, unwrap_or};
+ghost use Rattle.std.specs.Prelude.{OnErr, OnOk, Option, None, Some, slice_get, unwrap_or};
 ghost use Rattle.cs_model.specs.Obj.{context_in, lies_in};
 ghost use Rattle.cs_model.specs.State.{Kept, object_at, object_of};
 ghost use Rattle.cs_model.specs.Keeps.{Keeps, SameKept};
@@ -173,9 +173,10 @@ pub trait World {
         ensures ready { IsReady (stored self.new) (view self.new) }
         ensures names { KeepsNames (stored self.old) (stored self.new) };
 
-    /// Writes slot i of a pointer object, or literal i - 1 of a method, whose slot 0 is its header.
+    /// Writes slot i of a pointer object, or literal i - 1 of a method, whose slot 0 is its header. No context
+    /// need be active.
     fn store(&mut self, o: Oop, i: u32, v: Oop)
-        requires ready { IsReady (stored self.old) (view self.old) }
+        requires sound { IsSound (stored self.old) (view self.old) }
         requires there { is_storable (object_of (view self.old) (name_of (stored self.old) o)) i ≡ true }
         requires object { IsNamed (stored self.old) o }
         requires named { IsNamed (stored self.old) v }
@@ -186,7 +187,8 @@ pub trait World {
         ensures layout { layout self.new ≡ layout self.old }
         ensures limit { (stored self.new).memory.limit ≡ (stored self.old).memory.limit }
         ensures contexts { MakesAtMost 0 (layout self.old) (stored self.old) (stored self.new) }
-        ensures ready { IsReady (stored self.new) (view self.new) }
+        ensures sound { IsSound (stored self.new) (view self.new) }
+        ensures ready { IsReady (stored self.old) (view self.old) → IsReady (stored self.new) (view self.new) }
         ensures names { KeepsNames (stored self.old) (stored self.new) };
 
     /// Pushes a value onto the active stack.
@@ -276,9 +278,7 @@ pub trait World {
         ensures full { IfErr result (CausesFull (stored self.new) (layout self.old) (view self.old) 0 (view self.old)) }
         ensures sender_alone { IfErr result (λ _. i ≡ 0) };
 
-    /// Makes an object: its slots are nil, its bytes 0.
-    ///
-    /// A refusal ends the run, so nothing is said of the world behind it.
+    /// Makes an object: its slots are nil, its bytes 0. Behind a refusal all is as before.
     fn allocate(&mut self, class: u32, format: u8, slots: u32) -> Result<Oop, Full>
         requires sound { IsSound (stored self.old) (view self.old) }
         requires fits { CanAllocate (view self.old) class format slots }
@@ -294,6 +294,9 @@ pub trait World {
         ensures ready { OnOk result (IsReady (stored self.old) (view self.old)
             → IsReady (stored self.new) (view self.new)) }
         ensures names { OnOk result (KeepsNames (stored self.old) (stored self.new)) }
+        ensures refused_view { OnErr result (view self.new ≡ view self.old) }
+        ensures refused_stored { OnErr result (stored self.new ≡ stored self.old) }
+        ensures refused_layout { OnErr result (layout self.new ≡ layout self.old) }
         ensures heap_alone { IfErr result (λ why. why ≡ full.Heap) }
         ensures full { IfErr result (CausesFull (stored self.new) (layout self.old) (view self.old) (size slots)
             (add_of (view self.old) (blank_of (view self.old) class format slots))) };

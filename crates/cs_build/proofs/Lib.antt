@@ -1,5 +1,6 @@
 pub mod NumberLemmas
 pub mod LineLemmas
+pub mod LineReading
 pub mod RangeLemmas
 pub mod Putting
 pub mod Filing
@@ -7,9 +8,12 @@ pub mod Fitting
 pub mod Reading
 pub mod Naming
 pub mod Storing
+pub mod TableLemmas
+pub mod TextLemmas
 pub mod Describing
 pub mod OpLemmas
 pub mod OuterLemmas
+pub mod CodeLemmas
 pub mod HexLemmas
 pub mod Walking
 pub mod Noting
@@ -23,3 +27,6 @@ pub mod Contexts
 pub mod MethodsFound
 pub mod Grouping
 pub mod Firsting
+pub mod InnerLemmas
+pub mod Judging
+pub mod Narrowing

@@ -1,6 +1,7 @@
 //! The builder of images: from a text in lines to the bytes of an image, and the generator of large texts.
 #![tactic(auto)]
 
+mod above;
 mod bytecodes;
 mod classes;
 mod code;
@@ -10,7 +11,10 @@ mod form;
 mod generate;
 mod groups;
 mod image;
+mod inner;
+mod judge;
 mod known;
+mod lines;
 mod making;
 mod mention;
 mod method;
@@ -21,6 +25,8 @@ mod objects;
 mod outer;
 mod ready;
 mod symbols;
+mod tables;
+mod text;
 mod word;
 
 pub use error::BuildError;

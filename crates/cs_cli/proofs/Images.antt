@@ -1,49 +1,51 @@
--- Why an image is refused.
-use Rattle.std.proofs.Common.{◌≡◌, ◌<◌, ℕ, true, List, Option, Some, None, IfSome, Err, length, refl, subst, arith}
+-- Why a file gives no image.
+use Rattle.std.proofs.Common.{◌≡◌, ◌<◌, ℕ, true, List, Option, Some, None, IfSome, Err, length, refl, arith, replicate}
 use Rattle.std.proofs.lemmas.Bool.Decides.{nat_tests}
+use Rattle.std.proofs.lemmas.List.{length-replicate}
 use Rattle.cs_model.specs.Image.{image_fault, image_of}
-use Rattle.cs_model.specs.ImageFault.{ImageFault, is_long_file}
+use Rattle.cs_model.specs.ImageFault.{ImageFault, TooLong, is_long_file}
 use Rattle.cs_image.specs.Answer.{Tells}
 use Rattle.cs_image.specs.declared.error.ImageError.{ImageError}
 use Rattle.cs_image.specs.declared.error.ImageError.TheVariants as error
-use Rattle.cs_cli.specs.Answer.{IsRefused, heap_limit}
+use Rattle.cs_cli.specs.Answer.{HasFault}
+use Rattle.cs_cli.specs.Loading.{fault_by}
 
-faulty : (bytes : List ℕ) (f : ImageFault) → image_fault bytes heap_limit ≡ Some f → IsRefused bytes
+abbrev Told : Option (List ℕ) → List ℕ → Type 0
+Told content bytes = IfSome content (λ held. bytes ≡ held)
+
+has_fault : (content : Option (List ℕ)) (limit : ℕ) (bytes : List ℕ) (f : ImageFault) → Told content bytes → image_fault bytes limit ≡ Some f → HasFault content limit f
 unfolding image_of
-faulty bytes f h = rw h refl
+has_fault content limit bytes f told h = record { bytes = bytes; told = told; is = rw h refl }
 
--- an error that isn't want of memory
-pub refused_by : {X : Type 0} (P : X → Type 0) (bytes : List ℕ) (e : ImageError) → (e ≡ error.NoMemory → ⊥) → Tells (image_fault bytes heap_limit) P (Err e)
-    → IsRefused bytes
-refused_by P bytes error.TooLong other h = faulty bytes _ h
-refused_by P bytes error.Short other h = faulty bytes _ h
-refused_by P bytes error.BadFormat other h = faulty bytes _ h
-refused_by P bytes error.BadHeaderSize other h = faulty bytes _ h
-refused_by P bytes error.BadProfile other h = faulty bytes _ h
-refused_by P bytes error.BadLength other h = faulty bytes _ h
-refused_by P bytes (error.BadObject at) other h = faulty bytes _ h
-refused_by P bytes error.OverLimit other h = faulty bytes _ h
-refused_by P bytes error.BadTable other h = faulty bytes _ h
-refused_by P bytes (error.BadRef at) other h = faulty bytes _ h
-refused_by P bytes (error.BadClass at) other h = faulty bytes _ h
-refused_by P bytes (error.BadContext at) other h = faulty bytes _ h
-refused_by P bytes error.BadRoots other h = faulty bytes _ h
-refused_by P bytes error.BadBirths other h = faulty bytes _ h
-refused_by P bytes error.NoMemory other h = absurd (other refl)
+-- what the loader tells of the bytes that were read
+pub faulty : {X : Type 0} (P : X → Type 0) (content : Option (List ℕ)) (limit : ℕ) (bytes : List ℕ) (e : ImageError) → Told content bytes
+    → Tells (image_fault bytes limit) P (Err e) → IfSome (fault_by e) (HasFault content limit)
+faulty P content limit bytes error.TooLong told h = has_fault content limit bytes _ told h
+faulty P content limit bytes error.Short told h = has_fault content limit bytes _ told h
+faulty P content limit bytes error.BadFormat told h = has_fault content limit bytes _ told h
+faulty P content limit bytes error.BadHeaderSize told h = has_fault content limit bytes _ told h
+faulty P content limit bytes error.BadProfile told h = has_fault content limit bytes _ told h
+faulty P content limit bytes error.BadLength told h = has_fault content limit bytes _ told h
+faulty P content limit bytes (error.BadObject at) told h = has_fault content limit bytes _ told h
+faulty P content limit bytes error.OverLimit told h = has_fault content limit bytes _ told h
+faulty P content limit bytes error.BadTable told h = has_fault content limit bytes _ told h
+faulty P content limit bytes (error.BadRef at) told h = has_fault content limit bytes _ told h
+faulty P content limit bytes (error.BadClass at) told h = has_fault content limit bytes _ told h
+faulty P content limit bytes (error.BadContext at) told h = has_fault content limit bytes _ told h
+faulty P content limit bytes error.BadRoots told h = has_fault content limit bytes _ told h
+faulty P content limit bytes error.BadBirths told h = has_fault content limit bytes _ told h
+faulty P content limit bytes error.NoMemory told h = tt
 
 -- a file that is longer than an image may be
-pub refused_long : (bytes : List ℕ) → 536870912 < length bytes → IsRefused bytes
-unfolding image_of image_fault
-refused_long bytes long =
+long_fault : (bytes : List ℕ) (limit : ℕ) → 536870912 < length bytes → image_fault bytes limit ≡ Some TooLong
+unfolding image_fault
+long_fault bytes limit long =
     let is : is_long_file bytes ≡ true = grind (arith, nat_tests, long) in
     rw is refl
 
--- where the shelf tells a content, it is what was read
-pub refused_read : (content : Option (List ℕ)) (bytes : List ℕ) → IfSome content (λ held. bytes ≡ held) → IsRefused bytes → IfSome content IsRefused
-refused_read None bytes same h = tt
-refused_read (Some held) bytes same h = let P : List ℕ → Type 0 = λ b. IsRefused b in subst P same h
+some_long : (limit n : ℕ) → 536870912 < n → HasFault None limit TooLong
+some_long limit n long = has_fault None limit (replicate n 0) TooLong tt (long_fault (replicate n 0) limit (omega (arith, long, length-replicate {A = ℕ} n 0)))
 
--- where it tells one that is too long, that is refused
-pub long_content : (content : Option (List ℕ)) → IfSome content (λ held. 536870912 < length held) → IfSome content IsRefused
-long_content None long = tt
-long_content (Some held) long = refused_long held long
+pub too_long : (content : Option (List ℕ)) (limit : ℕ) → IfSome content (λ held. 536870912 < length held) → HasFault content limit TooLong
+too_long None limit long = some_long limit 536870913 (omega arith)
+too_long (Some held) limit long = has_fault (Some held) limit held TooLong refl (long_fault held limit long)

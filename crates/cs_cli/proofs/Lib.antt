@@ -1,3 +1,13 @@
+pub mod Rules
+pub mod Uses
+pub mod Walking
+pub mod Turns
+pub mod Telling
+pub mod Agreeing
+pub mod Parts
+pub mod Reading
 pub mod Writings
 pub mod Images
 pub mod Breaking
+pub mod Answering
+pub mod Within

@@ -1,13 +1,12 @@
 -- Texts that are written one behind another, and the answer of a run.
-use Rattle.std.proofs.Common.{◌≡◌, inl, inr, ℕ, ◌+◌, ◌≤◌, List, ◌++◌, take, length, length-append, Option, Some, None, Result, Ok, Err, OnOk, OnErr, sym, ap, ◌∙◌, subst, arith, codes}
+use Rattle.std.proofs.Common.{◌≡◌, inl, inr, ℕ, ◌+◌, ◌≤◌, List, ◌++◌, take, length, length-append, Option, Result, Ok, Err, OnOk, OnErr, sym, ap, ◌∙◌, subst, arith, codes}
 use Rattle.std.proofs.Math.Seq.{take-append-add}
 use Rattle.std.proofs.lemmas.List.{take-append-le}
 use Rattle.cs_shelf.specs.Outside.{Appends, AppendsPart, Rose}
 use Rattle.cs_shelf.proofs.Appending.{appends_then}
-use Rattle.cs_cli.specs.Said.{Said}
 use Rattle.cs_model.specs.Step.{Ending, Ran}
 use Rattle.cs_model.specs.Report.{Place, report_line, place_of, report_of}
-use Rattle.cs_cli.specs.Answer.{Answer, AnsweredTo, Answered, Printed, Reading, Writing, answering, refused_line, run_answer, run_status}
+use Rattle.cs_cli.specs.Answer.{Answer, Printed, Writing, answering, run_answer, run_status}
 
 pub rose_from : (a b c : ℕ) → a ≤ b → Rose b c → Rose a c
 rose_from a b c h rose = omega (arith, h, rose)
@@ -52,14 +51,6 @@ run_printed m e steps p a b c i j k answer text status he hs hp h le same_status
     let R : List ℕ → Type 0 = λ t. Printed (answering (run_status e) t) (writing b c j k) status in
     subst P (run_answer-by m e steps p he hs hp)
     (printed_behind a b c i j k m.state.run.output (codes "\n" ++ report_line e steps p) (run_status e) status h le (subst R same_text (subst Q same_status printed)))
-
-pub answered_refused : (line : Option Said) (shelf : Reading) (out : Writing) (status : ℕ) → None ≡ line
-    → Printed refused_line out status → Answered line shelf out status
-answered_refused line shelf out status h printed = let P : Option Said → Type 0 = λ l. Answered l shelf out status in subst P h printed
-
-pub answered_said : (line : Option Said) (said : Said) (shelf : Reading) (out : Writing) (status : ℕ) → Some said ≡ line
-    → AnsweredTo said shelf out status → Answered line shelf out status
-answered_said line said shelf out status h a = let P : Option Said → Type 0 = λ l. Answered l shelf out status in subst P h a
 
 -- what holds where a result is Ok, or an Err
 pub on_err : {X E : Type 0} {P : Type 0} (r : Result X E) → P → OnErr r P

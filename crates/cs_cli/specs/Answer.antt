@@ -1,28 +1,23 @@
 -- What the program answers to the words behind its name, and what it prints.
-use Rattle.std.specs.Prelude.{◌≡◌, ◌⊎◌, ℕ, ◌<◌, true, false, List, ◌++◌, length, codes, Option, Some, None, Ok, IfSome, IsErr}
+use Rattle.std.specs.Prelude.{◌≡◌, ◌⊎◌, ℕ, zero, suc, ◌+◌, ◌<◌, ◌≤◌, true, if◌then◌else◌, List, ◌++◌, codes, Option, Some, None, Ok, Err, IfSome, IsSomeAnd}
 use Rattle.cs_shelf.specs.Outside.{Appends, AppendsPart, Fault, Rose, read_fault}
-use Rattle.cs_model.specs.State.{Kept}
+use Rattle.cs_model.specs.Obj.{Obj, is_context}
+use Rattle.cs_model.specs.State.{Kept, object_at}
 use Rattle.cs_model.specs.Image.{image_of}
+use Rattle.cs_model.specs.ImageFault.{ImageFault, image_fault_name}
 use Rattle.cs_model.specs.Settle.{open_kept}
-use Rattle.cs_cli.specs.Said.{Said}
-use Rattle.cs_model.specs.Demand.{words_held}
+use Rattle.cs_model.specs.CommandLine.{Command, Run, Build, Inspect, Same, Gen, CommandLine, Options, run_pages}
+use Rattle.cs_model.specs.Demand.{words_held, words_taken}
 use Rattle.cs_model.specs.End as ends
 use Rattle.cs_model.specs.End.{Out}
 use Rattle.cs_model.specs.Built.{is_built_bytecode}
+use Rattle.cs_model.specs.Print.{print_of}
 use Rattle.cs_model.specs.Step as model
 use Rattle.cs_model.specs.Step.{bytecode}
 use Rattle.cs_model.specs.Report.{report_of}
 use Rattle.cs_core.specs.Deep.{IsDeep, run_of, state_of}
 use Rattle.cs_core.specs.Stepped.{IsNext, Needs, next_turn}
 use Rattle.cs_acts.specs.declared.act.Full.TheVariants.{Heap}
-
--- the words of 4 bytes that the heap of the machine may have
-abbrev pub heap_limit : ℕ
-heap_limit = 16777216
-
--- the stack pages of the machine
-abbrev pub stack_pages : ℕ
-stack_pages = 8
 
 -- ---- the outside, before the call and behind it
 
@@ -58,8 +53,12 @@ answering status text = record { status = status; text = text }
 abbrev pub refused_line : Answer
 refused_line = answering 2 (codes "cogstack: line\n")
 
-abbrev pub refused_image : Answer
-refused_image = answering 3 (codes "cogstack: image Refused\n")
+-- with the fault, and its place where it has one
+abbrev pub image_text : ImageFault → List ℕ
+image_text fault = codes "cogstack: image " ++ image_fault_name fault ++ codes "\n"
+
+abbrev pub refused_image : ImageFault → Answer
+refused_image fault = answering 3 (image_text fault)
 
 abbrev pub read_text : List ℕ → List ℕ
 read_text name = codes "cogstack: read " ++ name ++ codes "\n"
@@ -80,6 +79,10 @@ run_status (model.Stopped reason) = 1
 abbrev pub run_answer : model.Ran → Answer
 run_answer m = answering (run_status m.ending) (m.state.run.output ++ report_of m.state m.ending)
 
+-- the printed image
+abbrev pub inspect_answer : Kept → Answer
+inspect_answer k = answering 0 (print_of k)
+
 -- ---- what is printed
 
 -- the status of a failed write
@@ -91,6 +94,30 @@ abbrev pub Printed : Answer → Writing → ℕ → Type 0
 Printed a out status =
     ((status ≡ a.status) × Appends out.old out.new a.text)
     ⊎ ((status ≡ write_failed) × Rose out.before out.behind × AppendsPart out.old out.new a.text)
+
+-- memory is wanted in place of an answer
+abbrev pub OrMemory : Writing → ℕ → Type 0 → Type 0
+OrMemory out status Other = Printed no_memory out status ⊎ Other
+
+-- ---- images
+
+-- These bytes have the fault. Where the shelf tells a content, it is these bytes.
+pub record HasFault (content : Option (List ℕ)) (limit : ℕ) (fault : ImageFault) : Type 0 where
+  pub bytes : List ℕ
+  pub told : IfSome content (λ held. bytes ≡ held)
+  pub is : image_of bytes limit ≡ Err fault
+
+-- An image is read: these bytes describe the state k, before it is opened. Where the shelf tells a content, it is these bytes.
+pub record IsImage (content : Option (List ℕ)) (limit : ℕ) (k : Kept) : Type 0 where
+  pub bytes : List ℕ
+  pub told : IfSome content (λ held. bytes ≡ held)
+  pub state : image_of bytes limit ≡ Ok k
+
+-- the file of a line can't be read, or isn't the image of a heap of so many words, or memory is wanted
+pub data Refused (file : List ℕ) (limit : ℕ) (shelf : Reading) (out : Writing) (status : ℕ) : Type 0 where
+  read : ReadFailed shelf file → Printed (failed_read file) out status → Refused file limit shelf out status
+  image : (fault : ImageFault) → HasFault (shelf.content file) limit fault → Printed (refused_image fault) out status → Refused file limit shelf out status
+  memory : Printed no_memory out status → Refused file limit shelf out status
 
 -- ---- a run
 
@@ -107,40 +134,62 @@ full_heap k done = answering 5 (run_of k done).state.run.output
 abbrev pub full_stack : Kept → ℕ → Answer
 full_stack k done = answering 10 ((run_of k done).state.run.output ++ codes "cogstack: stack\n")
 
--- n bytecodes from k are run and reported; or the state to which the next one leads has more words than the heap's limit, or one on its
+-- what is no context
+abbrev pub unless_context : Option Obj → Option Obj
+unless_context None = None
+unless_context (Some o) = if is_context o then None else Some o
+
+-- the words of the objects that have births below n, without contexts
+unfoldable pub object_words_below : ℕ → Kept → ℕ
+object_words_below zero k = 0
+object_words_below (suc n) k = object_words_below n k + words_taken (unless_context (object_at k n))
+
+abbrev pub object_words_held : Kept → ℕ
+object_words_held k = object_words_below k.rest.next k
+
+-- n bytecodes from k are run and reported, and where the status is 0 the objects of the state have no more words than the heap may have,
+-- contexts aside; or the state to which the next one leads has more words than the heap's limit, or one on its
 -- way has; or it enters a method or block, and the contexts that have begun in the run and await a return need more than 3,900 words for
 -- each of the stack pages
-pub data Reported (k : Kept) (n : ℕ) (out : Writing) (status : ℕ) : Type 0 where
-  ended : Printed (run_answer (run_of k n)) out status → Reported k n out status
-  heap : (done : ℕ) (o : Out) → IsUnderWay k n done → Needs (next_turn (run_of k done).state) Heap o → heap_limit < words_held o.state → Printed (full_heap k done) out status → Reported k n out status
-  stack : (done : ℕ) → IsUnderWay k n done → is_built_bytecode (state_of k done) ≡ true → (bytecode (run_of k done).state).out.end ≡ ends.Entered → IsDeep stack_pages k done → Printed (full_stack k done) out status → Reported k n out status
+pub data Reported (k : Kept) (n : ℕ) (pages : Option ℕ) (limit : ℕ) (out : Writing) (status : ℕ) : Type 0 where
+  ended : (status ≡ 0 → object_words_held (state_of k n) ≤ limit) → Printed (run_answer (run_of k n)) out status → Reported k n pages limit out status
+  heap : (done : ℕ) (o : Out) → IsUnderWay k n done → Needs (next_turn (run_of k done).state) Heap o → limit < words_held o.state → Printed (full_heap k done) out status → Reported k n pages limit out status
+  stack : (done : ℕ) → IsUnderWay k n done → is_built_bytecode (state_of k done) ≡ true → (bytecode (run_of k done).state).out.end ≡ ends.Entered → IsSomeAnd pages (λ most. IsDeep most k done) → Printed (full_stack k done) out status → Reported k n pages limit out status
 
 -- or memory is wanted before the run begins
-abbrev pub Begun : Kept → ℕ → Writing → ℕ → Type 0
-Begun k n out status = Reported k n out status ⊎ Printed no_memory out status
+abbrev pub Begun : Kept → ℕ → Option ℕ → ℕ → Writing → ℕ → Type 0
+Begun k n pages limit out status = OrMemory out status (Reported k n pages limit out status)
 
--- ---- images
+-- ---- commands
 
--- an image is refused: it has a fault
-abbrev pub IsRefused : List ℕ → Type 0
-IsRefused bytes = IsErr (image_of bytes heap_limit)
+-- an image is run
+pub data RunAnswered (file : List ℕ) (o : Options) (shelf : Reading) (out : Writing) (status : ℕ) : Type 0 where
+  run_refused : Refused file o.heap shelf out status → RunAnswered file o shelf out status
+  ran : (k : Kept) → IsImage (shelf.content file) o.heap k → Begun (open_kept k) o.steps (Some (run_pages o)) o.heap out status → RunAnswered file o shelf out status
 
--- An image is open: these bytes describe the state k, before it was opened. Where the shelf tells a content, it is these bytes.
-pub record IsImage (content : Option (List ℕ)) (k : Kept) : Type 0 where
-  pub bytes : List ℕ
-  pub told : IfSome content (λ held. bytes ≡ held)
-  pub state : image_of bytes heap_limit ≡ Ok k
+-- an image is printed
+abbrev pub Inspected : Kept → Writing → ℕ → Type 0
+Inspected k out status = OrMemory out status (Printed (inspect_answer k) out status)
+
+pub data InspectAnswered (file : List ℕ) (o : Options) (shelf : Reading) (out : Writing) (status : ℕ) : Type 0 where
+  inspect_refused : Refused file o.heap shelf out status → InspectAnswered file o shelf out status
+  printed : (k : Kept) → IsImage (shelf.content file) o.heap k → Inspected k out status → InspectAnswered file o shelf out status
+
+-- what is answered to each command; those that aren't there yet are refused with their lines
+abbrev pub CommandAnswered : Command → List ℕ → Options → Reading → Writing → ℕ → Type 0
+CommandAnswered Run file o shelf out status = RunAnswered file o shelf out status
+CommandAnswered Build file o shelf out status = ⊥
+CommandAnswered Inspect file o shelf out status = InspectAnswered file o shelf out status
+CommandAnswered Same file o shelf out status = ⊥
+CommandAnswered (Gen k) file o shelf out status = ⊥
 
 -- ---- the call
 
--- what the call answers to a line that is read
-pub data AnsweredTo (said : Said) (shelf : Reading) (out : Writing) (status : ℕ) : Type 0 where
-  read : ReadFailed shelf said.file → Printed (failed_read said.file) out status → AnsweredTo said shelf out status
-  image : IfSome (shelf.content said.file) IsRefused → Printed refused_image out status → AnsweredTo said shelf out status
-  ran : (k : Kept) → IsImage (shelf.content said.file) k → Reported (open_kept k) said.steps out status → AnsweredTo said shelf out status
-  memory : Printed no_memory out status → AnsweredTo said shelf out status
+-- a line that isn't taken is refused
+abbrev pub LineAnswered : Option CommandLine → Reading → Writing → ℕ → Type 0
+LineAnswered None shelf out status = Printed refused_line out status
+LineAnswered (Some line) shelf out status = CommandAnswered line.command line.file line.options shelf out status
 
--- What the call answers to its words. Memory may be wanted at any place behind the line; all else is as said.
-abbrev pub Answered : Option Said → Reading → Writing → ℕ → Type 0
-Answered None shelf out status = Printed refused_line out status
-Answered (Some said) shelf out status = AnsweredTo said shelf out status
+-- What the call answers to its words. Memory may be wanted while the line is read; all else is as said.
+abbrev pub Answered : Option CommandLine → Reading → Writing → ℕ → Type 0
+Answered line shelf out status = OrMemory out status (LineAnswered line shelf out status)

@@ -1,4 +1,6 @@
-pub mod Said
+pub mod LineApp
+pub mod Told
 pub mod Meaning
+pub mod Possible
 pub mod Answer
-pub mod Opening
+pub mod Loading

@@ -111,7 +111,7 @@ overfills_too s l u k a b why pages is h = go h.out h.needs h.cause
 -- and one stack of pages stands where the other has one
 pub carried : (f g : Turns) (u k : Kept) (l n : Option Layout) (old new : Option (List ℕ)) (s : Store) (v : Kept) (e : StepEnd) → SameIn f g
     → ((output : List ℕ) (steps : ℕ) → FillsToo u (f output steps).least k (g output steps).least) → (IsStacked k l → IsStacked u l) → TurnGives f u l old new s v n e → TurnGives g k l old new s v n e
-carried f g u k l n old new s v Active is pages stack (bytes, told, d, ready, shape, active, lays) = (bytes, told, done_in f g v bytes is d, ready, shape, active, lays_before u k v l n s stack lays)
+carried f g u k l n old new s v (Active process) is pages stack (bytes, told, d, ready, shape, active, lays) = (bytes, told, done_in f g v bytes is d, ready, shape, active, lays_before u k v l n s stack lays)
 carried f g u k l n old new s v Idle is pages stack (bytes, told, d, sound, shape, idle) = (bytes, told, done_in f g v bytes is d, sound, shape, idle)
 carried f g u k l n old new s v (Stop reason) is pages stack (none, h) = (none, λ output steps. same_stops (f output steps) (g output steps) reason (is output steps) (h output steps))
 carried f g u k l n old new s v (Full why) is pages stack (none, h) =

@@ -30,6 +30,7 @@ use Rattle.cs_heap.specs.Object.{used}
 use Rattle.cs_acts.specs.Ready.{IsReady, IsSound}
 use Rattle.cs_core.specs.declared.step.StepEnd.TheVariants as how
 use Rattle.cs_core.specs.declared.run.Ran.{Ran as Report}
+use Rattle.cs_word.specs.declared.Oop.{Oop}
 use Rattle.cs_core.specs.Stepped.{CausesNoRoom, IsNext, Needs, whole, unheld, untold, Overfills, StepGives, Turn, can_begin, least_of_return, next_turn, run_at, state_at, step_at}
 use Rattle.cs_core.proofs.Growing.{part_of_more, run_writes}
 use Rattle.cs_core.specs.declared.run.RunError.TheVariants.{Full, WriteFault}
@@ -256,8 +257,8 @@ follows {i = i} {v = v} h =
       keeps = subst (λ (r : Ran). Keeps (step_at v h.output i).state.kept r.state.kept) (sym m) a.state.kept;
     }
 
-pub goes_on : {k : Kept} {old now new : Option (List ℕ)} {i : ℕ} {s t : Store} {v w : Kept} {l n : Option Layout} → Stands k old now i s v l → IsLaidOut s v l → StepGives v l now new t w n how.Active → Stands k old new (i + 1) t w n
-goes_on {k = k} {old = old} {now = now} {new = new} {i = i} {w = w} {l = l} {n = n} h laid g =
+pub goes_on : {k : Kept} {old now new : Option (List ℕ)} {i : ℕ} {s t : Store} {v w : Kept} {l n : Option Layout} (p : Oop) → Stands k old now i s v l → IsLaidOut s v l → StepGives v l now new t w n (how.Active p) → Stands k old new (i + 1) t w n
+goes_on {k = k} {old = old} {now = now} {new = new} {i = i} {w = w} {l = l} {n = n} p h laid g =
     let f = follows h in
     let done = g.2 h.output i in
     record {

@@ -57,7 +57,7 @@ begun k n i e P is few instruction = at e
     can = ap₂ (λ (b : Bool) (o : Option Instr). not b && is_some o) (births_left k n is few) instruction
 
     at : (e : StepEnd) → WhereStopped e (can_begin k ≡ false → P)
-    at Active = tt
+    at (Active process) = tt
     at Idle = tt
     at (Stop reason) = λ no. absurd (false≢true (sym no ∙ can))
     at (Full why) = tt

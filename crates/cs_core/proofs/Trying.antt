@@ -163,7 +163,7 @@ module _ (k v : Kept) (method : Ref) (l n : Option Layout) (bytes : List ℕ) (o
   write_gives new e ready frames by goes told = ends_by (trying k method 900) k v l n bytes old new s e a ready frames told (λ reason is. absurd (goes reason is)) by
 
   pub write_fails : (new : Option (List ℕ)) (e : StepEnd) → EndsBy v e → ((reason : Reason) → e ≡ Stop reason → ⊥) → AppendsPart old new bytes → TurnGives (trying k method 900) k l old new s v n WriteFault
-  write_fails new Active by goes told = (bytes, told, a, by.0)
+  write_fails new (Active process) by goes told = (bytes, told, a, by.0)
   write_fails new Idle by goes told = (bytes, told, a, by.0)
   write_fails new (Stop reason) by goes told = absurd (goes reason refl)
   write_fails new (Full why) by goes told = absurd by
@@ -180,7 +180,7 @@ module _ (k v : Kept) (method : Ref) (l n : Option Layout) (bytes : List ℕ) (o
 
 -- a step that ends by the scheduler needs no fault
 pub no_cause : (v : Kept) (e : StepEnd) (old new : ℕ) → EndsBy v e → CausedByFault old new e
-no_cause v Active old new by = tt
+no_cause v (Active process) old new by = tt
 no_cause v Idle old new by = tt
 no_cause v (Stop reason) old new by = tt
 no_cause v (Full why) old new by = absurd by

@@ -168,7 +168,7 @@ leads_to_none k i v bytes h d shape idle output steps =
 
 -- what the turn of the model gives, its step gives
 pub turn_gives : (k : Kept) (i : Instr) (l n : Option Layout) (old new : Option (List ℕ)) (s : Store) (v : Kept) (e : StepEnd) → Begins k i → TurnGives (model_turn k i) k l old new s v n e → StepGives k l old new s v n e
-turn_gives k i l n old new s v Active h (bytes, told, d, ready, shape, active, frames) = (bytes, told, completes k i v bytes h d shape, leads_to k i v bytes h d shape active, ready, active, frames)
+turn_gives k i l n old new s v (Active process) h (bytes, told, d, ready, shape, active, frames) = (bytes, told, completes k i v bytes h d shape, leads_to k i v bytes h d shape active, ready, active, frames)
 turn_gives k i l n old new s v Idle h (bytes, told, d, sound, shape, idle) = (bytes, told, completes k i v bytes h d shape, leads_to_none k i v bytes h d shape idle, sound)
 turn_gives k i l n old new s v (Stop reason) h (none, f) =
     (none, λ output steps. ap (λ (p : Step). p.ending) (begun k i output steps h) ∙ ended_stops (state_at k output steps) (model_turn k i output steps) reason (f output steps))
@@ -197,7 +197,7 @@ nothing_told (Some told) = ap Some (sym (append-nil told))
 
 pub ends_by : (f : Turns) (k v : Kept) (l n : Option Layout) (bytes : List ℕ) (old new : Option (List ℕ)) (s : Store) (e : StepEnd) → DoneIn f v bytes → IsReady s v → Lays k l s v n → Appends old new bytes
     → ((reason : Reason) → e ≡ Stop reason → new ≡ old) → EndsBy v e → TurnGives f k l old new s v n e
-ends_by f k v l n bytes old new s Active d ready frames told same b = (bytes, told, d, ready, b.0, b.1, frames)
+ends_by f k v l n bytes old new s (Active process) d ready frames told same b = (bytes, told, d, ready, b.0, b.1, frames)
 ends_by f k v l n bytes old new s Idle d ready frames told same b = (bytes, told, d, ready.sound, b.0, b.1)
 ends_by f k v l n bytes old new s (Stop reason) d ready frames told same b = (
   same reason refl,

@@ -4,7 +4,7 @@ use Rattle.cs_shelf.specs.Outside.{Appends, AppendsPart, Rose}
 use Rattle.cs_model.specs.declared.stop.Stop.{Stop as Reason}
 use Rattle.cs_model.specs.declared.stop.Stop.TheVariants as why
 use Rattle.cs_model.specs.Ref.{Ref}
-use Rattle.cs_model.specs.State.{Kept, Run, State}
+use Rattle.cs_model.specs.State.{Kept, Run, State, active_process}
 use Rattle.cs_model.specs.Keeps.{Keeps}
 use Rattle.cs_model.specs.Read.{pc_of}
 use Rattle.cs_model.specs.Operation.{set_pc_of}
@@ -22,7 +22,7 @@ use Rattle.cs_acts.specs.declared.act.Full.{Full as Why}
 use Rattle.cs_acts.specs.declared.act.Full.TheVariants.{Heap, Stack}
 use Rattle.cs_acts.specs.Full.{IsFullHeap}
 use Rattle.cs_acts.specs.Layout.{IsApart, IsLaidOut, Layout, first_page, is_frame, page_words}
-use Rattle.cs_acts.specs.Names.{Store}
+use Rattle.cs_acts.specs.Names.{NamesOption, Store}
 use Rattle.cs_acts.specs.Ready.{IsReady, IsSound}
 use Rattle.cs_unwind.specs.Back.{Asks}
 use Rattle.cs_core.specs.Stacked.{IsStacked}
@@ -163,7 +163,7 @@ pub record IsNext (k : Kept) : Type 0 where
 -- is written is what the model writes; where the sink fails, it is a first part of that. A step that stops or finds no room writes
 -- nothing.
 abbrev pub StepGives : Kept → Option Layout → Option (List ℕ) → Option (List ℕ) → Store → Kept → Option Layout → StepEnd → Type 0
-StepGives k l old new s v n Active = (bytes : List ℕ) × Appends old new bytes × Completes k bytes × LeadsTo k v × IsReady s v × (is_idle v ≡ false) × Lays k l s v n
+StepGives k l old new s v n (Active process) = (bytes : List ℕ) × Appends old new bytes × Completes k bytes × LeadsTo k v × IsReady s v × (is_idle v ≡ false) × Lays k l s v n
 StepGives k l old new s v n Idle = (bytes : List ℕ) × Appends old new bytes × Completes k bytes × LeadsToNone k v × IsSound s v
 StepGives k l old new s v n (Stop reason) = (new ≡ old) × ((output : List ℕ) (steps : ℕ) → (step_at k output steps).ending ≡ Stopped reason)
 StepGives k l old new s v n (Full why) = (new ≡ old) × IsNext k × ((output : List ℕ) (steps : ℕ) → Overfills s l k (next_turn (state_at k output steps)) why)
@@ -171,11 +171,19 @@ StepGives k l old new s v n WriteFault = (bytes : List ℕ) × AppendsPart old n
 
 -- where a step stops, this holds
 abbrev pub WhereStopped : StepEnd → Type 0 → Type 0
-WhereStopped Active P = Unit {0}
+WhereStopped (Active process) P = Unit {0}
 WhereStopped Idle P = Unit {0}
 WhereStopped (Stop reason) P = P
 WhereStopped (Full why) P = Unit {0}
 WhereStopped WriteFault P = Unit {0}
+
+-- the process of a step that completes is the one that is active behind it
+abbrev pub NamesActive : Store → Kept → StepEnd → Type 0
+NamesActive s v (Active process) = NamesOption s (Some process) (active_process v)
+NamesActive s v Idle = Unit {0}
+NamesActive s v (Stop reason) = Unit {0}
+NamesActive s v (Full why) = Unit {0}
+NamesActive s v WriteFault = Unit {0}
 
 -- births are left, and an instruction stands at the pc; else a step stops before it changes anything
 abbrev pub can_begin : Kept → Bool
@@ -183,7 +191,7 @@ can_begin k = not (nat_lt birth_limit k.rest.next) && is_some (instruction_at k)
 
 -- a fault of the sink has been counted
 abbrev pub CausedByFault : ℕ → ℕ → StepEnd → Type 0
-CausedByFault old new Active = Unit {0}
+CausedByFault old new (Active process) = Unit {0}
 CausedByFault old new Idle = Unit {0}
 CausedByFault old new (Stop reason) = Unit {0}
 CausedByFault old new (Full why) = Unit {0}
@@ -230,7 +238,7 @@ pub data TurnStops (t : Turn) (reason : Reason) : Type 0 where
 
 -- what a part of a step gives from the state k on, with what the sink tells before and behind it and with the world behind it
 abbrev pub TurnGives : Turns → Kept → Option Layout → Option (List ℕ) → Option (List ℕ) → Store → Kept → Option Layout → StepEnd → Type 0
-TurnGives f k l old new s v n Active = (bytes : List ℕ) × Appends old new bytes × DoneIn f v bytes × IsReady s v × (shape_fault v ≡ None) × (is_idle v ≡ false) × Lays k l s v n
+TurnGives f k l old new s v n (Active process) = (bytes : List ℕ) × Appends old new bytes × DoneIn f v bytes × IsReady s v × (shape_fault v ≡ None) × (is_idle v ≡ false) × Lays k l s v n
 TurnGives f k l old new s v n Idle = (bytes : List ℕ) × Appends old new bytes × DoneIn f v bytes × IsSound s v × (shape_fault v ≡ None) × (is_idle v ≡ true)
 TurnGives f k l old new s v n (Stop reason) = (new ≡ old) × ((output : List ℕ) (steps : ℕ) → TurnStops (f output steps) reason)
 TurnGives f k l old new s v n (Full why) = (new ≡ old) × ((output : List ℕ) (steps : ℕ) → Overfills s l k (f output steps) why)
@@ -238,7 +246,7 @@ TurnGives f k l old new s v n WriteFault = (bytes : List ℕ) × AppendsPart old
 
 -- how a step that did its bytecode ends, by the scheduler behind it
 abbrev pub EndsBy : Kept → StepEnd → Type 0
-EndsBy v Active = (shape_fault v ≡ None) × (is_idle v ≡ false)
+EndsBy v (Active process) = (shape_fault v ≡ None) × (is_idle v ≡ false)
 EndsBy v Idle = (shape_fault v ≡ None) × (is_idle v ≡ true)
 EndsBy v (Stop reason) = shape_fault v ≡ Some reason
 EndsBy v (Full why) = ⊥

@@ -4,8 +4,9 @@ ghost use Rattle.cs_model.specs.Due.{is_idle};
 ghost use Rattle.cs_model.specs.Read.{IsRunning};
 ghost use Rattle.cs_model.specs.Ref.{named_object};
 ghost use Rattle.cs_model.specs.Report.{no_place, place_of};
+ghost use Rattle.cs_model.specs.State.{active_process};
 ghost use Rattle.cs_acts.specs.Layout.{IsFresh, IsLaidOut};
-ghost use Rattle.cs_acts.specs.Names.{IsNamed, name_of};
+ghost use Rattle.cs_acts.specs.Names.{IsNamed, NamesOption, name_of};
 ghost use Rattle.cs_acts.specs.Ready.{IsSound};
 ghost use Rattle.cs_core.specs.Running.{BreaksIn, RunCausedByFault, RunFails, RunGives, RunLeads, ending_at_rest};
 ghost use Rattle.cs_core.specs.Running.{ending_of, place_by};
@@ -81,15 +82,16 @@ fn birth_of<W: World>(w: &W, o: Oop) -> Option<u64>
     }
 }
 
-/// Where the machine stands.
-fn place_of<W: World>(w: &W) -> Place
+/// Where the machine stands, whose active process this is.
+fn place_of<W: World>(w: &W, process: Option<Oop>) -> Place
     requires sound { IsSound (W.stored w.now) (W.view w.now) }
+    requires process { NamesOption (W.stored w.now) process (active_process (W.view w.now)) }
     requires running { is_idle (W.view w.now) ≡ false → IsRunning (W.view w.now) }
     ensures place { place_of (W.view w.now) ≡ place_by result }
     ensures laid { IsLaidOut (W.stored w.now) (W.view w.now) (W.layout w.now) }
 {
     let active = w.active();
-    let Some(process) = active_process(w) else {
+    let Some(process) = process else {
         return NOWHERE;
     };
     if same(w, process, nil(w)) {
@@ -141,10 +143,11 @@ pub fn run<W: World, K: Sink>(
     if is_idle(w) {
         return Ok(at_rest(w, 0, n));
     }
+    let mut process = active_process(w);
     for steps in 0..n {
-        let before = place_of(w);
+        let before = place_of(w, process);
         match step(w, sender, out) {
-            StepEnd::Active => {}
+            StepEnd::Active(active) => process = Some(active),
             StepEnd::Idle => return Ok(at_rest(w, steps + 1, n)),
             StepEnd::Stopped(reason) => return Ok(Ran {
                 ending: Ending::Stopped(reason),
@@ -158,7 +161,7 @@ pub fn run<W: World, K: Sink>(
     Ok(Ran {
         ending: Ending::Steps,
         steps: n,
-        place: place_of(w),
+        place: place_of(w, process),
     })
 }
 

@@ -7,8 +7,8 @@ ghost use Rattle.cs_acts.specs.Targets.{CanEnter};
 ghost use Rattle.cs_prim_ctx.specs.Numbers.{reads_context};
 ghost use Rattle.cs_send.specs.Sent.{message_of};
 ghost use Rattle.cs_unwind.specs.Primitive.{unwinds};
-ghost use Rattle.cs_core.specs.Stepped.{CausedByFault, EndsBy, Fails, StepGives, TurnGives, WhereStopped, calling};
-ghost use Rattle.cs_core.specs.Stepped.{can_begin, returning, sending, trying};
+ghost use Rattle.cs_core.specs.Stepped.{CausedByFault, EndsBy, Fails, NamesActive, StepGives, TurnGives, WhereStopped};
+ghost use Rattle.cs_core.specs.Stepped.{calling, can_begin, returning, sending, trying};
 
 use crate::primitive::{Primitive, piece_of, sum, write};
 use cs_acts::answer::{answer, argument, receiver};
@@ -27,8 +27,8 @@ pub(crate) const BIRTH_LIMIT: u64 = (1 << 62) - 64;
 /// How a step ends.
 #[derive(Clone, Copy, PartialEq, Eq, Debug)]
 pub enum StepEnd {
-    /// A bytecode is completed, and a process is active.
-    Active,
+    /// A bytecode is completed, and this process is active.
+    Active(Oop),
     /// A bytecode is completed, and no process is active.
     Idle,
     /// The step stops. It has written nothing; where it had begun, the world stands within it.
@@ -45,6 +45,7 @@ pub fn step<W: World, K: Sink>(w: &mut W, sender: &mut Sender, out: &mut K) -> S
     requires active { is_idle (W.view w.old) ≡ false }
     ensures gives { StepGives (W.view w.old) (W.layout w.old) (K.taken out.old) (K.taken out.new) (W.stored w.new)
         (W.view w.new) (W.layout w.new) result }
+    ensures process { NamesActive (W.stored w.new) (W.view w.new) result }
     ensures sound { WhereStopped result (IsSound (W.stored w.new) (W.view w.new)) }
     ensures untouched { WhereStopped result (can_begin (W.view w.old) ≡ false → W.view w.new ≡ W.view w.old) }
     ensures limit { (W.stored w.new).memory.limit ≡ (W.stored w.old).memory.limit }
@@ -86,6 +87,7 @@ fn send<W: World, K: Sink>(
     requires above { IfSome above (λ o. IsNamed (W.stored w.old) o) }
     ensures gives { TurnGives (sending (W.view w.old) (message_of (W.stored w.old) selector args above)) (W.view w.old)
         (W.layout w.old) (K.taken out.old) (K.taken out.new) (W.stored w.new) (W.view w.new) (W.layout w.new) result }
+    ensures process { NamesActive (W.stored w.new) (W.view w.new) result }
     ensures sound { WhereStopped result (IsSound (W.stored w.new) (W.view w.new)) }
     ensures limit { (W.stored w.new).memory.limit ≡ (W.stored w.old).memory.limit }
     ensures never_falls { K.fault_count out.old ≤ K.fault_count out.new }
@@ -112,6 +114,7 @@ fn try_primitive<W: World, K: Sink>(
     requires enters { CanEnter (W.view w.old) (name_of (W.stored w.old) method) args true }
     ensures gives { TurnGives (trying (W.view w.old) (name_of (W.stored w.old) method) number) (W.view w.old)
         (W.layout w.old) (K.taken out.old) (K.taken out.new) (W.stored w.new) (W.view w.new) (W.layout w.new) result }
+    ensures process { NamesActive (W.stored w.new) (W.view w.new) result }
     ensures sound { WhereStopped result (IsSound (W.stored w.new) (W.view w.new)) }
     ensures limit { (W.stored w.new).memory.limit ≡ (W.stored w.old).memory.limit }
     ensures never_falls { K.fault_count out.old ≤ K.fault_count out.new }
@@ -135,6 +138,7 @@ fn add_or_enter<W: World>(w: &mut W, method: Oop, args: u32) -> StepEnd
     requires enters { CanEnter (W.view w.old) (name_of (W.stored w.old) method) args true }
     ensures gives { (told : Option (List ℕ)) → TurnGives (trying (W.view w.old) (name_of (W.stored w.old) method) 1)
         (W.view w.old) (W.layout w.old) told told (W.stored w.new) (W.view w.new) (W.layout w.new) result }
+    ensures process { NamesActive (W.stored w.new) (W.view w.new) result }
     ensures sound { WhereStopped result (IsSound (W.stored w.new) (W.view w.new)) }
     ensures limit { (W.stored w.new).memory.limit ≡ (W.stored w.old).memory.limit }
     ensures cause { (faults : ℕ) → CausedByFault faults faults result }
@@ -159,6 +163,7 @@ fn write_or_enter<W: World, K: Sink>(w: &mut W, out: &mut K, method: Oop, args: 
     requires enters { CanEnter (W.view w.old) (name_of (W.stored w.old) method) args true }
     ensures gives { TurnGives (trying (W.view w.old) (name_of (W.stored w.old) method) 900) (W.view w.old)
         (W.layout w.old) (K.taken out.old) (K.taken out.new) (W.stored w.new) (W.view w.new) (W.layout w.new) result }
+    ensures process { NamesActive (W.stored w.new) (W.view w.new) result }
     ensures sound { WhereStopped result (IsSound (W.stored w.new) (W.view w.new)) }
     ensures limit { (W.stored w.new).memory.limit ≡ (W.stored w.old).memory.limit }
     ensures never_falls { K.fault_count out.old ≤ K.fault_count out.new }
@@ -192,6 +197,7 @@ fn read_or_enter<W: World>(w: &mut W, method: Oop, args: u32, number: u32) -> St
     ensures gives { (told : Option (List ℕ)) → TurnGives
         (trying (W.view w.old) (name_of (W.stored w.old) method) number) (W.view w.old) (W.layout w.old) told told
         (W.stored w.new) (W.view w.new) (W.layout w.new) result }
+    ensures process { NamesActive (W.stored w.new) (W.view w.new) result }
     ensures sound { WhereStopped result (IsSound (W.stored w.new) (W.view w.new)) }
     ensures limit { (W.stored w.new).memory.limit ≡ (W.stored w.old).memory.limit }
     ensures cause { (faults : ℕ) → CausedByFault faults faults result }
@@ -213,6 +219,7 @@ fn unwind_or_enter<W: World>(w: &mut W, method: Oop, args: u32, number: u32) -> 
     ensures gives { (told : Option (List ℕ)) → TurnGives
         (trying (W.view w.old) (name_of (W.stored w.old) method) number) (W.view w.old) (W.layout w.old) told told
         (W.stored w.new) (W.view w.new) (W.layout w.new) result }
+    ensures process { NamesActive (W.stored w.new) (W.view w.new) result }
     ensures sound { WhereStopped result (IsSound (W.stored w.new) (W.view w.new)) }
     ensures limit { (W.stored w.new).memory.limit ≡ (W.stored w.old).memory.limit }
     ensures cause { (faults : ℕ) → CausedByFault faults faults result }
@@ -233,6 +240,7 @@ fn enter_behind<W: World>(w: &mut W, method: Oop, args: u32) -> StepEnd
     ensures gives { (told : Option (List ℕ)) (number : ℕ) → Fails (W.view w.old) (name_of (W.stored w.old) method)
         number → TurnGives (trying (W.view w.old) (name_of (W.stored w.old) method) number) (W.view w.old)
         (W.layout w.old) told told (W.stored w.new) (W.view w.new) (W.layout w.new) result }
+    ensures process { NamesActive (W.stored w.new) (W.view w.new) result }
     ensures sound { WhereStopped result (IsSound (W.stored w.new) (W.view w.new)) }
     ensures limit { (W.stored w.new).memory.limit ≡ (W.stored w.old).memory.limit }
     ensures cause { (faults : ℕ) → CausedByFault faults faults result }
@@ -256,6 +264,7 @@ fn give_back<W: World, K: Sink>(
     requires named { IsNamed (W.stored w.old) value }
     ensures gives { TurnGives (returning (W.view w.old) (name_of (W.stored w.old) value) local) (W.view w.old)
         (W.layout w.old) (K.taken out.old) (K.taken out.new) (W.stored w.new) (W.view w.new) (W.layout w.new) result }
+    ensures process { NamesActive (W.stored w.new) (W.view w.new) result }
     ensures sound { WhereStopped result (IsSound (W.stored w.new) (W.view w.new)) }
     ensures limit { (W.stored w.new).memory.limit ≡ (W.stored w.old).memory.limit }
     ensures never_falls { K.fault_count out.old ≤ K.fault_count out.new }
@@ -281,6 +290,7 @@ fn call<W: World, K: Sink>(
     requires births { (W.view w.old).rest.next ≤ 4611686018427387840 }
     ensures gives { TurnGives (calling (W.view w.old) number args) (W.view w.old) (W.layout w.old) (K.taken out.old)
         (K.taken out.new) (W.stored w.new) (W.view w.new) (W.layout w.new) result }
+    ensures process { NamesActive (W.stored w.new) (W.view w.new) result }
     ensures sound { WhereStopped result (IsSound (W.stored w.new) (W.view w.new)) }
     ensures limit { (W.stored w.new).memory.limit ≡ (W.stored w.old).memory.limit }
     ensures never_falls { K.fault_count out.old ≤ K.fault_count out.new }
@@ -296,10 +306,11 @@ fn call<W: World, K: Sink>(
 fn finish<W: World>(w: &W) -> StepEnd
     requires { IsSound (W.stored w.now) (W.view w.now) }
     ensures by { EndsBy (W.view w.now) result }
+    ensures process { NamesActive (W.stored w.now) (W.view w.now) result }
     ensures sound { WhereStopped result (IsSound (W.stored w.now) (W.view w.now)) }
 {
     match shape_of(w) {
-        Shape::Active(_) => StepEnd::Active,
+        Shape::Active(process) => StepEnd::Active(process),
         Shape::Idle => StepEnd::Idle,
         Shape::Fault(reason) => StepEnd::Stopped(reason),
     }

@@ -27,7 +27,7 @@ use Rattle.cs_inspect.specs.Reading.{field_seen, has_field_at, ref_option}
 use Rattle.cs_inspect.proofs.Reading.{There, there}
 
 -- the kind of an address is itself
-kind_of_address : (w a : ℕ) → kind_of w ≡ kind.Object a → w ≡ a
+pub kind_of_address : (w a : ℕ) → kind_of w ≡ kind.Object a → w ≡ a
 kind_of_address w a e = go (w % 2 == 1) (w % 4 == 2) (w % 8 == 0) (small_value w) (w / 4) e
   where
     go : (b c d : Bool) (z : ℤ) (y : ℕ) → cond b (kind.Small z) (cond c (kind.Character y) (cond d (kind.Object w) (kind.Link w))) ≡ kind.Object a → w ≡ a

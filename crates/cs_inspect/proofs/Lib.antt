@@ -4,3 +4,8 @@ pub mod Meanings
 pub mod Finding
 pub mod Ordering
 pub mod Printing
+pub mod Reaching
+pub mod Orders
+pub mod Comparisons
+pub mod Sides
+pub mod Canonical

@@ -7,7 +7,7 @@ use Rattle.std.proofs.lemmas.Bool.{eq-eqb, false≢true, or_left, or_right}
 use Rattle.std.proofs.lemmas.Bool.Decides.{nat_tests}
 use Rattle.std.proofs.lemmas.List.{append_assoc, get_or-drop, get_or-take, length-drop, length-take, take_all}
 use Rattle.cs_model.specs.Words.{bytes_of_words, unused_bytes}
-use Rattle.cs_word.specs.Header.{bit, flag_bits}
+use Rattle.cs_word.specs.Header.{flag_bits}
 use Rattle.cs_word.specs.Word.{natural_of_word}
 use Rattle.cs_word.specs.declared.method_header.MethodHeader.{MethodHeader}
 use Rattle.cs_heap.specs.Format.{format_allows, is_code, is_pointers, is_raw}
@@ -21,7 +21,7 @@ use Rattle.cs_classes.proofs.Heaps.{object_there}
 use Rattle.cs_classes.proofs.Sorts.{obj_of-bytes, obj_of-context, obj_of-method, obj_of-pointers, references-method}
 use Rattle.cs_classes.proofs.Sounds.{method_other, whole_context}
 use Rattle.cs_inspect.specs.Reading.{context_seen, names_object, method_at, pointers_at, raw_at}
-use Rattle.cs_inspect.specs.Texts.{activation_text, object_text_at}
+use Rattle.cs_inspect.specs.Texts.{activation_text, object_text_at, return_text}
 use Rattle.cs_inspect.proofs.Reading.{bytes_of-drop, length-words_at, there, word_is}
 
 -- ---- formats
@@ -219,7 +219,7 @@ context_shape os hash x s p m c r rs = (codes " context hash=" ++ decimal hash) 
     ++ refs_text rs
 
 pub context_whole : (os : List Object) (a h n d : ℕ) → h ≡ hash_at os a → n ≡ slot_count_of os a - 6 → d ≡ depth_in (words_at os a)
-    → (codes " context hash=" ++ decimal h) ++ (codes " size=" ++ decimal n) ++ activation_text os a ++ activation_text os a
+    → (codes " context hash=" ++ decimal h) ++ (codes " size=" ++ decimal n) ++ return_text os a ++ activation_text os a
     ++ refs_text (map (ref_of os) (take (6 + d - 6) (drop 6 (words_at os a))))
     ≡ context_text (context_seen os a)
 unfolding context_of

@@ -8,7 +8,7 @@ use Rattle.cs_model.specs.Words.{bytes_of_words}
 use Rattle.hex.specs.Hex.{encode_lower, encode_with, lower_digits}
 use Rattle.cs_word.specs.declared.Kind.{Kind}
 use Rattle.cs_word.specs.declared.Kind.TheVariants as kind
-use Rattle.cs_word.specs.Word.{kind_of, natural_by_kind, natural_of_word}
+use Rattle.cs_word.specs.Word.{kind_of}
 use Rattle.cs_heap.specs.Object.{Object, birth_at, byte_of, class_at, is_object, slot_count_of, slot_of, words_at}
 use Rattle.cs_model.specs.Ref.{Ref}
 use Rattle.cs_model.specs.Print.{byte_text, bytes_text, ref_text, refs_text}

@@ -1,2 +1,4 @@
+pub mod Comparing
+pub mod Numbering
 pub mod Reading
 pub mod Texts

@@ -1,10 +1,9 @@
 -- What is read of a heap at an address.
-use Rattle.std.specs.Prelude.{◌≡◌, ℕ, ◌||◌, ◌&&◌, ◌==◌, not, nat_lt, Bool, List, [], Option, Some, map, option_map, option_and_then, slice_get}
-use Rattle.std.specs.Option.{option_map_or}
+use Rattle.std.specs.Prelude.{◌≡◌, ℕ, ◌||◌, ◌&&◌, ◌==◌, not, nat_lt, Bool, List, Option, Some, map, option_map, option_and_then, slice_get}
 use Rattle.std.specs.FinMap.{entries}
 use Rattle.cs_word.specs.declared.Oop.{Oop}
 use Rattle.cs_heap.specs.Format.{is_pointers}
-use Rattle.cs_heap.specs.Object.{Object, birth_at, class_at, format_at, hash_at, is_immutable_at, is_object, heap_object, slot_count_of, words_at}
+use Rattle.cs_heap.specs.Object.{Object, birth_at, class_at, format_at, hash_at, is_immutable_at, is_object, slot_count_of, words_at}
 use Rattle.cs_model.specs.Obj.{Context, Head, context_class, Obj, Ptr, Raw, Method, slots_in}
 use Rattle.cs_model.specs.Ref.{Ref}
 use Rattle.cs_classes.specs.Meaning.{code_in, context_of, method_header, literal_words, meaning_at, objects_of, ref_of, used_bytes}

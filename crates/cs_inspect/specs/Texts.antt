@@ -20,8 +20,8 @@ abbrev pub slot_text : List Object → ℕ → List ℕ → ℕ → List ℕ
 slot_text objects a name slot = name ++ ref_text (ref_of objects (slot_of objects a slot))
 
 -- where a context stands, and what it is an activation of
-abbrev pub activation_text : List Object → ℕ → List ℕ
-activation_text objects a = slot_text objects a (codes " sender=") 0 ++ codes " pc=" ++ pc_text (natural_of_word (slot_of objects a 1))
+abbrev pub return_text : List Object → ℕ → List ℕ
+return_text objects a = slot_text objects a (codes " sender=") 0 ++ codes " pc=" ++ pc_text (natural_of_word (slot_of objects a 1))
 
 abbrev pub activation_text : List Object → ℕ → List ℕ
 activation_text objects a = slot_text objects a (codes " method=") 3 ++ slot_text objects a (codes " closure=") 4

@@ -1,22 +1,29 @@
-//! What an image holds, as text.
+//! What an image holds, as text, and where two images differ.
 #![tactic(auto)]
 
+mod comparison;
 mod line;
+mod numbering;
 mod order;
 mod text;
 
 ghost use Rattle.std.specs.Prelude.{◌≡◌, ◌++◌, [], IfOk, IfSome, None, OnOk, true};
 ghost use Rattle.std.specs.Option.{option_map_or};
+ghost use Rattle.cs_model.specs.Canon.{canon, difference as difference_of};
 ghost use Rattle.cs_model.specs.Print.{head_line, print_of, ref_text};
 ghost use Rattle.cs_model.specs.State.{active_process as active_process_of};
 ghost use Rattle.cs_classes.specs.Meaning.{kept_of};
 ghost use Rattle.cs_classes.specs.Sound.{AreSoundObjects, IsWhole, is_reference};
+ghost use Rattle.cs_inspect.specs.Comparing.{place_told};
 ghost use Rattle.cs_inspect.specs.Reading.{field_seen, has_field_at, ref_option};
 
+pub use comparison::Sameness;
+use comparison::{Numbered, difference, told};
+use cs_classes::Loaded;
 use cs_heap::Heap;
-use cs_image::Loaded;
 use cs_word::Oop;
 use line::{CONTEXT_CLASS, POINTERS_END, push_line};
+use numbering::number_objects;
 use order::in_order;
 use std::alloc::{AllocError, Global};
 use text::{push_field, push_reference, push_text};
@@ -106,4 +113,37 @@ pub fn print(alloc: Global, l: &Loaded) -> Result<Vec<u8>, AllocError>
         push_line(&mut text, &l.heap, *o)?;
     }
     Ok(text)
+}
+
+/// Compares two images, each of which is one in memory: whether they are the same, or else at which place they first
+/// differ.
+///
+/// Objects have numbers from 1: first those that are no contexts, by birth, and then the contexts in the order in which
+/// they are first reached. That order is a queue which begins with the contexts in the slots of other objects, and goes
+/// on with the sender, the closure, the receiver and the stack of each context. Contexts that nothing reaches don't
+/// count, and references to objects are compared by these numbers. Place 0 is the last hash that was given, the
+/// special-object array and the class table; place k is object k, also where one image has no such object.
+pub fn same(alloc: Global, a: &Loaded, b: &Loaded) -> Result<Sameness, AllocError>
+    requires first { IsWhole a.now.heap.objects a.now.classes a.now.roots }
+    requires second { IsWhole b.now.heap.objects b.now.classes b.now.roots }
+    ensures { IfOk result (λ sameness. place_told sameness ≡ difference_of
+        (canon (kept_of a.now.heap.objects a.now.classes a.now.roots None))
+        (canon (kept_of b.now.heap.objects b.now.classes b.now.roots None))) }
+{
+    let first = number_objects(alloc, a)?;
+    let second = number_objects(alloc, b)?;
+    let numbered = Numbered {
+        image: a,
+        addresses: &first,
+    };
+    let other = Numbered {
+        image: b,
+        addresses: &second,
+    };
+    match difference(&numbered, &other) {
+        Some(place) => Ok(Sameness::Differ {
+            place: told(&a.heap, place),
+        }),
+        None => Ok(Sameness::Same),
+    }
 }

@@ -7,7 +7,7 @@ ghost use Rattle.cs_heap.specs.Object.{class_at, format_at, hash_at, is_object, 
 ghost use Rattle.cs_model.specs.Print.{context_text, object_text};
 ghost use Rattle.cs_classes.specs.Sound.{AreSoundObjects};
 ghost use Rattle.cs_inspect.specs.Reading.{context_seen, names_object, method_at, pointers_at, raw_at};
-ghost use Rattle.cs_inspect.specs.Texts.{activation_text, line_at, object_text_at, slot_text};
+ghost use Rattle.cs_inspect.specs.Texts.{activation_text, line_at, object_text_at, return_text, slot_text};
 
 use crate::text::{
     push_bytes, push_field, push_number, push_pc, push_reference, push_references, push_text,
@@ -96,7 +96,7 @@ fn push_pointers(text: &mut Vec<u8>, heap: &Heap, o: Oop) -> Result<(), AllocErr
 }
 
 /// How many bytes at the end of an object with bytes or with units of 16 bits are unused.
-fn unused_bytes(format: u8) -> u32
+pub(crate) fn unused_bytes(format: u8) -> u32
     requires { is_raw format ≡ true }
     ensures { result ≡ unused_bytes_of format }
 {
@@ -179,7 +179,7 @@ fn push_place(text: &mut Vec<u8>, heap: &Heap, o: Oop) -> Result<(), AllocError>
     requires sound { AreSoundObjects heap.now.objects }
     requires object { is_object heap.now.objects o.0 ≡ true }
     requires context { (class_at heap.now.objects o.0 == 36) ≡ true }
-    ensures { OnOk result (text.new.items ≡ text.old.items ++ activation_text heap.now.objects o.0) }
+    ensures { OnOk result (text.new.items ≡ text.old.items ++ return_text heap.now.objects o.0) }
 {
     push_slot(text, heap, o, " sender=", SENDER)?;
     push_text(text, " pc=")?;

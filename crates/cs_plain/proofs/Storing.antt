@@ -28,7 +28,7 @@ use Rattle.cs_model.specs.Operation.{edit_found, edit_object, store_of}
 use Rattle.cs_model.specs.Operation as operation
 use Rattle.cs_model.proofs.Operating.{store_moved}
 use Rattle.cs_acts.specs.Names.{IsNamed, name_of}
-use Rattle.cs_acts.specs.Ready.{IsReady, is_storable}
+use Rattle.cs_acts.specs.Ready.{IsReady, IsSound, is_storable}
 use Rattle.cs_acts.proofs.ContextKinds.{kinds-store}
 use Rattle.cs_acts.proofs.Running.{running-put}
 use Rattle.cs_plain.specs.declared.PlainWorld.{PlainWorld}
@@ -37,7 +37,7 @@ use Rattle.cs_plain.proofs.Active.{meaning_there, sound_world}
 use Rattle.cs_plain.proofs.Edits.{edited}
 use Rattle.cs_plain.proofs.Written.{active-same, keeps_names, with_objects}
 use Rattle.cs_plain.proofs.Pcs.{KeepsPcs, pcs-store}
-use Rattle.cs_plain.proofs.Writing.{Writes, held_by, same_kept}
+use Rattle.cs_plain.proofs.Writing.{WritesAnyway, held_in, same_kept}
 
 -- an object that may be stored into, where it stands, and what the store does
 pub record Storable (w : PlainWorld) (o : Oop) (i : ℕ) (v : ℕ) (x : Object) : Type 0 where
@@ -68,7 +68,7 @@ no_context refer x other = go (sort_of x)
     go (AMethod a p m) = ap obj.is_context (obj_of-method refer x a p m)
     go (Bytes a p m) = ap obj.is_context (obj_of-bytes refer x a p m)
 
-module _ {w : PlainWorld} (ready : IsReady (plain_stored w) (plain_view w)) (i v : ℕ) where
+module _ {w : PlainWorld} (sound : IsSound (plain_stored w) (plain_view w)) (i v : ℕ) where
   by_sort : (o : Oop) (x : Object) → heap_object w.heap.objects o.0 ≡ Some x → Sort x → is_storable (Some (obj_of (ref_of w.heap.objects) x)) i ≡ true → Storable w o i v x
   unfolding method_meaning
   by_sort o x there (AContext c) h = absurd (let e : is_storable (Some (obj_of (ref_of w.heap.objects) x)) i ≡ false = ap (λ y. is_storable (Some y) i) (obj_of-context (ref_of w.heap.objects) x c) in cc)
@@ -80,7 +80,7 @@ module _ {w : PlainWorld} (ready : IsReady (plain_stored w) (plain_view w)) (i v
         there = there;
         other = a;
         within = grind (arith, nat_tests, fits, length-map x.words (ref_of w.heap.objects));
-        does = λ r. does-set_slot (record { whole = ready.sound.holds.whole; there = there }) i v a p r;
+        does = λ r. does-set_slot (record { whole = sound.holds.whole; there = there }) i v a p r;
         lies = λ pc. ap (λ y. lies_in (Some (operation.with_slot i (ref_of w.heap.objects v) y)) pc) is ∙ sym (ap (λ y. lies_in (Some y) pc) is);
       }
   by_sort o x there (AMethod a p m) h =
@@ -94,7 +94,7 @@ module _ {w : PlainWorld} (ready : IsReady (plain_stored w) (plain_view w)) (i v
         there = there;
         other = a;
         within = grind (arith, nat_tests, fits, few, long, rest);
-        does = λ r. does-set_literal (record { whole = ready.sound.holds.whole; there = there }) i v m (grind (arith, nat_tests, fits)) (grind (arith, nat_tests, fits, few, long)) r;
+        does = λ r. does-set_literal (record { whole = sound.holds.whole; there = there }) i v m (grind (arith, nat_tests, fits)) (grind (arith, nat_tests, fits, few, long)) r;
         lies = λ pc. ap (λ y. lies_in (Some (operation.with_slot i (ref_of w.heap.objects v) y)) pc) is
             ∙ ap (λ n. obj.lies_between (4 * (n + 1) + 1) (length (used_bytes x.format (code_in x.words))) pc) (length-set lits (i - 1) (ref_of w.heap.objects v))
             ∙ sym (ap (λ y. lies_in (Some y) pc) is);
@@ -103,7 +103,7 @@ module _ {w : PlainWorld} (ready : IsReady (plain_stored w) (plain_view w)) (i v
   at_address : (o : Oop) → is_object w.heap.objects o.0 ≡ true → is_storable (state.object_at (plain_view w) (birth_at w.heap.objects o.0)) i ≡ true → (x : Object) × Storable w o i v x
   at_address o there s =
       let x = object_there w.heap.objects o.0 there in
-      let means = meaning_there w o.0 x.0 ready.sound.holds.whole x.1 in
+      let means = meaning_there w o.0 x.0 sound.holds.whole x.1 in
       let birth = birth_of-object_at w.heap.objects o.0 x.0 x.1 in
       (x.0, by_sort o x.0 x.1 (sort_of x.0) (ap (λ y. is_storable y i) (sym (ap (state.object_at (plain_view w)) birth ∙ means)) ∙ s))
 
@@ -121,10 +121,10 @@ module _ {w : PlainWorld} (ready : IsReady (plain_stored w) (plain_view w)) (i v
 
 -- ---- the store
 
-pub writes-store : (w : PlainWorld) (o v : Oop) (i : ℕ) (x : Object) → IsReady (plain_stored w) (plain_view w) → IsNamed (plain_stored w) o → IsNamed (plain_stored w) v → Storable w o i v.0 x
-    → Writes w (with_objects w (slot_set w.heap.objects o.0 i v.0)) (λ m. store_of m (name_of (plain_stored w) o) i (name_of (plain_stored w) v))
+pub writes-store : (w : PlainWorld) (o v : Oop) (i : ℕ) (x : Object) → IsSound (plain_stored w) (plain_view w) → IsNamed (plain_stored w) o → IsNamed (plain_stored w) v → Storable w o i v.0 x
+    → WritesAnyway w (with_objects w (slot_set w.heap.objects o.0 i v.0)) (λ m. store_of m (name_of (plain_stored w) o) i (name_of (plain_stored w) v))
 unfolding store_of
-writes-store w o v i x ready named value s =
+writes-store w o v i x sound named value s =
     let os = w.heap.objects in
     let us = slot_set os o.0 i v.0 in
     let does = s.does value in
@@ -134,18 +134,20 @@ writes-store w o v i x ready named value s =
     let view : plain_view (with_objects w us) ≡ store_of (plain_view w) (name_of (plain_stored w) o) i (name_of (plain_stored w) v) =
     ap (kept_of us w.classes w.roots) (active-same os us w.active edit) ∙ does.kept (plain_active os w.active) in
     let name : name_of (plain_stored w) o ≡ ref.Obj x.birth = ref_of-object os o.0 (is_object-object_at os o.0 x s.there) ∙ ap (λ b. ref.Obj b) (birth_of-object_at os o.0 x s.there) in
-    let found : state.object_at (plain_view w) x.birth ≡ Some old = meaning_there w o.0 x ready.sound.holds.whole s.there in
+    let found : state.object_at (plain_view w) x.birth ≡ Some old = meaning_there w o.0 x sound.holds.whole s.there in
     let put_is : store_of (plain_view w) (name_of (plain_stored w) o) i (name_of (plain_stored w) v) ≡ put (plain_view w) x.birth (f old) =
     ap (λ r. edit_object (plain_view w) r f) name ∙ ap (λ y. edit_found f x.birth y (plain_view w)) found in
-    let running = running-put (plain_view w) x.birth old (f old) ready.running found (no_context (ref_of os) x s.other) s.lies in
+    let after : IsSound (plain_stored (with_objects w us)) (plain_view (with_objects w us)) =
+    sound_world (with_objects w us) does.whole (subst (λ n. n ≤ w.heap.limit) (sym edit.words) sound.holds.within) sound.holds.most
+    (subst KindsStand (sym view) (kinds-store (plain_view w) (name_of (plain_stored w) o) i (name_of (plain_stored w) v) sound.kinds))
+    (subst KeepsPcs (sym view) (pcs-store (plain_view w) (name_of (plain_stored w) o) i (name_of (plain_stored w) v) sound.pcs)) in
     record {
-      state = λ m k. subst (λ u. Keeps u (store_of m (name_of (plain_stored w) o) i (name_of (plain_stored w) v))) (sym view) (store_moved k (held_by w o ready named) i (held_by w v ready value)).keeps;
+      state = λ m k. subst (λ u. Keeps u (store_of m (name_of (plain_stored w) o) i (name_of (plain_stored w) v))) (sym view) (store_moved k (held_in w o sound named) i (held_in w v sound value)).keeps;
       exact = same_kept _ _ view;
-      ready = record {
-        sound = sound_world (with_objects w us) does.whole (subst (λ n. n ≤ w.heap.limit) (sym edit.words) ready.sound.holds.within) ready.sound.holds.most
-            (subst KindsStand (sym view) (kinds-store (plain_view w) (name_of (plain_stored w) o) i (name_of (plain_stored w) v) ready.sound.kinds))
-            (subst KeepsPcs (sym view) (pcs-store (plain_view w) (name_of (plain_stored w) o) i (name_of (plain_stored w) v) ready.sound.pcs));
-        running = subst IsRunning (sym (view ∙ put_is)) running;
+      sound = after;
+      ready = λ ready. record {
+        sound = after;
+        running = subst IsRunning (sym (view ∙ put_is)) (running-put (plain_view w) x.birth old (f old) ready.running found (no_context (ref_of os) x s.other) s.lies);
       };
       names = keeps_names w us edit;
     }

@@ -4,7 +4,7 @@ use Rattle.std.specs.Prelude.{◌==◌, ◌||◌, is_some}
 use Rattle.cs_word.specs.declared.Oop.{Oop}
 use Rattle.cs_word.specs.Word.{small_word, natural_of_word}
 use Rattle.cs_heap.specs.Writes.{slot_stored}
-use Rattle.cs_acts.proofs.Dirty.{names-dirtied, ready-dirtied}
+use Rattle.cs_acts.proofs.Dirty.{names-dirtied, ready-dirtied, sound-dirtied}
 use Rattle.cs_heap.specs.Object.{Memory, Object, set_word, slot_set}
 use Rattle.cs_classes.specs.Meaning.{depth_in, ref_of}
 use Rattle.cs_classes.specs.Sound.{nil_word}
@@ -20,7 +20,7 @@ use Rattle.cs_model.specs.Operation.{drop_of, edit_active, edit_object, push_of,
 use Rattle.cs_model.proofs.Same.{Same, is, same}
 use Rattle.cs_model.proofs.Operating.{drop_moved, push_moved, set_pc_moved, set_stack_moved}
 use Rattle.cs_acts.specs.Names.{IsNamed, KeepsNames, name_of}
-use Rattle.cs_acts.specs.Ready.{IsReady}
+use Rattle.cs_acts.specs.Ready.{IsReady, IsSound}
 use Rattle.cs_plain.specs.declared.PlainWorld.{PlainWorld}
 use Rattle.cs_plain.specs.View.{plain_stored, plain_view, plain_active}
 use Rattle.cs_plain.proofs.Active.{Active}
@@ -46,12 +46,35 @@ writes-dirtied {w = w} {v = v} d done = record { state = done.state; exact = don
 pub along : (w : PlainWorld) (h : Memory) (us : List Object) {d : Bool} (op : Kept → Kept) → h ≡ record w.heap { objects = us; dirty = d } → Writes w (with_objects w us) op → Writes w (record w { heap = h }) op
 along w h us {d = d} op e done = subst (λ g. Writes w (record w { heap = g }) op) (sym e) (writes-dirtied d done)
 
+-- the same where no context need be active: a world that was ready is so still
+pub record WritesAnyway (w v : PlainWorld) (op : Kept → Kept) : Type 0 where
+  pub state : (m : Kept) → Keeps (plain_view w) m → Keeps (plain_view v) (op m)
+  pub exact : SameKept (plain_view v) (op (plain_view w))
+  pub sound : IsSound (plain_stored v) (plain_view v)
+  pub ready : IsReady (plain_stored w) (plain_view w) → IsReady (plain_stored v) (plain_view v)
+  pub names : KeepsNames (plain_stored w) (plain_stored v)
+
+anyway-dirtied : {w v : PlainWorld} {op : Kept → Kept} (d : Bool) → WritesAnyway w v op → WritesAnyway w (dirtied v d) op
+anyway-dirtied {w = w} {v = v} d done = record {
+  state = done.state;
+  exact = done.exact;
+  sound = sound-dirtied d done.sound;
+  ready = λ ready. ready-dirtied d (done.ready ready);
+  names = names-dirtied (plain_stored w) (plain_stored v) d done.names;
+}
+
+pub anyway_along : (w : PlainWorld) (h : Memory) (us : List Object) {d : Bool} (op : Kept → Kept) → h ≡ record w.heap { objects = us; dirty = d } → WritesAnyway w (with_objects w us) op → WritesAnyway w (record w { heap = h }) op
+anyway_along w h us {d = d} op e done = subst (λ g. WritesAnyway w (record w { heap = g }) op) (sym e) (anyway-dirtied d done)
+
 -- the heap behind two stores into one object
 pub twice : (h g k : Memory) (a i v j w z : ℕ) → g ≡ slot_stored h a i v → k ≡ slot_stored g a j w → w ≡ z → k ≡ slot_stored (slot_stored h a i v) a j z
 twice h g k a i v j w z first second word = second ∙ ap (λ (m : Memory). slot_stored m a j w) first ∙ ap (slot_stored (slot_stored h a i v) a j) word
 
+pub held_in : (w : PlainWorld) (o : Oop) → IsSound (plain_stored w) (plain_view w) → IsNamed (plain_stored w) o → Same (IsHeld (plain_view w)) (name_of (plain_stored w) o) (name_of (plain_stored w) o)
+held_in w o sound named = same (name_of (plain_stored w) o) (ref_of-held w.heap.objects w.classes w.roots (plain_active w.heap.objects w.active) o.0 sound.holds.whole.heap named)
+
 pub held_by : (w : PlainWorld) (o : Oop) → IsReady (plain_stored w) (plain_view w) → IsNamed (plain_stored w) o → Same (IsHeld (plain_view w)) (name_of (plain_stored w) o) (name_of (plain_stored w) o)
-held_by w o ready named = same (name_of (plain_stored w) o) (ref_of-held w.heap.objects w.classes w.roots (plain_active w.heap.objects w.active) o.0 ready.sound.holds.whole.heap named)
+held_by w o ready named = held_in w o ready.sound named
 
 module _ {w : PlainWorld} {a : Oop} {x : Object} (ready : IsReady (plain_stored w) (plain_view w)) (active : Active w a x) where
   known : Holds w.heap.objects w.classes w.roots a.0 x

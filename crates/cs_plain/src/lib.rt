@@ -489,14 +489,14 @@ impl World for PlainWorld {
     fn allocate(&mut self, class: u32, format: u8, slots: u32) -> Result<Oop, Full> {
         // for what its clauses say: no class index from there on has an entry
         let _entries = self.classes.len();
-        let Ok(object) = self
-            .heap
-            .allocate(class, format, slots, self.roots.next_birth)
-        else {
-            return Err(Full::Heap);
-        };
-        self.roots.next_birth += 1;
-        Ok(object)
+        let birth = self.roots.next_birth;
+        match self.heap.allocate(class, format, slots, birth) {
+            Ok(object) => {
+                self.roots.next_birth = birth + 1;
+                Ok(object)
+            }
+            Err(_) => Err(Full::Heap),
+        }
     }
 
     fn enter(&mut self, method: Oop, args: u32, skip: bool) -> Result<(), Full> {

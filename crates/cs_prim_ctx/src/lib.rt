@@ -140,7 +140,8 @@ fn answer_field<W: World>(w: &mut W, args: u32, ctx: Oop, i: u32) -> PrimEnd
     requires named { IsNamed (W.stored w.old) ctx }
     requires context { is_context_ref (W.view w.old) (name_of (W.stored w.old) ctx) ≡ true }
     ensures { PerformsOnContexts (W.stored w.old) (W.stored w.new) (W.layout w.old) (W.layout w.new)
-        (W.view w.old) (W.view w.new) result (answer_field (W.view w.old) args i (field_of (W.view w.old) (name_of (W.stored w.old) ctx) i)) }
+        (W.view w.old) (W.view w.new) result
+        (answer_field (W.view w.old) args i (field_of (W.view w.old) (name_of (W.stored w.old) ctx) i)) }
 {
     match field(w, ctx, i) {
         Ok(Some(value)) => {

@@ -1,3 +1,12 @@
 pub mod Written
 pub mod Headers
 pub mod Files
+pub mod Addresses
+pub mod Meanings
+pub mod Elements
+pub mod Classes
+pub mod Storing
+pub mod Saved
+pub mod Sounding
+pub mod Rooted
+pub mod Settled

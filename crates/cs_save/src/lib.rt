@@ -14,10 +14,17 @@ mod table;
 ghost use Rattle.std.specs.Prelude.{◌≡◌, ◌≢◌, ℕ, ◌≤◌, ◌∷◌, ◌++◌, List, [], Some, None, IsSome, OnErr, OnOk, drop};
 ghost use Rattle.std.specs.Prelude.{length};
 ghost use Rattle.std.specs.Prelude.{option_map, take};
-ghost use Rattle.cs_heap.specs.Object.{used as used_of};
+ghost use Rattle.std.specs.Prelude.{Ok, IfSome};
+ghost use Rattle.std.specs.Ordering.{nat_cmp};
+ghost use Rattle.std.specs.FinMap.{FinMap};
+ghost use Rattle.cs_classes.specs.Meaning.{kept_of};
+ghost use Rattle.cs_classes.specs.declared.Roots.{Roots as RootsSeen};
+ghost use Rattle.cs_heap.specs.Object.{Object, used as used_of};
+ghost use Rattle.cs_model.specs.Image.{image_of};
 ghost use Rattle.cs_model.specs.SavedFile.{FitsFile};
 ghost use Rattle.cs_model.specs.Words.{bytes_of_words};
 ghost use Rattle.cs_shelf.specs.Outside.{Rose, save_fault};
+ghost use Rattle.cs_save.specs.Storable.{IsSettled, IsStorableImage};
 ghost use Rattle.cs_save.specs.Filed.{saved_file, places_of, saved_heap_of, saved_of};
 ghost use Rattle.cs_save.specs.Writing.{BrokeOff, BrokeWords, WentOn, WroteWords, writing};
 
@@ -214,7 +221,21 @@ fn put_file<S: Shelf>(
     Ok(())
 }
 
-/// Saves an image under a name, in pieces of at most 4,096 bytes. It takes no memory.
+/// The image of what is saved is the state, where the heap is within its limit.
+pub fn the_image_of_what_is_saved_is_the_state()
+    ensures { (objects : List Object) (table : FinMap nat_cmp ℕ) (roots : RootsSeen) (limit : ℕ)
+        → IsStorableImage objects table roots limit → used_of objects ≤ 67108864
+        → image_of (saved_of objects table roots) limit ≡ Ok (kept_of objects table roots None) }
+{}
+
+/// What is settled is storable: a whole memory within its limit, in which each context is single and each pc lies in
+/// its method, and in which there is an active process, nil or one that keeps a live context.
+pub fn what_is_settled_is_storable()
+    ensures { (objects : List Object) (table : FinMap nat_cmp ℕ) (roots : RootsSeen) (limit : ℕ)
+        → IsSettled objects table roots limit → IsStorableImage objects table roots limit }
+{}
+
+/// Saves an image under a name, in pieces of at most 4,096 bytes. It takes no memory. The image must be storable.
 ///
 /// `Failed` comes only where a call of the shelf failed. Then it isn't known that the name's content is whole, and the
 /// shelf has taken the first of the bytes.
@@ -226,14 +247,17 @@ pub fn save<S: Shelf>(
     name: &str,
 ) -> Result<(), Failed>
     requires name { length name.now ≤ 4096 }
-    requires three { 3 ≤ length heap.now.objects }
-    requires fits { FitsFile (saved_file heap.now.objects classes.now roots.now) }
+    requires storable { IsStorableImage heap.now.objects classes.now roots.now heap.now.limit }
 
     // Where the shelf tells what it takes, the name holds these bytes.
     ensures saved { OnOk result (S.content shelf.new name.now ≡ option_map
         (λ (taken : List ℕ). saved_of heap.now.objects classes.now roots.now) (S.taken shelf.old)) }
     ensures part { OnErr result ((n : ℕ) × (S.taken shelf.new ≡ option_map
         (λ (taken : List ℕ). take n (saved_of heap.now.objects classes.now roots.now)) (S.taken shelf.old))) }
+
+    // The image of what it holds is the state of the heap, the class table and the roots, with births and the header.
+    ensures image { OnOk result (IfSome (S.content shelf.new name.now) (λ (bytes : List ℕ).
+        image_of bytes heap.now.limit ≡ Ok (kept_of heap.now.objects classes.now roots.now None))) }
 
     // No content is begun any more, and no other name changes what it holds.
     ensures none_begun { S.begun shelf.new ≡ None }
@@ -246,6 +270,8 @@ pub fn save<S: Shelf>(
     ensures last { OnErr result (S.last_fault shelf.new ≡ save_fault name.now) }
     ensures last_stays { OnOk result (S.last_fault shelf.new ≡ S.last_fault shelf.old) }
 {
+    // for what its clauses say: the heap is within its limit
+    let _used = used(heap);
     shelf.start(name)?;
     put_file(heap, classes, roots, shelf)?;
     shelf.finish()?;

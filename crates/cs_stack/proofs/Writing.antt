@@ -10,11 +10,12 @@ use Rattle.cs_model.proofs.Same.{Same, is, same}
 use Rattle.cs_model.proofs.Operating.{drop_moved, push_moved, set_pc_moved, set_stack_moved, store_moved}
 use Rattle.cs_model.specs.Operation as operation
 use Rattle.cs_acts.specs.Names.{IsNamed, name_of}
-use Rattle.cs_acts.specs.Ready.{IsReady}
+use Rattle.cs_acts.specs.Ready.{IsReady, IsSound}
 use Rattle.cs_acts.proofs.Held.{named_held}
 use Rattle.cs_stack.specs.declared.parts.Parts.{Parts}
 use Rattle.cs_stack.specs.View.{stored_of, view_of}
 use Rattle.cs_stack.specs.Good.{IsGood}
+use Rattle.cs_stack.proofs.Closed.{good_sound}
 use Rattle.cs_stack.proofs.Tops.{ready_again}
 
 -- the operation on every state that is kept; then the world is ready
@@ -22,8 +23,11 @@ pub record Writes (w v : Parts) (op : Kept → Kept) : Type 0 where
   pub state : (m : Kept) → Keeps (view_of w) m → Keeps (view_of v) (op m)
   pub ready : IsReady (stored_of v) (view_of v)
 
+pub held_in : (w : Parts) (o : Oop) → IsSound (stored_of w) (view_of w) → IsNamed (stored_of w) o → Same (IsHeld (view_of w)) (name_of (stored_of w) o) (name_of (stored_of w) o)
+held_in w o sound named = same (name_of (stored_of w) o) (named_held (stored_of w) (view_of w) o sound.holds named)
+
 pub held_by : (w : Parts) (o : Oop) → IsReady (stored_of w) (view_of w) → IsNamed (stored_of w) o → Same (IsHeld (view_of w)) (name_of (stored_of w) o) (name_of (stored_of w) o)
-held_by w o ready named = same (name_of (stored_of w) o) (named_held (stored_of w) (view_of w) o ready.sound.holds named)
+held_by w o ready named = held_in w o ready.sound named
 
 -- an edit of an object leaves the rest
 rest-found : (f : Obj → Obj) (i : ℕ) (o : Option Obj) (k : Kept) → (edit_found f i o k).rest ≡ k.rest
@@ -64,12 +68,6 @@ module _ (w v : Parts) (good : IsGood v) (ready : IsReady (stored_of w) (view_of
   unfolding drop_of put
   writes-pop view = along (λ m. drop_of m 1) view refl (λ m k. (drop_moved k 1).keeps)
 
-  pub writes-store : (o x : Oop) (i : ℕ) → IsNamed (stored_of w) o → IsNamed (stored_of w) x → view_of v ≡ store_of (view_of w) (name_of (stored_of w) o) i (name_of (stored_of w) x)
-      → Writes w v (λ m. store_of m (name_of (stored_of w) o) i (name_of (stored_of w) x))
-  writes-store o x i object named view = along (λ m. store_of m (name_of (stored_of w) o) i (name_of (stored_of w) x)) view
-      (ap (λ r. r.active) (rest-store (view_of w) (name_of (stored_of w) o) i (name_of (stored_of w) x)))
-      (λ m k. (store_moved k (held_by w o ready object) i (held_by w x ready named)).keeps)
-
 -- ---- behind a call, whose world u before it is w
 
 pub call-set_pc : (u w v : Parts) (pc : ℕ) → u ≡ w → IsGood v → IsReady (stored_of w) (view_of w) → view_of v ≡ set_pc_of (view_of u) pc → Writes w v (λ m. set_pc_of m pc)
@@ -86,7 +84,18 @@ call-push u w v x e good ready named view = writes-push w v good ready x named (
 pub call-pop : (u w v : Parts) → u ≡ w → IsGood v → IsReady (stored_of w) (view_of w) → view_of v ≡ drop_of (view_of u) 1 → Writes w v (λ m. drop_of m 1)
 call-pop u w v e good ready view = writes-pop w v good ready (subst (λ u. view_of v ≡ drop_of (view_of u) 1) e view)
 
-pub call-store : (u w v : Parts) (o x : Oop) (i : ℕ) → u ≡ w → IsGood v → IsReady (stored_of w) (view_of w) → IsNamed (stored_of w) o → IsNamed (stored_of w) x
-    → view_of v ≡ store_of (view_of u) (name_of (stored_of u) o) i (name_of (stored_of u) x) → Writes w v (λ m. store_of m (name_of (stored_of w) o) i (name_of (stored_of w) x))
-call-store u w v o x i e good ready object named view =
-    writes-store w v good ready o x i object named (subst (λ u. view_of v ≡ store_of (view_of u) (name_of (stored_of u) o) i (name_of (stored_of u) x)) e view)
+-- a store asks for no active context: a world that was ready is so still
+pub record Stores (w v : Parts) (op : Kept → Kept) : Type 0 where
+  pub state : (m : Kept) → Keeps (view_of w) m → Keeps (view_of v) (op m)
+  pub sound : IsSound (stored_of v) (view_of v)
+  pub ready : IsReady (stored_of w) (view_of w) → IsReady (stored_of v) (view_of v)
+
+pub call-store : (u w v : Parts) (o x : Oop) (i : ℕ) → u ≡ w → IsGood v → IsSound (stored_of w) (view_of w) → IsNamed (stored_of w) o → IsNamed (stored_of w) x
+    → view_of v ≡ store_of (view_of u) (name_of (stored_of u) o) i (name_of (stored_of u) x) → Stores w v (λ m. store_of m (name_of (stored_of w) o) i (name_of (stored_of w) x))
+call-store u w v o x i e good sound object named is =
+    let view : view_of v ≡ store_of (view_of w) (name_of (stored_of w) o) i (name_of (stored_of w) x) = subst (λ u. view_of v ≡ store_of (view_of u) (name_of (stored_of u) o) i (name_of (stored_of u) x)) e is in
+    record {
+      state = λ m k. subst (λ u. Keeps u (store_of m (name_of (stored_of w) o) i (name_of (stored_of w) x))) (sym view) (store_moved k (held_in w o sound object) i (held_in w x sound named)).keeps;
+      sound = good_sound v good;
+      ready = λ ready. ready_again w v good ready (ap (λ (k : Kept). k.rest.active) view ∙ ap (λ r. r.active) (rest-store (view_of w) (name_of (stored_of w) o) i (name_of (stored_of w) x)));
+    }

@@ -1,6 +1,6 @@
 //! What a world of frames keeps, and how its parts change.
-ghost use Rattle.std.specs.Prelude.{◌≡◌, ◌<◌, ◌≤◌, ◌-◌, length, nat_lt, Some, IfSome, IfErr, IfOk, OnOk, false, IsSome};
-ghost use Rattle.std.specs.Prelude.{is_some, not, true, slice_get, unwrap_or};
+ghost use Rattle.std.specs.Prelude.{◌≡◌, ◌<◌, ◌≤◌, ◌-◌, length, nat_lt, Some, IfSome, IfErr, IfOk, OnErr, OnOk};
+ghost use Rattle.std.specs.Prelude.{IsSome, false, is_some, not, true, slice_get, unwrap_or};
 ghost use Rattle.cs_frame.specs.Page.{IsFrame, IsTop, frame, frame_ref, top};
 ghost use Rattle.cs_marriage.specs.Agree.{frame_size as size_of_frame};
 ghost use Rattle.cs_model.specs.Obj.{context_in, lies_in};
@@ -350,6 +350,7 @@ impl Parts {
         ensures layout { layout_of self.new ≡ layout_of self.old }
         ensures limit { self.new.heap.limit ≡ self.old.heap.limit }
         ensures contexts { MakesAtMost 0 (layout_of self.old) (stored_of self.old) (stored_of self.new) }
+        ensures refused { OnErr result (self.new ≡ self.old) }
         ensures names { OnOk result (KeepsNames (stored_of self.old) (stored_of self.new)) }
         ensures full { IfErr result (λ why. (why ≡ full.Heap) × CausesFull (stored_of self.new) (layout_of self.old)
             (view_of self.old) (size slots) (add_of (view_of self.old)

@@ -58,6 +58,9 @@ pub fn take(rt: &(impl Files + Print + Alloc<A = Global>), given: &str, words: &
 
 fn tell(rt: &impl Print, status: u8, reads: u64, out: &MemSink) -> Result<()> {
     let taken = out.taken();
+    if taken.len() > SHOWN {
+        println!(rt; "written {}", taken.len())?;
+    }
     let shown = &taken[..taken.len().min(SHOWN)];
     let text = str::from_utf8(shown)?;
     let writes = out.faults();

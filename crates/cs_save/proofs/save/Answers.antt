@@ -1,6 +1,7 @@
 use Rattle.cs_save.specs.Filed.{saved_of}
 use Rattle.std.proofs.Common.{refl, ◌∙◌, arith}
 use Rattle.cs_save.proofs.Written.{on_err, all_taken, known_name, none_taken, other_name, part_taken, rose_later, went_taken}
+use Rattle.cs_save.proofs.Saved.{content_told, filed_of, image_same}
 use Rattle.cs_save.proofs.save.Goals as goal
 
 pub returns-in_err-start-clause-part : goal.returns-in_err-start-clause-part
@@ -65,3 +66,17 @@ returns-clause-never_falls g c = omega (arith, c.in_ok-start.ensures.never_falls
 
 pub returns-clause-last_stays : goal.returns-clause-last_stays
 returns-clause-last_stays g c = c.in_ok-finish.ensures.last_stays ∙ c.in_ok-put_file.ensures.ok.last ∙ c.in_ok-start.ensures.last_stays
+
+pub put_file-requires-clause-fits : goal.put_file-requires-clause-fits
+put_file-requires-clause-fits g c =
+    let value = c.used-used.ensures.value in
+    let most = c.used-used.ensures.most in
+    (filed_of c.args.heap.now.objects c.args.classes.now c.args.roots.now c.args.heap.now.limit c.requires.storable (omega (arith, value, most))).fits
+
+pub returns-clause-image : goal.returns-clause-image
+returns-clause-image g c =
+    let value = c.used-used.ensures.value in
+    let most = c.used-used.ensures.most in
+    content_told _ _ (saved_of c.args.heap.now.objects c.args.classes.now c.args.roots.now) _
+    (image_same c.args.heap.now.objects c.args.classes.now c.args.roots.now c.args.heap.now.limit c.requires.storable (omega (arith, value, most)))
+    (returns-clause-saved g c)

@@ -55,7 +55,7 @@ store-requires-2-clause-there g c =
     let first = c.store.ensures in
     let x_first : name_of (g.W.World.stored c.allocate.new.self) c.in-Ok.context ≡ ref.Obj (active_birth k) = (a.names c.in-Ok.context c.in-Ok.ensures.value.sound).is ∙ c.in-Ok.ensures.value.is in
     let with_first = written (g.W.World.stored c.args.w.now) (g.W.World.stored c.allocate.new.self) (g.W.World.stored c.store.new.self) (g.W.World.layout c.args.w.now) (g.W.World.layout c.allocate.new.self) (g.W.World.layout c.store.new.self) (g.W.World.view c.allocate.new.self) (g.W.World.view c.store.new.self) k (new_head 37 3) 0 (n ∷ n ∷ n ∷ rest) c.in-Ok-allocate.closure c.in-Ok.context (ref.Obj (active_birth k)) made at_made x_first
-    first.state first.exact first.layout first.limit first.contexts first.ready first.names in
+    first.state first.exact first.layout first.limit first.contexts (first.ready made.ready) first.names in
     let named_first = first.names c.in-Ok-allocate.closure a.value.sound in
     let at_first = named_first.is ∙ at_made in
     storable-added (g.W.World.view c.store.new.self) k (new_head 37 3) 1 (ref.Obj (active_birth k) ∷ n ∷ n ∷ rest) (name_of (g.W.World.stored c.store.new.self) c.in-Ok-allocate.closure) with_first.state at_first (omega arith)
@@ -73,14 +73,14 @@ store-requires-3-clause-there g c =
     let first = c.store.ensures in
     let x_first : name_of (g.W.World.stored c.allocate.new.self) c.in-Ok.context ≡ ref.Obj (active_birth k) = (a.names c.in-Ok.context c.in-Ok.ensures.value.sound).is ∙ c.in-Ok.ensures.value.is in
     let with_first = written (g.W.World.stored c.args.w.now) (g.W.World.stored c.allocate.new.self) (g.W.World.stored c.store.new.self) (g.W.World.layout c.args.w.now) (g.W.World.layout c.allocate.new.self) (g.W.World.layout c.store.new.self) (g.W.World.view c.allocate.new.self) (g.W.World.view c.store.new.self) k (new_head 37 3) 0 (n ∷ n ∷ n ∷ rest) c.in-Ok-allocate.closure c.in-Ok.context (ref.Obj (active_birth k)) made at_made x_first
-    first.state first.exact first.layout first.limit first.contexts first.ready first.names in
+    first.state first.exact first.layout first.limit first.contexts (first.ready made.ready) first.names in
     let named_first = first.names c.in-Ok-allocate.closure a.value.sound in
     let at_first = named_first.is ∙ at_made in
     let second = c.store-2.ensures in
     let pc_made = a.names c.pc_word-pc.result c.pc_word-pc.ensures.sound in
     let x_second : name_of (g.W.World.stored c.store.new.self) c.pc_word-pc.result ≡ Small (pos (pc_of k)) = (first.names c.pc_word-pc.result pc_made.sound).is ∙ pc_made.is ∙ c.pc_word-pc.ensures.is ∙ ap (λ (t : Kept). Small (pos (pc_of t))) same in
     let with_second = written (g.W.World.stored c.args.w.now) (g.W.World.stored c.store.new.self) (g.W.World.stored c.store-2.new.self) (g.W.World.layout c.args.w.now) (g.W.World.layout c.store.new.self) (g.W.World.layout c.store-2.new.self) (g.W.World.view c.store.new.self) (g.W.World.view c.store-2.new.self) k (new_head 37 3) 1 (ref.Obj (active_birth k) ∷ n ∷ n ∷ rest) c.in-Ok-allocate.closure c.pc_word-pc.result (Small (pos (pc_of k))) with_first at_first x_second
-    second.state second.exact second.layout second.limit second.contexts second.ready second.names in
+    second.state second.exact second.layout second.limit second.contexts (second.ready with_first.ready) second.names in
     let at_second = (second.names c.in-Ok-allocate.closure named_first.sound).is ∙ at_first in
     storable-added (g.W.World.view c.store-2.new.self) k (new_head 37 3) 2 (ref.Obj (active_birth k) ∷ Small (pos (pc_of k)) ∷ n ∷ rest) (name_of (g.W.World.stored c.store-2.new.self) c.in-Ok-allocate.closure) with_second.state at_second (omega arith)
 
@@ -97,17 +97,17 @@ returns-clause-leads g c =
     let first = c.store.ensures in
     let x_first : name_of (g.W.World.stored c.allocate.new.self) c.in-Ok.context ≡ ref.Obj (active_birth k) = (a.names c.in-Ok.context c.in-Ok.ensures.value.sound).is ∙ c.in-Ok.ensures.value.is in
     let with_first = written (g.W.World.stored c.args.w.now) (g.W.World.stored c.allocate.new.self) (g.W.World.stored c.store.new.self) (g.W.World.layout c.args.w.now) (g.W.World.layout c.allocate.new.self) (g.W.World.layout c.store.new.self) (g.W.World.view c.allocate.new.self) (g.W.World.view c.store.new.self) k (new_head 37 3) 0 (n ∷ n ∷ n ∷ rest) c.in-Ok-allocate.closure c.in-Ok.context (ref.Obj (active_birth k)) made at_made x_first
-    first.state first.exact first.layout first.limit first.contexts first.ready first.names in
+    first.state first.exact first.layout first.limit first.contexts (first.ready made.ready) first.names in
     let named_first = first.names c.in-Ok-allocate.closure a.value.sound in
     let at_first = named_first.is ∙ at_made in
     let second = c.store-2.ensures in
     let pc_made = a.names c.pc_word-pc.result c.pc_word-pc.ensures.sound in
     let x_second : name_of (g.W.World.stored c.store.new.self) c.pc_word-pc.result ≡ Small (pos (pc_of k)) = (first.names c.pc_word-pc.result pc_made.sound).is ∙ pc_made.is ∙ c.pc_word-pc.ensures.is ∙ ap (λ (t : Kept). Small (pos (pc_of t))) same in
     let with_second = written (g.W.World.stored c.args.w.now) (g.W.World.stored c.store.new.self) (g.W.World.stored c.store-2.new.self) (g.W.World.layout c.args.w.now) (g.W.World.layout c.store.new.self) (g.W.World.layout c.store-2.new.self) (g.W.World.view c.store.new.self) (g.W.World.view c.store-2.new.self) k (new_head 37 3) 1 (ref.Obj (active_birth k) ∷ n ∷ n ∷ rest) c.in-Ok-allocate.closure c.pc_word-pc.result (Small (pos (pc_of k))) with_first at_first x_second
-    second.state second.exact second.layout second.limit second.contexts second.ready second.names in
+    second.state second.exact second.layout second.limit second.contexts (second.ready with_first.ready) second.names in
     let at_second = (second.names c.in-Ok-allocate.closure named_first.sound).is ∙ at_first in
     let third = c.store-3.ensures in
     let value : to_z w32 (of_z w32 c.from-2.result) ≡ pos c.args.args = omega (arith, ints, c.from-2.ensures, c.ranges.args) in
     let x_third : name_of (g.W.World.stored c.store-2.new.self) c.small_word.result ≡ Small (pos c.args.args) = (c.small_word.ensures (g.W.World.stored c.store-2.new.self)).is ∙ ap (λ z. Small z) value in
     written (g.W.World.stored c.args.w.now) (g.W.World.stored c.store-2.new.self) (g.W.World.stored c.store-3.new.self) (g.W.World.layout c.args.w.now) (g.W.World.layout c.store-2.new.self) (g.W.World.layout c.store-3.new.self) (g.W.World.view c.store-2.new.self) (g.W.World.view c.store-3.new.self) k (new_head 37 3) 2 (ref.Obj (active_birth k) ∷ Small (pos (pc_of k)) ∷ n ∷ rest) c.in-Ok-allocate.closure c.small_word.result (Small (pos c.args.args)) with_second at_second x_third
-    third.state third.exact third.layout third.limit third.contexts third.ready third.names
+    third.state third.exact third.layout third.limit third.contexts (third.ready with_second.ready) third.names

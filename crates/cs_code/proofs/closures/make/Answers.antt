@@ -43,8 +43,8 @@ stack_at-value-requires-clause-there g c =
     let now : depth_of (g.W.World.view c.loop-i.w) ≡ depth_of k = depth-over (g.W.World.view c.loop-i.w) k (closure_with k c.args.args all) c.requires.ready.running c.requires.ready.sound.births led.state in
     omega (arith, place, now, few, c.requires.there)
 
-pub store-requires-clause-ready : goal.store-requires-clause-ready
-store-requires-clause-ready g c = c.loop-i.invariant.0.ready
+pub store-requires-clause-sound : goal.store-requires-clause-sound
+store-requires-clause-sound g c = c.loop-i.invariant.0.ready.sound
 
 pub store-requires-clause-there : goal.store-requires-clause-there
 store-requires-clause-there g c =
@@ -78,7 +78,7 @@ loop-i-preserved g c =
     let named = e.names c.in-Ok.closure c.loop-i.invariant.1.sound in
     let more = copied-more k n c.loop-i.i (c.depth.result - c.from.result + c.loop-i.i) x (nil_of (g.W.World.view c.loop-i.w)) c.requires.there few place value in
     let next = written (g.W.World.stored c.args.w.now) (g.W.World.stored c.loop-i.w) (g.W.World.stored c.store.new.self) (g.W.World.layout c.args.w.now) (g.W.World.layout c.loop-i.w) (g.W.World.layout c.store.new.self) (g.W.World.view c.loop-i.w) (g.W.World.view c.store.new.self) k (new_head 37 3) (3 + c.loop-i.i) (slots_with k c.args.args all) c.in-Ok.closure c.stack_at-value.result x led c.loop-i.invariant.1.is refl
-    e.state e.exact e.layout e.limit e.contexts e.ready e.names in (
+    e.state e.exact e.layout e.limit e.contexts (e.ready led.ready) e.names in (
       subst (λ (o : _). Leads (g.W.World.stored c.args.w.now) (g.W.World.stored c.store.new.self) (g.W.World.layout c.args.w.now) (g.W.World.layout c.store.new.self) (g.W.World.view c.store.new.self) (add_of k o) 1) (set-copied k c.args.args c.loop-i.i x all (copied_so_far k n (c.loop-i.i + 1)) more) next,
       record { sound = named.sound; is = named.is ∙ c.loop-i.invariant.1.is },
     )

@@ -36,4 +36,4 @@ returns-in-Writable-clause-gives g c =
     let met : target_of k r c.args.i ≡ Writable = cc in
     gives_done s (g.W.World.stored c.store.new.self) (g.W.World.layout c.args.w.now) (g.W.World.view c.store.new.self) (store_of k r c.from-in-Writable.result x) _
     (slot-written k (bare_of c.args.on_stack k) r x c.args.i c.args.missing met ∙ ap (λ i. done (store_of k r i x)) (sym c.from-in-Writable.ensures))
-    (c.store.ensures.state k c.requires.ready.sound.closed) c.store.ensures.exact c.store.ensures.ready c.store.ensures.names
+    (c.store.ensures.state k c.requires.ready.sound.closed) c.store.ensures.exact (c.store.ensures.ready c.requires.ready) c.store.ensures.names

@@ -11,6 +11,7 @@ pub loop-steps-init : goal.loop-steps-init
 loop-steps-init g c =
     record {
       stands = begins (g.W.World.view c.args.w.now) _ (g.W.World.stored c.args.w.now) (g.W.World.layout c.args.w.now) c.requires.sound c.requires.running (sym c.is_idle.ensures ∙ c.if-is_idle.false) c.requires.fresh;
+      process = c.active_process-process.ensures;
       never_falls = omega arith;
       limit = refl;
       most = refl;
@@ -64,7 +65,8 @@ returns-in-WriteFault-clause-cause g c = rose_before _ _ _ c.loop-steps.invarian
 pub loop-steps-preserved : goal.loop-steps-preserved
 loop-steps-preserved g c =
     record {
-      stands = goes_on c.loop-steps.invariant.stands c.place_of-before.ensures.laid c.in-Active.ensures.gives;
+      stands = goes_on c.in-Active.active c.loop-steps.invariant.stands c.place_of-before.ensures.laid c.in-Active.ensures.gives;
+      process = c.in-Active.ensures.process;
       never_falls = omega (arith, c.loop-steps.invariant.never_falls, c.step.ensures.never_falls);
       limit = c.step.ensures.limit ∙ c.loop-steps.invariant.limit;
       most = most_stays (g.W.World.layout c.loop-steps.w) (g.W.World.layout c.step.new.w) (g.W.World.view c.step.new.w) c.in-Active.ensures.gives.6.frames ∙ c.loop-steps.invariant.most;
@@ -117,3 +119,9 @@ returns-in-WriteFault-clause-breaks g c =
 pub returns-in-Stopped-clause-world : goal.returns-in-Stopped-clause-world
 returns-in-Stopped-clause-world g c =
     stop_leads (g.W.World.stored c.step.new.w) (g.W.World.view c.step.new.w) (g.W.World.layout c.step.new.w) c.args.n c.in-Stopped.reason c.loop-steps-test.true c.loop-steps.invariant.stands c.in-Stopped.ensures.gives c.in-Stopped.ensures.sound c.in-Stopped.ensures.untouched
+
+pub place_of-before-requires-clause-process : goal.place_of-before-requires-clause-process
+place_of-before-requires-clause-process g c = c.loop-steps.invariant.process
+
+pub place_of-requires-clause-process : goal.place_of-requires-clause-process
+place_of-requires-clause-process g c = c.loop-steps.invariant.process

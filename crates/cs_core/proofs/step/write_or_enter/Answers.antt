@@ -55,6 +55,7 @@ returns-in-Ok g c =
     let told = subst (λ b. Appends (g.K.Sink.taken c.args.out.now) (g.K.Sink.taken c.write.new.out) b) (ap (λ m. bytes_of_piece m.objects c.in-Some.piece) c.heap.ensures ∙ l.bytes) c.in-Ok.ensures.ok in
     record {
       gives = write_gives (g.W.World.view c.args.w.now) (g.W.World.view c.answer.new.w) (name_of (g.W.World.stored c.args.w.now) c.args.method) (g.W.World.layout c.args.w.now) (g.W.World.layout c.answer.new.w) _ (g.K.Sink.taken c.args.out.now) (g.W.World.stored c.answer.new.w) a _ c.finish-end.result c.answer.ensures.ready (stays_lays (g.W.World.view c.args.w.now) _ (g.W.World.view c.answer.new.w) (answer_stays (g.W.World.view c.args.w.now) 2 _ (ap context_in c.requires.ready.running.found)) c.answer.ensures.state c.answer.ensures.ready.running (g.W.World.layout c.args.w.now) (g.W.World.layout c.answer.new.w) c.answer.ensures.layout (g.W.World.stored c.answer.new.w)) c.finish-end.ensures.by c.in_default-end.not-Stopped told;
+      process = c.finish-end.ensures.process;
       sound = c.finish-end.ensures.sound;
       limit = c.answer.ensures.limit;
       never_falls = c.write.ensures.never_falls;
@@ -70,6 +71,7 @@ returns-in-Err g c =
     let told = subst (λ b. AppendsPart (g.K.Sink.taken c.args.out.now) (g.K.Sink.taken c.write.new.out) b) (ap (λ m. bytes_of_piece m.objects c.in-Some.piece) c.heap.ensures ∙ l.bytes) c.in-Err.ensures.err in
     record {
       gives = write_fails (g.W.World.view c.args.w.now) (g.W.World.view c.answer.new.w) (name_of (g.W.World.stored c.args.w.now) c.args.method) (g.W.World.layout c.args.w.now) (g.W.World.layout c.answer.new.w) _ (g.K.Sink.taken c.args.out.now) (g.W.World.stored c.answer.new.w) a _ c.finish-end.result c.finish-end.ensures.by c.in_default-end.not-Stopped told;
+      process = tt;
       sound = tt;
       limit = c.answer.ensures.limit;
       never_falls = c.write.ensures.never_falls;

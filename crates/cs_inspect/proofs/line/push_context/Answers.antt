@@ -1,6 +1,6 @@
 use Rattle.std.proofs.Common.{arith, ap, ◌-◌, ◌++◌, ℕ, List}
 use Rattle.std.specs.Prelude.{codes, decimal}
-use Rattle.cs_inspect.specs.Texts.{activation_text}
+use Rattle.cs_inspect.specs.Texts.{activation_text, return_text}
 use Rattle.cs_inspect.proofs.Meanings.{context_there, context_whole, depth_read}
 use Rattle.cs_inspect.proofs.Texts.{ends, joins}
 use Rattle.cs_inspect.proofs.line.push_context.Goals as goal
@@ -25,7 +25,7 @@ pub returns : goal.returns
 returns c =
     let hash : List ℕ = codes " context hash=" ++ decimal c.hash.result in
     let size : List ℕ = codes " size=" ++ decimal (c.slot_count.result - 6) in
-    let place : List ℕ = activation_text c.args.heap.now.objects c.args.o.0 in
+    let place : List ℕ = return_text c.args.heap.now.objects c.args.o.0 in
     let activation : List ℕ = activation_text c.args.heap.now.objects c.args.o.0 in
     ends c.push_references.result c.push_references.new.text.items c.push_activation.new.text.items c.args.text.now.items (hash ++ size ++ place ++ activation) _ _ c.push_references.ensures
     (joins c.args.text.now.items (hash ++ size ++ place) activation c.push_place.new.text.items c.push_activation.new.text.items

@@ -1,4 +1,4 @@
-use Rattle.std.proofs.Common.{ap, ◌∙◌}
+use Rattle.std.proofs.Common.{ap}
 use Rattle.cs_model.specs.Print.{pc_text}
 use Rattle.cs_inspect.proofs.Texts.{then_is}
 use Rattle.cs_inspect.proofs.text.push_pc.Goals as goal

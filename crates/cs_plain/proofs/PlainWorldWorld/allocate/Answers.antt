@@ -16,42 +16,42 @@ use Rattle.cs_plain.proofs.PlainWorldWorld.allocate.Goals as goal
 pub allocate-requires-clause-class : goal.allocate-requires-clause-class
 allocate-requires-clause-class c = below c.args.self.now c.args.class c.args.format c.args.slots c.requires.sound c.requires.fits c.len-entries.ensures.beyond
 
-pub returns-in_default-clause-full : goal.returns-in_default-clause-full
-returns-in_default-clause-full c =
-    full_made c.args.self.now c.args.class c.args.format c.args.slots c.requires.sound c.requires.fits c.allocate.new.self c.in_default.ensures.unchanged_if_full (c.in_default.ensures.full.0 refl)
+pub returns-in-Err-clause-full : goal.returns-in-Err-clause-full
+returns-in-Err-clause-full c =
+    full_made c.args.self.now c.args.class c.args.format c.args.slots c.requires.sound c.requires.fits c.allocate.new.self c.in-Err.ensures.unchanged_if_full (c.in-Err.ensures.full.0 refl)
 
-pub returns-clause-state : goal.returns-clause-state
-returns-clause-state c m k =
+pub returns-in-Ok-clause-state : goal.returns-in-Ok-clause-state
+returns-in-Ok-clause-state c m k =
     let w = c.args.self.now in
     subst (λ (h : Memory). Keeps (plain_view (record w { heap = h; roots = after_birth w.roots })) (add_of m (blank_of m c.args.class c.args.format c.args.slots))) (sym c.in-Ok.ensures.added)
     (made_state w c.args.class c.args.format c.args.slots c.requires.sound c.requires.fits m k)
 
-pub returns-clause-exact : goal.returns-clause-exact
-returns-clause-exact c none =
+pub returns-in-Ok-clause-exact : goal.returns-in-Ok-clause-exact
+returns-in-Ok-clause-exact c none =
     let w = c.args.self.now in
     subst (λ (h : Memory). SameKept (plain_view (record w { heap = h; roots = after_birth w.roots })) (add_of (plain_view w) (blank_of (plain_view w) c.args.class c.args.format c.args.slots))) (sym c.in-Ok.ensures.added)
     (same_kept _ _ (made_view w c.args.class c.args.format c.args.slots c.requires.sound c.requires.fits))
 
-pub returns-clause-value : goal.returns-clause-value
-returns-clause-value c =
+pub returns-in-Ok-clause-value : goal.returns-in-Ok-clause-value
+returns-in-Ok-clause-value c =
     let w = c.args.self.now in
     subst (λ (h : Memory). Names (plain_stored (record w { heap = h; roots = after_birth w.roots })) c.in-Ok.object (next_ref (plain_view w))) (sym c.in-Ok.ensures.added)
     (made_value w c.args.class c.args.format c.args.slots c.requires.sound c.requires.fits c.in-Ok.object c.in-Ok.ensures.address)
 
-pub returns-clause-sound : goal.returns-clause-sound
-returns-clause-sound c =
+pub returns-in-Ok-clause-sound : goal.returns-in-Ok-clause-sound
+returns-in-Ok-clause-sound c =
     let w = c.args.self.now in
     subst (λ (h : Memory). IsSound (plain_stored (record w { heap = h; roots = after_birth w.roots })) (plain_view (record w { heap = h; roots = after_birth w.roots }))) (sym c.in-Ok.ensures.added)
     (made_sound w c.args.class c.args.format c.args.slots c.requires.sound c.requires.fits (within w.heap.limit (used w.heap.objects + size c.args.slots) (λ over. false≢true (c.in-Ok.ensures.full.1 over))))
 
-pub returns-clause-ready : goal.returns-clause-ready
-returns-clause-ready c ready =
+pub returns-in-Ok-clause-ready : goal.returns-in-Ok-clause-ready
+returns-in-Ok-clause-ready c ready =
     let w = c.args.self.now in
     subst (λ (h : Memory). IsReady (plain_stored (record w { heap = h; roots = after_birth w.roots })) (plain_view (record w { heap = h; roots = after_birth w.roots }))) (sym c.in-Ok.ensures.added)
     (made_ready w c.args.class c.args.format c.args.slots c.requires.sound c.requires.fits (within w.heap.limit (used w.heap.objects + size c.args.slots) (λ over. false≢true (c.in-Ok.ensures.full.1 over))) ready)
 
-pub returns-clause-names : goal.returns-clause-names
-returns-clause-names c =
+pub returns-in-Ok-clause-names : goal.returns-in-Ok-clause-names
+returns-in-Ok-clause-names c =
     let w = c.args.self.now in
     subst (λ (h : Memory). KeepsNames (plain_stored w) (plain_stored (record w { heap = h; roots = after_birth w.roots }))) (sym c.in-Ok.ensures.added)
     (made_names w c.args.class c.args.format c.args.slots c.requires.sound c.requires.fits)

@@ -1,4 +1,6 @@
-use Rattle.std.proofs.lemmas.Result.{on_ok_weaker}
+use Rattle.std.proofs.Common.{◌∙◌, ap}
+use Rattle.std.proofs.lemmas.Result.{on_err_weaker, on_ok_weaker}
+use Rattle.cs_stack.specs.View.{stored_of, view_of}
 use Rattle.cs_stack.proofs.Allocating.{call-allocate}
 use Rattle.cs_stack.proofs.StackWorldWorld.allocate.Goals as goal
 
@@ -13,3 +15,9 @@ returns-clause-sound c =
 pub returns-clause-ready : goal.returns-clause-ready
 returns-clause-ready c =
     on_ok_weaker c.allocate.result (λ e. (call-allocate _ _ _ c.args.class c.args.format c.args.slots c.self.view_is c.allocate.ensures.good e).ready) c.allocate.ensures.view
+
+pub returns-clause-refused_view : goal.returns-clause-refused_view
+returns-clause-refused_view c = on_err_weaker c.allocate.result (λ e. ap view_of (e ∙ c.self.view_is)) c.allocate.ensures.refused
+
+pub returns-clause-refused_stored : goal.returns-clause-refused_stored
+returns-clause-refused_stored c = on_err_weaker c.allocate.result (λ e. ap stored_of (e ∙ c.self.view_is)) c.allocate.ensures.refused

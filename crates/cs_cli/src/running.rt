@@ -1,0 +1,145 @@
+//! The command that runs an image.
+
+ghost use Rattle.std.specs.Prelude.{◌≡◌, ◌≤◌, List, ℕ, Some, false};
+ghost use Rattle.cs_classes.specs.Meaning.{loaded_kept};
+ghost use Rattle.cs_model.specs.CommandLine.{run_pages};
+ghost use Rattle.cs_model.specs.Due.{is_idle};
+ghost use Rattle.cs_model.specs.Read.{IsRunning};
+ghost use Rattle.cs_model.specs.Settle.{open_kept};
+ghost use Rattle.cs_acts.specs.Layout.{IsFresh};
+ghost use Rattle.cs_acts.specs.Ready.{IsSound};
+ghost use Rattle.cs_core.specs.Deep.{most_of};
+ghost use Rattle.cs_core.specs.Running.{ending_of};
+ghost use Rattle.cs_cli.specs.Answer.{Begun, Reported, RunAnswered, run_status};
+ghost use Rattle.cs_cli.specs.Loading.{IsOpenable};
+ghost use Rattle.cs_cli.specs.Meaning.{line_by, options_by};
+ghost use Rattle.cs_cli.specs.Possible.{IsInRange};
+
+use crate::image::load_file;
+use crate::line::Line;
+use crate::printing::{NO_MEMORY, WRITE_FAILED, print};
+use crate::refusal::refuse;
+use crate::report::report;
+use cs_acts::{Full, World};
+use cs_core::run::{Ending, RunError, run};
+use cs_image::Loaded;
+use cs_send::Sender;
+use cs_shelf::{Shelf, Sink};
+use cs_stack::StackWorld;
+use std::alloc::Global;
+
+/// The status of a run that a step stops.
+const STOPPED: u8 = 1;
+
+/// The status where the heap is full.
+const HEAP_FULL: u8 = 5;
+
+/// The status where the stack pages are full.
+const STACK_FULL: u8 = 10;
+
+/// Runs the image of a line's file, and gives the status.
+pub(crate) fn run_file<S: Shelf, K: Sink>(
+    alloc: Global,
+    line: &Line<'_>,
+    shelf: &mut S,
+    out: &mut K,
+) -> u8
+    requires range { IsInRange (line_by line.now) }
+    ensures answered { RunAnswered line.now.file.now (options_by line.now.options)
+        (record {
+          content = S.content shelf.old;
+          before = S.fault_count shelf.old;
+          behind = S.fault_count shelf.new;
+          last = S.last_fault shelf.new;
+        })
+        (record {
+          old = K.taken out.old;
+          new = K.taken out.new;
+          before = K.fault_count out.old;
+          behind = K.fault_count out.new;
+        }) result }
+    ensures contents { (name : List ℕ) → S.content shelf.new name ≡ S.content shelf.old name }
+{
+    match load_file(alloc, shelf, line.file, line.options.heap) {
+        Ok(loaded) => open_and_run(
+            alloc,
+            loaded,
+            line.options.page_count(),
+            line.options.steps,
+            out,
+        ),
+        Err(why) => refuse(out, line.file, why),
+    }
+}
+
+/// Opens an image on so many stack pages, 2 to 64, and runs it.
+fn open_and_run<K: Sink>(alloc: Global, loaded: Loaded, pages: u32, steps: u64, out: &mut K) -> u8
+    requires openable { IsOpenable loaded }
+    requires few { 2 ≤ pages }
+    requires many { pages ≤ 64 }
+    ensures { Begun (open_kept (loaded_kept loaded)) steps (Some pages) loaded.heap.limit (record {
+          old = K.taken out.old;
+          new = K.taken out.new;
+          before = K.fault_count out.old;
+          behind = K.fault_count out.new;
+        }) result }
+{
+    match StackWorld::new(alloc, loaded, pages) {
+        Ok(world) => begin(alloc, world, steps, out),
+        Err(_) => print(out, NO_MEMORY, "cogstack: memory\n"),
+    }
+}
+
+/// Runs an image, where memory for what sends its messages is had.
+fn begin<W: World + Drop, K: Sink>(alloc: Global, world: W, steps: u64, out: &mut K) -> u8
+    requires sound { IsSound (W.stored world) (W.view world) }
+    requires running { is_idle (W.view world) ≡ false → IsRunning (W.view world) }
+    requires fresh { IsFresh (W.view world) (W.layout world) }
+    ensures { Begun (W.view world) steps (most_of (W.layout world)) (W.stored world).memory.limit (record {
+          old = K.taken out.old;
+          new = K.taken out.new;
+          before = K.fault_count out.old;
+          behind = K.fault_count out.new;
+        }) result }
+{
+    match Sender::new(alloc) {
+        Ok(sender) => run_and_report(world, sender, steps, out),
+        Err(_) => print(out, NO_MEMORY, "cogstack: memory\n"),
+    }
+}
+
+/// Runs an image, and reports where it comes to.
+fn run_and_report<W: World + Drop, K: Sink>(world: W, sender: Sender, steps: u64, out: &mut K) -> u8
+    requires sound { IsSound (W.stored world) (W.view world) }
+    requires running { is_idle (W.view world) ≡ false → IsRunning (W.view world) }
+    requires fresh { IsFresh (W.view world) (W.layout world) }
+    ensures { Reported (W.view world) steps (most_of (W.layout world)) (W.stored world).memory.limit
+        (record {
+          old = K.taken out.old;
+          new = K.taken out.new;
+          before = K.fault_count out.old;
+          behind = K.fault_count out.new;
+        }) result }
+{
+    let mut world = world;
+    let mut sender = sender;
+    match run(&mut world, &mut sender, steps, out) {
+        Ok(ran) => {
+            let text = report(ran.ending, ran.steps, &ran.place);
+            print(out, status_of(ran.ending), text.as_str())
+        }
+        Err(RunError::Full(Full::Heap)) => HEAP_FULL,
+        Err(RunError::Full(Full::Stack)) => print(out, STACK_FULL, "cogstack: stack\n"),
+        Err(RunError::WriteFault) => WRITE_FAILED,
+    }
+}
+
+/// The status of a run that ends so.
+fn status_of(ending: Ending) -> u8
+    ensures { result ≡ run_status (ending_of ending) }
+{
+    match ending {
+        Ending::Steps | Ending::Idle => 0,
+        Ending::Stopped(_) => STOPPED,
+    }
+}

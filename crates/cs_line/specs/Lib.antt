@@ -1,4 +1,0 @@
-pub mod LineApp
-pub mod Told
-pub mod Meaning
-pub mod Possible
