@@ -30,3 +30,4 @@ pub mod Firsting
 pub mod InnerLemmas
 pub mod Judging
 pub mod Narrowing
+pub mod Wholing

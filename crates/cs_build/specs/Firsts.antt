@@ -30,3 +30,8 @@ all_lists forms = map (list_object forms) (range_with_len 1 8)
 
 unfoldable pub first_made : List Form → List Obj
 first_made forms = first_objects forms
+
+-- those in front of the lists
+unfoldable pub heads_made : List Form → List Obj
+heads_made forms = Ptr (new_head 34 0) [] ∷ Ptr (new_head 35 0) [] ∷ Ptr (new_head 38 0) [] ∷ special_array_of forms ∷ selector_array_of forms
+    ∷ Ptr (new_head 49 1) (nil_ref ∷ ref.Obj 6 ∷ []) ∷ Ptr (new_head 48 1) (ref.Obj 7 ∷ active_ref forms ∷ []) ∷ lists_made ∷ []

@@ -15,3 +15,4 @@ pub mod Making
 pub mod Made
 pub mod Grouped
 pub mod Firsts
+pub mod Wholes

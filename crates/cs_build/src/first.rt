@@ -9,7 +9,7 @@ ghost use Rattle.cs_model.specs.Builder.{active_name as active_name_of, active_r
 ghost use Rattle.cs_model.specs.Builder.{special_given, symbol_ref, with_special};
 ghost use Rattle.cs_build.specs.Laid.{laid, laid_by, reference_by};
 ghost use Rattle.cs_build.specs.Meaning.{form_by};
-ghost use Rattle.cs_build.specs.Firsts.{all_lists, first_made, known_specials, lists_made, selector_array_of};
+ghost use Rattle.cs_build.specs.Firsts.{all_lists, first_made, heads_made, known_specials, lists_made, selector_array_of};
 ghost use Rattle.cs_build.specs.Firsts.{special_array_of, symbol_specials};
 ghost use Rattle.cs_build.specs.Queued.{IsQueue};
 ghost use Rattle.cs_build.specs.Readied.{IsReady};
@@ -207,4 +207,37 @@ fn put_lists(
         objects.push(object)?;
     }
     Ok(())
+}
+
+/// The objects in front of the lists.
+fn heads(alloc: Global, numbering: &Numbering<'_, '_>) -> Result<Vec<Object>, AllocError>
+    requires { Stands numbering.now }
+    ensures { IfOk result (λ objects. map laid_by objects.items ≡ map laid (heads_made (forms_in numbering.now))) }
+{
+    let nil = pointers(alloc, 34, 0, &[])?;
+    let no = pointers(alloc, 35, 0, &[])?;
+    let yes = pointers(alloc, 38, 0, &[])?;
+    let specials = special_array(alloc, numbering)?;
+    let selectors = selector_array(alloc, numbering)?;
+    let association = pointers(alloc, 49, 1, &[NIL, Reference::Object(6)])?;
+    let scheduler = pointers(alloc, 48, 1, &[Reference::Object(7), active(numbering)])?;
+    let lists = lists(alloc)?;
+    let heads = [nil, no, yes, specials, selectors, association, scheduler, lists];
+    let objects = Vec::from_array(alloc, heads)?;
+    Ok(objects)
+}
+
+/// The objects in front of the classes.
+pub(crate) fn first_objects(
+    alloc: Global,
+    numbering: &Numbering<'_, '_>,
+    ready: &Ready<'_>,
+) -> Result<Vec<Object>, AllocError>
+    requires stands { Stands numbering.now }
+    requires ready { IsReady (forms_in numbering.now) ready.now }
+    ensures { IfOk result (λ objects. map laid_by objects.items ≡ map laid (first_made (forms_in numbering.now))) }
+{
+    let mut objects = heads(alloc, numbering)?;
+    put_lists(&mut objects, alloc, numbering, ready)?;
+    Ok(objects)
 }

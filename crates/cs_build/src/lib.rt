@@ -27,6 +27,7 @@ mod ready;
 mod symbols;
 mod tables;
 mod text;
+mod whole;
 mod word;
 
 pub use error::BuildError;
