@@ -5,3 +5,14 @@ pub mod Lines
 pub mod Tabled
 pub mod Laid
 pub mod Stored
+pub mod Numbered
+pub mod Counted
+pub mod Standing
+pub mod Queued
+pub mod Readied
+pub mod Sound
+pub mod Making
+pub mod Made
+pub mod Grouped
+pub mod Firsts
+pub mod Wholes

@@ -2,22 +2,32 @@
 #![tactic(auto)]
 
 mod above;
+mod bytecodes;
+mod classes;
 mod code;
 mod error;
+mod first;
 mod form;
 mod generate;
+mod groups;
 mod image;
 mod inner;
 mod judge;
+mod known;
 mod lines;
 mod making;
 mod mention;
 mod method;
 mod number;
+mod numbering;
 mod object;
+mod objects;
 mod outer;
+mod ready;
+mod symbols;
 mod tables;
 mod text;
+mod whole;
 mod word;
 
 pub use error::BuildError;

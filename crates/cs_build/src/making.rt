@@ -85,6 +85,25 @@ pub(crate) fn pointers(
     })
 }
 
+/// An object of pointers with an identity hash.
+pub(crate) fn hashed_pointers(
+    alloc: Global,
+    class: u32,
+    format: u8,
+    hash: u32,
+    slots: &[Reference],
+) -> Result<Object, AllocError>
+    ensures { IfOk result (λ o. laid_by o ≡ laid (Ptr (given_hash hash (new_head class format)) (map reference_by slots.now))) }
+{
+    Ok(Object {
+        class,
+        format,
+        hash,
+        slots: Vec::from_slice(alloc, slots)?,
+        bytes: Vec::new(alloc),
+    })
+}
+
 /// An object of bytes.
 pub(crate) fn raw_object(alloc: Global, class: u32, bytes: &[u8]) -> Result<Object, AllocError>
     ensures { IfOk result (λ o. laid_by o ≡ laid (raw_object_of class bytes.now)) }

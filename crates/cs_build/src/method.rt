@@ -1,6 +1,6 @@
 //! What a method's first line and the lines behind it say.
 
-ghost use Rattle.std.specs.Prelude.{◌≡◌, ◌<◌, ◌≤◌, ◌*◌, ◌+◌, pos, map, count_by, is_some};
+ghost use Rattle.std.specs.Prelude.{◌≡◌, ◌^◌, ◌<◌, ◌≤◌, ◌*◌, ◌+◌, pos, map, count_by, is_some};
 ghost use Rattle.std.specs.List.{before_first};
 ghost use Rattle.cs_model.specs.Builder.{built_header, natural as natural_in, object_count as object_count_of, bit_of};
 ghost use Rattle.cs_model.specs.BuilderFault.{is_end_line as is_end_of, is_literal as is_literal_of};
@@ -55,7 +55,7 @@ pub(crate) fn body_of<'f, 'a>(forms: &'f [Form<'a>]) -> &'f [Form<'a>]
 pub(crate) fn method_header(line: &MethodLine<'_>, literals: usize) -> i32
     requires arguments { natural_in line.now.arguments ≤ 15 }
     requires temporaries { natural_in line.now.temporaries ≤ 56 }
-    requires literals { literals ≤ 32767 }
+    requires literals { literals < 2 ^ 28 }
     ensures { result ≡ pos (built_header (method_line_by line.now) literals) }
 {
     let primitive = if line.primitive.is_some() { 1 } else { 0 };
@@ -66,4 +66,11 @@ pub(crate) fn method_header(line: &MethodLine<'_>, literals: usize) -> i32
         + (natural(line.temporaries) << 18)
         + (natural(line.arguments) << 24);
     header as i32
+}
+
+/// How many of a method's lines are literals.
+pub(crate) fn count_literals(body: &[Form<'_>]) -> usize
+    ensures { result ≡ count_by (λ form. is_literal_of (form_by form)) body.now }
+{
+    body.iter().filter(|form| is_literal(form)).count()
 }

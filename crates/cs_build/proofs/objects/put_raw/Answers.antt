@@ -1,0 +1,8 @@
+use Rattle.std.proofs.Common.{◌≡◌, ap, ◌∙◌}
+use Rattle.cs_model.specs.Builder.{raw_object}
+use Rattle.cs_build.specs.Laid.{laid, laid_by}
+use Rattle.cs_build.proofs.Walking.{pushed_one}
+use Rattle.cs_build.proofs.objects.put_raw.Goals as goal
+
+pub returns : goal.returns
+returns c = pushed_one laid_by c.args.objects.now.items c.push.new.self.items c.in_ok-object.object _ c.in_ok-push.ensures.items (c.in_ok-object.ensures ∙ ap (λ k. laid (raw_object k c.args.bytes.now)) c.class_index.ensures)
