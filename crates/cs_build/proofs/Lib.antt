@@ -11,3 +11,9 @@ pub mod Describing
 pub mod OpLemmas
 pub mod OuterLemmas
 pub mod HexLemmas
+pub mod Walking
+pub mod Noting
+pub mod Numbers
+pub mod Standing
+pub mod Queueing
+pub mod Coding

@@ -3,3 +3,9 @@ pub mod Narrow
 pub mod Faults
 pub mod Laid
 pub mod Stored
+pub mod Numbered
+pub mod Counted
+pub mod Standing
+pub mod Queued
+pub mod Readied
+pub mod Sound

@@ -27,7 +27,7 @@ pub fn first_form(op: Op) -> Option<Instr>
 }
 
 /// The form of so many bytes, if the instruction comes in it.
-fn of_length(op: Op, len: u8) -> Option<Instr>
+pub(crate) fn of_length(op: Op, len: u8) -> Option<Instr>
     ensures length { option_map (λ i. i.len) result ≡ (if has_form len op then Some len else None) }
     ensures op { IfSome result (λ i. i.op ≡ op) }
     ensures form { IfSome result IsInstr }

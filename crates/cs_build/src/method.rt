@@ -67,3 +67,10 @@ pub(crate) fn method_header(line: &MethodLine<'_>, literals: usize) -> i32
         + (natural(line.arguments) << 24);
     header as i32
 }
+
+/// How many of a method's lines are literals.
+pub(crate) fn count_literals(body: &[Form<'_>]) -> usize
+    ensures { result ≡ count_by (λ form. is_literal_of (form_by form)) body.now }
+{
+    body.iter().filter(|form| is_literal(form)).count()
+}
