@@ -1,5 +1,5 @@
 -- Hex digits as the crate hex reads them, and as the model does.
-use Rattle.std.proofs.Common.{◌≡◌, ◌≢◌, ◌⊎◌, inl, inr, ℕ, Bool, true, false, ◌+◌, ◌*◌, ◌-◌, ◌<◌, ◌≤◌, ◌%◌, ◌==◌, ◌&&◌, List, [], ◌∷◌, Some, None, option_map, length, refl, arith, ap, sym, ◌∙◌, if◌then◌else◌}
+use Rattle.std.proofs.Common.{◌≡◌, ◌≢◌, ◌⊎◌, inl, inr, ℕ, Bool, true, false, ◌+◌, ◌*◌, ◌%◌, ◌==◌, ◌&&◌, List, [], ◌∷◌, Some, None, option_map, length, refl, arith, ap, ◌∙◌, if◌then◌else◌}
 use Rattle.std.specs.Prelude.{codes, Option, Result, Ok, Err}
 use Rattle.std.specs.Char.{is_ascii_hexdigit, digit_value}
 use Rattle.std.proofs.lemmas.Bool.Decides.{nat_tests}

@@ -17,3 +17,6 @@ pub mod Numbers
 pub mod Standing
 pub mod Queueing
 pub mod Coding
+pub mod InnerLemmas
+pub mod LineReading
+pub mod Narrowing

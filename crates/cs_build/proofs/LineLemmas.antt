@@ -1,12 +1,13 @@
 -- Where a byte stands first in a text.
-use Rattle.std.proofs.Common.{◌≡◌, ℕ, Bool, true, false, ◌+◌, ◌<◌, ◌≤◌, ◌==◌, ◌||◌, cond, Some, None, nat_lt, if◌then◌else◌, List, [], ◌∷◌, length, zero, suc, get_or, take, ap, refl, arith, rules}
+use Rattle.std.proofs.Common.{◌≡◌, ℕ, Bool, true, false, ◌+◌, ◌<◌, ◌≤◌, ◌==◌, ◌||◌, cond, Some, None, nat_lt, if◌then◌else◌, List, [], ◌∷◌, length, suc, take, ap, refl, sym, ◌∙◌, ◌-◌, arith, rules}
 use Rattle.std.specs.Prelude.{not, Option, IfSome, IfNone}
 use Rattle.std.proofs.lemmas.Bool.Decides.{nat_tests}
-use Rattle.std.specs.List.{position_or_len}
+use Rattle.std.specs.List.{before_first, position_or_len, slice_get}
 use Rattle.cs_model.specs.BuilderText.{has_byte}
 use Rattle.std.specs.Borrow.{Bor}
 use Rattle.cs_model.specs.Text.{is_empty, lines_in}
-use Rattle.cs_build.specs.Narrow.{ends_empty, word_texts}
+use Rattle.cs_build.specs.Narrow.{word_texts}
+use Rattle.std.proofs.lemmas.Bool.{false≢true}
 
 -- a byte is there exactly where its first place is below the length
 pub has_byte-place : (b : ℕ) (text : List ℕ) → position_or_len (λ c. c == b) text < length text → has_byte b text ≡ true
@@ -38,28 +39,45 @@ pub place-none : (r : Option ℕ) (place len : ℕ) → r ≡ (if nat_lt place l
 place-none None place len e = grind (arith, nat_tests)
 place-none (Some at) place len e = search rules
 
--- whether the last part of some is empty
-pub ends_empty-some : (xs : List (Bor (List ℕ))) (i : ℕ) (d : Bor (List ℕ)) → i + 1 ≡ length xs
-    → is_empty (get_or xs i d).now ≡ ends_empty (word_texts xs)
-ends_empty-some [] i d h = absurd (omega (arith, h))
-ends_empty-some (x ∷ []) zero d h = refl
-ends_empty-some (x ∷ []) (suc i) d h = absurd (omega (arith, h))
-ends_empty-some (x ∷ y ∷ xs) zero d h = absurd (omega (arith, h))
-ends_empty-some (x ∷ y ∷ xs) (suc i) d h = ends_empty-some (y ∷ xs) i d (omega (arith, h))
+-- the last part stays where it isn't empty
+keep : (xs : List (Bor (List ℕ))) (x p : Bor (List ℕ)) → slice_get (x ∷ xs) (length xs) ≡ Some p → is_empty p.now ≡ false
+    → word_texts (x ∷ xs) ≡ lines_in (word_texts (x ∷ xs))
+keep [] x p last full =
+    let same : x ≡ p = grind arith in
+    rw (same, full) refl
+keep (y ∷ xs) x p last full = ap (λ rest. x.now ∷ rest) (keep xs y p last full)
 
--- no part is dropped, or the last one is
-pub lines_in-keep : (parts : List (List ℕ)) → ends_empty parts ≡ false → parts ≡ lines_in parts
-lines_in-keep [] h = refl
-lines_in-keep (x ∷ []) h = rw h refl
-lines_in-keep (x ∷ y ∷ parts) h = ap (λ rest. x ∷ rest) (lines_in-keep (y ∷ parts) h)
+-- and goes where it is
+cut : (xs : List (Bor (List ℕ))) (x p : Bor (List ℕ)) → slice_get (x ∷ xs) (length xs) ≡ Some p → is_empty p.now ≡ true
+    → word_texts (take (length xs) (x ∷ xs)) ≡ lines_in (word_texts (x ∷ xs))
+cut [] x p last bare =
+    let same : x ≡ p = grind arith in
+    rw (same, bare) refl
+cut (y ∷ xs) x p last bare = ap (λ rest. x.now ∷ rest) (cut xs y p last bare)
 
-pub lines_in-drop : (xs : List (Bor (List ℕ))) (i : ℕ) → i + 1 ≡ length xs → ends_empty (word_texts xs) ≡ true → word_texts (take i xs) ≡ lines_in (word_texts xs)
-lines_in-drop [] i h e = absurd (omega (arith, h))
-lines_in-drop (x ∷ []) zero h e = rw e refl
-lines_in-drop (x ∷ []) (suc i) h e = absurd (omega (arith, h))
-lines_in-drop (x ∷ y ∷ xs) zero h e = absurd (omega (arith, h))
-lines_in-drop (x ∷ y ∷ xs) (suc i) h e = ap (λ rest. x.now ∷ rest) (lines_in-drop (y ∷ xs) i (omega (arith, h)) e)
+before_end : (xs : List (Bor (List ℕ))) (x : Bor (List ℕ)) → length (x ∷ xs) - 1 ≡ length xs
+before_end xs x = omega arith
 
-pub ends_empty-length : (xs : List (Bor (List ℕ))) → ends_empty (word_texts xs) ≡ true → 0 < length xs
-ends_empty-length [] h = absurd cc
-ends_empty-length (x ∷ xs) h = omega arith
+pub lines_in-keep : (xs : List (Bor (List ℕ))) (p : Bor (List ℕ)) → Some p ≡ slice_get xs (length xs - 1) → is_empty p.now ≡ false
+    → word_texts xs ≡ lines_in (word_texts xs)
+lines_in-keep [] p last full = refl
+lines_in-keep (x ∷ xs) p last full = keep xs x p (sym (rw (before_end xs x) at last)) full
+
+pub lines_in-cut : (xs ys : List (Bor (List ℕ))) (m : ℕ) (p : Bor (List ℕ)) → m ≡ length xs → ys ≡ take (m - 1) xs
+    → Some p ≡ slice_get xs (length xs - 1) → is_empty p.now ≡ true → word_texts ys ≡ lines_in (word_texts xs)
+lines_in-cut [] ys m p len are last bare = absurd (grind (arith, last))
+lines_in-cut (x ∷ xs) ys m p len are last bare =
+    let rest : ys ≡ take (length xs) (x ∷ xs) = rw (len, before_end xs x) at are in
+    rw rest (cut xs x p (sym (rw (before_end xs x) at last)) bare)
+
+-- what stands in front of a byte that isn't there is all
+pub before_first-none : (b : ℕ) (text : List ℕ) → has_byte b text ≡ false → before_first (λ c. c == b) text ≡ text
+before_first-none b [] h = refl
+before_first-none b (c ∷ text) h = go (c == b) h (λ k. before_first-none b text k)
+  where
+    go : (e : Bool) → (e || has_byte b text) ≡ false → (has_byte b text ≡ false → before_first (λ c. c == b) text ≡ text)
+        → take (cond (not e) (1 + position_or_len (λ c. c == b) text) 0) (c ∷ text) ≡ c ∷ text
+    go true h rest = absurd (false≢true (sym h))
+    go false h rest =
+        let on : 1 + position_or_len (λ c. c == b) text ≡ suc (position_or_len (λ c. c == b) text) = omega arith in
+        ap (λ (n : ℕ). take n (c ∷ text)) on ∙ ap (λ t. c ∷ t) (rest h)

@@ -1,11 +1,9 @@
 -- Instructions whose numbers are too large for a byte come in no form.
-use Rattle.std.proofs.Common.{◌+◌, length, get_or, drop, drop-cons, add-one, ◌≡◌, ℕ, Bool, true, false, ◌<◌, ◌≤◌, List, [], ◌∷◌, Some, None, refl, arith, if◌then◌else◌, nat_lt, ap}
-use Rattle.std.specs.Prelude.{ℤ, pos, negsuc, Option, find, is_some}
+use Rattle.std.proofs.Common.{◌+◌, length, get_or, drop, drop-cons, add-one, ◌≡◌, ℕ, Bool, true, false, ◌<◌, ◌≤◌, List, [], ◌∷◌, Some, None, refl, arith, if◌then◌else◌, nat_lt}
+use Rattle.std.specs.Prelude.{find}
 use Rattle.std.proofs.lemmas.Bool.Decides.{nat_tests}
 use Rattle.cs_model.specs.declared.instruction.Op.{Op}
-use Rattle.cs_model.specs.declared.instruction.Op.TheVariants.{PushRcvr, PushTemp, PushLit, PushLitVar, PopRcvr, PopTemp, PopLitVar, StoreRcvr, StoreTemp, StoreLitVar, Send, SendSuper, NewArray, PopArray, PushVec, StoreVec, PopVec, Common, PushInt}
-use Rattle.cs_model.specs.declared.instruction.Op.TheVariants as op
-use Rattle.cs_model.specs.BuilderText.{op_named, ops_of_one, ops_of_two}
+use Rattle.cs_model.specs.BuilderText.{op_named, ops_of_one}
 use Rattle.cs_model.specs.BuilderFault.{plain_bytes}
 use Rattle.cs_model.specs.Assemble.{IsInstr, has_form, op_name}
 use Rattle.cs_model.specs.declared.instruction.Instr.{Instr}

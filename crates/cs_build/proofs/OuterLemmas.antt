@@ -2,7 +2,7 @@
 use Rattle.std.proofs.Common.{◌≡◌, ℕ, ◌+◌, ◌<◌, ◌≤◌, List, [], ◌∷◌, None, Some, Bool, true, false, option_map, if◌then◌else◌, refl, arith, length, map, ◌++◌, get_or, drop, take, ◌-◌, drop-cons, add-one, suc, ap, sym, subst}
 use Rattle.std.specs.Prelude.{ℤ, Option, option_and_then}
 use Rattle.std.specs.Borrow.{Bor}
-use Rattle.cs_model.specs.BuilderText.{Mention, Form, Special, all_of, method_line, process_line, bytes_form, class_form, method_form, object_form, process_form, special_form}
+use Rattle.cs_model.specs.BuilderText.{Mention, Special, all_of, method_line, process_line, bytes_form, class_form, method_form, object_form, process_form, special_form}
 use Rattle.std.proofs.lemmas.Grind.{common_steps}
 use Rattle.cs_build.specs.declared.form.Mention as code
 use Rattle.cs_build.specs.declared.form.Form as code_form

@@ -1,6 +1,7 @@
 pub mod Meaning
 pub mod Narrow
 pub mod Faults
+pub mod Lines
 pub mod Laid
 pub mod Stored
 pub mod Numbered

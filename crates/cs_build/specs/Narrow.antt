@@ -1,6 +1,6 @@
 -- What the code keeps of the numbers of a line: a number beyond 32 bits becomes the nearest of 32 bits, and an instruction
 -- that comes in no form becomes none. No line with such a number is without fault.
-use Rattle.std.specs.Prelude.{ℕ, ℤ, Bool, false, List, [], ◌∷◌, Option, None, Some, codes, map, option_map, option_and_then, is_some, nat_lt, if◌then◌else◌}
+use Rattle.std.specs.Prelude.{ℕ, ℤ, List, [], ◌∷◌, Option, None, Some, codes, map, option_map, option_and_then, is_some, nat_lt, if◌then◌else◌}
 use Rattle.std.specs.Int.{saturate_signed, w32}
 use Rattle.std.specs.Prelude.{◌≡◌}
 use Rattle.std.specs.Borrow.{Bor}
@@ -10,8 +10,8 @@ use Rattle.cs_build.specs.Meaning.{form_by, mention_by}
 use Rattle.cs_model.specs.declared.instruction.Op.{Op}
 use Rattle.cs_model.specs.Ref.{natural_of}
 use Rattle.cs_model.specs.BuilderFault.{plain_bytes}
-use Rattle.cs_model.specs.BuilderText.{Mention, Number, Code, ClassLine, MethodLine, ProcessLine, Form, Class, Object, Method, Process, Special, Active, Ready, Literal, Byte, Plain, ClosureTo, method_form, process_form, special_form, name_form, one_form}
-use Rattle.cs_model.specs.Text.{is_empty, is_name}
+use Rattle.cs_model.specs.BuilderText.{Mention, Number, Code, ClassLine, MethodLine, ProcessLine, Form, Class, Object, Method, Process, Special, Active, Ready, Literal, Byte, Plain, ClosureTo, method_form, process_form, special_form, name_form, one_form, two_form}
+use Rattle.cs_model.specs.Text.{is_name}
 use Rattle.std.specs.Str.{bytes_eq}
 
 abbrev pub narrow : ℤ → ℤ
@@ -59,6 +59,10 @@ abbrev pub numbered : List ℕ → Option ℤ → Option Form
 numbered word number =
     if bytes_eq word (codes "byte") then option_map (λ n. Byte n) number else option_and_then (one_form word) number
 
+-- an instruction with two numbers, either of which may be none
+abbrev pub two_numbered : List ℕ → Option ℤ → Option ℤ → Option Form
+two_numbered word a b = option_and_then (λ i. option_and_then (two_form word i) b) a
+
 -- the words of a line without where they lie
 abbrev pub word_texts : List (Bor (List ℕ)) → List (List ℕ)
 word_texts words = map (λ word. word.now) words
@@ -84,9 +88,3 @@ plain_outer word words =
     if bytes_eq word (codes "active") then name_form (λ name. Active name) words else
     if bytes_eq word (codes "ready") then name_form (λ name. Ready name) words else
     None
-
--- whether the last of some parts is empty
-abbrev pub ends_empty : List (List ℕ) → Bool
-ends_empty [] = false
-ends_empty (part ∷ []) = is_empty part
-ends_empty (part ∷ next ∷ parts) = ends_empty (next ∷ parts)

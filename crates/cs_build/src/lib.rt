@@ -9,6 +9,8 @@ mod form;
 mod generate;
 mod image;
 mod known;
+mod inner;
+mod lines;
 mod making;
 mod mention;
 mod method;
