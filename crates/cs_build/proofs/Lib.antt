@@ -20,3 +20,6 @@ pub mod Coding
 pub mod InnerLemmas
 pub mod LineReading
 pub mod Narrowing
+pub mod Locating
+pub mod Forming
+pub mod Seating

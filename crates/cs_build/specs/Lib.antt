@@ -10,3 +10,4 @@ pub mod Standing
 pub mod Queued
 pub mod Readied
 pub mod Sound
+pub mod Formed

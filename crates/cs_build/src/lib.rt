@@ -9,6 +9,7 @@ mod form;
 mod generate;
 mod image;
 mod known;
+mod laws;
 mod inner;
 mod lines;
 mod making;
