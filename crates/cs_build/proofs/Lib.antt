@@ -23,3 +23,4 @@ pub mod Narrowing
 pub mod Locating
 pub mod Forming
 pub mod Seating
+pub mod Imaging

@@ -1,12 +1,16 @@
 -- Images that can be opened, by their objects and the numbers of their classes.
-use Rattle.std.specs.Prelude.{◌≡◌, ◌≢◌, ℕ, ◌<◌, ◌≤◌, ◌==◌, ◌||◌, true, false, List, [], length, map, take, slice_index, slice_get, Some, ⊤}
-use Rattle.std.specs.List.{AllByRecursion}
+use Rattle.std.specs.Prelude.{◌≡◌, ◌≢◌, ℕ, ◌+◌, ◌*◌, ◌/◌, ◌<◌, ◌≤◌, ◌==◌, ◌||◌, true, false, if◌then◌else◌, List, [], length, map, take, slice_index, slice_get, Option, Some, None, ⊤}
+use Rattle.std.specs.List.{AllByRecursion, enumerate_from}
+use Rattle.std.specs.Ordering.{nat_cmp}
+use Rattle.std.specs.FinMap.{FinMap, from_entries, get}
 use Rattle.cs_model.specs.Ref.{Ref}
 use Rattle.cs_model.specs.Ref as ref
 use Rattle.cs_model.specs.Obj.{Obj, Head, Context, Ptr, Raw, Method, Ctx, new_head, context_class, first_pc, is_header, lies_between}
+use Rattle.cs_model.specs.State.{Kept, Rest}
 use Rattle.cs_model.specs.Words.{is_pointer_format}
-use Rattle.cs_model.specs.Builder.{nil_ref}
-use Rattle.cs_build.specs.Laid.{laid, FitsLayout}
+use Rattle.cs_model.specs.SavedFile.{page_place, saved_sizes}
+use Rattle.cs_model.specs.Builder.{nil_ref, header_bytes}
+use Rattle.cs_build.specs.Laid.{laid, FitsLayout, file_for}
 use Rattle.cs_build.specs.Stored.{IsStored}
 
 -- ---- each object
@@ -122,3 +126,32 @@ pub record IsFormedImage (os : List Obj) (table : List ℕ) : Type 0 where
   pub contexts : AllByRecursion (IsFormedContext os) os
   pub entries : IsFormedTable os table
   pub roots : IsFormedRoots os
+
+-- a class table, by index, and the numbers of its classes
+abbrev pub class_in : List ℕ → ℕ → Option ℕ
+class_in table index = if slice_index table index == 0 then None else Some (slice_index table index)
+
+abbrev pub IsTableOf : List ℕ → FinMap nat_cmp ℕ → Type 0
+IsTableOf table classes = (index : ℕ) → get classes index ≡ class_in table index
+
+-- the file isn't longer than a file may be, and the objects take no more than the limit
+pub record HasRoom (os : List Obj) (table : List ℕ) (limit : ℕ) : Type 0 where
+  pub file : 64 + 4 * page_place (file_for (map laid os) table).objects (length table / 1024) ≤ 536870912
+  pub heap : saved_sizes (file_for (map laid os) table).objects ≤ limit
+
+-- the state of these objects, of which each has its number as its birth
+abbrev pub state_by : List Obj → FinMap nat_cmp ℕ → Kept
+state_by os table = record {
+  objects = from_entries (enumerate_from 0 os);
+  rest = record {
+    nil = 0;
+    false_ = 1;
+    true_ = 2;
+    special = 3;
+    header = header_bytes;
+    classes = table;
+    last_hash = 0;
+    next = length os;
+    active = None;
+  };
+}
