@@ -16,3 +16,4 @@ pub mod Made
 pub mod Grouped
 pub mod Firsts
 pub mod Wholes
+pub mod Formed

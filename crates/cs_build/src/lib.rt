@@ -14,6 +14,7 @@ mod image;
 mod inner;
 mod judge;
 mod known;
+mod laws;
 mod lines;
 mod making;
 mod mention;
