@@ -20,7 +20,6 @@ use Rattle.cs_build.specs.Laid.{Laid, FitsRef, laid, laid_slots, laid_words, ref
 use Rattle.cs_build.specs.Stored.{StoredMethod, StoredContext, StoredPointers, StoredBytes, IsStored}
 use Rattle.cs_build.specs.Formed.{IsFormed, FormedContext, IsFormedContext, NamesMethod}
 use Rattle.cs_build.proofs.Putting.{slots_of_laid, length-map}
-
 use Rattle.cs_build.proofs.Locating.{IsBare, found_at, zero_address}
 
 -- ---- numbers in words

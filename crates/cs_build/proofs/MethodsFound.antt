@@ -12,9 +12,9 @@ use Rattle.cs_model.specs.Builder.{all_forms, body_behind, is_method_of, methods
 use Rattle.cs_build.specs.declared.form.Form.{Form}
 use Rattle.cs_build.specs.declared.numbering.Numbered.{Numbered}
 use Rattle.cs_build.specs.Counted.{body_in}
-use Rattle.cs_build.specs.Made.{IsMade}
+use Rattle.cs_build.specs.Made.{IsMethodMade}
 use Rattle.cs_build.specs.Meaning.{form_by}
-use Rattle.cs_build.specs.Numbered.{method_at, method_in}
+use Rattle.cs_build.specs.Numbered.{method_begun, method_found}
 use Rattle.cs_build.specs.Sound.{is_sound}
 use Rattle.cs_build.proofs.Noting.{bytes_eq_self}
 use Rattle.cs_build.proofs.Sounding.{and_true}
@@ -32,40 +32,43 @@ pub record IsFound (c s : List ℕ) (forms : List text.Form) (m : text.MethodLin
   pub first : find (λ n. bytes_eq n.selector s) (methods_of forms c) ≡ Some m
   pub behind : body_behind c s forms ≡ body
 
-pub found : (c s : List ℕ) (forms : List text.Form) (m : text.MethodLine) (body : List text.Form) → method_in c s forms ≡ Some (m, body) → IsFound c s forms m body
+pub found : (c s : List ℕ) (forms : List text.Form) (m : text.MethodLine) (body : List text.Form) → method_found c s forms ≡ Some (m, body) → IsFound c s forms m body
 found c s [] m body e = absurd (cc)
 found c s (text.Method line ∷ forms) m body e =
     let all : (m.class ≡ c) × (m.selector ≡ s)
-        × ((if bytes_eq line.class c then (if bytes_eq line.selector s then Some line else find (λ n. bytes_eq n.selector s) (methods_of forms c)) else find (λ n. bytes_eq n.selector s) (methods_of forms c)) ≡ Some m)
-        × ((if bytes_eq line.class c && bytes_eq line.selector s then before_first is_end_line forms else body_behind c s forms) ≡ body) =
+    × ((if bytes_eq line.class c then (if bytes_eq line.selector s then Some line else find (λ n. bytes_eq n.selector s) (methods_of forms c)) else find (λ n. bytes_eq n.selector s) (methods_of forms c)) ≡ Some m)
+    × ((if bytes_eq line.class c && bytes_eq line.selector s then before_first is_end_line forms else body_behind c s forms) ≡ body) =
     go (bytes_eq line.class c) (bytes_eq line.selector s) refl refl e (found c s forms m body) in
     record { class = all.0; selector = all.1; first = find_if (λ n. bytes_eq n.selector s) (bytes_eq line.class c) line (methods_of forms c) ∙ all.2; behind = all.3 }
   where
     go : (a b : Bool) → bytes_eq line.class c ≡ a → bytes_eq line.selector s ≡ b
-        → option_or (if a && b then Some (line, before_first is_end_line forms) else None) (method_in c s forms) ≡ Some (m, body)
-        → (method_in c s forms ≡ Some (m, body) → IsFound c s forms m body)
+        → option_or (if a && b then Some (line, before_first is_end_line forms) else None) (method_found c s forms) ≡ Some (m, body)
+        → (method_found c s forms ≡ Some (m, body) → IsFound c s forms m body)
         → (m.class ≡ c) × (m.selector ≡ s)
         × ((if a then (if b then Some line else find (λ n. bytes_eq n.selector s) (methods_of forms c)) else find (λ n. bytes_eq n.selector s) (methods_of forms c)) ≡ Some m)
         × ((if a && b then before_first is_end_line forms else body_behind c s forms) ≡ body)
     go true true ea eb e h =
         let pair : (let p : text.MethodLine × List text.Form = (line, before_first is_end_line forms) in let q : text.MethodLine × List text.Form = (m, body) in p ≡ q) =
         ap (λ (o : Option (text.MethodLine × List text.Form)). unwrap_or o (line, before_first is_end_line forms)) e in
-        let is : line ≡ m = ap (λ (p : text.MethodLine × List text.Form). p.0) pair in
-        (ap (λ (l : text.MethodLine). l.class) (sym is) ∙ (bytes_eq-Decides line.class c).0 ea, ap (λ (l : text.MethodLine). l.selector) (sym is) ∙ (bytes_eq-Decides line.selector s).0 eb,
-          ap Some is, ap (λ (p : text.MethodLine × List text.Form). p.1) pair)
+        let is : line ≡ m = ap (λ (p : text.MethodLine × List text.Form). p.0) pair in (
+          ap (λ (l : text.MethodLine). l.class) (sym is) ∙ (bytes_eq-Decides line.class c).0 ea,
+          ap (λ (l : text.MethodLine). l.selector) (sym is) ∙ (bytes_eq-Decides line.selector s).0 eb,
+          ap Some is,
+          ap (λ (p : text.MethodLine × List text.Form). p.1) pair,
+        )
     go true false ea eb e h = let r : IsFound c s forms m body = h e in (r.class, r.selector, r.first, r.behind)
     go false b ea eb e h = let r : IsFound c s forms m body = h e in (r.class, r.selector, r.first, r.behind)
 found c s (form ∷ forms) m body e =
     let rest : IsFound c s forms m body = found c s forms m body e in
     record { class = rest.class; selector = rest.selector; first = rest.first; behind = rest.behind }
 
-pub not_found : (c s : List ℕ) (forms : List text.Form) → method_in c s forms ≡ None → find (λ n. bytes_eq n.selector s) (methods_of forms c) ≡ None
+pub not_found : (c s : List ℕ) (forms : List text.Form) → method_found c s forms ≡ None → find (λ n. bytes_eq n.selector s) (methods_of forms c) ≡ None
 not_found c s [] e = refl
 not_found c s (text.Method line ∷ forms) e = find_if (λ n. bytes_eq n.selector s) (bytes_eq line.class c) line (methods_of forms c)
     ∙ go (bytes_eq line.class c) (bytes_eq line.selector s) e (not_found c s forms)
   where
-    go : (a b : Bool) → option_or (if a && b then Some (line, before_first is_end_line forms) else None) (method_in c s forms) ≡ None
-        → (method_in c s forms ≡ None → find (λ n. bytes_eq n.selector s) (methods_of forms c) ≡ None)
+    go : (a b : Bool) → option_or (if a && b then Some (line, before_first is_end_line forms) else None) (method_found c s forms) ≡ None
+        → (method_found c s forms ≡ None → find (λ n. bytes_eq n.selector s) (methods_of forms c) ≡ None)
         → (if a then (if b then Some line else find (λ n. bytes_eq n.selector s) (methods_of forms c)) else find (λ n. bytes_eq n.selector s) (methods_of forms c)) ≡ None
     go true true e h = absurd (cc)
     go true false e h = h e
@@ -87,16 +90,16 @@ before_sound forms e = take_sound _ forms e
 before_few : (forms : List text.Form) → length (before_first is_end_line forms) ≤ length forms
 before_few forms = omega (arith, length-take (position_or_len is_end_line forms) forms)
 
-pub sound_found : (c s : List ℕ) (forms : List text.Form) (m : text.MethodLine) (body : List text.Form) → method_in c s forms ≡ Some (m, body) → list_all is_sound forms ≡ true
+pub sound_found : (c s : List ℕ) (forms : List text.Form) (m : text.MethodLine) (body : List text.Form) → method_found c s forms ≡ Some (m, body) → list_all is_sound forms ≡ true
     → (method_fits m ≡ true) × (list_all is_sound body ≡ true) × (length body ≤ length forms)
 sound_found c s [] m body e h = absurd (cc)
 sound_found c s (text.Method line ∷ forms) m body e h =
     let both : (method_fits line ≡ true) × (list_all is_sound forms ≡ true) = and_true (method_fits line) (list_all is_sound forms) h in
     go (bytes_eq line.class c && bytes_eq line.selector s) e both.0 both.1 (sound_found c s forms m body)
   where
-    go : (a : Bool) → option_or (if a then Some (line, before_first is_end_line forms) else None) (method_in c s forms) ≡ Some (m, body)
+    go : (a : Bool) → option_or (if a then Some (line, before_first is_end_line forms) else None) (method_found c s forms) ≡ Some (m, body)
         → method_fits line ≡ true → list_all is_sound forms ≡ true
-        → (method_in c s forms ≡ Some (m, body) → list_all is_sound forms ≡ true → (method_fits m ≡ true) × (list_all is_sound body ≡ true) × (length body ≤ length forms))
+        → (method_found c s forms ≡ Some (m, body) → list_all is_sound forms ≡ true → (method_fits m ≡ true) × (list_all is_sound body ≡ true) × (length body ≤ length forms))
         → (method_fits m ≡ true) × (list_all is_sound body ≡ true) × (length body ≤ suc (length forms))
     go true e fits rest h =
         let pair : (let p : text.MethodLine × List text.Form = (line, before_first is_end_line forms) in let q : text.MethodLine × List text.Form = (m, body) in p ≡ q) =
@@ -110,8 +113,8 @@ sound_found c s (form ∷ forms) m body e h =
     let rest : (method_fits m ≡ true) × (list_all is_sound body ≡ true) × (length body ≤ length forms) = sound_found c s forms m body e (and_true (is_sound form) (list_all is_sound forms) h).1 in
     (rest.0, rest.1, omega (arith, rest.2))
 
-pub made_from : (c s : List ℕ) (forms : List text.Form) (o : Option Numbered) → option_map body_in o ≡ method_in c s forms → list_all is_sound forms ≡ true
-    → length forms < 2 ^ 26 → IfSome o (λ m. m.literals ≡ count_by (λ form. is_literal (form_by form)) m.body.now) → IfSome o IsMade
+pub made_from : (c s : List ℕ) (forms : List text.Form) (o : Option Numbered) → option_map body_in o ≡ method_found c s forms → list_all is_sound forms ≡ true
+    → length forms < 2 ^ 26 → IfSome o (λ m. m.literals ≡ count_by (λ form. is_literal (form_by form)) m.body.now) → IfSome o IsMethodMade
 made_from c s forms None e h few counted = tt
 made_from c s forms (Some m) e h few counted =
     let all : (method_fits (body_in m).0 ≡ true) × (list_all is_sound (body_in m).1 ≡ true) × (length (body_in m).1 ≤ length forms) = sound_found c s forms (body_in m).0 (body_in m).1 (sym e) h in

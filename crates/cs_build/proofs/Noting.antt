@@ -10,7 +10,7 @@ use Rattle.std.proofs.lemmas.Slice.Eq.{bytes_eq-Decides}
 use Rattle.std.proofs.lemmas.Bool.Decides.{nat_tests, same_from_decides, Decides-like}
 use Rattle.cs_model.specs.Builder.{with_new}
 use Rattle.cs_model.specs.BuilderText.{ClassLine}
-use Rattle.cs_build.specs.Numbered.{names_of, noted, first_at, placed, mentioned}
+use Rattle.cs_build.specs.Numbered.{plain_names, noted, first_at, placed, mentioned}
 
 pub bytes_eq_self : (a : List ℕ) → bytes_eq a a ≡ true
 bytes_eq_self a = (bytes_eq-Decides a a).1 refl
@@ -40,15 +40,15 @@ note_new f name n q none = go (bytes_eq name q) refl
 
 -- ---- symbols
 
-pub any_name : (k : Bor (List ℕ)) (ks : List (Bor (List ℕ))) → list_any (λ x. bytes_eq k.now x.now) ks ≡ list_any (bytes_eq k.now) (names_of ks)
+pub any_name : (k : Bor (List ℕ)) (ks : List (Bor (List ℕ))) → list_any (λ x. bytes_eq k.now x.now) ks ≡ list_any (bytes_eq k.now) (plain_names ks)
 any_name k [] = refl
 any_name k (x ∷ ks) = ap (λ b. bytes_eq k.now x.now || b) (any_name k ks)
 
 pub mention_new : (k : Bor (List ℕ)) (ks : List (Bor (List ℕ)))
-    → names_of (if list_any (λ x. bytes_eq k.now x.now) ks then ks else ks ++ k ∷ []) ≡ with_new (names_of ks) k.now
-mention_new k ks = go (list_any (λ x. bytes_eq k.now x.now) ks) ∙ ap (λ b. if b then names_of ks else names_of ks ++ k.now ∷ []) (any_name k ks)
+    → plain_names (if list_any (λ x. bytes_eq k.now x.now) ks then ks else ks ++ k ∷ []) ≡ with_new (plain_names ks) k.now
+mention_new k ks = go (list_any (λ x. bytes_eq k.now x.now) ks) ∙ ap (λ b. if b then plain_names ks else plain_names ks ++ k.now ∷ []) (any_name k ks)
   where
-    go : (b : Bool) → names_of (if b then ks else ks ++ k ∷ []) ≡ (if b then names_of ks else names_of ks ++ k.now ∷ [])
+    go : (b : Bool) → plain_names (if b then ks else ks ++ k ∷ []) ≡ (if b then plain_names ks else plain_names ks ++ k.now ∷ [])
     go true = refl
     go false = map_push (λ x. x.now) ks k
 
@@ -104,10 +104,10 @@ position_is p xs = sym (first_from p 0 xs) ∙ go (position p xs)
     go (Some k) = ap Some (omega arith)
     go None = refl
 
-pub name_position : (q : List ℕ) (ks : List (Bor (List ℕ))) → position (λ x. bytes_eq q x.now) ks ≡ position (bytes_eq q) (names_of ks)
-name_position q ks = sym (position_is (λ x. bytes_eq q x.now) ks) ∙ go 0 ks ∙ position_is (bytes_eq q) (names_of ks)
+pub name_position : (q : List ℕ) (ks : List (Bor (List ℕ))) → position (λ x. bytes_eq q x.now) ks ≡ position (bytes_eq q) (plain_names ks)
+name_position q ks = sym (position_is (λ x. bytes_eq q x.now) ks) ∙ go 0 ks ∙ position_is (bytes_eq q) (plain_names ks)
   where
-    go : (n : ℕ) (xs : List (Bor (List ℕ))) → first_at (λ x. bytes_eq q x.now) n xs ≡ first_at (bytes_eq q) n (names_of xs)
+    go : (n : ℕ) (xs : List (Bor (List ℕ))) → first_at (λ x. bytes_eq q x.now) n xs ≡ first_at (bytes_eq q) n (plain_names xs)
     go n [] = refl
     go n (x ∷ xs) = ap (λ rest. if bytes_eq q x.now then Some n else rest) (go (n + 1) xs)
 

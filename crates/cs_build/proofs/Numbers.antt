@@ -8,7 +8,7 @@ use Rattle.std.proofs.lemmas.List.Sums.{sum_by-cons}
 use Rattle.cs_model.specs.BuilderText as text
 use Rattle.cs_model.specs.BuilderFault.{place_where}
 use Rattle.cs_model.specs.Builder.{object_count}
-use Rattle.cs_build.specs.Numbered.{noted, method_at, method_in}
+use Rattle.cs_build.specs.Numbered.{noted, method_begun, method_found}
 use Rattle.cs_build.proofs.Noting.{or_noted, or_none}
 
 or_false : (b : Bool) → b || false ≡ b
@@ -31,8 +31,8 @@ or_assoc (Some x) b c = refl
 or_assoc None b c = refl
 
 pub body_more : (c s : List ℕ) (new old : Option (text.MethodLine × List text.Form)) (form : text.Form) (rest : List text.Form)
-    → new ≡ option_or old (method_at c s form rest) → option_or new (method_in c s rest) ≡ option_or old (method_in c s (form ∷ rest))
-body_more c s new old form rest e = ap (λ o. option_or o (method_in c s rest)) e ∙ or_assoc old (method_at c s form rest) (method_in c s rest)
+    → new ≡ option_or old (method_begun c s form rest) → option_or new (method_found c s rest) ≡ option_or old (method_found c s (form ∷ rest))
+body_more c s new old form rest e = ap (λ o. option_or o (method_found c s rest)) e ∙ or_assoc old (method_begun c s form rest) (method_found c s rest)
 
 pub count_more : (form : text.Form) (rest : List text.Form) (n m total : ℕ) → m ≡ n + object_count form
     → n + sum_by object_count (form ∷ rest) ≡ total → m + sum_by object_count rest ≡ total

@@ -10,7 +10,7 @@ use Rattle.std.specs.Str.{bytes_eq}
 use Rattle.cs_model.specs.BuilderText as text
 use Rattle.cs_model.specs.Builder.{ready_behind, ready_in, has_priority, with_new}
 use Rattle.cs_model.specs.Text.{first_that}
-use Rattle.cs_build.specs.Queued.{linked, ready_at, ready_lists, is_process_at}
+use Rattle.cs_build.specs.Queued.{linked_behind, ready_at, ready_lists, is_process_at}
 use Rattle.cs_build.specs.Numbered.{mentioned}
 
 -- ---- the links
@@ -32,7 +32,7 @@ same_both true o = refl
 same_both false o = refl
 
 -- what stands behind a process of a list with one process more
-pub behind_more : (q name : List ℕ) (names : List (List ℕ)) → ready_behind q (name ∷ names) ≡ linked (first_that names) name q (ready_behind q names)
+pub behind_more : (q name : List ℕ) (names : List (List ℕ)) → ready_behind q (name ∷ names) ≡ linked_behind (first_that names) name q (ready_behind q names)
 behind_more q name [] = same_both (bytes_eq name q) None
 behind_more q name (last ∷ names) = refl
 

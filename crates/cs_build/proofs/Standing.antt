@@ -8,7 +8,7 @@ use Rattle.cs_model.specs.Ref as ref
 use Rattle.cs_model.specs.BuilderText as text
 use Rattle.cs_model.specs.BuilderFault.{place_where, all_classes, class_lines_in}
 use Rattle.cs_model.specs.Builder.{all_forms, symbols_in, symbol_ref, with_new, selector_names, special_symbols, first_symbol, first_dictionary, birth_where, object_count, first_class}
-use Rattle.cs_build.specs.Numbered.{first_at, mentioned, selector_words, special_names_of, method_in}
+use Rattle.cs_build.specs.Numbered.{first_at, mentioned, selector_words, special_names_of, method_found}
 use Rattle.cs_build.specs.Standing.{symbol_names}
 use Rattle.cs_build.proofs.Noting.{position_is}
 
@@ -92,7 +92,7 @@ symbol_ref_is forms name n place e h = ap (λ k. ref.Obj (k + place)) e ∙ ap (
 pub classes_are : (forms : List text.Form) → flat_map class_lines_in (all_forms forms) ≡ all_classes forms
 classes_are forms = refl
 
-pub methods_are : (c s : List ℕ) (forms : List text.Form) → method_in c s (all_forms forms) ≡ method_in c s forms
+pub methods_are : (c s : List ℕ) (forms : List text.Form) → method_found c s (all_forms forms) ≡ method_found c s forms
 methods_are c s forms = refl
 
 -- ---- numbers that fit

@@ -11,11 +11,11 @@ use Rattle.cs_build.specs.declared.ready.Ready.{Ready}
 use Rattle.cs_build.specs.Firsts.{first_made}
 use Rattle.cs_build.specs.Grouped.{AreGroups, all_dictionaries, symbol_objects}
 use Rattle.cs_build.specs.Laid.{Laid, laid}
-use Rattle.cs_build.specs.Readied.{IsReady}
+use Rattle.cs_build.specs.Readied.{AreReadied}
 use Rattle.cs_build.specs.Standing.{symbol_names}
 use Rattle.cs_build.specs.Wholes.{objects_made}
 
-pub own_ready : (forms : List text.Form) (r : Ready) → IsReady (all_forms forms) r → IsReady forms r
+pub own_ready : (forms : List text.Form) (r : Ready) → AreReadied (all_forms forms) r → AreReadied forms r
 own_ready forms r ready = record { eight = ready.eight; queues = λ k d h. ready.queues k d h; names = ready.names }
 
 pub own_groups : {Z S : Type 0} (forms : List text.Form) (groups : IndexMap (Bor (List ℕ)) (Vec MethodLine Z) S) → AreGroups groups (all_forms forms) → AreGroups groups forms

@@ -10,12 +10,12 @@ use Rattle.cs_model.specs.BuilderFault.{all_classes}
 use Rattle.cs_model.specs.Builder.{dictionary_object, dictionary_objects, values_object, methods_of, raw_object}
 use Rattle.cs_build.specs.declared.form.MethodLine.{MethodLine}
 use Rattle.cs_build.specs.Meaning.{method_line_by}
-use Rattle.cs_build.specs.Numbered.{number_of}
+use Rattle.cs_build.specs.Numbered.{name_number}
 use Rattle.cs_build.specs.Standing.{symbol_names}
 
 -- the methods of a class
 abbrev pub group_at : {Z S : Type 0} → IndexMap (Bor (List ℕ)) (Vec MethodLine Z) S → List ℕ → List text.MethodLine
-group_at groups q = option_map_or (λ v. map method_line_by v.items) (number_of groups q) []
+group_at groups q = option_map_or (λ v. map method_line_by v.items) (name_number groups q) []
 
 pub record AreGroups {Z S : Type 0} (groups : IndexMap (Bor (List ℕ)) (Vec MethodLine Z) S) (forms : List text.Form) : Type 0 where
   pub at : (q : List ℕ) → group_at groups q ≡ methods_of forms q

@@ -6,7 +6,7 @@ use Rattle.cs_build.specs.declared.numbering.Numbered.{Numbered}
 use Rattle.cs_build.specs.Meaning.{form_by, method_line_by}
 use Rattle.cs_build.specs.Sound.{is_sound}
 
-pub record IsMade (m : Numbered) : Type 0 where
+pub record IsMethodMade (m : Numbered) : Type 0 where
   pub fits : method_fits (method_line_by m.line) ≡ true
   pub few : length m.body.now < 2 ^ 26
   pub sound : list_all is_sound (map form_by m.body.now) ≡ true

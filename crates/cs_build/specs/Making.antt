@@ -8,12 +8,12 @@ use Rattle.cs_model.specs.BuilderFault.{code_from, is_literal, mentions_in}
 use Rattle.cs_model.specs.Builder.{first_context, method_for, birth_where, bit_of, built_header, built_process, is_process_named, method_birth, natural, nil_ref, obj_or_nil, mention_ref, method_by, primitive_bytes}
 
 -- what the literals among lines refer to
-abbrev pub literals_in : List Form → List Form → List Ref
-literals_in forms body = map (mention_ref forms) (flat_map mentions_in (filter is_literal body))
+abbrev pub method_literals : List Form → List Form → List Ref
+method_literals forms body = map (mention_ref forms) (flat_map mentions_in (filter is_literal body))
 
 -- a method of these lines
 abbrev pub method_made : List Form → MethodLine → List Form → Obj
-method_made forms line body = method_by (built_header line (length (literals_in forms body))) (literals_in forms body)
+method_made forms line body = method_by (built_header line (length (method_literals forms body))) (method_literals forms body)
     (primitive_bytes line.primitive ++ code_from body 0 body)
 
 -- the first pc of a method with so many literals
@@ -25,7 +25,7 @@ abbrev pub context_made : List Form → MethodLine → List Form → Mention →
 context_made forms line body receiver = record {
   hash = 0;
   sender = nil_ref;
-  pc = Some (begin_at (length (literals_in forms body)) line);
+  pc = Some (begin_at (length (method_literals forms body)) line);
   method = obj_or_nil (method_birth forms line.class line.selector);
   closure = nil_ref;
   receiver = mention_ref forms receiver;

@@ -10,12 +10,12 @@ use Rattle.indexmap.specs.IndexMap.{IndexMap, get_by}
 use Rattle.std.specs.Borrow.{Bor}
 
 -- the bytes of names
-abbrev pub names_of : List (Bor (List ℕ)) → List (List ℕ)
-names_of names = map (λ name. name.now) names
+abbrev pub plain_names : List (Bor (List ℕ)) → List (List ℕ)
+plain_names names = map (λ name. name.now) names
 
 -- the number that a name has
-abbrev pub number_of : {V S : Type 0} → IndexMap (Bor (List ℕ)) V S → List ℕ → Option V
-number_of numbers q = get_by (λ k. bytes_eq q k.now) numbers
+abbrev pub name_number : {V S : Type 0} → IndexMap (Bor (List ℕ)) V S → List ℕ → Option V
+name_number numbers q = get_by (λ k. bytes_eq q k.now) numbers
 
 -- what one name adds
 abbrev pub noted : List ℕ → ℕ → List ℕ → Option ℕ
@@ -53,16 +53,16 @@ special_places = map (λ e. e.0) special_symbols
 -- ---- methods
 
 -- the method that a class and a selector have
-abbrev pub method_of : {V S : Type 0} → IndexMap (Bor (List ℕ) × Bor (List ℕ)) V S → List ℕ → List ℕ → Option V
-method_of methods c s = get_by (λ k. bytes_eq c k.0.now && bytes_eq s k.1.now) methods
+abbrev pub method_entry : {V S : Type 0} → IndexMap (Bor (List ℕ) × Bor (List ℕ)) V S → List ℕ → List ℕ → Option V
+method_entry methods c s = get_by (λ k. bytes_eq c k.0.now && bytes_eq s k.1.now) methods
 
 -- a method that a line begins, with the lines behind it up to its end
-abbrev pub method_at : List ℕ → List ℕ → Form → List Form → Option (MethodLine × List Form)
-method_at c s (Method line) behind =
+abbrev pub method_begun : List ℕ → List ℕ → Form → List Form → Option (MethodLine × List Form)
+method_begun c s (Method line) behind =
     if bytes_eq line.class c && bytes_eq line.selector s then Some (line, before_first is_end_line behind) else None
-method_at c s form behind = None
+method_begun c s form behind = None
 
 -- the first one of a class and a selector
-abbrev pub method_in : List ℕ → List ℕ → List Form → Option (MethodLine × List Form)
-method_in c s [] = None
-method_in c s (form ∷ forms) = option_or (method_at c s form forms) (method_in c s forms)
+abbrev pub method_found : List ℕ → List ℕ → List Form → Option (MethodLine × List Form)
+method_found c s [] = None
+method_found c s (form ∷ forms) = option_or (method_begun c s form forms) (method_found c s forms)

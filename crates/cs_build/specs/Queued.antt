@@ -8,16 +8,16 @@ use Rattle.cs_model.specs.BuilderText as text
 use Rattle.cs_model.specs.Builder.{ready_behind, natural, ready_in}
 use Rattle.cs_model.specs.Text.{first_that}
 use Rattle.cs_build.specs.declared.ready.Queue.{Queue}
-use Rattle.cs_build.specs.Numbered.{number_of}
+use Rattle.cs_build.specs.Numbered.{name_number}
 
 -- what stands behind a process
 abbrev pub link_at : {S : Type 0} → IndexMap (Bor (List ℕ)) (Option (Bor (List ℕ))) S → List ℕ → Option (List ℕ)
-link_at links q = option_and_then (λ o. option_map (λ n. n.now) o) (number_of links q)
+link_at links q = option_and_then (λ o. option_map (λ n. n.now) o) (name_number links q)
 
 -- what stands behind a process, once one is put behind the last
-abbrev pub linked : Option (List ℕ) → List ℕ → List ℕ → Option (List ℕ) → Option (List ℕ)
-linked None name q old = if bytes_eq name q then None else old
-linked (Some last) name q old = if bytes_eq last q then Some name else if bytes_eq name q then None else old
+abbrev pub linked_behind : Option (List ℕ) → List ℕ → List ℕ → Option (List ℕ) → Option (List ℕ)
+linked_behind None name q old = if bytes_eq name q then None else old
+linked_behind (Some last) name q old = if bytes_eq last q then Some name else if bytes_eq name q then None else old
 
 -- the list of these processes, the last one first
 pub record IsQueue (q : Queue) (names : List (List ℕ)) : Type 0 where

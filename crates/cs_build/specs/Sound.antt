@@ -4,7 +4,7 @@ use Rattle.std.specs.Borrow.{Bor}
 use Rattle.indexmap.specs.IndexMap.{IndexMap}
 use Rattle.cs_model.specs.BuilderText.{Form, Class, Method, Process, Byte}
 use Rattle.cs_model.specs.BuilderFault.{is_between, label_place, method_fits}
-use Rattle.cs_build.specs.Numbered.{number_of}
+use Rattle.cs_build.specs.Numbered.{name_number}
 
 -- the numbers of a line fit what is made of it
 abbrev pub is_sound : Form → Bool
@@ -16,5 +16,5 @@ is_sound form = true
 
 -- the places of a method's labels
 pub record AreLabels {S : Type 0} (places : IndexMap (Bor (List ℕ)) ℕ S) (body : List Form) : Type 0 where
-  pub at : (q : List ℕ) → number_of places q ≡ label_place body q
-  pub few : (q : List ℕ) → IfSome (number_of places q) (λ place. place < 2 ^ 28)
+  pub at : (q : List ℕ) → name_number places q ≡ label_place body q
+  pub few : (q : List ℕ) → IfSome (name_number places q) (λ place. place < 2 ^ 28)

@@ -9,12 +9,12 @@ unfoldable pub objects_made : List Form → List Obj
 objects_made forms = text_objects forms
 
 -- a class's number, at its index
-abbrev pub with_class : List Form → List ℕ → ClassLine → List ℕ
-with_class forms table line = slice_set table (class_index forms line.name) (unwrap_or (named_birth forms line.name) 0)
+abbrev pub class_entered : List Form → List ℕ → ClassLine → List ℕ
+class_entered forms table line = slice_set table (class_index forms line.name) (unwrap_or (named_birth forms line.name) 0)
 
 -- the entries of whole pages of 1,024, in which the classes of these lines stand, and SmallInteger by two indices
 abbrev pub table_by : List Form → List ClassLine → List ℕ
-table_by forms lines = slice_set (fold (with_class forms) (replicate (1024 * ((length lines + 1053) / 1024)) 0) lines) 3
+table_by forms lines = slice_set (fold (class_entered forms) (replicate (1024 * ((length lines + 1053) / 1024)) 0) lines) 3
     (unwrap_or (named_birth forms (codes "SmallInteger")) 0)
 
 unfoldable pub table_made : List Form → List ℕ

@@ -12,7 +12,7 @@ ghost use Rattle.cs_model.specs.BuilderFault.{byte_count as byte_count_of, closu
 ghost use Rattle.cs_model.specs.BuilderFault.{is_between, is_label, jump_code, label_place, line_bytes, plain_bytes};
 ghost use Rattle.cs_model.specs.Builder.{primitive_bytes};
 ghost use Rattle.cs_build.specs.Meaning.{form_by, jump_by};
-ghost use Rattle.cs_build.specs.Numbered.{number_of};
+ghost use Rattle.cs_build.specs.Numbered.{name_number};
 ghost use Rattle.cs_build.specs.Sound.{AreLabels, is_sound};
 
 use crate::classes::note;
@@ -55,8 +55,8 @@ fn note_label<'a>(
     form: &Form<'a>,
     place: u32,
 ) -> Result<(), AllocError>
-    ensures { OnOk result ((q : List ℕ) → number_of places.new q
-        ≡ option_or (number_of places.old q) (if is_label q (form_by form.now) then Some place else None)) }
+    ensures { OnOk result ((q : List ℕ) → name_number places.new q
+        ≡ option_or (name_number places.old q) (if is_label q (form_by form.now) then Some place else None)) }
 {
     match form {
         Form::Label(name) => note(places, *name, place),
@@ -65,10 +65,7 @@ fn note_label<'a>(
 }
 
 /// The places of the labels of a method's lines, counted in bytes.
-fn label_places<'a>(
-    alloc: Global,
-    body: &[Form<'a>],
-) -> Result<IndexMap<&'a [u8], u32>, AllocError>
+fn label_places<'a>(alloc: Global, body: &[Form<'a>]) -> Result<IndexMap<&'a [u8], u32>, AllocError>
     requires { length body.now < 2 ^ 26 }
     ensures { IfOk result (λ places. AreLabels places (map form_by body.now)) }
 {
@@ -154,7 +151,7 @@ fn put_instruction(code: &mut Vec<u8>, instruction: Option<Instr>) -> Result<(),
 
 /// The place of a label.
 fn label_at(places: &IndexMap<&[u8], u32>, label: &[u8]) -> Option<u32>
-    ensures { result ≡ number_of places.now label.now }
+    ensures { result ≡ name_number places.now label.now }
 {
     places.get(label).copied()
 }
@@ -171,9 +168,9 @@ fn offset(to: u32, from: u32) -> i32
 /// The jump of a line at a place to a label, if it fits.
 fn jump_at(places: &IndexMap<&[u8], u32>, place: u32, jump: Jump, label: &[u8]) -> Option<Instr>
     requires place { place < 2 ^ 28 }
-    requires places { IfSome (number_of places.now label.now) (λ to. to < 2 ^ 28) }
+    requires places { IfSome (name_number places.now label.now) (λ to. to < 2 ^ 28) }
     ensures code { option_map assembled result ≡ option_and_then
-        (λ to. jump_code (jump_by jump) (pos to -ℤ pos (place + 2))) (number_of places.now label.now) }
+        (λ to. jump_code (jump_by jump) (pos to -ℤ pos (place + 2))) (name_number places.now label.now) }
     ensures form { IfSome result IsInstr }
 {
     match label_at(places, label) {
@@ -191,9 +188,9 @@ fn closure_at(
     label: &[u8],
 ) -> Option<Instr>
     requires place { place < 2 ^ 28 }
-    requires places { IfSome (number_of places.now label.now) (λ to. to < 2 ^ 28) }
+    requires places { IfSome (name_number places.now label.now) (λ to. to < 2 ^ 28) }
     ensures code { option_map assembled result ≡ option_and_then
-        (λ to. closure_bytes copied args (pos to -ℤ pos (place + 4))) (number_of places.now label.now) }
+        (λ to. closure_bytes copied args (pos to -ℤ pos (place + 4))) (name_number places.now label.now) }
     ensures form { IfSome result IsInstr }
 {
     match label_at(places, label) {
@@ -210,7 +207,7 @@ fn put_line(
     form: &Form<'_>,
 ) -> Result<(), AllocError>
     requires place { place < 2 ^ 28 }
-    requires places { (q : List ℕ) → IfSome (number_of places.now q) (λ to. to < 2 ^ 28) }
+    requires places { (q : List ℕ) → IfSome (name_number places.now q) (λ to. to < 2 ^ 28) }
     requires sound { is_sound (form_by form.now) ≡ true }
     ensures { OnOk result ((body : List text.Form) → AreLabels places.now body
         → code.new.items ≡ code.old.items ++ unwrap_or (line_bytes body place (form_by form.now)) []) }
@@ -218,7 +215,10 @@ fn put_line(
     match form {
         Form::Byte(value) => put_byte(code, *value),
         Form::Plain(op) => put_instruction(code, plain_form(*op)),
-        Form::JumpTo { jump, label } => put_instruction(code, jump_at(places, place, *jump, *label)),
+        Form::JumpTo { jump, label } => put_instruction(
+            code,
+            jump_at(places, place, *jump, *label),
+        ),
         Form::ClosureTo {
             copied,
             args,
@@ -242,7 +242,8 @@ fn put_byte(code: &mut Vec<u8>, value: i32) -> Result<(), AllocError>
 fn put_body(code: &mut Vec<u8>, alloc: Global, body: &[Form<'_>]) -> Result<(), AllocError>
     requires few { length body.now < 2 ^ 26 }
     requires sound { list_all is_sound (map form_by body.now) ≡ true }
-    ensures { OnOk result (code.new.items ≡ code.old.items ++ code_from (map form_by body.now) 0 (map form_by body.now)) }
+    ensures { OnOk result (code.new.items
+        ≡ code.old.items ++ code_from (map form_by body.now) 0 (map form_by body.now)) }
 {
     let places = label_places(alloc, body)?;
     let mut place = 0;

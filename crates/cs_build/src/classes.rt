@@ -1,13 +1,14 @@
 //! The classes of a text, by name and by place.
 
-ghost use Rattle.std.specs.Prelude.{◌≡◌, ◌++◌, ◌+◌, ◌≤◌, ◌<◌, ◌^◌, List, ℕ, Option, find, flat_map, length, map, option_map, position, IfOk, IfSome, OnOk};
+ghost use Rattle.std.specs.Prelude.{◌≡◌, ◌++◌, ◌+◌, ◌≤◌, ◌<◌, ◌^◌, List, ℕ, Option, find, flat_map, length, map};
+ghost use Rattle.std.specs.Prelude.{option_map, position, IfOk, IfSome, OnOk};
 ghost use Rattle.std.specs.Option.{option_or, option_map_or};
 ghost use Rattle.std.specs.Str.{bytes_eq};
 ghost use Rattle.cs_model.specs.BuilderFault.{class_lines_in};
 ghost use Rattle.cs_model.specs.Builder.{index_at as index_of, natural as natural_in};
-ghost use Rattle.cs_build.specs.Standing.{AreClasses, place_in, lines_in};
+ghost use Rattle.cs_build.specs.Standing.{AreClasses, listed_place, listed_classes};
 ghost use Rattle.cs_build.specs.Meaning.{form_by, class_by};
-ghost use Rattle.cs_build.specs.Numbered.{number_of, noted, placed};
+ghost use Rattle.cs_build.specs.Numbered.{name_number, noted, placed};
 ghost use Rattle.cs_model.specs.BuilderText.{ClassLine as ClassOf};
 
 use crate::form::{ClassLine, Form};
@@ -31,7 +32,7 @@ pub(crate) fn note<'a>(
     number: u32,
 ) -> Result<(), AllocError>
     ensures { OnOk result ((q : List ℕ) →
-        number_of numbers.new q ≡ option_or (number_of numbers.old q) (noted name.now number q)) }
+        name_number numbers.new q ≡ option_or (name_number numbers.old q) (noted name.now number q)) }
 {
     if !numbers.contains_key(name) {
         numbers.insert(name, number)?;
@@ -44,7 +45,7 @@ pub(crate) fn classes_of<'a>(alloc: Global, forms: &[Form<'a>]) -> Result<Classe
     requires { length forms.now < 2 ^ 30 }
     ensures lines { IfOk result (λ c. map class_by c.lines.items ≡ flat_map class_lines_in (map form_by forms.now)) }
     ensures few { IfOk result (λ c. length c.lines.items ≤ length forms.now) }
-    ensures places { IfOk result (λ c. (name : List ℕ) → number_of c.places name
+    ensures places { IfOk result (λ c. (name : List ℕ) → name_number c.places name
         ≡ position (λ line. bytes_eq line.name name) (flat_map class_lines_in (map form_by forms.now))) }
 {
     let mut lines = Vec::new(alloc);
@@ -65,8 +66,8 @@ fn note_class<'a>(
     ensures lines { OnOk result (map class_by lines.new.items
         ≡ map class_by lines.old.items ++ class_lines_in (form_by form.now)) }
     ensures places { OnOk result ((q : List ℕ) (rest : List ClassOf) →
-        placed (number_of places.new q) (length lines.new.items) q rest
-        ≡ placed (number_of places.old q) (length lines.old.items) q (class_lines_in (form_by form.now) ++ rest)) }
+        placed (name_number places.new q) (length lines.new.items) q rest
+        ≡ placed (name_number places.old q) (length lines.old.items) q (class_lines_in (form_by form.now) ++ rest)) }
     ensures few { OnOk result (length lines.new.items ≤ length lines.old.items + 1) }
 {
     if let Form::Class(line) = form {
@@ -87,7 +88,7 @@ impl<'a> Classes<'a> {
     /// The place of a class.
     pub(crate) fn place(&self, name: &[u8]) -> Option<u32>
         requires { AreClasses self.now }
-        ensures { result ≡ place_in self.now name.now }
+        ensures { result ≡ listed_place self.now name.now }
     {
         self.places.get(name).copied()
     }
@@ -95,7 +96,7 @@ impl<'a> Classes<'a> {
     /// The index of a class in the class table, or 0 where there is none.
     pub(crate) fn index(&self, name: &[u8]) -> u32
         requires { AreClasses self.now }
-        ensures { result ≡ option_map_or index_of (place_in self.now name.now) 0 }
+        ensures { result ≡ option_map_or index_of (listed_place self.now name.now) 0 }
     {
         match self.place(name) {
             Some(place) => index_at(place),
@@ -107,7 +108,7 @@ impl<'a> Classes<'a> {
     pub(crate) fn format(&self, name: &[u8]) -> u32
         requires { AreClasses self.now }
         ensures { result ≡ option_map_or (λ line. natural_in line.format)
-            (find (λ line. bytes_eq line.name name.now) (lines_in self.now)) 0 }
+            (find (λ line. bytes_eq line.name name.now) (listed_classes self.now)) 0 }
     {
         match self.place(name) {
             Some(place) => format_in(&self.lines[place as usize]),

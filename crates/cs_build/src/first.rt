@@ -9,11 +9,12 @@ ghost use Rattle.cs_model.specs.Builder.{active_name as active_name_of, active_r
 ghost use Rattle.cs_model.specs.Builder.{special_given, symbol_ref, with_special};
 ghost use Rattle.cs_build.specs.Laid.{laid, laid_by, reference_by};
 ghost use Rattle.cs_build.specs.Meaning.{form_by};
-ghost use Rattle.cs_build.specs.Firsts.{all_lists, first_made, heads_made, known_specials, lists_made, selector_array_of};
+ghost use Rattle.cs_build.specs.Firsts.{all_lists, first_made, heads_made, known_specials, lists_made};
+ghost use Rattle.cs_build.specs.Firsts.{selector_array_of};
 ghost use Rattle.cs_build.specs.Firsts.{special_array_of, symbol_specials};
 ghost use Rattle.cs_build.specs.Queued.{IsQueue};
-ghost use Rattle.cs_build.specs.Readied.{IsReady};
-ghost use Rattle.cs_build.specs.Standing.{Stands, forms_in};
+ghost use Rattle.cs_build.specs.Readied.{AreReadied};
+ghost use Rattle.cs_build.specs.Standing.{NumbersStand, forms_in};
 
 use crate::form::Form;
 use crate::making::{NIL, natural, object_or_nil, pointers};
@@ -48,7 +49,7 @@ fn active_name<'a>(forms: &[Form<'a>]) -> Option<&'a [u8]>
 
 /// The active process.
 fn active(numbering: &Numbering<'_, '_>) -> Reference
-    requires { Stands numbering.now }
+    requires { NumbersStand numbering.now }
     ensures { reference_by result ≡ active_ref (forms_in numbering.now) }
 {
     process_or_nil(numbering, active_name(numbering.forms))
@@ -63,10 +64,10 @@ fn set_slot(slots: &mut [Reference], place: usize, value: Reference)
     }
 }
 
-/// Sets the special objects that are objects and classes of the image whatever the text says: the scheduler, the special
-/// selectors, and the classes.
+/// Sets the special objects that are objects and classes of the image whatever the text says: the scheduler, the
+/// special selectors, and the classes.
 fn set_known(slots: &mut [Reference], numbering: &Numbering<'_, '_>)
-    requires { Stands numbering.now }
+    requires { NumbersStand numbering.now }
     ensures { map reference_by slots.new
         ≡ fold with_special (map reference_by slots.old) (known_specials (forms_in numbering.now)) }
 {
@@ -80,7 +81,7 @@ fn set_known(slots: &mut [Reference], numbering: &Numbering<'_, '_>)
 
 /// Sets the special objects that are symbols.
 fn set_symbols(slots: &mut [Reference], numbering: &Numbering<'_, '_>)
-    requires { Stands numbering.now }
+    requires { NumbersStand numbering.now }
     ensures { map reference_by slots.new
         ≡ fold with_special (map reference_by slots.old) (symbol_specials (forms_in numbering.now)) }
 {
@@ -91,7 +92,7 @@ fn set_symbols(slots: &mut [Reference], numbering: &Numbering<'_, '_>)
 
 /// Sets the special object that a line says, if it says one.
 fn set_given(slots: &mut [Reference], numbering: &Numbering<'_, '_>, form: &Form<'_>)
-    requires { Stands numbering.now }
+    requires { NumbersStand numbering.now }
     ensures { map reference_by slots.new
         ≡ fold with_special (map reference_by slots.old) (special_given (forms_in numbering.now) (form_by form.now)) }
 {
@@ -105,7 +106,7 @@ fn set_given(slots: &mut [Reference], numbering: &Numbering<'_, '_>, form: &Form
 
 /// Sets the special objects that the text says. The last line counts most.
 fn set_all_given(slots: &mut [Reference], numbering: &Numbering<'_, '_>)
-    requires { Stands numbering.now }
+    requires { NumbersStand numbering.now }
     ensures { map reference_by slots.new ≡ fold with_special (map reference_by slots.old)
         (flat_map (special_given (forms_in numbering.now)) (map form_by numbering.now.forms.now)) }
 {
@@ -116,7 +117,7 @@ fn set_all_given(slots: &mut [Reference], numbering: &Numbering<'_, '_>)
 
 /// The array of special objects.
 fn special_array(alloc: Global, numbering: &Numbering<'_, '_>) -> Result<Object, AllocError>
-    requires { Stands numbering.now }
+    requires { NumbersStand numbering.now }
     ensures { IfOk result (λ o. laid_by o ≡ laid (special_array_of (forms_in numbering.now))) }
 {
     let mut slots = [NIL; 51];
@@ -133,7 +134,7 @@ fn put_selector(
     numbering: &Numbering<'_, '_>,
     selector: &(&'static str, i32),
 ) -> Result<(), AllocError>
-    requires { Stands numbering.now }
+    requires { NumbersStand numbering.now }
     ensures { OnOk result (map reference_by slots.new.items ≡ map reference_by slots.old.items
         ++ (symbol_ref (forms_in numbering.now) selector.now.0.now ∷ Small selector.now.1 ∷ [])) }
 {
@@ -143,7 +144,7 @@ fn put_selector(
 
 /// The array of the special selectors, each with its number of arguments.
 fn selector_array(alloc: Global, numbering: &Numbering<'_, '_>) -> Result<Object, AllocError>
-    requires { Stands numbering.now }
+    requires { NumbersStand numbering.now }
     ensures { IfOk result (λ o. laid_by o ≡ laid (selector_array_of (forms_in numbering.now))) }
 {
     let mut slots = Vec::new(alloc);
@@ -177,7 +178,7 @@ fn list(
     numbering: &Numbering<'_, '_>,
     queue: &Queue<'_>,
 ) -> Result<Object, AllocError>
-    requires { Stands numbering.now }
+    requires { NumbersStand numbering.now }
     ensures { IfOk result (λ o. (priority : ℕ) → IsQueue queue.now (last_ready (forms_in numbering.now) priority)
         → laid_by o ≡ laid (list_object (forms_in numbering.now) priority)) }
 {
@@ -196,8 +197,8 @@ fn put_lists(
     numbering: &Numbering<'_, '_>,
     ready: &Ready<'_>,
 ) -> Result<(), AllocError>
-    requires stands { Stands numbering.now }
-    requires ready { IsReady (forms_in numbering.now) ready.now }
+    requires stands { NumbersStand numbering.now }
+    requires ready { AreReadied (forms_in numbering.now) ready.now }
     ensures { OnOk result (map laid_by objects.new.items ≡ map laid_by objects.old.items
         ++ map laid (all_lists (forms_in numbering.now))) }
 {
@@ -211,7 +212,7 @@ fn put_lists(
 
 /// The objects in front of the lists.
 fn heads(alloc: Global, numbering: &Numbering<'_, '_>) -> Result<Vec<Object>, AllocError>
-    requires { Stands numbering.now }
+    requires { NumbersStand numbering.now }
     ensures { IfOk result (λ objects. map laid_by objects.items ≡ map laid (heads_made (forms_in numbering.now))) }
 {
     let nil = pointers(alloc, 34, 0, &[])?;
@@ -222,7 +223,16 @@ fn heads(alloc: Global, numbering: &Numbering<'_, '_>) -> Result<Vec<Object>, Al
     let association = pointers(alloc, 49, 1, &[NIL, Reference::Object(6)])?;
     let scheduler = pointers(alloc, 48, 1, &[Reference::Object(7), active(numbering)])?;
     let lists = lists(alloc)?;
-    let heads = [nil, no, yes, specials, selectors, association, scheduler, lists];
+    let heads = [
+        nil,
+        no,
+        yes,
+        specials,
+        selectors,
+        association,
+        scheduler,
+        lists,
+    ];
     let objects = Vec::from_array(alloc, heads)?;
     Ok(objects)
 }
@@ -233,8 +243,8 @@ pub(crate) fn first_objects(
     numbering: &Numbering<'_, '_>,
     ready: &Ready<'_>,
 ) -> Result<Vec<Object>, AllocError>
-    requires stands { Stands numbering.now }
-    requires ready { IsReady (forms_in numbering.now) ready.now }
+    requires stands { NumbersStand numbering.now }
+    requires ready { AreReadied (forms_in numbering.now) ready.now }
     ensures { IfOk result (λ objects. map laid_by objects.items ≡ map laid (first_made (forms_in numbering.now))) }
 {
     let mut objects = heads(alloc, numbering)?;

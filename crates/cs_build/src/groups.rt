@@ -7,8 +7,8 @@ ghost use Rattle.cs_model.specs.Builder.{dictionary_objects, methods_of};
 ghost use Rattle.cs_build.specs.Grouped.{AreGroups, all_dictionaries, dictionary_pair, group_at, symbol_objects};
 ghost use Rattle.cs_build.specs.Laid.{laid, laid_by};
 ghost use Rattle.cs_build.specs.Meaning.{class_by, form_by, method_line_by};
-ghost use Rattle.cs_build.specs.Numbered.{number_of};
-ghost use Rattle.cs_build.specs.Standing.{Stands, forms_in};
+ghost use Rattle.cs_build.specs.Numbered.{name_number};
+ghost use Rattle.cs_build.specs.Standing.{NumbersStand, forms_in};
 
 use crate::form::{ClassLine, Form, MethodLine};
 use crate::making::raw_object;
@@ -24,7 +24,8 @@ pub(crate) type Groups<'a> = IndexMap<&'a [u8], Vec<MethodLine<'a>>>;
 /// Takes the methods of a class out, of which there may be none.
 fn take_group<'a>(alloc: Global, groups: &mut Groups<'a>, class: &[u8]) -> Vec<MethodLine<'a>>
     ensures group { map method_line_by result.items ≡ group_at groups.old class.now }
-    ensures rest { (q : List ℕ) → number_of groups.new q ≡ cond (bytes_eq class.now q) None (number_of groups.old q) }
+    ensures rest { (q : List ℕ) → name_number groups.new q
+        ≡ cond (bytes_eq class.now q) None (name_number groups.old q) }
 {
     match groups.swap_remove(class) {
         Some(group) => group,
@@ -81,7 +82,7 @@ fn put_dictionary(
     place: u32,
     methods: &[MethodLine<'_>],
 ) -> Result<(), AllocError>
-    requires stands { Stands numbering.now }
+    requires stands { NumbersStand numbering.now }
     requires place { place < 2 ^ 28 }
     requires few { length methods.now < 2 ^ 28 }
     ensures { OnOk result (map laid_by objects.new.items ≡ map laid_by objects.old.items
@@ -103,7 +104,7 @@ fn put_class_dictionary(
     place: u32,
     line: &ClassLine<'_>,
 ) -> Result<(), AllocError>
-    requires stands { Stands numbering.now }
+    requires stands { NumbersStand numbering.now }
     requires groups { AreGroups groups.now (forms_in numbering.now) }
     requires place { place < 2 ^ 28 }
     ensures { OnOk result (map laid_by objects.new.items ≡ map laid_by objects.old.items
@@ -122,14 +123,21 @@ pub(crate) fn put_dictionaries(
     numbering: &Numbering<'_, '_>,
     groups: &Groups<'_>,
 ) -> Result<(), AllocError>
-    requires stands { Stands numbering.now }
+    requires stands { NumbersStand numbering.now }
     requires groups { AreGroups groups.now (forms_in numbering.now) }
     ensures { OnOk result (map laid_by objects.new.items ≡ map laid_by objects.old.items
         ++ map laid (all_dictionaries (forms_in numbering.now))) }
 {
     let lines = &numbering.classes.lines;
     for place in 0..lines.len() {
-        put_class_dictionary(objects, alloc, numbering, groups, place as u32, &lines[place])?;
+        put_class_dictionary(
+            objects,
+            alloc,
+            numbering,
+            groups,
+            place as u32,
+            &lines[place],
+        )?;
     }
     Ok(())
 }
@@ -140,7 +148,7 @@ pub(crate) fn put_symbols(
     alloc: Global,
     numbering: &Numbering<'_, '_>,
 ) -> Result<(), AllocError>
-    requires { Stands numbering.now }
+    requires { NumbersStand numbering.now }
     ensures { OnOk result (map laid_by objects.new.items ≡ map laid_by objects.old.items
         ++ map laid (symbol_objects (forms_in numbering.now))) }
 {

@@ -93,7 +93,8 @@ pub(crate) fn hashed_pointers(
     hash: u32,
     slots: &[Reference],
 ) -> Result<Object, AllocError>
-    ensures { IfOk result (λ o. laid_by o ≡ laid (Ptr (given_hash hash (new_head class format)) (map reference_by slots.now))) }
+    ensures { IfOk result (λ o. laid_by o
+        ≡ laid (Ptr (given_hash hash (new_head class format)) (map reference_by slots.now))) }
 {
     Ok(Object {
         class,

@@ -13,11 +13,11 @@ ghost use Rattle.cs_model.specs.Builder.{class_index, class_format};
 ghost use Rattle.cs_model.specs.Builder.{symbol_ref, mention_ref};
 ghost use Rattle.cs_build.specs.Laid.{reference_by};
 ghost use Rattle.cs_build.specs.Meaning.{form_by, mention_by};
-ghost use Rattle.cs_build.specs.Numbered.{number_of, method_of, method_at, method_in};
+ghost use Rattle.cs_build.specs.Numbered.{name_number, method_entry, method_begun, method_found};
 ghost use Rattle.cs_build.specs.Sound.{is_sound};
-ghost use Rattle.cs_build.specs.Made.{IsMade};
-ghost use Rattle.cs_build.specs.Standing.{Stands, forms_in, own_forms, symbol_names};
-ghost use Rattle.cs_build.specs.Counted.{Counts, AreCounted, number_in, body_in};
+ghost use Rattle.cs_build.specs.Made.{IsMethodMade};
+ghost use Rattle.cs_build.specs.Standing.{NumbersStand, forms_in, own_forms, symbol_names};
+ghost use Rattle.cs_build.specs.Counted.{Counts, AreCounted, own_number, body_in};
 
 use crate::classes::{Classes, classes_of, note};
 use crate::form::{Form, Mention, MethodLine};
@@ -65,8 +65,8 @@ fn note_thing<'a>(
     form: &Form<'a>,
     number: u32,
 ) -> Result<(), AllocError>
-    ensures { OnOk result ((q : List ℕ) → number_of things.new q
-        ≡ option_or (number_of things.old q) (if is_named q (form_by form.now) then Some number else None)) }
+    ensures { OnOk result ((q : List ℕ) → name_number things.new q
+        ≡ option_or (name_number things.old q) (if is_named q (form_by form.now) then Some number else None)) }
 {
     match form {
         Form::Class(line) => note(things, line.name, number),
@@ -83,8 +83,9 @@ fn note_context<'a>(
     form: &Form<'a>,
     number: u32,
 ) -> Result<(), AllocError>
-    ensures { OnOk result ((q : List ℕ) → number_of contexts.new q
-        ≡ option_or (number_of contexts.old q) (if is_process_named q (form_by form.now) then Some number else None)) }
+    ensures { OnOk result ((q : List ℕ) → name_number contexts.new q
+        ≡ option_or (name_number contexts.old q)
+        (if is_process_named q (form_by form.now) then Some number else None)) }
 {
     match form {
         Form::Process(line) => note(contexts, line.name, number),
@@ -99,12 +100,12 @@ fn note_method<'f, 'a>(
     behind: &'f [Form<'a>],
     number: u32,
 ) -> Result<(), AllocError>
-    ensures numbers { OnOk result ((c s : List ℕ) → option_map number_in (method_of methods.new c s)
-        ≡ option_or (option_map number_in (method_of methods.old c s))
+    ensures numbers { OnOk result ((c s : List ℕ) → option_map own_number (method_entry methods.new c s)
+        ≡ option_or (option_map own_number (method_entry methods.old c s))
         (if is_method_of c s (form_by form.now) then Some number else None)) }
-    ensures bodies { OnOk result ((c s : List ℕ) → option_map body_in (method_of methods.new c s)
-        ≡ option_or (option_map body_in (method_of methods.old c s))
-        (method_at c s (form_by form.now) (map form_by behind.now))) }
+    ensures bodies { OnOk result ((c s : List ℕ) → option_map body_in (method_entry methods.new c s)
+        ≡ option_or (option_map body_in (method_entry methods.old c s))
+        (method_begun c s (form_by form.now) (map form_by behind.now))) }
     ensures counted { OnOk result (AreCounted methods.old → AreCounted methods.new) }
 {
     let Form::Method(line) = form else {
@@ -155,7 +156,8 @@ impl<'f, 'a> Births<'f, 'a> {
     fn note_form(&mut self, form: &Form<'a>, behind: &'f [Form<'a>]) -> Result<(), AllocError>
         requires { self.old.next + 2 < 2 ^ 32 }
         ensures { OnOk result ((forms : List FormOf) →
-            Counts self.old forms (form_by form.now ∷ map form_by behind.now) → Counts self.new forms (map form_by behind.now)) }
+            Counts self.old forms (form_by form.now ∷ map form_by behind.now)
+            → Counts self.new forms (map form_by behind.now)) }
     {
         note_thing(&mut self.things, form, self.next)?;
         note_context(&mut self.contexts, form, self.next)?;
@@ -201,7 +203,7 @@ pub(crate) fn numbering_of<'f, 'a>(
     requires few { length forms.now < 2 ^ 26 }
     requires whole { map form_by forms.now ≡ all_forms (own_forms (map form_by forms.now)) }
     requires sound { list_all is_sound (map form_by forms.now) ≡ true }
-    ensures stands { IfOk result Stands }
+    ensures stands { IfOk result NumbersStand }
     ensures forms { IfOk result (λ n. n.forms.now ≡ forms.now) }
 {
     let classes = classes_of(alloc, forms)?;
@@ -221,7 +223,7 @@ pub(crate) fn numbering_of<'f, 'a>(
 impl<'f, 'a> Numbering<'f, 'a> {
     /// The dictionary of the class at a place. Its array of values is the next object.
     pub(crate) fn dictionary(&self, place: u32) -> u32
-        requires stands { Stands self.now }
+        requires stands { NumbersStand self.now }
         requires few { place < 2 ^ 29 }
         ensures { result ≡ dictionary_birth (forms_in self.now) place }
     {
@@ -230,7 +232,7 @@ impl<'f, 'a> Numbering<'f, 'a> {
 
     /// The place of a symbol among the symbols, and 0 where it is none of them.
     fn symbol_place(&self, name: &[u8]) -> usize
-        requires { Stands self.now }
+        requires { NumbersStand self.now }
         ensures value { result ≡ unwrap_or (position (bytes_eq name.now) (symbol_names (forms_in self.now))) 0 }
         ensures few { result < 2 ^ 28 }
     {
@@ -242,7 +244,7 @@ impl<'f, 'a> Numbering<'f, 'a> {
 
     /// The symbol of a name.
     pub(crate) fn symbol(&self, name: &[u8]) -> Reference
-        requires { Stands self.now }
+        requires { NumbersStand self.now }
         ensures { reference_by result ≡ symbol_ref (forms_in self.now) name.now }
     {
         let first = self.dictionary(self.classes.lines.len() as u32);
@@ -251,7 +253,7 @@ impl<'f, 'a> Numbering<'f, 'a> {
 
     /// The number of the context of a process.
     pub(crate) fn context(&self, name: &[u8]) -> Option<u32>
-        requires { Stands self.now }
+        requires { NumbersStand self.now }
         ensures value { result ≡ birth_where (forms_in self.now) (is_process_named name.now) }
         ensures few { IfSome result (λ number. number < 2 ^ 28) }
     {
@@ -260,7 +262,7 @@ impl<'f, 'a> Numbering<'f, 'a> {
 
     /// The number of a process, which stands behind its context.
     pub(crate) fn process(&self, name: &[u8]) -> Option<u32>
-        requires { Stands self.now }
+        requires { NumbersStand self.now }
         ensures { result ≡ process_birth (forms_in self.now) name.now }
     {
         match self.context(name) {
@@ -271,7 +273,7 @@ impl<'f, 'a> Numbering<'f, 'a> {
 
     /// The number of a class, an object or a process.
     pub(crate) fn named(&self, name: &[u8]) -> Option<u32>
-        requires { Stands self.now }
+        requires { NumbersStand self.now }
         ensures { result ≡ named_birth (forms_in self.now) name.now }
     {
         match self.process(name) {
@@ -282,7 +284,7 @@ impl<'f, 'a> Numbering<'f, 'a> {
 
     /// The place of a class.
     fn class_place(&self, class: &[u8]) -> Option<u32>
-        requires { Stands self.now }
+        requires { NumbersStand self.now }
         ensures value { result ≡ class_place (forms_in self.now) class.now }
         ensures few { IfSome result (λ place. place < 2 ^ 28) }
     {
@@ -291,17 +293,17 @@ impl<'f, 'a> Numbering<'f, 'a> {
 
     /// The method of a class and a selector.
     pub(crate) fn method(&self, class: &[u8], selector: &[u8]) -> Option<Numbered<'f, 'a>>
-        requires { Stands self.now }
-        ensures number { option_map number_in result ≡ method_birth (forms_in self.now) class.now selector.now }
-        ensures body { option_map body_in result ≡ method_in class.now selector.now (forms_in self.now) }
-        ensures made { IfSome result IsMade }
+        requires { NumbersStand self.now }
+        ensures number { option_map own_number result ≡ method_birth (forms_in self.now) class.now selector.now }
+        ensures body { option_map body_in result ≡ method_found class.now selector.now (forms_in self.now) }
+        ensures made { IfSome result IsMethodMade }
     {
         self.births.methods.get(&(class, selector)).copied()
     }
 
     /// The number of the method of a class and a selector.
     pub(crate) fn method_number(&self, class: &[u8], selector: &[u8]) -> Option<u32>
-        requires { Stands self.now }
+        requires { NumbersStand self.now }
         ensures { result ≡ method_birth (forms_in self.now) class.now selector.now }
     {
         match self.method(class, selector) {
@@ -312,7 +314,7 @@ impl<'f, 'a> Numbering<'f, 'a> {
 
     /// The index of a class in the class table, or 0 where there is none.
     pub(crate) fn class_index(&self, name: &[u8]) -> u32
-        requires { Stands self.now }
+        requires { NumbersStand self.now }
         ensures { result ≡ class_index (forms_in self.now) name.now }
     {
         self.classes.index(name)
@@ -320,7 +322,7 @@ impl<'f, 'a> Numbering<'f, 'a> {
 
     /// The format of the instances of a class, or 0 where there is none.
     pub(crate) fn class_format(&self, name: &[u8]) -> u32
-        requires { Stands self.now }
+        requires { NumbersStand self.now }
         ensures value { result ≡ class_format (forms_in self.now) name.now }
         ensures few { result < 32 }
     {
@@ -329,8 +331,9 @@ impl<'f, 'a> Numbering<'f, 'a> {
 
     /// The number of the dictionary of a class.
     pub(crate) fn dictionary_of(&self, class: &[u8]) -> Option<u32>
-        requires { Stands self.now }
-        ensures { result ≡ option_map (dictionary_birth (forms_in self.now)) (class_place (forms_in self.now) class.now) }
+        requires { NumbersStand self.now }
+        ensures { result
+            ≡ option_map (dictionary_birth (forms_in self.now)) (class_place (forms_in self.now) class.now) }
     {
         match self.class_place(class) {
             Some(place) => Some(self.dictionary(place)),
@@ -340,7 +343,7 @@ impl<'f, 'a> Numbering<'f, 'a> {
 
     /// The number of the array of the methods of a class.
     fn values_of(&self, class: &[u8]) -> Option<u32>
-        requires { Stands self.now }
+        requires { NumbersStand self.now }
         ensures { result ≡ option_map (values_birth (forms_in self.now)) (class_place (forms_in self.now) class.now) }
     {
         match self.class_place(class) {
@@ -351,7 +354,7 @@ impl<'f, 'a> Numbering<'f, 'a> {
 
     /// What a reference stands for.
     pub(crate) fn reference(&self, value: &Mention<'_>) -> Reference
-        requires { Stands self.now }
+        requires { NumbersStand self.now }
         ensures { reference_by result ≡ mention_ref (forms_in self.now) (mention_by value.now) }
     {
         match *value {

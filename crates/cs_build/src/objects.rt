@@ -11,19 +11,24 @@ ghost use Rattle.cs_model.specs.Obj.{Ctx};
 ghost use Rattle.cs_model.specs.BuilderFault.{is_between, is_literal as is_literal_of, method_fits, most_temporaries};
 ghost use Rattle.cs_model.specs.Builder.{class_object as class_object_of, class_ref, class_slots, nil_ref};
 ghost use Rattle.cs_model.specs.Builder.{mention_ref, method_birth, obj_or_nil, pointer_object as pointer_object_of};
-ghost use Rattle.cs_model.specs.Builder.{class_index, method_object as method_object_of, objects_in, process_objects, raw_object as raw_object_of, process_ref, symbol_ref, built_header, list_if_ready, natural as natural_in};
+ghost use Rattle.cs_model.specs.Builder.{class_index, method_object as method_object_of, objects_in};
+ghost use Rattle.cs_model.specs.Builder.{process_objects, raw_object as raw_object_of, process_ref, symbol_ref};
+ghost use Rattle.cs_model.specs.Builder.{built_header, list_if_ready, natural as natural_in};
 ghost use Rattle.cs_model.specs.Builder.{dictionary_object as dictionary_object_of, values_object as values_object_of};
-ghost use Rattle.cs_build.specs.Making.{begin_at, context_made, contexts_made, literals_in, method_made, process_made};
-ghost use Rattle.cs_build.specs.Made.{IsMade};
-ghost use Rattle.cs_build.specs.Readied.{IsReady};
+ghost use Rattle.cs_build.specs.Making.{begin_at, context_made, contexts_made, method_literals, method_made};
+ghost use Rattle.cs_build.specs.Making.{process_made};
+ghost use Rattle.cs_build.specs.Made.{IsMethodMade};
+ghost use Rattle.cs_build.specs.Readied.{AreReadied};
 ghost use Rattle.cs_build.specs.Laid.{laid, laid_by, reference_by};
 ghost use Rattle.cs_build.specs.Meaning.{class_by, form_by, mention_by, method_line_by, process_by};
 ghost use Rattle.cs_build.specs.Sound.{is_sound};
-ghost use Rattle.cs_build.specs.Standing.{Stands, forms_in};
+ghost use Rattle.cs_build.specs.Standing.{NumbersStand, forms_in};
 
 use crate::bytecodes::bytecodes_of;
 use crate::form::{ClassLine, Form, Mention, MethodLine, ProcessLine};
-use crate::making::{NIL, hashed_pointers, object_or_nil, natural, plain_format, pointers, raw_object, spare};
+use crate::making::{
+    NIL, hashed_pointers, natural, object_or_nil, plain_format, pointers, raw_object, spare,
+};
 use crate::method::method_header;
 use crate::numbering::{Numbered, Numbering};
 use crate::object::{Object, Reference};
@@ -32,7 +37,7 @@ use std::alloc::{AllocError, Global};
 
 /// The process of a name, and nil where there is none.
 pub(crate) fn process_or_nil(numbering: &Numbering<'_, '_>, name: Option<&[u8]>) -> Reference
-    requires { Stands numbering.now }
+    requires { NumbersStand numbering.now }
     ensures { reference_by result ≡ process_ref (forms_in numbering.now) (option_map (λ n. n.now) name.entry) }
 {
     match name {
@@ -47,7 +52,7 @@ fn references(
     numbering: &Numbering<'_, '_>,
     values: &[Mention<'_>],
 ) -> Result<Vec<Reference>, AllocError>
-    requires { Stands numbering.now }
+    requires { NumbersStand numbering.now }
     ensures { IfOk result (λ slots. map reference_by slots.items
         ≡ map (mention_ref (forms_in numbering.now)) (map mention_by values.now)) }
 {
@@ -65,7 +70,7 @@ pub(crate) fn pointer_object(
     class: &[u8],
     values: &[Mention<'_>],
 ) -> Result<Object, AllocError>
-    requires { Stands numbering.now }
+    requires { NumbersStand numbering.now }
     ensures { IfOk result (λ o. laid_by o
         ≡ laid (pointer_object_of (forms_in numbering.now) class.now (map mention_by values.now))) }
 {
@@ -76,7 +81,7 @@ pub(crate) fn pointer_object(
 
 /// The superclass that a line says.
 fn superclass(numbering: &Numbering<'_, '_>, line: &ClassLine<'_>) -> Reference
-    requires { Stands numbering.now }
+    requires { NumbersStand numbering.now }
     ensures { reference_by result
         ≡ option_map_or (class_ref (forms_in numbering.now)) (class_by line.now).super nil_ref }
 {
@@ -101,7 +106,7 @@ pub(crate) fn class_object(
     numbering: &Numbering<'_, '_>,
     line: &ClassLine<'_>,
 ) -> Result<Object, AllocError>
-    requires stands { Stands numbering.now }
+    requires stands { NumbersStand numbering.now }
     requires format { is_between 0 31 line.now.format ≡ true }
     requires fields { is_between 0 65535 line.now.fields ≡ true }
     ensures { IfOk result (λ o. laid_by o ≡ laid (class_object_of (forms_in numbering.now) (class_by line.now))) }
@@ -121,7 +126,7 @@ fn put_selectors(
     numbering: &Numbering<'_, '_>,
     methods: &[MethodLine<'_>],
 ) -> Result<(), AllocError>
-    requires { Stands numbering.now }
+    requires { NumbersStand numbering.now }
     ensures { OnOk result (map reference_by slots.new.items ≡ map reference_by slots.old.items
         ++ map (λ m. symbol_ref (forms_in numbering.now) m.selector) (map method_line_by methods.now)) }
 {
@@ -137,10 +142,10 @@ fn put_methods(
     numbering: &Numbering<'_, '_>,
     methods: &[MethodLine<'_>],
 ) -> Result<(), AllocError>
-    requires { Stands numbering.now }
+    requires { NumbersStand numbering.now }
     ensures { OnOk result (map reference_by slots.new.items ≡ map reference_by slots.old.items
         ++ map (λ m. obj_or_nil (method_birth (forms_in numbering.now) m.class m.selector))
-            (map method_line_by methods.now)) }
+        (map method_line_by methods.now)) }
 {
     for method in methods {
         let number = numbering.method_number(method.class, method.selector);
@@ -164,7 +169,7 @@ pub(crate) fn dictionary_object(
     place: u32,
     methods: &[MethodLine<'_>],
 ) -> Result<Object, AllocError>
-    requires stands { Stands numbering.now }
+    requires stands { NumbersStand numbering.now }
     requires place { place < 2 ^ 28 }
     requires few { length methods.now < 2 ^ 28 }
     ensures { IfOk result (λ o. laid_by o
@@ -183,7 +188,7 @@ pub(crate) fn values_object(
     numbering: &Numbering<'_, '_>,
     methods: &[MethodLine<'_>],
 ) -> Result<Object, AllocError>
-    requires { Stands numbering.now }
+    requires { NumbersStand numbering.now }
     ensures { IfOk result (λ o. laid_by o
         ≡ laid (values_object_of (forms_in numbering.now) (map method_line_by methods.now))) }
 {
@@ -199,9 +204,9 @@ fn put_literal(
     numbering: &Numbering<'_, '_>,
     form: &Form<'_>,
 ) -> Result<(), AllocError>
-    requires { Stands numbering.now }
+    requires { NumbersStand numbering.now }
     ensures { OnOk result (map reference_by slots.new.items ≡ map reference_by slots.old.items
-        ++ literals_in (forms_in numbering.now) (form_by form.now ∷ [])) }
+        ++ method_literals (forms_in numbering.now) (form_by form.now ∷ [])) }
 {
     match form {
         Form::Literal(value) => {
@@ -218,9 +223,9 @@ fn put_literals(
     numbering: &Numbering<'_, '_>,
     body: &[Form<'_>],
 ) -> Result<(), AllocError>
-    requires { Stands numbering.now }
+    requires { NumbersStand numbering.now }
     ensures { OnOk result (map reference_by slots.new.items ≡ map reference_by slots.old.items
-        ++ literals_in (forms_in numbering.now) (map form_by body.now)) }
+        ++ method_literals (forms_in numbering.now) (map form_by body.now)) }
 {
     for form in body {
         put_literal(slots, numbering, form)?;
@@ -244,12 +249,12 @@ fn method_slots(
     line: &MethodLine<'_>,
     method: &Numbered<'_, '_>,
 ) -> Result<Vec<Reference>, AllocError>
-    requires stands { Stands numbering.now }
+    requires stands { NumbersStand numbering.now }
     requires line { method_fits (method_line_by line.now) ≡ true }
     requires few { method.now.literals < 2 ^ 28 }
     ensures { IfOk result (λ slots. map reference_by slots.items
         ≡ Small (pos (built_header (method_line_by line.now) method.now.literals))
-            ∷ literals_in (forms_in numbering.now) (map form_by method.now.body.now)) }
+        ∷ method_literals (forms_in numbering.now) (map form_by method.now.body.now)) }
 {
     let header = header_slot(line, method.literals);
     let mut slots = Vec::from_slice(alloc, &[header])?;
@@ -264,9 +269,9 @@ fn method_object(
     line: &MethodLine<'_>,
     method: &Numbered<'_, '_>,
 ) -> Result<Object, AllocError>
-    requires stands { Stands numbering.now }
+    requires stands { NumbersStand numbering.now }
     requires line { method_fits (method_line_by line.now) ≡ true }
-    requires made { IsMade method.now }
+    requires made { IsMethodMade method.now }
     ensures { IfOk result (λ o. laid_by o ≡ laid (method_made (forms_in numbering.now)
         (method_line_by line.now) (map form_by method.now.body.now))) }
 {
@@ -285,7 +290,8 @@ fn method_object(
 
 /// Appends nil so many times.
 fn put_nils(slots: &mut Vec<Reference>, count: u32) -> Result<(), AllocError>
-    ensures { OnOk result (map reference_by slots.new.items ≡ map reference_by slots.old.items ++ replicate count nil_ref) }
+    ensures { OnOk result (map reference_by slots.new.items
+        ≡ map reference_by slots.old.items ++ replicate count nil_ref) }
 {
     for _ in 0..count {
         slots.push(NIL)?;
@@ -298,7 +304,11 @@ fn first_pc(method: &Numbered<'_, '_>) -> Reference
     requires { method.now.literals < 2 ^ 27 }
     ensures { reference_by result ≡ Small (pos (begin_at method.now.literals (method_line_by method.now.line))) }
 {
-    let prefix = if method.line.primitive.is_some() { 3 } else { 0 };
+    let prefix = if method.line.primitive.is_some() {
+        3
+    } else {
+        0
+    };
     small(4 * (method.literals + 1) + 1 + prefix)
 }
 
@@ -323,8 +333,8 @@ fn context_object(
     receiver: &Mention<'_>,
     method: &Numbered<'_, '_>,
 ) -> Result<Object, AllocError>
-    requires stands { Stands numbering.now }
-    requires made { IsMade method.now }
+    requires stands { NumbersStand numbering.now }
+    requires made { IsMethodMade method.now }
     ensures { IfOk result (λ o. laid_by o ≡ laid (Ctx (context_made (forms_in numbering.now)
         (method_line_by method.now.line) (map form_by method.now.body.now) (mention_by receiver.now)))) }
 {
@@ -357,8 +367,8 @@ fn process_object(
     ready: &Ready<'_>,
     line: &ProcessLine<'_>,
 ) -> Result<Object, AllocError>
-    requires stands { Stands numbering.now }
-    requires ready { IsReady (forms_in numbering.now) ready.now }
+    requires stands { NumbersStand numbering.now }
+    requires ready { AreReadied (forms_in numbering.now) ready.now }
     requires priority { is_between 1 8 line.now.priority ≡ true }
     ensures { IfOk result (λ o. laid_by o ≡ laid (process_made (forms_in numbering.now) (process_by line.now))) }
 {
@@ -377,7 +387,7 @@ fn process_object(
 /// The list of a priority, if a process is ready, and nil otherwise.
 fn list_if_ready(ready: &Ready<'_>, priority: u32, name: &[u8]) -> Reference
     requires { priority < 2 ^ 16 }
-    ensures { (forms : List FormOf) → IsReady forms ready.now → 1 ≤ priority
+    ensures { (forms : List FormOf) → AreReadied forms ready.now → 1 ≤ priority
         → reference_by result ≡ list_if_ready forms priority name.now }
 {
     if ready.has(name) {
@@ -397,8 +407,8 @@ fn put_process(
     ready: &Ready<'_>,
     line: &ProcessLine<'_>,
 ) -> Result<(), AllocError>
-    requires stands { Stands numbering.now }
-    requires ready { IsReady (forms_in numbering.now) ready.now }
+    requires stands { NumbersStand numbering.now }
+    requires ready { AreReadied (forms_in numbering.now) ready.now }
     requires priority { is_between 1 8 line.now.priority ≡ true }
     ensures { OnOk result (map laid_by objects.new.items ≡ map laid_by objects.old.items
         ++ map laid (process_objects (forms_in numbering.now) (process_by line.now))) }
@@ -416,7 +426,7 @@ fn put_context(
     numbering: &Numbering<'_, '_>,
     line: &ProcessLine<'_>,
 ) -> Result<(), AllocError>
-    requires { Stands numbering.now }
+    requires { NumbersStand numbering.now }
     ensures { OnOk result (map laid_by objects.new.items ≡ map laid_by objects.old.items
         ++ map laid (contexts_made (forms_in numbering.now) (process_by line.now))) }
 {
@@ -437,7 +447,7 @@ fn put_method(
     numbering: &Numbering<'_, '_>,
     line: &MethodLine<'_>,
 ) -> Result<(), AllocError>
-    requires stands { Stands numbering.now }
+    requires stands { NumbersStand numbering.now }
     requires line { method_fits (method_line_by line.now) ≡ true }
     ensures { OnOk result (map laid_by objects.new.items ≡ map laid_by objects.old.items
         ++ laid (method_object_of (forms_in numbering.now) (method_line_by line.now)) ∷ []) }
@@ -457,7 +467,7 @@ fn put_class(
     numbering: &Numbering<'_, '_>,
     line: &ClassLine<'_>,
 ) -> Result<(), AllocError>
-    requires stands { Stands numbering.now }
+    requires stands { NumbersStand numbering.now }
     requires sound { is_sound (Class (class_by line.now)) ≡ true }
     ensures { OnOk result (map laid_by objects.new.items ≡ map laid_by objects.old.items
         ++ laid (class_object_of (forms_in numbering.now) (class_by line.now)) ∷ []) }
@@ -475,7 +485,7 @@ fn put_pointers(
     class: &[u8],
     values: &[Mention<'_>],
 ) -> Result<(), AllocError>
-    requires { Stands numbering.now }
+    requires { NumbersStand numbering.now }
     ensures { OnOk result (map laid_by objects.new.items ≡ map laid_by objects.old.items
         ++ laid (pointer_object_of (forms_in numbering.now) class.now (map mention_by values.now)) ∷ []) }
 {
@@ -492,7 +502,7 @@ fn put_raw(
     class: &[u8],
     bytes: &[u8],
 ) -> Result<(), AllocError>
-    requires { Stands numbering.now }
+    requires { NumbersStand numbering.now }
     ensures { OnOk result (map laid_by objects.new.items ≡ map laid_by objects.old.items
         ++ laid (raw_object_of (class_index (forms_in numbering.now) class.now) bytes.now) ∷ []) }
 {
@@ -509,8 +519,8 @@ pub(crate) fn put_form(
     ready: &Ready<'_>,
     form: &Form<'_>,
 ) -> Result<(), AllocError>
-    requires stands { Stands numbering.now }
-    requires ready { IsReady (forms_in numbering.now) ready.now }
+    requires stands { NumbersStand numbering.now }
+    requires ready { AreReadied (forms_in numbering.now) ready.now }
     requires sound { is_sound (form_by form.now) ≡ true }
     ensures { OnOk result (map laid_by objects.new.items ≡ map laid_by objects.old.items
         ++ map laid (objects_in (forms_in numbering.now) (form_by form.now))) }

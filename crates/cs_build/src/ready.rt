@@ -6,9 +6,9 @@ ghost use Rattle.std.specs.Str.{bytes_eq};
 ghost use Rattle.cs_model.specs.BuilderText as text;
 ghost use Rattle.cs_model.specs.Builder.{has_priority, last_ready, natural as natural_in, ready_in};
 ghost use Rattle.cs_build.specs.Meaning.{form_by};
-ghost use Rattle.cs_build.specs.Numbered.{names_of, mentioned};
-ghost use Rattle.cs_build.specs.Readied.{IsReady};
-ghost use Rattle.cs_build.specs.Queued.{IsQueue, link_at, linked, has_in, is_process_at, ready_at, ready_lists};
+ghost use Rattle.cs_build.specs.Numbered.{plain_names, mentioned};
+ghost use Rattle.cs_build.specs.Readied.{AreReadied};
+ghost use Rattle.cs_build.specs.Queued.{IsQueue, link_at, linked_behind, has_in, is_process_at, ready_at, ready_lists};
 
 use crate::form::{Form, ProcessLine};
 use crate::making::natural;
@@ -34,7 +34,7 @@ fn link<'a>(
     name: &'a [u8],
 ) -> Result<(), AllocError>
     ensures { OnOk result ((q : List ℕ) →
-        link_at links.new q ≡ linked (option_map (λ n. n.now) last.entry) name.now q (link_at links.old q)) }
+        link_at links.new q ≡ linked_behind (option_map (λ n. n.now) last.entry) name.now q (link_at links.old q)) }
 {
     links.insert(name, None)?;
     if let Some(last) = last {
@@ -114,7 +114,7 @@ fn note_priority<'a>(
 
 /// The processes that the lines of a text make ready, each once.
 fn ready_names<'a>(alloc: Global, forms: &[Form<'a>]) -> Result<IndexSet<&'a [u8]>, AllocError>
-    ensures { IfOk result (λ names. names_of names.keys ≡ mentioned [] (ready_in (map form_by forms.now))) }
+    ensures { IfOk result (λ names. plain_names names.keys ≡ mentioned [] (ready_in (map form_by forms.now))) }
 {
     let mut names = IndexSet::new(alloc);
     for form in forms {
@@ -126,8 +126,8 @@ fn ready_names<'a>(alloc: Global, forms: &[Form<'a>]) -> Result<IndexSet<&'a [u8
 /// Takes up the process that a line makes ready, if it does.
 #[tactic(auto, unfolding(crate::specs::Numbered::mentioned))]
 fn note_ready<'a>(names: &mut IndexSet<&'a [u8]>, form: &Form<'a>) -> Result<(), AllocError>
-    ensures { OnOk result (names_of names.new.keys
-        ≡ mentioned (names_of names.old.keys) (ready_in (form_by form.now ∷ []))) }
+    ensures { OnOk result (plain_names names.new.keys
+        ≡ mentioned (plain_names names.old.keys) (ready_in (form_by form.now ∷ []))) }
 {
     match form {
         Form::Ready(name) => mention_symbol(names, *name),
@@ -142,7 +142,8 @@ fn queue_of<'a>(
     priority: u32,
     forms: &[Form<'a>],
 ) -> Result<Queue<'a>, AllocError>
-    ensures { IfOk result (λ queue. IsQueue queue (ready_lists (has_in priorities.now priority) (map form_by forms.now))) }
+    ensures { IfOk result (λ queue.
+        IsQueue queue (ready_lists (has_in priorities.now priority) (map form_by forms.now))) }
 {
     let mut queue = Queue::new(alloc);
     for form in forms {
@@ -180,7 +181,7 @@ pub(crate) struct Ready<'a> {
 
 /// The processes that the lines of a text make ready.
 pub(crate) fn ready_of<'a>(alloc: Global, forms: &[Form<'a>]) -> Result<Ready<'a>, AllocError>
-    ensures { IfOk result (IsReady (map form_by forms.now)) }
+    ensures { IfOk result (AreReadied (map form_by forms.now)) }
 {
     let priorities = priorities_of(alloc, forms)?;
     let mut queues = Vec::new(alloc);
@@ -195,7 +196,7 @@ pub(crate) fn ready_of<'a>(alloc: Global, forms: &[Form<'a>]) -> Result<Ready<'a
 impl<'a> Ready<'a> {
     /// Whether a process is in a list.
     pub(crate) fn has(&self, name: &[u8]) -> bool
-        ensures { (forms : List text.Form) → IsReady forms self.now
+        ensures { (forms : List text.Form) → AreReadied forms self.now
             → result ≡ list_any (bytes_eq name.now) (ready_in forms) }
     {
         self.names.contains(name)

@@ -3,7 +3,7 @@
 ghost use Rattle.std.specs.Prelude.{◌≡◌, [], map, flat_map, IfOk, OnOk};
 ghost use Rattle.cs_model.specs.Builder.{symbols_in, symbol_in, with_new};
 ghost use Rattle.cs_build.specs.Meaning.{form_by, mention_by};
-ghost use Rattle.cs_build.specs.Numbered.{names_of, mentioned, selector_words, selector_arguments};
+ghost use Rattle.cs_build.specs.Numbered.{plain_names, mentioned, selector_words, selector_arguments};
 ghost use Rattle.cs_build.specs.Numbered.{special_names_of, special_places};
 
 use crate::form::{Form, Mention};
@@ -72,7 +72,7 @@ pub(crate) fn symbols_of<'a>(
     alloc: Global,
     forms: &[Form<'a>],
 ) -> Result<IndexSet<&'a [u8]>, AllocError>
-    ensures { IfOk result (λ symbols. names_of symbols.keys ≡ mentioned
+    ensures { IfOk result (λ symbols. plain_names symbols.keys ≡ mentioned
         (mentioned (mentioned [] selector_words) special_names_of) (flat_map symbols_in (map form_by forms.now))) }
 {
     let mut symbols = IndexSet::new(alloc);
@@ -85,8 +85,11 @@ pub(crate) fn symbols_of<'a>(
 }
 
 /// A symbol is mentioned.
-pub(crate) fn mention_symbol<'a>(symbols: &mut IndexSet<&'a [u8]>, name: &'a [u8]) -> Result<(), AllocError>
-    ensures { OnOk result (names_of symbols.new.keys ≡ with_new (names_of symbols.old.keys) name.now) }
+pub(crate) fn mention_symbol<'a>(
+    symbols: &mut IndexSet<&'a [u8]>,
+    name: &'a [u8],
+) -> Result<(), AllocError>
+    ensures { OnOk result (plain_names symbols.new.keys ≡ with_new (plain_names symbols.old.keys) name.now) }
 {
     symbols.insert(name)?;
     Ok(())
@@ -94,7 +97,7 @@ pub(crate) fn mention_symbol<'a>(symbols: &mut IndexSet<&'a [u8]>, name: &'a [u8
 
 /// The special selectors are mentioned.
 fn mention_selectors(symbols: &mut IndexSet<&[u8]>) -> Result<(), AllocError>
-    ensures { OnOk result (names_of symbols.new.keys ≡ mentioned (names_of symbols.old.keys) selector_words) }
+    ensures { OnOk result (plain_names symbols.new.keys ≡ mentioned (plain_names symbols.old.keys) selector_words) }
 {
     for selector in &selectors() {
         mention_symbol(symbols, selector.0.as_bytes())?;
@@ -104,7 +107,7 @@ fn mention_selectors(symbols: &mut IndexSet<&[u8]>) -> Result<(), AllocError>
 
 /// The symbols among the special objects are mentioned.
 fn mention_specials(symbols: &mut IndexSet<&[u8]>) -> Result<(), AllocError>
-    ensures { OnOk result (names_of symbols.new.keys ≡ mentioned (names_of symbols.old.keys) special_names_of) }
+    ensures { OnOk result (plain_names symbols.new.keys ≡ mentioned (plain_names symbols.old.keys) special_names_of) }
 {
     for special in &special_names() {
         mention_symbol(symbols, special.1.as_bytes())?;
@@ -115,7 +118,7 @@ fn mention_specials(symbols: &mut IndexSet<&[u8]>) -> Result<(), AllocError>
 /// The symbols of a reference are mentioned: one, if it is a symbol.
 #[tactic(auto, unfolding(crate::specs::Numbered::mentioned))]
 fn mention_in<'a>(symbols: &mut IndexSet<&'a [u8]>, value: &Mention<'a>) -> Result<(), AllocError>
-    ensures { OnOk result (names_of symbols.new.keys ≡ mentioned (names_of symbols.old.keys)
+    ensures { OnOk result (plain_names symbols.new.keys ≡ mentioned (plain_names symbols.old.keys)
         (symbol_in (mention_by value.now))) }
 {
     match *value {
@@ -129,7 +132,7 @@ fn mention_all<'a>(
     symbols: &mut IndexSet<&'a [u8]>,
     values: &[Mention<'a>],
 ) -> Result<(), AllocError>
-    ensures { OnOk result (names_of symbols.new.keys ≡ mentioned (names_of symbols.old.keys)
+    ensures { OnOk result (plain_names symbols.new.keys ≡ mentioned (plain_names symbols.old.keys)
         (flat_map symbol_in (map mention_by values.now))) }
 {
     for value in values {
@@ -141,7 +144,7 @@ fn mention_all<'a>(
 /// The symbols of a line are mentioned.
 #[tactic(auto, unfolding(crate::specs::Numbered::mentioned))]
 fn mention_form<'a>(symbols: &mut IndexSet<&'a [u8]>, form: &Form<'a>) -> Result<(), AllocError>
-    ensures { OnOk result (names_of symbols.new.keys ≡ mentioned (names_of symbols.old.keys)
+    ensures { OnOk result (plain_names symbols.new.keys ≡ mentioned (plain_names symbols.old.keys)
         (symbols_in (form_by form.now))) }
 {
     match form {

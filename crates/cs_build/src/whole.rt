@@ -4,8 +4,8 @@ ghost use Rattle.std.specs.Prelude.{◌≡◌, ◌++◌, ◌+◌, ◌*◌, ◌/�
 ghost use Rattle.cs_model.specs.Builder.{objects_in};
 ghost use Rattle.cs_build.specs.Laid.{laid, laid_by};
 ghost use Rattle.cs_build.specs.Meaning.{form_by};
-ghost use Rattle.cs_build.specs.Readied.{IsReady};
-ghost use Rattle.cs_build.specs.Standing.{Stands, forms_in};
+ghost use Rattle.cs_build.specs.Readied.{AreReadied};
+ghost use Rattle.cs_build.specs.Standing.{NumbersStand, forms_in};
 ghost use Rattle.cs_build.specs.Wholes.{objects_made, table_made};
 
 use crate::first::first_objects;
@@ -23,8 +23,8 @@ fn put_forms(
     numbering: &Numbering<'_, '_>,
     ready: &Ready<'_>,
 ) -> Result<(), AllocError>
-    requires stands { Stands numbering.now }
-    requires ready { IsReady (forms_in numbering.now) ready.now }
+    requires stands { NumbersStand numbering.now }
+    requires ready { AreReadied (forms_in numbering.now) ready.now }
     ensures { OnOk result (map laid_by objects.new.items ≡ map laid_by objects.old.items
         ++ map laid (flat_map (objects_in (forms_in numbering.now)) (map form_by numbering.now.forms.now))) }
 {
@@ -39,7 +39,7 @@ pub(crate) fn objects_of(
     alloc: Global,
     numbering: &Numbering<'_, '_>,
 ) -> Result<Vec<Object>, AllocError>
-    requires { Stands numbering.now }
+    requires { NumbersStand numbering.now }
     ensures { IfOk result (λ objects. map laid_by objects.items ≡ map laid (objects_made (forms_in numbering.now))) }
 {
     let ready = ready_of(alloc, numbering.forms)?;

@@ -1,7 +1,7 @@
 use Rattle.std.proofs.Common.{◌≡◌, ℕ, ◌+◌, ◌++◌, List, [], Option, rules, ap, sym, ◌∙◌}
 use Rattle.std.specs.Prelude.{unwrap_or, option_and_then, pos, ◌-ℤ◌, option_map}
 use Rattle.cs_model.specs.Assemble.{assembled}
-use Rattle.cs_build.specs.Numbered.{number_of}
+use Rattle.cs_build.specs.Numbered.{name_number}
 use Rattle.cs_model.specs.BuilderFault.{closure_bytes, jump_code, line_bytes}
 use Rattle.cs_build.specs.declared.form.Form.{Form}
 use Rattle.cs_build.specs.Meaning.{form_by, jump_by}
@@ -18,7 +18,7 @@ returns-in-JumpTo c = on_ok c.put_instruction-in-JumpTo.result _ _
 
 pub returns-in-ClosureTo : goal.returns-in-ClosureTo
 returns-in-ClosureTo c =
-    let code : option_map assembled c.closure_at.result ≡ option_and_then (λ to. closure_bytes c.in-ClosureTo.copied c.in-ClosureTo.args (pos to -ℤ pos (c.args.place + 4))) (number_of c.args.places.now c.in-ClosureTo.label.now) =
+    let code : option_map assembled c.closure_at.result ≡ option_and_then (λ to. closure_bytes c.in-ClosureTo.copied c.in-ClosureTo.args (pos to -ℤ pos (c.args.place + 4))) (name_number c.args.places.now c.in-ClosureTo.label.now) =
     search (rules, c.closure_at.ensures.code) in
     on_ok c.put_instruction-in-ClosureTo.result _ _
     (λ h body labels. h

@@ -27,5 +27,7 @@ loop-form-preserved c = λ q.
     (c.loop-form.invariant q)
 
 pub returns : goal.returns
-returns c = record { at = λ q. sym (append-nil (group_at c.loop-form.groups q))
-    ∙ walk_all (λ (forms : List Form). group_at c.loop-form.groups q ++ methods_of (map form_by forms) q) c.args.forms.now c.loop-form.form-index _ c.loop-form-test.false (c.loop-form.invariant q) }
+returns c = record {
+  at = λ q. sym (append-nil (group_at c.loop-form.groups q))
+      ∙ walk_all (λ (forms : List Form). group_at c.loop-form.groups q ++ methods_of (map form_by forms) q) c.args.forms.now c.loop-form.form-index _ c.loop-form-test.false (c.loop-form.invariant q);
+}

@@ -20,8 +20,16 @@ put_dictionary-requires-clause-few c =
     let is : map method_line_by c.deref.result.now ≡ methods_of forms name =
     ap (map method_line_by) c.deref.ensures.value
     ∙ ap (λ (o : Option (Vec MethodLine Global)). option_map_or (λ (v : Vec MethodLine Global). map method_line_by v.items) o []) c.in-Some.ensures.value ∙ c.requires.groups.at name in
-    omega (arith, ap length is, length-map c.deref.result.now method_line_by, methods_few (forms_in c.args.numbering.now) c.args.line.now.name.now, own_few (forms_in c.args.numbering.now),
-      ap length c.requires.stands.whole, length-map c.args.numbering.now.forms.now form_by, c.requires.stands.lines_few)
+    omega (
+      arith,
+      ap length is,
+      length-map c.deref.result.now method_line_by,
+      methods_few (forms_in c.args.numbering.now) c.args.line.now.name.now,
+      own_few (forms_in c.args.numbering.now),
+      ap length c.requires.stands.whole,
+      length-map c.args.numbering.now.forms.now form_by,
+      c.requires.stands.lines_few,
+    )
 
 pub returns-in-Some : goal.returns-in-Some
 returns-in-Some c =

@@ -6,8 +6,8 @@ use Rattle.cs_model.specs.BuilderText as text
 use Rattle.cs_model.specs.BuilderFault.{class_lines_in, is_named, place_where}
 use Rattle.cs_model.specs.Builder.{all_forms, object_count, first_class, is_process_named, is_method_of, symbols_in}
 use Rattle.cs_build.specs.Meaning.{form_by}
-use Rattle.cs_build.specs.Numbered.{number_of, method_of, method_in, mentioned, selector_words, special_names_of}
-use Rattle.cs_build.specs.Counted.{Counts, number_in, body_in}
+use Rattle.cs_build.specs.Numbered.{name_number, method_entry, method_found, mentioned, selector_words, special_names_of}
+use Rattle.cs_build.specs.Counted.{Counts, own_number, body_in}
 use Rattle.cs_build.specs.Standing.{forms_in, own_forms}
 use Rattle.cs_build.proofs.Noting.{or_none}
 use Rattle.cs_build.proofs.Numbers.{few_objects}
@@ -36,10 +36,10 @@ returns c =
         lines = c.in_ok-classes.ensures.lines ∙ ap (flat_map class_lines_in) whole ∙ classes_are forms;
         symbols = c.in_ok-symbols.ensures ∙ ap (λ (fs : List text.Form). mentioned (mentioned (mentioned [] selector_words) special_names_of) (flat_map symbols_in fs)) whole ∙ symbols_are forms;
         next = total ∙ ap (λ (fs : List text.Form). first_class + sum_by object_count fs) whole;
-        things = λ q. sym (or_none (number_of c.in_ok-births.births.things q)) ∙ counts.things q ∙ ap (place_where object_count (is_named q) first_class) whole;
-        contexts = λ q. sym (or_none (number_of c.in_ok-births.births.contexts q)) ∙ counts.contexts q ∙ ap (place_where object_count (is_process_named q) first_class) whole;
-        numbers = λ d s. sym (or_none (option_map number_in (method_of c.in_ok-births.births.methods d s))) ∙ counts.numbers d s ∙ ap (place_where object_count (is_method_of d s) first_class) whole;
-        bodies = λ d s. sym (or_none (option_map body_in (method_of c.in_ok-births.births.methods d s))) ∙ counts.bodies d s ∙ ap (method_in d s) whole ∙ methods_are d s forms;
+        things = λ q. sym (or_none (name_number c.in_ok-births.births.things q)) ∙ counts.things q ∙ ap (place_where object_count (is_named q) first_class) whole;
+        contexts = λ q. sym (or_none (name_number c.in_ok-births.births.contexts q)) ∙ counts.contexts q ∙ ap (place_where object_count (is_process_named q) first_class) whole;
+        numbers = λ d s. sym (or_none (option_map own_number (method_entry c.in_ok-births.births.methods d s))) ∙ counts.numbers d s ∙ ap (place_where object_count (is_method_of d s) first_class) whole;
+        bodies = λ d s. sym (or_none (option_map body_in (method_entry c.in_ok-births.births.methods d s))) ∙ counts.bodies d s ∙ ap (method_found d s) whole ∙ methods_are d s forms;
         counted = counts.counted;
       };
       forms = refl;

@@ -7,7 +7,7 @@ use Rattle.cs_model.specs.BuilderFault.{most_temporaries}
 use Rattle.cs_model.specs.Builder.{built_header, mention_ref, method_birth, natural, nil_ref, obj_or_nil}
 use Rattle.cs_build.specs.declared.object.Reference.{Reference}
 use Rattle.cs_build.specs.Laid.{laid, reference_by}
-use Rattle.cs_build.specs.Making.{begin_at, literals_in}
+use Rattle.cs_build.specs.Making.{begin_at, method_literals}
 use Rattle.cs_build.specs.Meaning.{form_by, mention_by, method_line_by}
 use Rattle.cs_build.specs.Standing.{forms_in}
 use Rattle.cs_build.proofs.Literals.{count_is, count_few}
@@ -19,7 +19,7 @@ returns c =
     let forms : List text.Form = forms_in c.args.numbering.now in
     let line : text.MethodLine = method_line_by c.args.method.now.line in
     let most : ℕ = most_temporaries line in
-    let pc : Ref = Small (pos (begin_at (length (literals_in forms (map form_by c.args.method.now.body.now))) line)) in
+    let pc : Ref = Small (pos (begin_at (length (method_literals forms (map form_by c.args.method.now.body.now))) line)) in
     let method : Ref = obj_or_nil (method_birth forms line.class line.selector) in
     let receiver : Ref = mention_ref forms (mention_by c.args.receiver.now) in
     let p1 : reference_by c.first_pc.result ≡ pc = c.first_pc.ensures ∙ ap (λ (n : ℕ). Small (pos (begin_at n line))) (c.requires.made.counted ∙ count_is forms c.args.method.now.body.now) in

@@ -6,7 +6,7 @@ use Rattle.cs_model.specs.BuilderText as text
 use Rattle.cs_model.specs.BuilderFault.{code_from}
 use Rattle.cs_model.specs.Builder.{built_header, primitive_bytes, spare}
 use Rattle.cs_build.specs.Laid.{laid_head, reference_by}
-use Rattle.cs_build.specs.Making.{literals_in}
+use Rattle.cs_build.specs.Making.{method_literals}
 use Rattle.cs_build.specs.Meaning.{form_by, method_line_by}
 use Rattle.cs_build.specs.Standing.{forms_in}
 use Rattle.cs_build.proofs.Literals.{count_is}
@@ -22,4 +22,4 @@ returns c =
     ap (λ (k : ℕ). laid_head (new_head 43 (24 + k)) (map reference_by c.in_ok-slots.slots.items) c.in_ok-bytes.bytes.items) (c.spare.ensures ∙ ap spare count)
     ∙ ap (λ (b : List ℕ). laid_head (new_head 43 (24 + spare (length b))) (map reference_by c.in_ok-slots.slots.items) b) c.in_ok-bytes.ensures
     ∙ ap (λ (r : List Ref). laid_head (new_head 43 (24 + spare (length code))) r code)
-    (c.in_ok-slots.ensures ∙ ap (λ (n : ℕ). Small (pos (built_header line n)) ∷ literals_in forms body) (c.requires.made.counted ∙ count_is forms c.args.method.now.body.now))
+    (c.in_ok-slots.ensures ∙ ap (λ (n : ℕ). Small (pos (built_header line n)) ∷ method_literals forms body) (c.requires.made.counted ∙ count_is forms c.args.method.now.body.now))

@@ -13,8 +13,14 @@ use Rattle.cs_build.proofs.Contexts.{four}
 use Rattle.cs_build.proofs.objects.process_object.Goals as goal
 
 pub index-requires : goal.index-requires
-index-requires c = omega (arith, c.priority_in-priority.ensures, natural_between 1 8 c.args.line.now.priority c.requires.priority, natural_least 1 8 c.args.line.now.priority c.requires.priority,
-  c.requires.ready.eight, c.args.ready.now.queues.ok.0)
+index-requires c = omega (
+  arith,
+  c.priority_in-priority.ensures,
+  natural_between 1 8 c.args.line.now.priority c.requires.priority,
+  natural_least 1 8 c.args.line.now.priority c.requires.priority,
+  c.requires.ready.eight,
+  c.args.ready.now.queues.ok.0,
+)
 
 pub returns : goal.returns
 returns c =

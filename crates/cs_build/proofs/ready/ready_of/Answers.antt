@@ -18,7 +18,7 @@ queues_more : (forms : List text.Form) (old new : List Queue) (q : Queue) → ne
     → IsQueue q (last_ready forms (length old + 1)) → AreQueues forms new
 queues_more forms old new q e was one = λ k d h.
     elim (cases_lt k (length old)) [
-      inl l ↦ subst (λ (x : Queue). IsQueue x (last_ready forms (k + 1))) (sym (ap (λ (xs : List Queue). get_or xs k d) e ∙ get_or_append_left old (q ∷ []) d k l)) (was k d l)
+      | inl l ↦ subst (λ (x : Queue). IsQueue x (last_ready forms (k + 1))) (sym (ap (λ (xs : List Queue). get_or xs k d) e ∙ get_or_append_left old (q ∷ []) d k l)) (was k d l)
       | inr g ↦ let same : length old ≡ k = omega (arith, g, h, ap length e, length_push old q) in
           subst (λ (x : Queue). IsQueue x (last_ready forms (k + 1))) (sym (ap (λ (xs : List Queue). get_or xs k d) e ∙ get_or_push old q d k same))
           (subst (λ (n : ℕ). IsQueue q (last_ready forms (n + 1))) same one)

@@ -2,18 +2,18 @@ use Rattle.std.proofs.Common.{◌≡◌, ◌++◌, List, map, ap, sym, subst, �
 use Rattle.cs_model.specs.BuilderText as text
 use Rattle.cs_model.specs.Builder.{all_forms}
 use Rattle.cs_build.specs.Grouped.{AreGroups}
-use Rattle.cs_build.specs.Readied.{IsReady}
+use Rattle.cs_build.specs.Readied.{AreReadied}
 use Rattle.cs_build.specs.Standing.{forms_in}
 use Rattle.cs_build.proofs.Wholing.{own_ready, own_groups, whole_is}
 use Rattle.cs_build.proofs.whole.objects_of.Goals as goal
 
 pub first_objects-requires-clause-ready : goal.first_objects-requires-clause-ready
 first_objects-requires-clause-ready c = own_ready (forms_in c.args.numbering.now) c.in_ok-ready.ready
-    (subst (λ (fs : List text.Form). IsReady fs c.in_ok-ready.ready) c.requires.whole c.in_ok-ready.ensures)
+    (subst (λ (fs : List text.Form). AreReadied fs c.in_ok-ready.ready) c.requires.whole c.in_ok-ready.ensures)
 
 pub put_forms-requires-clause-ready : goal.put_forms-requires-clause-ready
 put_forms-requires-clause-ready c = own_ready (forms_in c.args.numbering.now) c.in_ok-ready.ready
-    (subst (λ (fs : List text.Form). IsReady fs c.in_ok-ready.ready) c.requires.whole c.in_ok-ready.ensures)
+    (subst (λ (fs : List text.Form). AreReadied fs c.in_ok-ready.ready) c.requires.whole c.in_ok-ready.ensures)
 
 pub put_dictionaries-requires-clause-groups : goal.put_dictionaries-requires-clause-groups
 put_dictionaries-requires-clause-groups c = own_groups (forms_in c.args.numbering.now) c.in_ok-groups.groups
