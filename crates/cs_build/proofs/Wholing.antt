@@ -1,5 +1,5 @@
 -- All objects of a text.
-use Rattle.std.proofs.Common.{◌≡◌, ℕ, ◌++◌, List, Bor, Vec, map, ap, sym, ◌∙◌}
+use Rattle.std.proofs.Common.{◌≡◌, ℕ, ◌++◌, List, Bor, Vec, map, ap, sym, ◌∙◌, refl}
 use Rattle.std.specs.Prelude.{flat_map}
 use Rattle.std.proofs.lemmas.List.{map-append}
 use Rattle.indexmap.specs.IndexMap.{IndexMap}
