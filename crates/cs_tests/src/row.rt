@@ -70,8 +70,8 @@ fn tell(rt: &impl Print, status: u8, reads: u64, out: &MemSink) -> Result<()> {
     Ok(())
 }
 
-/// Each word of `text` is `file=NAME`, `other=NAME`, `length=BYTES`, `zeros=BYTES`, `room=BYTES`, `read=CALL`, `write=CALL`, or a
-/// place in the image and the bytes that stand there, in hexadecimal digits, as `71=01`.
+/// Each word of `text` is `file=NAME`, `other=NAME`, `length=BYTES`, `zeros=BYTES`, `room=BYTES`, `read=CALL`,
+/// `write=CALL`, or a place in the image and the bytes that stand there, in hexadecimal digits, as `71=01`.
 fn given_by(rt: &(impl Files + Alloc<A = Global>), text: &str) -> Result<Given> {
     let alloc = rt.alloc();
     let mut given = Given {
