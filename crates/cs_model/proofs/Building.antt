@@ -12,7 +12,7 @@ use Rattle.cs_model.specs.Lookup.{Sought, Missing, Loop}
 use Rattle.cs_model.specs.Lookup as sought
 use Rattle.cs_model.specs.Step.{Message, call_in, birth_limit}
 use Rattle.cs_model.specs.End.{Out, no_count}
-use Rattle.cs_model.specs.Built.{is_built_op, is_built_for_all, is_built_number, is_built_method, is_built_found, is_built_send, is_built_call, is_built_back, is_built_return, is_built_out, is_built_from, is_built_bytecode, is_built, built_step, built_run}
+use Rattle.cs_model.specs.Built.{is_built_op, is_unbuilt, is_built_number, is_built_method, is_built_found, is_built_send, is_built_call, is_built_back, is_built_return, is_built_out, is_built_from, is_built_bytecode, is_built, built_step, built_run}
 use Rattle.cs_model.specs.Keeps.{Keeps, KeepsState}
 use Rattle.cs_model.specs.Alike.{SoughtHeld, Alike, AlikeStep, AlikeRan}
 use Rattle.cs_model.proofs.Same.{Same, same, Any, is, of_option, value, plain, if_same}
@@ -77,7 +77,7 @@ is_built_op_same k (op.Common i) = is true
 
 is_built_number_same : {v m : Kept} {a b : Option ℕ} → Keeps v m → (args : ℕ) → Same Any a b → Same Any (is_built_number v args a) (is_built_number m args b)
 is_built_number_same k args (same None h) = is true
-is_built_number_same k args (same (Some n) h) = or_else_same (is (is_built_for_all n)) (and_same (is (n == 73)) (is_context_ref_same k (prim_receiver_same k args)))
+is_built_number_same k args (same (Some n) h) = or_else_same (is (not (is_unbuilt n))) (and_same (is (n == 73)) (is_context_ref_same k (prim_receiver_same k args)))
 
 is_built_method_same : {v m : Kept} {x y : Ref} → Keeps v m → Same (IsHeld v) x y → (args : ℕ) → Same Any (is_built_method v x args) (is_built_method m y args)
 is_built_method_same k s args =

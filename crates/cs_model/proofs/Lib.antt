@@ -63,6 +63,7 @@ pub mod Passing
 pub mod Unanswered
 pub mod Trying
 pub mod Finding
+pub mod Listing
 pub mod Doing
 pub mod Changing
 pub mod Digits

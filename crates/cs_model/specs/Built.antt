@@ -1,5 +1,5 @@
 -- Which steps are built so far. A step that isn't built stops with NotBuilt; any other one is the step of the model.
-use Rattle.std.specs.Prelude.{ℕ, ◌+◌, ◌==◌, ◌&&◌, ◌||◌, not, Bool, true, false, nat_lt, nat_le, if◌then◌else◌, Option, Some, None}
+use Rattle.std.specs.Prelude.{ℕ, ◌==◌, ◌&&◌, ◌||◌, not, Bool, true, false, nat_lt, if◌then◌else◌, Option, Some, None}
 use Rattle.cs_model.specs.declared.stop.Stop.TheVariants as why
 use Rattle.cs_model.specs.declared.instruction.Op.{Op}
 use Rattle.cs_model.specs.declared.instruction.Op.TheVariants.{PushRcvr, PushTemp, PushLit, PushLitVar, PopRcvr, PopTemp, PopLitVar, StoreRcvr, StoreTemp, StoreLitVar, PushSelf, PushTrue, PushFalse, PushNil, PushInt, ReturnSelf, ReturnTrue, ReturnFalse, ReturnNil, ReturnTop, BlockReturn, Send, SendSuper, Pop, Dup, ThisContext, NewArray, PopArray, Prim, PushVec, StoreVec, PopVec, Closure, Jump, JumpTrue, JumpFalse, Special, Common}
@@ -15,6 +15,7 @@ use Rattle.cs_model.specs.Send.{begins_at, look_from}
 use Rattle.cs_model.specs.Return.{back}
 use Rattle.cs_model.specs.Due.{is_idle}
 use Rattle.cs_model.specs.PrimAnswer.{receiver}
+use Rattle.cs_model.specs.PrimTable.{is_object_number, is_perform, is_process_number}
 use Rattle.cs_model.specs.End.{Out, no_count, given}
 use Rattle.cs_model.specs.Step.{Message, call_in, message_in, return_in, instruction_at, moved_past, birth_limit, Step, step, stops, Ran, run_by}
 
@@ -60,23 +61,25 @@ is_built_op (JumpFalse offset) k = true
 is_built_op (Special i) k = true
 is_built_op (Common i) k = true
 
--- ---- sends: a method that is found, of the right number of arguments, has no primitive, or one that is built, or 73 where the
--- receiver is a context; where the send stops, that is built too
+-- ---- sends: a method that is found, of the right number of arguments, has no primitive, or one that is built; where the send stops,
+-- that is built too
 
--- the primitives that evaluate closures, and those that look for marks
-abbrev pub evaluates : ℕ → Bool
-evaluates number = (nat_le 201 number && nat_le number 206) || number == 221 || number == 222
+-- the primitives on the run that aren't built: all but output
+abbrev pub is_unbuilt_on_runs : ℕ → Bool
+is_unbuilt_on_runs number = number == 97 || number == 113 || number == 135 || number == 136 || number == 901
 
-abbrev pub is_about_marks : ℕ → Bool
-is_about_marks number = number == 195 || (nat_le 197 number && nat_le number 199)
+-- and those on contexts: that which ends contexts, and that which stores into a context's stack
+abbrev pub is_unbuilt_on_contexts : ℕ → Bool
+is_unbuilt_on_contexts number = number == 196 || number == 211
 
--- and besides those that add, that look at a context, and that write
-abbrev pub is_built_for_all : ℕ → Bool
-is_built_for_all number = number == 1 || is_about_marks number || evaluates number || number == 210 || number == 212 || number == 900
+-- besides, those on objects, those that perform and those on processes; a number that isn't listed is built, and fails
+abbrev pub is_unbuilt : ℕ → Bool
+is_unbuilt number = is_object_number number || is_perform number || is_process_number number || is_unbuilt_on_runs number || is_unbuilt_on_contexts number
 
+-- of those on objects, 73 is built where the receiver is a context
 abbrev pub is_built_number : Kept → ℕ → Option ℕ → Bool
 is_built_number k args None = true
-is_built_number k args (Some number) = is_built_for_all number || (number == 73 && is_context_ref k (receiver k args))
+is_built_number k args (Some number) = not (is_unbuilt number) || (number == 73 && is_context_ref k (receiver k args))
 
 abbrev pub is_built_method : Kept → Ref → ℕ → Bool
 is_built_method k method args =

@@ -100,3 +100,24 @@ prim number args s =
     if number == 900 then write_prim s args else
     if number == 901 then read_prim s args else
     result (kept_prim number args s.kept) s.run
+
+-- ---- the numbers that are listed: every other one fails
+
+-- @, elements, slots, instances, hashes, copies, classes, read-only objects and quick returns
+abbrev pub is_object_number : ℕ → Bool
+is_object_number number =
+    number == 18 || (nat_le 60 number && nat_le number 64) || (nat_le 68 number && nat_le number 71) || (nat_le 73 number && nat_le number 75) || (nat_le 77 number && nat_le number 79)
+    || number == 105 || number == 110 || number == 111 || number == 148 || number == 163 || number == 164 || number == 175 || (nat_le 256 number && nat_lt number 520)
+
+-- those that evaluate closures
+abbrev pub evaluates : ℕ → Bool
+evaluates number = (nat_le 201 number && nat_le number 206) || number == 221 || number == 222
+
+-- those that see the run
+abbrev pub is_run_number : ℕ → Bool
+is_run_number number = number == 97 || number == 113 || number == 135 || number == 136 || number == 900 || number == 901
+
+abbrev pub is_listed : ℕ → Bool
+is_listed number =
+    (nat_le 1 number && nat_le number 17) || is_object_number number || is_perform number || is_process_number number || (nat_le 195 number && nat_le number 197) || evaluates number || (nat_le 210 number && nat_le number 212)
+    || is_run_number number

@@ -41,8 +41,8 @@ ghost use Rattle.cs_model.specs.Process.{resume, signal, wait, suspend, give_way
 ghost use Rattle.cs_model.specs.PrimAnswer.{answer, receiver, argument};
 ghost use Rattle.cs_model.specs.PrimObject.{slot_index, slot_at_put_prim};
 ghost use Rattle.cs_model.specs.PrimUnwind.{end_between_of, end_between_prim};
-ghost use Rattle.cs_model.specs.PrimRun.{forgotten};
-ghost use Rattle.cs_model.specs.PrimTable.{kept_prim, prim};
+ghost use Rattle.cs_model.specs.PrimRun.{fails, forgotten};
+ghost use Rattle.cs_model.specs.PrimTable.{is_listed, kept_prim, prim};
 ghost use Rattle.cs_model.specs.Settle.{settle_kept, open_kept, opened, settled, new_run};
 ghost use Rattle.cs_model.specs.Due.{signal_external, is_idle, due};
 ghost use Rattle.cs_model.specs.End.{Out, is_done, given};
@@ -445,6 +445,12 @@ pub fn what_is_built_is_what_a_send_finds()
         (λ p. is_built_number k m.args (Some p.1)) }
     ensures missing { (k : Kept) (m : Message) → nat_lt m.args (depth_of k) ≡ true
         → look_from k m.selector (begins_at k m.args m.above) ≡ sought.Missing → is_built_send k m ≡ false }
+{}
+
+/// A primitive whose number isn't listed fails, and so it is built.
+pub fn a_number_that_is_not_listed_fails()
+    ensures fails { (number args : ℕ) (s : State) → is_listed number ≡ false → prim number args s ≡ fails s }
+    ensures built { (number args : ℕ) (k : Kept) → is_listed number ≡ false → is_built_number k args (Some number) ≡ true }
 {}
 
 /// The file of an image is read as it was put together: what is cut out of its bytes is what was given. Where each
