@@ -1,5 +1,5 @@
 //! Arithmetic of two SmallIntegers, as the integer primitives and the special selectors do it (Blue Book, part four).
-ghost use Rattle.std.specs.Prelude.{◌≡◌, ◌≤◌, ◌&&◌, IfSome, None, Some, nat_le, if◌then◌else◌};
+ghost use Rattle.std.specs.Prelude.{◌≡◌, ◌≤◌, ◌&&◌, IfSome, None, Some, nat_le, option_and_then, if◌then◌else◌};
 ghost use Rattle.cs_word.specs.Word.{IsSmall};
 ghost use Rattle.cs_model.specs.Arithmetic.{exact_quotient};
 ghost use Rattle.cs_model.specs.Exec.{small_operands};
@@ -54,8 +54,20 @@ pub enum Operation {
     BitShift,
 }
 
+/// What an operation gives of the two topmost values, the lower one first; None exactly where they aren't two
+/// SmallIntegers, or the operation has no result of them that is one.
+pub fn computed<W: World>(w: &W, operation: Operation) -> Option<Oop>
+    requires { IsReady (W.stored w.now) (W.view w.now) }
+    ensures value { NamesOption (W.stored w.now) result (option_and_then
+        (λ p. number_result (W.view w.now) (primitive_of operation) p.0 p.1) (small_operands (W.view w.now))) }
+    ensures there { IfSome result (λ _. 2 ≤ depth_of (W.view w.now)) }
+{
+    let (a, b) = operands(w)?;
+    number_result(w, operation, a, b)
+}
+
 /// The two topmost values, the lower one first; None exactly where they aren't two SmallIntegers.
-pub fn operands<W: World>(w: &W) -> Option<(i32, i32)>
+fn operands<W: World>(w: &W) -> Option<(i32, i32)>
     requires { IsReady (W.stored w.now) (W.view w.now) }
     ensures value { result ≡ small_operands (W.view w.now) }
     ensures there { IfSome result (λ _. 2 ≤ depth_of (W.view w.now)) }
@@ -69,7 +81,7 @@ pub fn operands<W: World>(w: &W) -> Option<(i32, i32)>
 /// What an operation gives of two SmallIntegers: a SmallInteger, or true or false; None exactly where its result isn't
 /// defined, or is no SmallInteger.
 #[tactic(auto, unfolding(cs_model::specs::Number::number_result))]
-pub fn number_result<W: World>(w: &W, operation: Operation, a: i32, b: i32) -> Option<Oop>
+fn number_result<W: World>(w: &W, operation: Operation, a: i32, b: i32) -> Option<Oop>
     requires sound { IsSound (W.stored w.now) (W.view w.now) }
     requires a_small { IsSmall a }
     requires b_small { IsSmall b }
