@@ -17,7 +17,7 @@ ghost use Rattle.cs_code.specs.Selectors.{HasIndex};
 use crate::CodeEnd;
 use crate::sends::send_selector;
 use cs_acts::World;
-use cs_acts::arithmetic::{Operation, number_result, operands};
+use cs_acts::arithmetic::{Operation, computed};
 use cs_acts::read::{boolean, class_of, from_top, nil, same};
 use cs_model::Stop;
 use cs_word::Oop;
@@ -36,7 +36,7 @@ pub fn special<W: World>(w: &mut W, i: u8) -> CodeEnd
     let Selector::Computes(operation) = Selector::from_index(i) else {
         return send_selector(w, i);
     };
-    match at_once(w, operation) {
+    match computed(w, operation) {
         Some(x) => replace_two(w, x),
         None => send_selector(w, i),
     }
@@ -128,17 +128,6 @@ fn replace_two<W: World>(w: &mut W, x: Oop) -> CodeEnd
     w.set_stack(depth - 2, x);
     w.pop();
     CodeEnd::Done
-}
-
-/// What an operation gives at once of the two topmost values, if these are SmallIntegers.
-fn at_once<W: World>(w: &W, operation: Operation) -> Option<Oop>
-    requires { IsReady (W.stored w.now) (W.view w.now) }
-    ensures value { NamesOption (W.stored w.now) result (option_and_then
-        (λ p. number_result (W.view w.now) (primitive_of operation) p.0 p.1) (small_operands (W.view w.now))) }
-    ensures there { IfSome result (λ _. 2 ≤ depth_of (W.view w.now)) }
-{
-    let (a, b) = operands(w)?;
-    number_result(w, operation, a, b)
 }
 
 /// What a special selector does before it is sent.

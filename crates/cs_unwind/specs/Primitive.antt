@@ -1,12 +1,16 @@
 -- The primitives of this crate.
-use Rattle.std.specs.Prelude.{ℕ, ◌==◌, ◌||◌, Bool, if◌then◌else◌}
+use Rattle.std.specs.Prelude.{ℕ, ◌==◌, ◌&&◌, ◌||◌, Bool, nat_le, if◌then◌else◌}
 use Rattle.cs_model.specs.State.{Kept}
-use Rattle.cs_model.specs.Built.{evaluates, is_about_marks}
+use Rattle.cs_model.specs.PrimTable.{evaluates}
 use Rattle.cs_model.specs.PrimAnswer.{argument}
 use Rattle.cs_model.specs.Send.{elements_fitting, spread_of}
 use Rattle.cs_model.specs.End.{given}
 
--- 201 to 206, 221 and 222 evaluate a closure; 195 and 197 look for marks, and 198 and 199 are marks
+-- 195 and 197 look for marks, and 198 and 199 are marks
+abbrev pub is_about_marks : ℕ → Bool
+is_about_marks number = number == 195 || (nat_le 197 number && nat_le number 199)
+
+-- besides, 201 to 206, 221 and 222 evaluate a closure
 abbrev pub unwinds : ℕ → Bool
 unwinds number = is_about_marks number || evaluates number
 
