@@ -1,5 +1,5 @@
 -- What a run has written stays in front of what it writes later.
-use Rattle.std.proofs.Common.{◌≡◌, ℕ, zero, suc, ◌+◌, ◌<◌, ◌≤◌, Bool, true, false, refl, sym, ap, subst, ◌∙◌, arith, Option, Some, None, List, length, [], ◌++◌, nat_lt, option_and_then}
+use Rattle.std.proofs.Common.{◌≡◌, ℕ, zero, suc, ◌+◌, ◌<◌, ◌≤◌, Bool, true, false, refl, sym, ap, subst, ◌∙◌, arith, Option, Some, None, List, length, [], ◌++◌, nat_lt}
 use Rattle.std.specs.Prelude.{◌==◌, ◌&&◌, ◌||◌, if◌then◌else◌}
 use Rattle.std.proofs.lemmas.List.{append-nil, append_assoc, length-append, take-append-le}
 use Rattle.cs_shelf.specs.Outside.{Appends, AppendsPart}
@@ -11,28 +11,27 @@ use Rattle.cs_model.specs.Obj.{argument_count, bytecodes_in, header_in, primitiv
 use Rattle.cs_model.specs.State.{Kept, Run, State, object_of, special_at}
 use Rattle.cs_model.specs.Read.{depth_of, pc_of}
 use Rattle.cs_model.specs.Operation.{set_pc_of}
-use Rattle.cs_model.specs.Exec.{exec, small_operands}
+use Rattle.cs_model.specs.Exec.{exec}
 use Rattle.cs_model.specs.Lookup.{Sought}
 use Rattle.cs_model.specs.Lookup as sought
 use Rattle.cs_model.specs.Send.{begins_at, enter_out, invoke, look_from, offer, send, send_found}
 use Rattle.cs_model.specs.Return.{back}
 use Rattle.cs_model.specs.End as ends
 use Rattle.cs_model.specs.End.{End, Out, given, made_context, no_count, stop}
-use Rattle.cs_model.specs.PrimAnswer.{answer, answer_if, argument, fail, receiver}
-use Rattle.cs_model.specs.Number.{number_result}
+use Rattle.cs_model.specs.PrimAnswer.{answer, argument, receiver}
 use Rattle.cs_model.specs.PrimRun.{Result, bytes_to_write, fails, result, write_prim, written}
-use Rattle.cs_model.specs.PrimNumber.{number_prim}
-use Rattle.cs_model.specs.PrimTable.{kept_prim, prim}
-use Rattle.cs_model.specs.Context.{is_context_ref}
+use Rattle.cs_model.specs.PrimTable.{prim}
 use Rattle.cs_model.specs.Due.{due, due_of, happened, is_idle, with_events}
 use Rattle.cs_model.specs.Step as step
 use Rattle.cs_model.specs.Step.{Steps, Quit, Idle, Stopped, add_count, bytecode, call_in, do_call, do_return, go_on, idle, obey, run_by, saved_fault, step}
 use Rattle.cs_model.specs.Step.{Ending, Message, birth_limit, completed, do_send, ends_with, finish, finish_of, followed, instruction_at, is_fail, message_in, or_enter, primitive_in, return_in, sent, shape_fault, stops, with_kept, arguments_of, tried, try_performed, try_primitive}
-use Rattle.cs_model.specs.Built.{built_run, built_step, evaluates, is_about_marks, is_built, is_built_bytecode, is_built_call, is_built_found, is_built_from, is_built_method, is_built_number, is_built_op, is_built_out, is_built_return, is_built_send}
+use Rattle.cs_model.specs.Built.{built_run, built_step, is_built, is_built_bytecode, is_built_call, is_built_found, is_built_from, is_built_method, is_built_number, is_built_op, is_built_out, is_built_return, is_built_send}
+use Rattle.cs_prim_num.specs.Numbers.{is_on_numbers}
 use Rattle.cs_unwind.specs.Primitive.{unwinds}
-use Rattle.cs_core.proofs.Laying.{is_same, left_true, right_true}
+use Rattle.cs_core.proofs.Laying.{is_same}
 use Rattle.cs_core.proofs.Unwinding.{unwind_leaves}
-use Rattle.cs_core.proofs.Replying.{ReadsBy, reads_73, reads_210, reads_212, reply_last}
+use Rattle.cs_core.proofs.Picking.{not_listed, not_missing}
+use Rattle.cs_core.proofs.Replying.{RepliesBy, on_numbers_by, reads_73, reads_210, reads_212, reply_last, unlisted_by}
 
 -- a run that has written more, and has the same events left
 pub record Writes (r q : Run) : Type 0 where
@@ -48,10 +47,6 @@ writes_again a b c g h = record { more = g.more ++ h.more; output = h.output ∙
 
 -- ---- the built primitives
 
-prim_1_run : (args : ℕ) (s : State) → (prim 1 args s).run ≡ s.run
-unfolding prim
-prim_1_run args s = refl
-
 prim_900_writes : (args : ℕ) (s : State) → Writes s.run (prim 900 args s).run
 unfolding prim write_prim
 prim_900_writes args s = go (1 == args) (bytes_to_write s.kept (argument s.kept 1 0))
@@ -64,15 +59,6 @@ prim_900_writes args s = go (1 == args) (bytes_to_write s.kept (argument s.kept 
 answer_last : (k : Kept) (args : ℕ) (x : Ref) → primitive_in (answer k args x).end ≡ None
 unfolding answer
 answer_last k args x = refl
-
-prim_1_last : (args : ℕ) (s : State) → primitive_in (prim 1 args s).out.end ≡ None
-unfolding prim kept_prim number_prim
-prim_1_last args s = go (1 == args) (option_and_then (λ p. number_result s.kept 1 p.0 p.1) (small_operands s.kept))
-  where
-    go : (b : Bool) (o : Option Ref) → primitive_in (if b then answer_if s.kept 1 o else fail s.kept).end ≡ None
-    go true None = refl
-    go true (Some x) = answer_last s.kept 1 x
-    go false o = refl
 
 prim_900_last : (args : ℕ) (s : State) → primitive_in (prim 900 args s).out.end ≡ None
 unfolding prim write_prim
@@ -88,9 +74,9 @@ record Leaves (s : State) (p : Result) : Type 0 where
   pub last : primitive_in p.out.end ≡ None
   pub writes : Writes s.run p.run
 
--- those that read a context answer or fail
-read_leaves : (s : State) (args number : ℕ) → (p : ReadsBy s args number) → Leaves s (prim number args s)
-read_leaves s args number p = record {
+-- those on numbers, those that read a context and those that no table lists answer or fail
+reply_leaves : (s : State) (args number : ℕ) → (p : RepliesBy s args number) → Leaves s (prim number args s)
+reply_leaves s args number p = record {
   last = subst (λ (q : Result). primitive_in q.out.end ≡ None) (sym p.is) (reply_last p.reply);
   writes = subst (λ (q : Result). Writes s.run q.run) (sym p.is) (writes_none s.run);
 }
@@ -100,18 +86,18 @@ unwinds_leaves : (s : State) (args number : ℕ) → unwinds number ≡ true →
 unwinds_leaves s args number h = let l = unwind_leaves s args number h in record { last = l.0; writes = subst (Writes s.run) (sym l.1) (writes_none s.run) }
 
 built_leaves : (s : State) (args number : ℕ) → is_built_number s.kept args (Some number) ≡ true → Leaves s (prim number args s)
-built_leaves s args number h = go (number == 1) (is_about_marks number) (evaluates number) (number == 210) (number == 212) (number == 900) (number == 73) refl refl refl refl refl refl refl h
+built_leaves s args number h = go (number == 900) (is_on_numbers number) (unwinds number) (number == 210) (number == 212) (number == 73) refl refl refl refl refl refl
   where
-    go : (a m v b c d e : Bool) → (number == 1) ≡ a → is_about_marks number ≡ m → evaluates number ≡ v → (number == 210) ≡ b → (number == 212) ≡ c → (number == 900) ≡ d → (number == 73) ≡ e
-        → ((a || m || v || b || c || d) || (e && is_context_ref s.kept (receiver s.kept args))) ≡ true → Leaves s (prim number args s)
-    go true m v b c d e p x y q r u w t = subst (λ n. Leaves s (prim n args s)) (sym (is_same number 1 p)) (record { last = prim_1_last args s; writes = subst (Writes s.run) (sym (prim_1_run args s)) (writes_none s.run) })
-    go false true v b c d e p x y q r u w t = unwinds_leaves s args number (left_true (is_about_marks number) (evaluates number) x)
-    go false false true b c d e p x y q r u w t = unwinds_leaves s args number (right_true (is_about_marks number) (evaluates number) y)
-    go false false false true c d e p x y q r u w t = subst (λ n. Leaves s (prim n args s)) (sym (is_same number 210 q)) (read_leaves s args 210 (reads_210 s args))
-    go false false false false true d e p x y q r u w t = subst (λ n. Leaves s (prim n args s)) (sym (is_same number 212 r)) (read_leaves s args 212 (reads_212 s args))
-    go false false false false false true e p x y q r u w t = subst (λ n. Leaves s (prim n args s)) (sym (is_same number 900 u)) (record { last = prim_900_last args s; writes = prim_900_writes args s })
-    go false false false false false false true p x y q r u w t = subst (λ n. Leaves s (prim n args s)) (sym (is_same number 73 w)) (read_leaves s args 73 (reads_73 s args))
-    go false false false false false false false p x y q r u w t = absurd (cc)
+    go : (a b c d e f : Bool) → (number == 900) ≡ a → is_on_numbers number ≡ b → unwinds number ≡ c → (number == 210) ≡ d → (number == 212) ≡ e → (number == 73) ≡ f → Leaves s (prim number args s)
+    go true b c d e f p q r t u v = subst (λ n. Leaves s (prim n args s)) (sym (is_same number 900 p)) (record { last = prim_900_last args s; writes = prim_900_writes args s })
+    go false true c d e f p q r t u v = reply_leaves s args number (on_numbers_by s args number q)
+    go false false true d e f p q r t u v = unwinds_leaves s args number r
+    go false false false true e f p q r t u v = subst (λ n. Leaves s (prim n args s)) (sym (is_same number 210 t)) (reply_leaves s args 210 (reads_210 s args))
+    go false false false false true f p q r t u v = subst (λ n. Leaves s (prim n args s)) (sym (is_same number 212 u)) (reply_leaves s args 212 (reads_212 s args))
+    go false false false false false true p q r t u v = subst (λ n. Leaves s (prim n args s)) (sym (is_same number 73 v)) (reply_leaves s args 73 (reads_73 s args))
+    go false false false false false false p q r t u v =
+        reply_leaves s args number (unlisted_by s args number
+        (not_listed number (record { write = p; numbers = q; unwind = r; stack_value = t; stack_depth = u; missing = not_missing s.kept number args v h })))
 
 -- ---- a send
 

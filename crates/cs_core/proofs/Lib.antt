@@ -1,4 +1,5 @@
 mod Lasting
+mod Picking
 mod Piecing
 mod Portions
 pub mod Laying

@@ -1,6 +1,7 @@
--- What the primitives on contexts come to in the model: an answer in the place of receiver and arguments, or a failure.
-use Rattle.std.proofs.Common.{◌≡◌, ℕ, ◌+◌, Bool, true, false, refl, ap, Option, Some, None, slice_get}
+-- What the primitives on contexts and on numbers come to in the model: an answer in the place of receiver and arguments, or a failure.
+use Rattle.std.proofs.Common.{◌≡◌, ◌∙◌, ℕ, ◌+◌, Bool, true, false, refl, sym, ap, arith, Option, Some, None, nat_le, slice_get}
 use Rattle.std.specs.Prelude.{◌==◌, if◌then◌else◌, length, option_and_then, option_map}
+use Rattle.std.proofs.lemmas.Bool.Decides.{nat_tests}
 use Rattle.cs_model.specs.Ref.{Ref}
 use Rattle.cs_model.specs.Obj.{Obj, Ptr, Raw, Method, Ctx, context_in}
 use Rattle.cs_model.specs.State.{Kept, State, object_of}
@@ -12,7 +13,13 @@ use Rattle.cs_model.specs.PrimAnswer.{answer, argument, fail, receiver}
 use Rattle.cs_model.specs.PrimContext.{stack_at_prim, stackp_prim}
 use Rattle.cs_model.specs.PrimObject.{answer_field, read_slot, slot_at_prim, slot_index, small_count}
 use Rattle.cs_model.specs.PrimRun.{result}
-use Rattle.cs_model.specs.PrimTable.{kept_prim, prim}
+use Rattle.cs_model.specs.PrimNumber.{number_prim}
+use Rattle.cs_model.specs.PrimTable.{is_listed, is_run_number, kept_prim, prim}
+use Rattle.cs_model.specs.Exec.{small_operands}
+use Rattle.cs_model.specs.Number.{number_result}
+use Rattle.cs_model.proofs.Listing.{other, unlisted_fails, unlisted_kept}
+use Rattle.cs_prim_num.specs.Numbers.{computes, is_on_numbers}
+use Rattle.cs_prim_num.proofs.Rows.{failing_row}
 use Rattle.cs_model.specs.Step.{primitive_in}
 
 pub data Replies (k : Kept) (o : Out) : Type 0 where
@@ -67,21 +74,65 @@ stackp_replies : (k : Kept) (args : ℕ) → Replies k (stackp_prim k args)
 unfolding stackp_prim
 stackp_replies k args = if_replies k (0 == args) _ _ (given_replies k (option_map (λ c. small_count (length c.stack)) (context_in (object_of k (receiver k 0)))) _ (λ x. answering k 0 x)) (failing k)
 
+number_replies : (k : Kept) (number args : ℕ) → Replies k (number_prim k number args)
+unfolding number_prim
+number_replies k number args =
+    if_replies k (1 == args) _ _ (given_replies k (option_and_then (λ p. number_result k number p.0 p.1) (small_operands k)) _ (λ x. answering k 1 x)) (failing k)
+
 -- ---- by their numbers
 
 -- it changes nothing of the run, and replies
-pub record ReadsBy (s : State) (args number : ℕ) : Type 0 where
+pub record RepliesBy (s : State) (args number : ℕ) : Type 0 where
   pub is : prim number args s ≡ result (kept_prim number args s.kept) s.run
   pub reply : Replies s.kept (kept_prim number args s.kept)
 
-pub reads_73 : (s : State) (args : ℕ) → ReadsBy s args 73
+pub reads_73 : (s : State) (args : ℕ) → RepliesBy s args 73
 unfolding prim kept_prim
 reads_73 s args = record { is = refl; reply = slot_at_replies s.kept args }
 
-pub reads_210 : (s : State) (args : ℕ) → ReadsBy s args 210
+pub reads_210 : (s : State) (args : ℕ) → RepliesBy s args 210
 unfolding prim kept_prim
 reads_210 s args = record { is = refl; reply = stack_at_replies s.kept args }
 
-pub reads_212 : (s : State) (args : ℕ) → ReadsBy s args 212
+pub reads_212 : (s : State) (args : ℕ) → RepliesBy s args 212
 unfolding prim kept_prim
 reads_212 s args = record { is = refl; reply = stackp_replies s.kept args }
+
+-- all but those on the run see the kept parts alone
+kept_alone : (s : State) (number args : ℕ) → is_run_number number ≡ false → prim number args s ≡ result (kept_prim number args s.kept) s.run
+unfolding prim
+kept_alone s number args h = rw (not_ 97 refl, not_ 113 refl, not_ 135 refl, not_ 136 refl, not_ 900 refl, not_ 901 refl) refl
+  where
+    not_ : (n : ℕ) → is_run_number n ≡ true → (number == n) ≡ false
+    not_ n e = other is_run_number number n h e
+
+no_run_number : (number : ℕ) → is_on_numbers number ≡ true → is_run_number number ≡ false
+no_run_number number h = rw (above 97 refl, above 113 refl, above 135 refl, above 136 refl, above 900 refl, above 901 refl) refl
+  where
+    high : nat_le 60 number ≡ false
+    high = grind (arith, nat_tests, h)
+
+    above : (n : ℕ) → nat_le 60 n ≡ true → (number == n) ≡ false
+    above n e = other (λ m. nat_le 60 m) number n high e
+
+computes_replies : (k : Kept) (number args : ℕ) → computes number ≡ true → Replies k (kept_prim number args k)
+unfolding kept_prim
+computes_replies k number args h = rw h (number_replies k number args)
+
+numbers_reply : (k : Kept) (number args : ℕ) → is_on_numbers number ≡ true → Replies k (kept_prim number args k)
+numbers_reply k number args h = go (computes number) refl
+  where
+    go : (b : Bool) → computes number ≡ b → Replies k (kept_prim number args k)
+    go true e = computes_replies k number args e
+    go false e = let failed = failing_row k number args e h in fails (ap (λ (o : Out). o.end) failed) (ap (λ (o : Out). o.state) failed)
+
+pub on_numbers_by : (s : State) (args number : ℕ) → is_on_numbers number ≡ true → RepliesBy s args number
+on_numbers_by s args number h = record { is = kept_alone s number args (no_run_number number h); reply = numbers_reply s.kept number args h }
+
+pub unlisted_by : (s : State) (args number : ℕ) → is_listed number ≡ false → RepliesBy s args number
+unlisted_by s args number h =
+    let failed = unlisted_kept number args s.kept h in
+    record {
+      is = unlisted_fails number args s h ∙ sym (ap (λ o. result o s.run) failed);
+      reply = fails (ap (λ (o : Out). o.end) failed) (ap (λ (o : Out). o.state) failed);
+    }

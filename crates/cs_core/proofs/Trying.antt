@@ -1,6 +1,6 @@
 -- What the built primitives come to.
-use Rattle.std.proofs.Common.{◌≡◌, ℕ, ◌-◌, ◌<◌, Bool, true, false, refl, sym, ap, subst, ◌∙◌, arith, Option, Some, None, List, [], ◌++◌, length, nat_lt, option_and_then, unwrap_or}
-use Rattle.std.specs.Prelude.{◌==◌, if◌then◌else◌, slice_get}
+use Rattle.std.proofs.Common.{◌≡◌, ℕ, Bool, true, false, refl, sym, ap, subst, ◌∙◌, arith, Option, Some, None, List, [], ◌++◌}
+use Rattle.std.specs.Prelude.{◌==◌}
 use Rattle.std.proofs.lemmas.Bool.Decides.{nat_tests}
 use Rattle.std.proofs.lemmas.List.{append-nil}
 use Rattle.cs_shelf.specs.Outside.{Appends, AppendsPart}
@@ -8,15 +8,13 @@ use Rattle.cs_model.specs.declared.stop.Stop.{Stop as Reason}
 use Rattle.cs_model.specs.Ref.{Ref}
 use Rattle.cs_model.specs.State.{Kept, Run, State}
 use Rattle.cs_model.specs.Keeps.{Keeps}
-use Rattle.cs_model.specs.Read.{IsRunning, depth_of, stack_of}
-use Rattle.cs_model.specs.Operation.{drop_of, nil_of, push_of}
-use Rattle.cs_model.specs.Exec.{small_operands}
-use Rattle.cs_model.specs.Number.{number_result}
+use Rattle.cs_model.specs.Read.{IsRunning}
+use Rattle.cs_model.specs.Operation.{drop_of, push_of}
 use Rattle.cs_model.specs.End as ends
-use Rattle.cs_model.specs.PrimAnswer.{answer, argument, fail, receiver}
-use Rattle.cs_model.specs.PrimNumber.{number_prim}
+use Rattle.cs_model.specs.PrimAnswer.{answer, argument, receiver}
 use Rattle.cs_model.specs.PrimRun.{Result, bytes_to_write, fails, result, write_prim}
-use Rattle.cs_model.specs.PrimTable.{kept_prim, prim}
+use Rattle.cs_model.specs.PrimTable.{is_listed, prim}
+use Rattle.cs_model.proofs.Listing.{unlisted_built, unlisted_fails}
 use Rattle.cs_model.specs.Send.{enter_out}
 use Rattle.cs_model.specs.Step.{arguments_of, tried, try_primitive, with_kept}
 use Rattle.cs_model.specs.Built.{is_built_number}
@@ -76,19 +74,7 @@ pub full_behind : (k v : Kept) (x : Ref) (args number : ℕ) (l n : Option Layou
 full_behind k v x args number l n told s why count f h =
     (refl, λ output steps. refused s l k (trying k x number output steps) (enter_out k x args true) why f.built (ap (λ (p : Result). p.out) (failed k x number args output steps count (f.end (run_at output steps)))) (omega arith) h)
 
--- ---- the sum
-
-prim_sum : (k : Kept) (r : Run) (x : Ref) → option_and_then (λ p. number_result k 1 p.0 p.1) (small_operands k) ≡ Some x → prim 1 1 (with_kept k r) ≡ result (answer k 1 x) r
-unfolding prim kept_prim number_prim
-prim_sum k r x h = rw h
-
-prim_no_sum : (k : Kept) (r : Run) → option_and_then (λ p. number_result k 1 p.0 p.1) (small_operands k) ≡ None → prim 1 1 (with_kept k r) ≡ result (fail k) r
-unfolding prim kept_prim number_prim
-prim_no_sum k r h = rw h
-
-sum_else : (k : Kept) (r : Run) (args : ℕ) → (1 == args) ≡ false → (prim 1 args (with_kept k r)).out.end ≡ ends.Fail
-unfolding prim kept_prim number_prim
-sum_else k r args other = rw other
+-- ---- output
 
 other_count : (n : ℕ) → (n ≡ 1 → ⊥) → (1 == n) ≡ false
 other_count n h = go (1 == n) refl
@@ -96,13 +82,6 @@ other_count n h = go (1 == n) refl
     go : (b : Bool) → (1 == n) ≡ b → (1 == n) ≡ false
     go true p = absurd (h (grind (arith, nat_tests, p)))
     go false p = p
-
--- with another number of arguments it fails, and where there is no sum
-pub sum_fails_else : (k : Kept) (x : Ref) (args : ℕ) → arguments_of k x ≡ args → (args ≡ 1 → ⊥) → Fails k x 1
-sum_fails_else k x args count other = record { built = refl; end = λ r. ap (λ n. (prim 1 n (with_kept k r)).out.end) count ∙ sum_else k r args (other_count args other) }
-
-pub no_sum_fails : (k : Kept) (x : Ref) (args : ℕ) → arguments_of k x ≡ args → args ≡ 1 → option_and_then (λ p. number_result k 1 p.0 p.1) (small_operands k) ≡ None → Fails k x 1
-no_sum_fails k x args count one h = record { built = refl; end = λ r. ap (λ n. (prim 1 n (with_kept k r)).out.end) (count ∙ one) ∙ ap (λ (p : Result). p.out.end) (prim_no_sum k r h) }
 
 -- a primitive of one argument that answers
 answers_prim : (number : ℕ) (k v : Kept) (method x : Ref) (bytes : List ℕ) → arguments_of k method ≡ 1 → is_built_number k (arguments_of k method) (Some number) ≡ true
@@ -118,15 +97,6 @@ answers_prim number k v method x bytes count built is keeps output steps =
       state = subst (λ (p : Result). Keeps v p.out.state) (sym all) keeps;
       run = ap (λ (p : Result). p.run) all;
     }
-
-pub sum_gives : (k v : Kept) (method x : Ref) (args : ℕ) (l n : Option Layout) (told : Option (List ℕ)) (s : Store) (e : StepEnd) → arguments_of k method ≡ args → args ≡ 1
-    → option_and_then (λ p. number_result k 1 p.0 p.1) (small_operands k) ≡ Some x → Keeps v (push_of (drop_of k 2) x) → IsReady s v → Lays k l s v n → EndsBy v e → TurnGives (trying k method 1) k l told told s v n e
-sum_gives k v method x args l n told s e count one h keeps ready frames by =
-    ends_quietly (trying k method 1) k v l n told s e
-    (answers_prim 1 k v method x [] (count ∙ one) refl (λ output steps. prim_sum k (run_at output steps) x h ∙ ap (λ o. result (answer k 1 x) (run_at o steps)) (sym (append-nil output))) keeps)
-    ready frames by
-
--- ---- output
 
 prim_write : (k : Kept) (x y : Ref) (bytes output : List ℕ) (steps : ℕ) → receiver k 1 ≡ x → argument k 1 0 ≡ y → bytes_to_write k y ≡ Some bytes
     → prim 900 1 (state_at k output steps) ≡ result (answer k 1 x) (run_at (output ++ bytes) steps)
@@ -185,3 +155,11 @@ no_cause v Idle old new by = tt
 no_cause v (Stop reason) old new by = tt
 no_cause v (Full why) old new by = absurd by
 no_cause v WriteFault old new by = absurd by
+
+-- ---- a number that isn't listed
+
+pub unlisted_number_fails : (k : Kept) (x : Ref) (number args : ℕ) → arguments_of k x ≡ args → is_listed number ≡ false → Fails k x number
+unlisted_number_fails k x number args count h = record {
+  built = unlisted_built number (arguments_of k x) k h;
+  end = λ r. ap (λ (p : Result). p.out.end) (unlisted_fails number (arguments_of k x) (with_kept k r) h);
+}

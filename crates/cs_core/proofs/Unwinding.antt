@@ -1,6 +1,6 @@
 -- What the primitives that evaluate closures or look for marks come to in the model, and what trying one comes to.
 use Rattle.std.proofs.Common.{◌≡◌, ◌⊎◌, inl, inr, ℕ, ◌+◌, ◌-◌, ◌<◌, ◌≤◌, Bool, true, false, refl, sym, ap, ◌∙◌, arith, Option, Some, None, List, [], ◌∷◌, ◌++◌, length, length-take, length-append, nat_le, take, unwrap_or}
-use Rattle.std.specs.Prelude.{◌==◌, ◌&&◌, ◌||◌, if◌then◌else◌}
+use Rattle.std.specs.Prelude.{◌==◌, if◌then◌else◌}
 use Rattle.std.specs.List.{AllByRecursion}
 use Rattle.std.proofs.lemmas.Bool.Decides.{eqb_tells, nat_tests}
 use Rattle.cs_model.specs.declared.stop.Stop.{Stop as Reason}
@@ -21,8 +21,7 @@ use Rattle.cs_model.specs.PrimUnwind.{Marked, MarkAt, NoMark, MarkTooFar, answer
 use Rattle.cs_model.specs.PrimRun.{Result, result}
 use Rattle.cs_model.specs.PrimTable.{kept_prim, prim}
 use Rattle.cs_model.specs.Step.{arguments_of, primitive_in, with_kept}
-use Rattle.cs_model.specs.Built.{evaluates, is_about_marks, is_built_number}
-use Rattle.cs_model.specs.Context.{is_context_ref}
+use Rattle.cs_model.specs.Built.{is_built_number}
 use Rattle.cs_model.proofs.Editing.{active_context-put}
 use Rattle.cs_model.proofs.Objects.{object_at-put_other, object_at-put_same, rest-put}
 use Rattle.cs_acts.specs.declared.act.Full.{Full as Why}
@@ -218,11 +217,9 @@ unwind_leaves s args number h =
 
 -- ---- what trying one comes to
 
-built : (a m v b c d e : Bool) → (m || v) ≡ true → ((a || m || v || b || c || d) || e) ≡ true
-built true m v b c d e h = refl
-built false true v b c d e h = refl
-built false false true b c d e h = refl
-built false false false b c d e h = absurd (cc)
+built_unwinds : (k : Kept) (number args : ℕ) → unwinds number ≡ true → is_built_number k args (Some number) ≡ true
+built_unwinds k number args h =
+    all_on (λ n. is_built_number k args (Some n) ≡ true) numbers (refl, (refl, (refl, (refl, (refl, (refl, (refl, (refl, (refl, (refl, (refl, (refl, tt)))))))))))) number (among_numbers number h)
 
 module _ (k : Kept) (x : Ref) (number args : ℕ) (count : arguments_of k x ≡ args) (unwinding : unwinds number ≡ true) where
   -- what the model makes of it, and the state from which it enters a block
@@ -239,7 +236,7 @@ module _ (k : Kept) (x : Ref) (number args : ℕ) (count : arguments_of k x ≡ 
   comes = (unwinds_by (state_at k [] 0) number args unwinding).comes
 
   is_built : is_built_number k (arguments_of k x) (Some number) ≡ true
-  is_built = built (number == 1) (is_about_marks number) (evaluates number) (number == 210) (number == 212) (number == 900) (number == 73 && is_context_ref k (receiver k (arguments_of k x))) unwinding
+  is_built = built_unwinds k number (arguments_of k x) unwinding
 
   pub unwind_over : (v : Kept) (l n : Option Layout) (told : Option (List ℕ)) (old s : Store) (e : StepEnd) (r : PrimEnd) → IsRunning k → (r ≡ prims.Answer) ⊎ (r ≡ prims.Entered) → PrimGives old s l k from v r made → PrimLaid from r l n → EndsBy v e
       → TurnGives (trying k x number) k l told told s v n e

@@ -1,14 +1,14 @@
-//! The primitives that no crate of their own has yet: 1, the sum of two SmallIntegers, and 900, which writes bytes.
+//! The table of primitives, which picks the crate of a number; and 900, which writes bytes and has no crate of its own.
 ghost use Rattle.std.specs.Prelude.{◌≡◌, ◌<◌, ◌≤◌, ◌+◌, ◌*◌, ◌-◌, [], ◌∷◌, true, IfSome, OnErr, OnOk, Some, drop};
-ghost use Rattle.std.specs.Prelude.{option_and_then, option_map, take};
+ghost use Rattle.std.specs.Prelude.{option_map, take};
 ghost use Rattle.cs_word.specs.Word.{natural_of_word};
 ghost use Rattle.cs_model.specs.Words.{unused_bytes};
 ghost use Rattle.arrayvec.specs.ArrayVec.{array_vec_len};
-ghost use Rattle.cs_model.specs.Exec.{small_operands};
-ghost use Rattle.cs_model.specs.Number.{number_result};
+ghost use Rattle.cs_model.specs.Built.{is_unbuilt};
 ghost use Rattle.cs_model.specs.PrimRun.{bytes_to_write, small_byte};
+ghost use Rattle.cs_model.specs.PrimTable.{is_object_number};
 ghost use Rattle.cs_model.specs.Read.{depth_of};
-ghost use Rattle.cs_acts.specs.Names.{IsNamed, NamesOption, name_of};
+ghost use Rattle.cs_acts.specs.Names.{IsNamed, name_of};
 ghost use Rattle.cs_acts.specs.Ready.{IsReady, IsSound};
 ghost use Rattle.cs_heap.specs.Object.{format_at, slot_count_of};
 ghost use Rattle.cs_prim_ctx.specs.Numbers.{reads_context};
@@ -19,27 +19,32 @@ ghost use Rattle.cs_core.specs.Numbers.{HasBuiltNumber};
 use arrayvec::ArrayVec;
 use cs_acts::World;
 use cs_acts::answer::receiver;
-use cs_acts::arithmetic::{Operation, number_result, operands};
 use cs_acts::read::is_context;
 use cs_heap::Heap;
+use cs_prim_num::is_on_numbers;
 use cs_shelf::{Failed, Sink, write_whole};
 use cs_unwind::unwinds;
 use cs_word::{Kind, Oop};
 
+/// The number of the primitive that writes bytes.
+const WRITE: u32 = 900;
+
 /// The most bytes that are handed to the sink at once.
 const AT_ONCE: u32 = 256;
 
-/// A primitive that is built.
+/// A primitive that is built, by the crate that does it.
 #[derive(Clone, Copy, PartialEq, Eq, Debug)]
 pub enum Primitive {
-    /// 1: the sum of two SmallIntegers.
-    Add,
+    /// One on numbers, of cs_prim_num: 1 to 17, 21 to 37 and 40 to 59.
+    Number,
     /// 900: writes bytes.
     Write,
-    /// One that evaluates a closure or looks for a mark, or that is a mark.
+    /// One of cs_unwind, that evaluates a closure or looks for a mark, or that is a mark.
     Unwind,
-    /// One that reads a context: 210 or 212, or 73 where its receiver is a context.
+    /// One of cs_prim_ctx, that reads a context: 210 or 212, or 73 where its receiver is a context.
     ReadContext,
+    /// One of a number that no table lists, which fails.
+    Unlisted,
 }
 
 impl Primitive {
@@ -49,14 +54,41 @@ impl Primitive {
         requires there { args < depth_of (W.view w.now) }
         ensures { HasBuiltNumber (W.view w.now) args result number }
     {
-        match number {
-            1 => Some(Primitive::Add),
-            900 => Some(Primitive::Write),
-            _ if unwinds(number) => Some(Primitive::Unwind),
-            _ if reads_context(w, number, args) => Some(Primitive::ReadContext),
-            _ => None,
+        if is_on_numbers(number) {
+            Some(Primitive::Number)
+        } else if unwinds(number) {
+            Some(Primitive::Unwind)
+        } else if number == WRITE {
+            Some(Primitive::Write)
+        } else if reads_context(w, number, args) {
+            Some(Primitive::ReadContext)
+        } else if is_unbuilt(number) {
+            None
+        } else {
+            Some(Primitive::Unlisted)
         }
     }
+}
+
+/// Whether a number is that of a primitive that isn't built; 73 is one unless its receiver is a context.
+fn is_unbuilt(number: u32) -> bool
+    ensures { result ≡ is_unbuilt number }
+{
+    is_on_objects(number)
+        || matches!(number, 83 | 84 | 188)
+        || matches!(number, 85..=88 | 167)
+        || matches!(number, 97 | 113 | 135 | 136 | 901)
+        || matches!(number, 196 | 211)
+}
+
+/// Whether a number is that of a primitive on objects.
+fn is_on_objects(number: u32) -> bool
+    ensures { result ≡ is_object_number number }
+{
+    matches!(
+        number,
+        18 | 60..=64 | 68..=71 | 73..=75 | 77..=79 | 105 | 110 | 111 | 148 | 163 | 164 | 175 | 256..=519
+    )
 }
 
 /// Whether the primitive of this number, with so many arguments, is one that reads a context.
@@ -70,17 +102,6 @@ fn reads_context<W: World>(w: &W, number: u32, args: u32) -> bool
         73 => is_context(w, receiver(w, args)),
         _ => false,
     }
-}
-
-/// The sum of receiver and argument, as primitive 1 gives it (Blue Book); None exactly where they aren't two
-/// SmallIntegers or the sum doesn't fit.
-pub fn sum<W: World>(w: &W) -> Option<Oop>
-    requires { IsReady (W.stored w.now) (W.view w.now) }
-    ensures { NamesOption (W.stored w.now) result
-        (option_and_then (λ p. number_result (W.view w.now) 1 p.0 p.1) (small_operands (W.view w.now))) }
-{
-    let (a, b) = operands(w)?;
-    number_result(w, Operation::Add, a, b)
 }
 
 /// What primitive 900 writes, which is this machine's own.

@@ -5,12 +5,13 @@ ghost use Rattle.cs_acts.specs.Names.{IsNamed, name_of};
 ghost use Rattle.cs_acts.specs.Ready.{IsReady, IsSound};
 ghost use Rattle.cs_acts.specs.Targets.{CanEnter};
 ghost use Rattle.cs_prim_ctx.specs.Numbers.{reads_context};
+ghost use Rattle.cs_prim_num.specs.Numbers.{is_on_numbers};
 ghost use Rattle.cs_send.specs.Sent.{message_of};
 ghost use Rattle.cs_unwind.specs.Primitive.{unwinds};
 ghost use Rattle.cs_core.specs.Stepped.{CausedByFault, EndsBy, Fails, NamesActive, StepGives, TurnGives, WhereStopped};
 ghost use Rattle.cs_core.specs.Stepped.{calling, can_begin, returning, sending, trying};
 
-use crate::primitive::{Primitive, piece_of, sum, write};
+use crate::primitive::{Primitive, piece_of, write};
 use cs_acts::answer::{answer, argument, receiver};
 use cs_acts::read::{instruction, special};
 use cs_acts::{Full, PrimEnd, Shape, World, shape_of};
@@ -124,34 +125,32 @@ fn try_primitive<W: World, K: Sink>(
         return StepEnd::Stopped(Stop::NotBuilt);
     };
     match primitive {
-        Primitive::Add => add_or_enter(w, method, args),
+        Primitive::Number => number_or_enter(w, method, args, number),
         Primitive::Write => write_or_enter(w, out, method, args),
         Primitive::Unwind => unwind_or_enter(w, method, args, number),
         Primitive::ReadContext => read_or_enter(w, method, args, number),
+        Primitive::Unlisted => enter_behind(w, method, args),
     }
 }
 
-/// Primitive 1; where it fails its method is entered.
-fn add_or_enter<W: World>(w: &mut W, method: Oop, args: u32) -> StepEnd
+/// A primitive on numbers; where it fails its method is entered.
+fn number_or_enter<W: World>(w: &mut W, method: Oop, args: u32, number: u32) -> StepEnd
     requires ready { IsReady (W.stored w.old) (W.view w.old) }
     requires named { IsNamed (W.stored w.old) method }
     requires enters { CanEnter (W.view w.old) (name_of (W.stored w.old) method) args true }
-    ensures gives { (told : Option (List ℕ)) → TurnGives (trying (W.view w.old) (name_of (W.stored w.old) method) 1)
-        (W.view w.old) (W.layout w.old) told told (W.stored w.new) (W.view w.new) (W.layout w.new) result }
+    requires number { is_on_numbers number ≡ true }
+    ensures gives { (told : Option (List ℕ)) → TurnGives
+        (trying (W.view w.old) (name_of (W.stored w.old) method) number) (W.view w.old) (W.layout w.old) told told
+        (W.stored w.new) (W.view w.new) (W.layout w.new) result }
     ensures process { NamesActive (W.stored w.new) (W.view w.new) result }
     ensures sound { WhereStopped result (IsSound (W.stored w.new) (W.view w.new)) }
     ensures limit { (W.stored w.new).memory.limit ≡ (W.stored w.old).memory.limit }
     ensures cause { (faults : ℕ) → CausedByFault faults faults result }
 {
-    if args != 1 {
-        return enter_behind(w, method, args);
-    }
-    match sum(w) {
-        Some(sum) => {
-            answer(w, 1, sum);
-            finish(w)
-        }
-        None => enter_behind(w, method, args),
+    match cs_prim_num::primitive(w, number, args) {
+        PrimEnd::Answer => finish(w),
+        PrimEnd::Fail => enter_behind(w, method, args),
+        PrimEnd::Entered | PrimEnd::Stop(_) | PrimEnd::Full(_) => unreachable!(),
     }
 }
 

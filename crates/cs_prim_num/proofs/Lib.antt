@@ -1,2 +1,2 @@
 mod Performing
-mod Rows
+pub mod Rows

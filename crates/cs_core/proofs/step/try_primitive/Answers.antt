@@ -3,17 +3,14 @@ use Rattle.cs_model.specs.Built.{is_built_number}
 use Rattle.cs_acts.specs.Names.{name_of}
 use Rattle.cs_core.specs.Numbers.{HasBuiltNumber}
 use Rattle.cs_core.specs.Stepped.{TurnGives, trying, unbuilt}
+use Rattle.cs_core.proofs.Trying.{unlisted_number_fails}
 use Rattle.cs_core.proofs.step.try_primitive.Goals as goal
 
-pub returns-in-Add-clause-gives : goal.returns-in-Add-clause-gives
-returns-in-Add-clause-gives g c =
-    let k = g.W.World.view c.args.w.now in
-    let x = name_of (g.W.World.stored c.args.w.now) c.args.method in
-    let told = g.K.Sink.taken c.args.out.now in
-    subst (λ n. TurnGives (trying k x n) k (g.W.World.layout c.args.w.now) told told (g.W.World.stored c.add_or_enter.new.w) (g.W.World.view c.add_or_enter.new.w) (g.W.World.layout c.add_or_enter.new.w) c.add_or_enter.result) (sym (subst (λ p. HasBuiltNumber (g.W.World.view c.args.w.now) c.args.args (Some p) c.args.number) c.in-Add.is c.in-Some.ensures)) (c.add_or_enter.ensures.gives told)
+pub returns-in-Number-clause-gives : goal.returns-in-Number-clause-gives
+returns-in-Number-clause-gives g c = c.number_or_enter.ensures.gives (g.K.Sink.taken c.args.out.now)
 
-pub returns-in-Add-clause-cause : goal.returns-in-Add-clause-cause
-returns-in-Add-clause-cause g c = c.add_or_enter.ensures.cause (g.K.Sink.fault_count c.args.out.now)
+pub returns-in-Number-clause-cause : goal.returns-in-Number-clause-cause
+returns-in-Number-clause-cause g c = c.number_or_enter.ensures.cause (g.K.Sink.fault_count c.args.out.now)
 
 pub returns-in-Write-clause-gives : goal.returns-in-Write-clause-gives
 returns-in-Write-clause-gives g c =
@@ -33,6 +30,15 @@ returns-in-ReadContext-clause-gives g c = c.read_or_enter.ensures.gives (g.K.Sin
 pub returns-in-ReadContext-clause-cause : goal.returns-in-ReadContext-clause-cause
 returns-in-ReadContext-clause-cause g c = c.read_or_enter.ensures.cause (g.K.Sink.fault_count c.args.out.now)
 
+pub returns-in-Unlisted-clause-gives : goal.returns-in-Unlisted-clause-gives
+returns-in-Unlisted-clause-gives g c =
+    let k = g.W.World.view c.args.w.now in
+    let x = name_of (g.W.World.stored c.args.w.now) c.args.method in
+    c.enter_behind.ensures.gives (g.K.Sink.taken c.args.out.now) c.args.number (unlisted_number_fails k x c.args.number c.args.args c.requires.enters.count (subst (λ p. HasBuiltNumber k c.args.args (Some p) c.args.number) c.in-Unlisted.is c.in-Some.ensures))
+
+pub returns-in-Unlisted-clause-cause : goal.returns-in-Unlisted-clause-cause
+returns-in-Unlisted-clause-cause g c = c.enter_behind.ensures.cause (g.K.Sink.fault_count c.args.out.now)
+
 pub returns-in_default-clause-gives : goal.returns-in_default-clause-gives
 returns-in_default-clause-gives g c =
     let k = g.W.World.view c.args.w.now in
@@ -43,3 +49,6 @@ unwind_or_enter-requires-clause-unwinds g c = subst (λ p. HasBuiltNumber (g.W.W
 
 pub read_or_enter-requires-clause-reads : goal.read_or_enter-requires-clause-reads
 read_or_enter-requires-clause-reads g c = subst (λ p. HasBuiltNumber (g.W.World.view c.args.w.now) c.args.args (Some p) c.args.number) c.in-ReadContext.is c.in-Some.ensures
+
+pub number_or_enter-requires-clause-number : goal.number_or_enter-requires-clause-number
+number_or_enter-requires-clause-number g c = subst (λ p. HasBuiltNumber (g.W.World.view c.args.w.now) c.args.args (Some p) c.args.number) c.in-Number.is c.in-Some.ensures
