@@ -1,15 +1,13 @@
 //! The special selectors: arithmetic and comparisons of SmallIntegers, identity and class.
 //!
 //! What has no answer at once is sent.
-ghost use Rattle.std.specs.Prelude.{◌≡◌, ◌-◌, ◌≤◌, IfSome, option_and_then, unwrap_or};
-ghost use Rattle.cs_model.specs.Exec.{class_out, common_out, same_out, small_operands, special_out};
-ghost use Rattle.cs_model.specs.Number.{number_result};
+ghost use Rattle.std.specs.Prelude.{◌≡◌, ◌-◌, ◌≤◌, unwrap_or};
+ghost use Rattle.cs_model.specs.Exec.{class_out, common_out, same_out, special_out};
 ghost use Rattle.cs_model.specs.Operation.{drop_of, nil_of, push_of};
 ghost use Rattle.cs_model.specs.Read.{class_of, depth_of};
 ghost use Rattle.cs_model.specs.End.{done};
-ghost use Rattle.cs_acts.specs.Arithmetic.{primitive_of};
 ghost use Rattle.cs_acts.specs.Made.{MakesAtMost};
-ghost use Rattle.cs_acts.specs.Names.{IsNamed, Names, NamesOption, name_of};
+ghost use Rattle.cs_acts.specs.Names.{IsNamed, Names, name_of};
 ghost use Rattle.cs_acts.specs.Ready.{IsReady, IsSound};
 ghost use Rattle.cs_code.specs.Gives.{Gives};
 ghost use Rattle.cs_code.specs.Selectors.{HasIndex};

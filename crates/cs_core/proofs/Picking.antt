@@ -75,8 +75,33 @@ built_numbers k number args h = built_unless k number args unbuilt
 
     unbuilt : is_unbuilt number ≡ false
     unbuilt =
-        rw (not_18, below 60 refl, below 68 refl, below 73 refl, below 77 refl, above 105 refl, above 110 refl, above 111 refl, above 148 refl, above 163 refl, above 164 refl, above 175 refl, below 256 refl,
-          above 83 refl, above 84 refl, above 188 refl, below 85 refl, above 167 refl, above 97 refl, above 113 refl, above 135 refl, above 136 refl, above 901 refl, above 196 refl, above 211 refl) refl
+        rw (
+          not_18,
+          below 60 refl,
+          below 68 refl,
+          below 73 refl,
+          below 77 refl,
+          above 105 refl,
+          above 110 refl,
+          above 111 refl,
+          above 148 refl,
+          above 163 refl,
+          above 164 refl,
+          above 175 refl,
+          below 256 refl,
+          above 83 refl,
+          above 84 refl,
+          above 188 refl,
+          below 85 refl,
+          above 167 refl,
+          above 97 refl,
+          above 113 refl,
+          above 135 refl,
+          above 136 refl,
+          above 901 refl,
+          above 196 refl,
+          above 211 refl,
+        ) refl
 
 pub built_reads : (k : Kept) (number args : ℕ) → reads_context k number args ≡ true → is_built_number k args (Some number) ≡ true
 built_reads k number args h = go (number == 210) (number == 212) (number == 73) refl refl refl h

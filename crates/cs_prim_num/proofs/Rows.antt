@@ -61,8 +61,38 @@ failing_row k number args none h = unlisted_kept number args k unlisted
 
     unlisted : is_listed number ≡ false
     unlisted =
-        rw (none, not_18, below 60 refl, below 68 refl, below 73 refl, below 77 refl, above 105 refl, above 110 refl, above 111 refl, above 148 refl, above 163 refl, above 164 refl, above 175 refl, below 256 refl,
-          above 83 refl, above 84 refl, above 188 refl, below 85 refl, above 167 refl, below 195 refl, below 201 refl, above 221 refl, above 222 refl, below 210 refl, above 97 refl, above 113 refl, above 135 refl, above 136 refl, above 900 refl, above 901 refl) refl
+        rw (
+          none,
+          not_18,
+          below 60 refl,
+          below 68 refl,
+          below 73 refl,
+          below 77 refl,
+          above 105 refl,
+          above 110 refl,
+          above 111 refl,
+          above 148 refl,
+          above 163 refl,
+          above 164 refl,
+          above 175 refl,
+          below 256 refl,
+          above 83 refl,
+          above 84 refl,
+          above 188 refl,
+          below 85 refl,
+          above 167 refl,
+          below 195 refl,
+          below 201 refl,
+          above 221 refl,
+          above 222 refl,
+          below 210 refl,
+          above 97 refl,
+          above 113 refl,
+          above 135 refl,
+          above 136 refl,
+          above 900 refl,
+          above 901 refl,
+        ) refl
 
 -- ---- by what is computed
 
