@@ -15,7 +15,7 @@ use Rattle.cs_model.specs.Canon.{canon, difference}
 use Rattle.cs_model.specs.Print.{print_of}
 use Rattle.cs_model.specs.Step as model
 use Rattle.cs_model.specs.Step.{bytecode}
-use Rattle.cs_model.specs.Report.{report_of}
+use Rattle.cs_model.specs.Report.{Place, report_line, report_of}
 use Rattle.cs_core.specs.Deep.{IsDeep, run_of, state_of}
 use Rattle.cs_core.specs.Stepped.{IsNext, Needs, next_turn}
 use Rattle.cs_acts.specs.declared.act.Full.TheVariants.{Heap}
@@ -75,6 +75,10 @@ run_status model.Steps = 0
 run_status model.Quit = 0
 run_status model.Idle = 0
 run_status (model.Stopped reason) = 1
+
+-- the report of a run that ended so behind so many steps
+abbrev pub report_answer : model.Ending → ℕ → Place → Answer
+report_answer e steps place = answering (run_status e) (codes "\n" ++ report_line e steps place)
 
 -- the answer of a run: what it wrote, and the report right behind that
 abbrev pub run_answer : model.Ran → Answer

@@ -1,6 +1,6 @@
 //! The command that runs an image.
 
-ghost use Rattle.std.specs.Prelude.{◌≡◌, ◌≤◌, List, ℕ, Some, false};
+ghost use Rattle.std.specs.Prelude.{◌≡◌, ◌≤◌, IfSome, IsSome, List, ℕ, Some, false};
 ghost use Rattle.cs_classes.specs.Meaning.{loaded_kept};
 ghost use Rattle.cs_model.specs.CommandLine.{run_pages};
 ghost use Rattle.cs_model.specs.Due.{is_idle};
@@ -9,8 +9,8 @@ ghost use Rattle.cs_model.specs.Settle.{open_kept};
 ghost use Rattle.cs_acts.specs.Layout.{IsFresh};
 ghost use Rattle.cs_acts.specs.Ready.{IsSound};
 ghost use Rattle.cs_core.specs.Deep.{most_of};
-ghost use Rattle.cs_core.specs.Running.{ending_of};
-ghost use Rattle.cs_cli.specs.Answer.{Begun, Reported, RunAnswered, run_status};
+ghost use Rattle.cs_core.specs.Running.{ending_of, place_by};
+ghost use Rattle.cs_cli.specs.Answer.{Begun, Printed, Reported, RunAnswered, report_answer, run_status};
 ghost use Rattle.cs_cli.specs.Loading.{IsOpenable};
 ghost use Rattle.cs_cli.specs.Meaning.{line_by, options_by};
 ghost use Rattle.cs_cli.specs.Possible.{IsInRange};
@@ -20,8 +20,8 @@ use crate::line::Line;
 use crate::printing::{NO_MEMORY, WRITE_FAILED, print};
 use crate::refusal::refuse;
 use crate::report::report;
-use cs_acts::{Full, World};
-use cs_core::run::{Ending, RunError, run};
+use cs_acts::{Full, Place, RunEnd, World};
+use cs_core::Vm;
 use cs_image::Loaded;
 use cs_send::Sender;
 use cs_shelf::{Shelf, Sink};
@@ -121,25 +121,40 @@ fn run_and_report<W: World + Drop, K: Sink>(world: W, sender: Sender, steps: u64
           behind = K.fault_count out.new;
         }) result }
 {
-    let mut world = world;
-    let mut sender = sender;
-    match run(&mut world, &mut sender, steps, out) {
-        Ok(ran) => {
-            let text = report(ran.ending, ran.steps, &ran.place);
-            print(out, status_of(ran.ending), text.as_str())
-        }
-        Err(RunError::Full(Full::Heap)) => HEAP_FULL,
-        Err(RunError::Full(Full::Stack)) => print(out, STACK_FULL, "cogstack: stack\n"),
-        Err(RunError::WriteFault) => WRITE_FAILED,
+    let mut machine = Vm::new(world, sender);
+    match machine.run(steps, out) {
+        RunEnd::Full(why) => match why {
+            Full::Heap => HEAP_FULL,
+            Full::Stack => print(out, STACK_FULL, "cogstack: stack\n"),
+        },
+        RunEnd::WriteFault => WRITE_FAILED,
+        end => print_report(end, machine.steps(), &machine.place(), out),
     }
 }
 
-/// The status of a run that ends so.
-fn status_of(ending: Ending) -> u8
-    ensures { result ≡ run_status (ending_of ending) }
+/// Prints the report of a run, and gives its status, or that of a failed write.
+fn print_report<K: Sink>(end: RunEnd, steps: u64, place: &Place, out: &mut K) -> u8
+    requires { IsSome (ending_of end) }
+    ensures printed { IfSome (ending_of end) (λ e. Printed (report_answer e steps (place_by place.now))
+        (record {
+          old = K.taken out.old;
+          new = K.taken out.new;
+          before = K.fault_count out.old;
+          behind = K.fault_count out.new;
+        }) result) }
 {
-    match ending {
-        Ending::Steps | Ending::Idle => 0,
-        Ending::Stopped(_) => STOPPED,
+    let text = report(end, steps, place);
+    print(out, status_of(end), text.as_str())
+}
+
+/// The status of a run that ends so.
+fn status_of(end: RunEnd) -> u8
+    requires { IsSome (ending_of end) }
+    ensures { IfSome (ending_of end) (λ e. result ≡ run_status e) }
+{
+    match end {
+        RunEnd::Steps | RunEnd::Quit | RunEnd::Idle => 0,
+        RunEnd::Stopped(_) => STOPPED,
+        RunEnd::Snapshot | RunEnd::Full(_) | RunEnd::WriteFault => unreachable!(),
     }
 }

@@ -19,6 +19,7 @@ pub mod Asking
 pub mod Places
 pub mod Deepening
 pub mod Rolling
+pub mod Phases
 mod Growing
 pub mod Replying
 pub mod Viewing

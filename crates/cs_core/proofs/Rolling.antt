@@ -1,9 +1,9 @@
 -- A run of the model, one step behind another.
 use Rattle.std.proofs.Common.{◌≡◌, ℕ, zero, suc, ◌+◌, ◌<◌, ◌≤◌, ◌==◌, Bool, true, false, refl, sym, ap, subst, ◌∙◌, IfSome, IsSomeAnd, ◌*◌, Option, Some, None, List, [], ◌++◌, nat_lt, arith, length, take, drop, ◌-◌}
 use Rattle.std.specs.Prelude.{if◌then◌else◌, ◌||◌}
-use Rattle.std.proofs.lemmas.Bool.{eqb-true, eqb-false}
+use Rattle.std.proofs.lemmas.Bool.{eqb-true, eqb-false, false≢true}
 use Rattle.std.proofs.Math.Seq.{take-add}
-use Rattle.std.proofs.lemmas.List.{take_at, drop_at, length-append, append-nil}
+use Rattle.std.proofs.lemmas.List.{take_at, drop_at, length-append, append-nil, append_assoc}
 use Rattle.cs_shelf.specs.Outside.{Appends, AppendsPart, Rose}
 use Rattle.cs_shelf.proofs.Appending.{appends_then}
 use Rattle.cs_model.specs.declared.stop.Stop.{Stop as Reason}
@@ -15,7 +15,7 @@ use Rattle.cs_model.specs.Alike.{AlikeStep}
 use Rattle.cs_model.specs.End.{End, Out, given, no_count}
 use Rattle.cs_model.specs.End as ends
 use Rattle.cs_model.specs.PrimRun.{Result}
-use Rattle.cs_model.specs.Due.{Happened, due, due_of, happened, is_idle}
+use Rattle.cs_model.specs.Due.{Happened, due, due_of, happened, is_idle, without_context}
 use Rattle.cs_model.specs.Step.{saved_fault, Ending, Steps, Quit, Idle, Stopped, Step, Ran, go_on, one_more, run_by, stops, step, ready, after_due, stop_in, finish, finish_of, completed, ends_with, add_count, shape_fault, birth_limit, idle, bytecode, with_kept}
 use Rattle.cs_model.specs.Built.{built_step, is_built, is_built_bytecode}
 use Rattle.cs_model.specs.Report.{no_place, place_of}
@@ -28,23 +28,26 @@ use Rattle.cs_acts.specs.Layout.{IsFresh, IsLaidOut, Layout}
 use Rattle.cs_acts.specs.Names.{Store}
 use Rattle.cs_heap.specs.Object.{used}
 use Rattle.cs_acts.specs.Ready.{IsReady, IsSound}
-use Rattle.cs_core.specs.declared.step.StepEnd.TheVariants as how
-use Rattle.cs_core.specs.declared.run.Ran.{Ran as Report}
+use Rattle.cs_core.specs.declared.step.StepEnd.TheVariants as turn
+use Rattle.cs_acts.specs.declared.run.Phase.{Phase}
+use Rattle.cs_acts.specs.declared.run.Phase.TheVariants as phase
+use Rattle.cs_acts.specs.declared.run.Place.{Place}
+use Rattle.cs_acts.specs.declared.run.RunEnd.{RunEnd}
+use Rattle.cs_acts.specs.declared.run.RunEnd.TheVariants as how
 use Rattle.cs_word.specs.declared.Oop.{Oop}
-use Rattle.cs_core.specs.Stepped.{CausesNoRoom, IsNext, Needs, whole, unheld, untold, Overfills, StepGives, Turn, can_begin, least_of_return, next_turn, run_at, state_at, step_at}
+use Rattle.cs_core.specs.Stepped.{CausesNoRoom, IsNext, Needs, whole, unheld, untold, Overfills, Completes, LeadsToNone, StepGives, Turn, can_begin, least_of_return, next_turn, run_at, state_at, step_at}
 use Rattle.cs_core.proofs.Growing.{part_of_more, run_writes}
-use Rattle.cs_core.specs.declared.run.RunError.TheVariants.{Full, WriteFault}
 use Rattle.cs_core.specs.Deep.{AllBegun, IsDeep, most_of, run_of, state_of}
 use Rattle.cs_core.specs.Stacked.{IsStacked}
-use Rattle.cs_core.specs.declared.run.Ending.{Ending as How}
-use Rattle.cs_core.specs.declared.run.Ending.TheVariants as hows
-use Rattle.cs_core.specs.Running.{HasNoRoom, RunBreaks, RunGives, RunFails, RunLeads, StandsFor, as_kept, at_rest, ending_of, ending_at_rest, place_by}
+use Rattle.cs_core.specs.Running.{HasNoRoom, InPhase, IsCutShort, IsStackOf, RunCausedByFault, RunGives, RunReaches, Stands, StandsFor, UnlessBroken, WritesSince, as_kept, at_rest, ending_at_rest, ending_of, output_of, phase_behind, place_by}
+use Rattle.cs_core.specs.VmParts.{Seen, seen_at}
 use Rattle.cs_core.proofs.Carrying.{overfills_too}
 use Rattle.cs_core.proofs.Deepening.{begun_at_start, begun_on, is_deep}
 use Rattle.cs_core.proofs.Laying.{fills_by_words, page_words_kept}
 use Rattle.cs_core.proofs.Stacking.{fresh_stacked}
 use Rattle.cs_core.proofs.Nexting.{begin_kept, next_kept, next_same}
 use Rattle.cs_core.proofs.Places.{idle_place}
+use Rattle.cs_core.proofs.Turning.{idle_stays, next_stays}
 
 -- ---- a run that has ended stays
 
@@ -175,143 +178,14 @@ rests_at k output i n false e within ended run is_none =
       state = ap (λ (r : Ran). r.state) stay ∙ state;
     }
 
--- what a run reports that comes to rest behind i steps
-rests_gives : (k : Kept) (old now : Option (List ℕ)) (output : List ℕ) (i n : ℕ) (next : ℕ) (r : Report) → i ≤ n → (run_of k i).ending ≡ Steps → (run_of k i).state.run ≡ run_at output i
-    → is_idle (run_of k i).state.kept ≡ true → (run_of k i).state.kept.rest.next ≡ next → Appends old now output
-    → r.steps ≡ i → place_by r.place ≡ no_place → ending_of r.ending ≡ ending_at_rest next i n → RunGives k old now n r
-rests_gives k old now output i n next r within ended run is_none births written steps place ending =
-    let rests : Rests k i n = rests_at k output i n (i == n) refl within ended run is_none in
-    let runs : (run_of k n).state.run ≡ run_at output i = ap (λ (s : State). s.run) rests.state ∙ run in
-    record {
-      ending = rests.ending ∙ ap (λ (b : ℕ). ending_at_rest b i n) births ∙ sym ending;
-      steps = ap (λ (q : Run). q.steps) runs ∙ sym steps;
-      place = ap (λ (s : State). place_of s.kept) rests.state ∙ idle_place (run_of k i).state.kept is_none ∙ sym place;
-      written = subst (λ (bytes : List ℕ). Appends old now bytes) (sym (ap (λ (q : Run). q.output) runs)) written;
-    }
-
--- ---- a run so far
-
-started_ending : (k : Kept) → (run_of k 0).ending ≡ Steps
-unfolding run_by
-started_ending k = refl
-
-started_state : (k : Kept) → (run_of k 0).state ≡ state_at k [] 0
-unfolding run_by
-started_state k = refl
+-- ---- what is written
 
 appends_none : (old : Option (List ℕ)) → Appends old old []
 appends_none None = refl
 appends_none (Some bytes) = ap Some (sym (append-nil bytes))
 
--- i steps are done, a process is active, and all that has a frame has begun
-pub record Stands (k : Kept) (old now : Option (List ℕ)) (i : ℕ) (s : Store) (v : Kept) (l : Option Layout) : Type 0 where
-  pub output : List ℕ
-  pub ending : (run_of k i).ending ≡ Steps
-  pub run : (run_of k i).state.run ≡ run_at output i
-  pub written : Appends old now output
-  pub keeps : Keeps v (run_of k i).state.kept
-  pub ready : IsReady s v
-  pub active : is_idle v ≡ false
-  pub begun : AllBegun k i l
-  pub stacked : IsLaidOut s v l → IsStacked v l
-
-pub begins : (k : Kept) (old : Option (List ℕ)) (s : Store) (l : Option Layout) → IsSound s k → (is_idle k ≡ false → IsRunning k) → is_idle k ≡ false → IsFresh k l → Stands k old old 0 s k l
-begins k old s l sound running active fresh = record {
-  output = [];
-  ending = started_ending k;
-  run = ap (λ (s : State). s.run) (started_state k);
-  written = appends_none old;
-  keeps = subst (λ (s : State). Keeps k s.kept) (sym (started_state k)) sound.closed;
-  ready = record { sound = sound; running = running active };
-  active = active;
-  begun = begun_at_start k l fresh;
-  stacked = λ laid. fresh_stacked s k l (running active) fresh laid;
-}
-
-pub begins_idle : (k : Kept) (old : Option (List ℕ)) (n : ℕ) (r : Report) → is_idle k ≡ true → r.steps ≡ 0 → place_by r.place ≡ no_place → ending_of r.ending ≡ ending_at_rest k.rest.next 0 n
-    → RunGives k old old n r
-begins_idle k old n r is_none steps place ending =
-    let within : 0 ≤ n = omega arith in
-    rests_gives k old old [] 0 n k.rest.next r within (started_ending k) (ap (λ (s : State). s.run) (started_state k)) (subst (λ (s : State). is_idle s.kept ≡ true) (sym (started_state k)) is_none)
-    (ap (λ (s : State). s.kept.rest.next) (started_state k)) (appends_none old) steps place ending
-
-next_alike : {k : Kept} {old now : Option (List ℕ)} {i : ℕ} {s : Store} {v : Kept} {l : Option Layout} → (h : Stands k old now i s v l) → AlikeStep v (step_at v h.output i) (built_step (run_of k i).state)
-next_alike h = built_step_alike (record { kept = h.keeps; run = sym h.run })
-
-more : {k : Kept} {old now : Option (List ℕ)} {i : ℕ} {s : Store} {v : Kept} {l : Option Layout} → Stands k old now i s v l → run_of k (i + 1) ≡ one_more (run_of k i) (built_step (run_of k i).state)
-more {k = k} {i = i} h = more_by built_step i (state_at k [] 0) h.ending
-
--- the step that follows
-record Follows (k : Kept) (i : ℕ) (t : Step) : Type 0 where
-  pub ending : (run_of k (i + 1)).ending ≡ t.ending
-  pub run : (run_of k (i + 1)).state.run ≡ t.state.run
-  pub keeps : Keeps t.state.kept (run_of k (i + 1)).state.kept
-
-follows : {k : Kept} {old now : Option (List ℕ)} {i : ℕ} {s : Store} {v : Kept} {l : Option Layout} → (h : Stands k old now i s v l) → Follows k i (step_at v h.output i)
-follows {i = i} {v = v} h =
-    let a = next_alike h in
-    let m = more h in
-    record {
-      ending = ap (λ (r : Ran). r.ending) m ∙ sym a.ending;
-      run = ap (λ (r : Ran). r.state.run) m ∙ sym a.state.run;
-      keeps = subst (λ (r : Ran). Keeps (step_at v h.output i).state.kept r.state.kept) (sym m) a.state.kept;
-    }
-
-pub goes_on : {k : Kept} {old now new : Option (List ℕ)} {i : ℕ} {s t : Store} {v w : Kept} {l n : Option Layout} (p : Oop) → Stands k old now i s v l → IsLaidOut s v l → StepGives v l now new t w n (how.Active p) → Stands k old new (i + 1) t w n
-goes_on {k = k} {old = old} {now = now} {new = new} {i = i} {w = w} {l = l} {n = n} p h laid g =
-    let f = follows h in
-    let done = g.2 h.output i in
-    record {
-      output = h.output ++ g.0;
-      ending = f.ending ∙ done.0;
-      run = f.run ∙ done.1;
-      written = appends_then old now new h.output g.0 h.written g.1;
-      keeps = Keeps-trans (g.3 h.output i) f.keeps;
-      ready = g.4;
-      active = g.5;
-      begun = begun_on k w i l n (ap (λ (r : Rest). r.active) (sym (Keeps-trans (g.3 h.output i) f.keeps).rest)) h.begun g.6.frames;
-      stacked = λ there. g.6.stacked (h.stacked laid) there;
-    }
-
-pub goes_idle : {k : Kept} {old now new : Option (List ℕ)} {i : ℕ} {s t : Store} {v w : Kept} {l : Option Layout} (b : Option Layout) (n : ℕ) (r : Report) → i < n → Stands k old now i s v l → StepGives v l now new t w b how.Idle
-    → r.steps ≡ i + 1 → place_by r.place ≡ no_place → ending_of r.ending ≡ ending_at_rest w.rest.next (i + 1) n → RunGives k old new n r
-goes_idle {k = k} {old = old} {now = now} {new = new} {i = i} {w = w} b n r below h g steps place ending =
-    let f = follows h in
-    let done = g.2 h.output i in
-    let none = g.3 h.output i in
-    let within : i + 1 ≤ n = omega arith in
-    rests_gives k old new (h.output ++ g.0) (i + 1) n w.rest.next r within (f.ending ∙ done.0) (f.run ∙ done.1) (is_idle-kept _ _ f.keeps ∙ none.0)
-    (sym (ap (λ (r : Rest). r.next) f.keeps.rest) ∙ none.1) (appends_then old now new h.output g.0 h.written g.1) steps place ending
-
--- the run stops in the step that follows, and stands before it
-record StopsThere (k : Kept) (i n : ℕ) (reason : Reason) : Type 0 where
-  pub ending : (run_of k n).ending ≡ Stopped reason
-  pub state : (run_of k n).state ≡ (run_of k i).state
-
-stops_there : {k : Kept} {old now new : Option (List ℕ)} {i : ℕ} {s : Store} {v : Kept} {l : Option Layout} (t : Store) (w : Kept) (b : Option Layout) (n : ℕ) (reason : Reason) → i < n → Stands k old now i s v l → StepGives v l now new t w b (how.Stopped reason) → StopsThere k i n reason
-stops_there {k = k} {i = i} t w b n reason below h g =
-    let f = follows h in
-    let m = more h in
-    let stopped : (run_of k (i + 1)).ending ≡ Stopped reason = f.ending ∙ g.1 h.output i in
-    let apart : n ≡ (i + 1) + (n - (i + 1)) = omega (arith, below) in
-    let stay : run_of k n ≡ run_of k (i + 1) = stays built_step (i + 1) (n - (i + 1)) n (state_at k [] 0) apart (λ e. let no : Stopped reason ≡ Steps = sym stopped ∙ e in cc) in
-    let back : (built_step (run_of k i).state).state ≡ (run_of k i).state = built_back (run_of k i).state reason (sym (ap (λ (r : Ran). r.ending) m) ∙ stopped) in
-    record {
-      ending = ap (λ (r : Ran). r.ending) stay ∙ stopped;
-      state = ap (λ (r : Ran). r.state) stay ∙ ap (λ (r : Ran). r.state) m ∙ back;
-    }
-
-pub goes_no_further : {k : Kept} {old now new : Option (List ℕ)} {i : ℕ} {s : Store} {v : Kept} {l : Option Layout} (t : Store) (w : Kept) (b : Option Layout) (n : ℕ) (r : Report) (reason : Reason) → i < n → Stands k old now i s v l → StepGives v l now new t w b (how.Stopped reason)
-    → r.steps ≡ i → place_of v ≡ place_by r.place → ending_of r.ending ≡ Stopped reason → RunGives k old new n r
-goes_no_further {k = k} {old = old} {now = now} {new = new} {i = i} {v = v} t w b n r reason below h g steps place ending =
-    let state = (stops_there t w b n reason below h g).state in
-    let runs : (run_of k n).state.run ≡ run_at h.output i = ap (λ (s : State). s.run) state ∙ h.run in
-    record {
-      ending = (stops_there t w b n reason below h g).ending ∙ sym ending;
-      steps = ap (λ (q : Run). q.steps) runs ∙ sym steps;
-      place = ap (λ (s : State). place_of s.kept) state ∙ place_of-kept v (run_of k i).state.kept h.keeps ∙ place;
-      written = subst (λ (o : Option (List ℕ)). Appends old o (run_of k n).state.run.output) (sym g.0) (subst (λ (bytes : List ℕ). Appends old now bytes) (sym (ap (λ (q : Run). q.output) runs)) h.written);
-    }
+since_by : (k : Kept) (j n : ℕ) (old new : Option (List ℕ)) (since : List ℕ) → output_of k n ≡ output_of k j ++ since → Appends old new since → WritesSince (output_of k j) (output_of k n) old new
+since_by k j n old new since more written = record { bytes = since; more = more; written = written }
 
 append_part : (old now new : Option (List ℕ)) (xs ys : List ℕ) → Appends old now xs → AppendsPart now new ys → AppendsPart old new (xs ++ ys)
 append_part old now new xs ys h g =
@@ -323,83 +197,308 @@ append_part old now new xs ys h g =
     take-add (length xs) g.0 (xs ++ ys) ∙ ap (λ (zs : List ℕ). zs ++ take g.0 (drop (length xs) (xs ++ ys))) first ∙ ap (λ (zs : List ℕ). xs ++ take g.0 zs) rest in
     (length xs + g.0, below, subst (λ (zs : List ℕ). Appends old new zs) (sym parts) (appends_then old now new xs (take g.0 ys) h g.2))
 
-pub fails : {k : Kept} {old now new : Option (List ℕ)} {i : ℕ} {s : Store} {v : Kept} {l : Option Layout} (t : Store) (w : Kept) (b first : Option Layout) (n : ℕ) → i < n → Stands k old now i s v l → StepGives v l now new t w b how.WriteFault → RunFails k t first old new n WriteFault
-fails {k = k} {old = old} {now = now} {new = new} {i = i} t w b first n below h g =
-    let f = follows h in
-    let output : (run_of k (i + 1)).state.run.output ≡ h.output ++ g.0 = ap (λ (q : Run). q.output) (f.run ∙ (g.2 h.output i).1) in
-    let part : AppendsPart old new (run_of k (i + 1)).state.run.output = subst (λ (bytes : List ℕ). AppendsPart old new bytes) (sym output) (append_part old now new h.output g.0 h.written g.1) in
-    let later = run_writes (i + 1) (n - (i + 1)) n (state_at k [] 0) refl (omega (arith, below)) in
-    part_of_more old new (run_of k (i + 1)).state.run.output later.more (run_of k n).state.run.output later.output part
+-- ---- at rest
 
-pub finishes : {k : Kept} {old now : Option (List ℕ)} {i : ℕ} {s : Store} {v : Kept} {l : Option Layout} (n : ℕ) (r : Report) → i ≡ n → Stands k old now i s v l
-    → r.steps ≡ n → place_of v ≡ place_by r.place → ending_of r.ending ≡ Steps → RunGives k old now n r
-finishes {k = k} {old = old} {now = now} {i = i} {v = v} n r all h steps place ending =
-    subst (λ (n : ℕ). RunGives k old now n r) all (record {
-      ending = h.ending ∙ sym ending;
-      steps = ap (λ (q : Run). q.steps) h.run ∙ all ∙ sym steps;
-      place = place_of-kept v (run_of k i).state.kept h.keeps ∙ place;
-      written = subst (λ (bytes : List ℕ). Appends old now bytes) (sym (ap (λ (q : Run). q.output) h.run)) h.written;
-    })
+rest_ends : (i n next : ℕ) (e : Ending) → ending_at_rest next i n ≡ e → e ≡ Steps → i ≡ n
+rest_ends i n next e is steps = go (i == n) refl (is ∙ steps)
+  where
+    go : (b : Bool) → (i == n) ≡ b → (if b then Steps else (if nat_lt birth_limit next then Stopped why.BirthLimit else Idle)) ≡ Steps → i ≡ n
+    go true same h = eqb-true i n same
+    go false other h = absurd (not_steps (nat_lt birth_limit next) h)
 
--- ---- the world behind a run
+rest_not_quit : (i n next : ℕ) → ending_at_rest next i n ≡ Quit → ⊥
+rest_not_quit i n next = go (i == n) (nat_lt birth_limit next)
+  where
+    go : (b c : Bool) → (if b then Steps else (if c then Stopped why.BirthLimit else Idle)) ≡ Quit → ⊥
+    go true c h = cc
+    go false true h = cc
+    go false false h = cc
 
--- nothing changes in the state of a run at rest
-rests_stand : (k w : Kept) (output : List ℕ) (i n : ℕ) → i ≤ n → (run_of k i).ending ≡ Steps → (run_of k i).state.run ≡ run_at output i → is_idle (state_of k i) ≡ true → StandsFor w (state_of k i) → StandsFor w (state_of k n)
-rests_stand k w output i n within ended run is_none stands =
-    let rests : Rests k i n = rests_at k output i n (i == n) refl within ended run is_none in
-    subst (λ (s : State). StandsFor w s.kept) (sym rests.state) stands
+-- a run on from step j that no process is active in behind i steps, in a world that stands for its state
+pub record IsResting (k : Kept) (j i : ℕ) (old new : Option (List ℕ)) (v : Kept) : Type 0 where
+  pub since : List ℕ
+  pub ending : (run_of k i).ending ≡ Steps
+  pub run : (run_of k i).state.run ≡ run_at (output_of k j ++ since) i
+  pub written : Appends old new since
+  pub none : is_idle v ≡ true
+  pub world : StandsFor v (state_of k i)
 
-leads_by : (k : Kept) (n : ℕ) (s : Store) (v : Kept) (e : How) → IsSound s v → StandsFor v (state_of k n) → RunLeads k n s v e
-leads_by k n s v hows.Steps sound stands = (sound, stands)
-leads_by k n s v hows.Idle sound stands = (sound, stands)
-leads_by k n s v (hows.Stopped reason) sound stands = (sound, λ none. stands)
+stands_idle : (v m : Kept) → is_idle v ≡ true → StandsFor v m → is_idle m ≡ true
+stands_idle v m none (as_kept keeps) = is_idle-kept v m keeps ∙ none
+stands_idle v m none (at_rest idle keeps) = idle
 
-pub idle_leads : (k : Kept) (n : ℕ) (s : Store) (e : How) → IsSound s k → is_idle k ≡ true → RunLeads k n s k e
-idle_leads k n s e sound is_none =
-    let within : 0 ≤ n = omega arith in
-    let start : StandsFor k (state_of k 0) = subst (λ (s : State). StandsFor k s.kept) (sym (started_state k)) (as_kept sound.closed) in
-    leads_by k n s k e sound
-    (rests_stand k k [] 0 n within (started_ending k) (ap (λ (s : State). s.run) (started_state k)) (subst (λ (s : State). is_idle s.kept ≡ true) (sym (started_state k)) is_none) start)
+stands_next : (v m : Kept) → StandsFor v m → m.rest.next ≡ v.rest.next
+stands_next v m (as_kept keeps) = ap (λ (r : Rest). r.next) (sym keeps.rest)
+stands_next v m (at_rest idle keeps) = ap (λ (r : Rest). r.next) (sym keeps.rest) ∙ next_stays v
 
-pub rests_leads : {k : Kept} {old now new : Option (List ℕ)} {i : ℕ} {s t : Store} {v w : Kept} {l : Option Layout} (b : Option Layout) (n : ℕ) (e : How) → i < n → Stands k old now i s v l → StepGives v l now new t w b how.Idle → RunLeads k n t w e
-rests_leads {k = k} {i = i} {t = t} {w = w} b n e below h g =
-    let f = follows h in
-    let done = g.2 h.output i in
-    let none = g.3 h.output i in
-    let within : i + 1 ≤ n = omega arith in
-    let is_none : is_idle (state_of k (i + 1)) ≡ true = is_idle-kept _ _ f.keeps ∙ none.0 in
-    leads_by k n t w e g.4 (rests_stand k w (h.output ++ g.0) (i + 1) n within (f.ending ∙ done.0) (f.run ∙ done.1) is_none (at_rest is_none (Keeps-trans none.2 f.keeps)))
+module _ {k : Kept} {j i : ℕ} {old new : Option (List ℕ)} {v : Kept} (n : ℕ) (a : Seen) (s : Store) (l : Option Layout) (place : Place) (within : i ≤ n) (h : IsResting k j i old new v) (no : place_by place ≡ no_place) where
+  rests : Rests k i n
+  rests = rests_at k (output_of k j ++ h.since) i n (i == n) refl within h.ending h.run (stands_idle v (state_of k i) h.none h.world)
 
-pub finish_leads : {k : Kept} {old now : Option (List ℕ)} {i : ℕ} {s : Store} {v : Kept} {l : Option Layout} (n : ℕ) → i ≡ n → Stands k old now i s v l → RunLeads k n s v hows.Steps
-finish_leads {k = k} {s = s} {v = v} n all h = (h.ready.sound, subst (λ m. StandsFor v (state_of k m)) all (as_kept h.keeps))
+  resting_run : (run_of k n).state.run ≡ run_at (output_of k j ++ h.since) i
+  resting_run = ap (λ (s : State). s.run) rests.state ∙ h.run
 
--- a step that can't begin leaves the view
-pub stop_leads : {k : Kept} {old now new : Option (List ℕ)} {i : ℕ} {s : Store} {v : Kept} {l : Option Layout} (t : Store) (w : Kept) (b : Option Layout) (n : ℕ) (reason : Reason) → i < n → Stands k old now i s v l → StepGives v l now new t w b (how.Stopped reason)
-    → IsSound t w → (can_begin v ≡ false → w ≡ v) → RunLeads k n t w (hows.Stopped reason)
-stop_leads {k = k} {i = i} {v = v} t w b n reason below h g sound untouched =
-    let state : (run_of k n).state ≡ (run_of k i).state = (stops_there t w b n reason below h g).state in (
-      sound,
-      λ none.
-          let there : can_begin v ≡ false = sym (begin_kept v (state_of k i) h.keeps) ∙ ap (λ (s : State). can_begin s.kept) (sym state) ∙ none in
-          subst (λ (s : State). StandsFor w s.kept) (sym state) (subst (λ (u : Kept). StandsFor u (state_of k i)) (sym (untouched there)) (as_kept h.keeps)),
-    )
+  resting_output : output_of k n ≡ output_of k j ++ h.since
+  resting_output = ap (λ (q : Run). q.output) resting_run
 
--- the step in which the sink fails
-pub breaks : {k : Kept} {old now new : Option (List ℕ)} {i : ℕ} {s : Store} {v : Kept} {l : Option Layout} (t : Store) (w : Kept) (b : Option Layout) (n : ℕ) → i < n → Stands k old now i s v l → StepGives v l now new t w b how.WriteFault → RunBreaks k old new n
-breaks {k = k} {old = old} {now = now} {new = new} {i = i} t w b n below h g =
-    let f = follows h in
-    let written : (run_of k i).state.run.output ≡ h.output = ap (λ (q : Run). q.output) h.run in
-    let output : (run_of k (i + 1)).state.run.output ≡ h.output ++ g.0 = ap (λ (q : Run). q.output) (f.run ∙ (g.2 h.output i).1) in
+  resting_world : StandsFor v (state_of k n)
+  resting_world = subst (λ (s : State). StandsFor v s.kept) (sym rests.state) h.world
+
+  resting_reaches : (e : Ending) (p : Phase) → ending_at_rest v.rest.next i n ≡ e → RunReaches k j n old new (seen_at s v l i place p) e
+  resting_reaches e p is = record {
+    ended = rests.ending ∙ ap (λ (b : ℕ). ending_at_rest b i n) (stands_next v (state_of k i) h.world) ∙ is;
+    steps = ap (λ (q : Run). q.steps) resting_run;
+    place = ap (λ (s : State). place_of s.kept) rests.state ∙ idle_place (state_of k i) (stands_idle v (state_of k i) h.none h.world) ∙ sym no;
+    written = since_by k j n old new h.since resting_output h.written;
+  }
+
+  resting_stands : (e : Ending) (p : Phase) → ending_at_rest v.rest.next i n ≡ e → (p ≡ phase.Ready → e ≡ Steps) → Stands k n (seen_at s v l i place p)
+  resting_stands e p is ready = record {
+    world = resting_world;
+    run = resting_run ∙ ap (λ (bytes : List ℕ). run_at bytes i) (sym resting_output);
+    ending = λ at. (resting_reaches e p is).ended ∙ ready at;
+    counted = λ at. rest_ends i n v.rest.next e is (ready at);
+  }
+
+  rests_give : (end : RunEnd) → ending_of end ≡ Some (ending_at_rest v.rest.next i n) → RunGives k j n old new a (seen_at s v l i place (phase_behind end)) end
+  rests_give how.Steps is =
+      let e : ending_at_rest v.rest.next i n ≡ Steps = cc in
+      (resting_reaches Steps phase.Ready e, resting_stands Steps phase.Ready e (λ at. refl), λ held active. absurd (false≢true (sym active ∙ h.none)))
+  rests_give how.Quit is = let e : ending_at_rest v.rest.next i n ≡ Quit = cc in absurd (rest_not_quit i n v.rest.next e)
+  rests_give how.Idle is =
+      let e : ending_at_rest v.rest.next i n ≡ Idle = cc in
+      (resting_reaches Idle phase.Idle e, resting_stands Idle phase.Idle e (λ at. absurd (cc)))
+  rests_give how.Snapshot is = absurd (cc)
+  rests_give (how.Stopped reason) is =
+      let e : ending_at_rest v.rest.next i n ≡ Stopped reason = cc in
+      (resting_reaches (Stopped reason) phase.Over e, λ none. resting_world)
+  rests_give (how.Full why) is = absurd (cc)
+  rests_give how.WriteFault is = absurd (cc)
+
+  pub rests_here : (m : ℕ) (end : RunEnd) → m ≡ i → ending_of end ≡ Some (ending_at_rest v.rest.next i n) → RunGives k j n old new a (seen_at s v l m place (phase_behind end)) end
+  rests_here m end same is = subst (λ (m : ℕ). RunGives k j n old new a (seen_at s v l m place (phase_behind end)) end) (sym same) (rests_give end is)
+
+-- what holds of the world then
+pub rest_follows : (s : Store) (v : Kept) (i n : ℕ) (end : RunEnd) → IsSound s v → is_idle v ≡ true → ending_of end ≡ Some (ending_at_rest v.rest.next i n) → InPhase (phase_behind end) s v
+rest_follows s v i n how.Steps sound none is = (sound, λ active. absurd (false≢true (sym active ∙ none)))
+rest_follows s v i n how.Quit sound none is = let e : ending_at_rest v.rest.next i n ≡ Quit = cc in absurd (rest_not_quit i n v.rest.next e)
+rest_follows s v i n how.Idle sound none is = sound
+rest_follows s v i n how.Snapshot sound none is = absurd (cc)
+rest_follows s v i n (how.Stopped reason) sound none is = tt
+rest_follows s v i n (how.Full why) sound none is = tt
+rest_follows s v i n how.WriteFault sound none is = tt
+
+-- ---- a run so far
+
+-- So many steps of the run from k are done, on from step j, and the world keeps the state behind them. Where the pages were the stack of
+-- the run before, they are.
+pub record Goes (k : Kept) (j : ℕ) (stack : Type 0) (old now : Option (List ℕ)) (i : ℕ) (s : Store) (v : Kept) (l : Option Layout) : Type 0 where
+  pub since : List ℕ
+  pub ending : (run_of k i).ending ≡ Steps
+  pub run : (run_of k i).state.run ≡ run_at (output_of k j ++ since) i
+  pub written : Appends old now since
+  pub keeps : Keeps v (state_of k i)
+  pub begun : stack → AllBegun k i l
+  pub stacked : stack → IsLaidOut s v l → IsStacked v l
+
+started_ending : (k : Kept) → (run_of k 0).ending ≡ Steps
+unfolding run_by
+started_ending k = refl
+
+started_state : (k : Kept) → (run_of k 0).state ≡ state_at k [] 0
+unfolding run_by
+started_state k = refl
+
+-- a machine that has done nothing yet
+pub starts : (v k : Kept) (s : Store) (l : Option Layout) (place : Place) → Keeps v k → Stands k 0 (seen_at s v l 0 place phase.Ready)
+starts v k s l place keeps = record {
+  world = subst (λ (x : State). StandsFor v x.kept) (sym (started_state k)) (as_kept keeps);
+  run = ap (λ (x : State). x.run) (started_state k) ∙ sym (ap (λ (x : State). run_at x.run.output 0) (started_state k));
+  ending = λ at. started_ending k;
+  counted = λ at. refl;
+}
+
+fresh_kept : (v k : Kept) (l : Option Layout) → Keeps v k → IsFresh v l → IsFresh k l
+fresh_kept v k None keeps fresh = tt
+fresh_kept v k (Some l) keeps fresh = λ birth is. ap (λ (r : Rest). r.active) (sym keeps.rest) ∙ fresh birth is
+
+pub starts_stack : (v k : Kept) (s : Store) (l : Option Layout) (place : Place) → (is_idle v ≡ false → IsRunning v) → Keeps v k → IsFresh v l → IsStackOf k 0 (seen_at s v l 0 place phase.Ready)
+starts_stack v k s l place running keeps fresh = λ active. record {
+  begun = begun_at_start k l (fresh_kept v k l keeps fresh);
+  stacked = λ laid. fresh_stacked s v l (running active) fresh laid;
+}
+
+keeps_active : (v m : Kept) → is_idle v ≡ false → StandsFor v m → Keeps v m
+keeps_active v m active (as_kept keeps) = keeps
+keeps_active v m active (at_rest idle keeps) =
+    let is : without_context v ≡ v = rw active in
+    subst (λ (x : Kept). Keeps x m) is keeps
+
+pub begins : (k : Kept) (j : ℕ) (old : Option (List ℕ)) (a : Seen) → a.phase ≡ phase.Ready → is_idle a.view ≡ false → Stands k j a → Goes k j (IsStackOf k j a) old old a.steps a.stored a.view a.layout
+begins k j old a ready active h =
+    let at = h.counted ready in
     record {
-      done = i;
-      fewer = below;
-      ending = h.ending;
-      bytes = g.0;
-      next = output ∙ ap (λ (bytes : List ℕ). bytes ++ g.0) (sym written);
-      part = g.1.0;
-      less = g.1.1;
-      written = subst (λ (bytes : List ℕ). Appends old new (bytes ++ take g.1.0 g.0)) (sym written) (appends_then old now new h.output (take g.1.0 g.0) h.written g.1.2);
+      since = [];
+      ending = ap (λ (n : ℕ). (run_of k n).ending) at ∙ h.ending ready;
+      run = ap (λ (n : ℕ). (run_of k n).state.run) at ∙ h.run ∙ ap (λ (bytes : List ℕ). run_at bytes a.steps) (sym (append-nil (output_of k j)));
+      written = appends_none old;
+      keeps = subst (λ (n : ℕ). Keeps a.view (state_of k n)) (sym at) (keeps_active a.view (state_of k j) active h.world);
+      begun = λ held. subst (λ (n : ℕ). AllBegun k n a.layout) (sym at) (held active).begun;
+      stacked = λ held. (held active).stacked;
     }
+
+pub begins_idle : (k : Kept) (j : ℕ) (old : Option (List ℕ)) (a : Seen) → a.phase ≡ phase.Ready → is_idle a.view ≡ true → Stands k j a → IsResting k j a.steps old old a.view
+begins_idle k j old a ready none h =
+    let at = h.counted ready in
+    record {
+      since = [];
+      ending = ap (λ (n : ℕ). (run_of k n).ending) at ∙ h.ending ready;
+      run = ap (λ (n : ℕ). (run_of k n).state.run) at ∙ h.run ∙ ap (λ (bytes : List ℕ). run_at bytes a.steps) (sym (append-nil (output_of k j)));
+      written = appends_none old;
+      none = none;
+      world = subst (λ (n : ℕ). StandsFor a.view (state_of k n)) (sym at) h.world;
+    }
+
+-- the step that follows
+record Follows (k : Kept) (i : ℕ) (t : Step) : Type 0 where
+  pub ending : (run_of k (i + 1)).ending ≡ t.ending
+  pub run : (run_of k (i + 1)).state.run ≡ t.state.run
+  pub keeps : Keeps t.state.kept (run_of k (i + 1)).state.kept
+
+idle_without : (w : Kept) → is_idle (without_context w) ≡ is_idle w
+idle_without w = go (is_idle w) refl
+  where
+    go : (b : Bool) → is_idle w ≡ b → is_idle (without_context w) ≡ is_idle w
+    go true e = idle_stays w e ∙ sym e
+    go false e = let is : without_context w ≡ w = rw e in ap is_idle is
+
+-- a step leaves no process active in the world either
+pub left_idle : (v w : Kept) → LeadsToNone v w → is_idle w ≡ true
+left_idle v w leads =
+    let none = leads [] 0 in
+    sym (idle_without w) ∙ sym (is_idle-kept (without_context w) _ none.2) ∙ none.0
+
+module _ {k : Kept} {j : ℕ} {stack : Type 0} {old now : Option (List ℕ)} {i : ℕ} {s : Store} {v : Kept} {l : Option Layout} (h : Goes k j stack old now i s v l) where
+  sofar : List ℕ
+  sofar = output_of k j ++ h.since
+
+  sofar_is : output_of k i ≡ output_of k j ++ h.since
+  sofar_is = ap (λ (q : Run). q.output) h.run
+
+  next_alike : AlikeStep v (step_at v (output_of k j ++ h.since) i) (built_step (run_of k i).state)
+  next_alike = built_step_alike (record { kept = h.keeps; run = sym h.run })
+
+  more : run_of k (i + 1) ≡ one_more (run_of k i) (built_step (run_of k i).state)
+  more = more_by built_step i (state_at k [] 0) h.ending
+
+  follows : Follows k i (step_at v (output_of k j ++ h.since) i)
+  follows =
+      let a = next_alike in
+      record {
+        ending = ap (λ (r : Ran). r.ending) more ∙ sym a.ending;
+        run = ap (λ (r : Ran). r.state.run) more ∙ sym a.state.run;
+        keeps = subst (λ (r : Ran). Keeps (step_at v (output_of k j ++ h.since) i).state.kept r.state.kept) (sym more) a.state.kept;
+      }
+
+  -- the run behind the step that follows, where it is completed
+  longer : (bytes : List ℕ) → Completes v bytes → (run_of k (i + 1)).state.run ≡ run_at (output_of k j ++ (h.since ++ bytes)) (i + 1)
+  longer bytes done = follows.run ∙ (done (output_of k j ++ h.since) i).1 ∙ ap (λ (out : List ℕ). run_at out (i + 1)) (append_assoc (output_of k j) h.since bytes)
+
+  pub goes_on : {new : Option (List ℕ)} {t : Store} {w : Kept} {n : Option Layout} (p : Oop) → IsLaidOut s v l → StepGives v l now new t w n (turn.Active p) → Goes k j stack old new (i + 1) t w n
+  goes_on {new = new} {w = w} {n = n} p laid g =
+      let f = follows in
+      let keeps = Keeps-trans (g.3 (output_of k j ++ h.since) i) f.keeps in
+      record {
+        since = h.since ++ g.0;
+        ending = f.ending ∙ (g.2 (output_of k j ++ h.since) i).0;
+        run = longer g.0 g.2;
+        written = appends_then old now new h.since g.0 h.written g.1;
+        keeps = keeps;
+        begun = λ held. begun_on k w i l n (ap (λ (r : Rest). r.active) (sym keeps.rest)) (h.begun held) g.6.frames;
+        stacked = λ held there. g.6.stacked (h.stacked held laid) there;
+      }
+
+  pub goes_idle : {new : Option (List ℕ)} {t : Store} {w : Kept} (b : Option Layout) → StepGives v l now new t w b turn.Idle → IsResting k j (i + 1) old new w
+  goes_idle {new = new} {w = w} b g =
+      let f = follows in
+      let none = g.3 (output_of k j ++ h.since) i in
+      record {
+        since = h.since ++ g.0;
+        ending = f.ending ∙ (g.2 (output_of k j ++ h.since) i).0;
+        run = longer g.0 g.2;
+        written = appends_then old now new h.since g.0 h.written g.1;
+        none = left_idle v w g.3;
+        world = at_rest (is_idle-kept _ _ f.keeps ∙ none.0) (Keeps-trans none.2 f.keeps);
+      }
+
+  pub stops_here : {new : Option (List ℕ)} {t : Store} {w : Kept} {b : Option Layout} (n : ℕ) (a : Seen) (place : Place) (reason : Reason) → i < n → StepGives v l now new t w b (turn.Stopped reason) → place_of v ≡ place_by place → (can_begin v ≡ false → w ≡ v)
+      → RunGives k j n old new a (seen_at t w b i place phase.Over) (how.Stopped reason)
+  stops_here {new = new} {w = w} n a place reason below g stands untouched =
+      let stopped : (run_of k (i + 1)).ending ≡ Stopped reason = follows.ending ∙ g.1 (output_of k j ++ h.since) i in
+      let apart : n ≡ (i + 1) + (n - (i + 1)) = omega (arith, below) in
+      let stay : run_of k n ≡ run_of k (i + 1) = stays built_step (i + 1) (n - (i + 1)) n (state_at k [] 0) apart (λ e. let no : Stopped reason ≡ Steps = sym stopped ∙ e in cc) in
+      let back : (built_step (run_of k i).state).state ≡ (run_of k i).state = built_back (run_of k i).state reason (sym (ap (λ (r : Ran). r.ending) more) ∙ stopped) in
+      let state : (run_of k n).state ≡ (run_of k i).state = ap (λ (r : Ran). r.state) stay ∙ ap (λ (r : Ran). r.state) more ∙ back in
+      let runs : (run_of k n).state.run ≡ run_at (output_of k j ++ h.since) i = ap (λ (s : State). s.run) state ∙ h.run in (
+        record {
+          ended = ap (λ (r : Ran). r.ending) stay ∙ stopped;
+          steps = ap (λ (q : Run). q.steps) runs;
+          place = ap (λ (s : State). place_of s.kept) state ∙ place_of-kept v (state_of k i) h.keeps ∙ stands;
+          written = since_by k j n old new h.since (ap (λ (q : Run). q.output) runs) (subst (λ (o : Option (List ℕ)). Appends old o h.since) (sym g.0) h.written);
+        },
+        λ none.
+            let there : can_begin v ≡ false = sym (begin_kept v (state_of k i) h.keeps) ∙ ap (λ (s : State). can_begin s.kept) (sym state) ∙ none in
+            subst (λ (s : State). StandsFor w s.kept) (sym state) (subst (λ (u : Kept). StandsFor u (state_of k i)) (sym (untouched there)) (as_kept h.keeps)),
+      )
+
+  cut_short : (n : ℕ) (t : Store) (w : Kept) (b : Option Layout) (place : Place) (p : Phase) → i < n → place_of v ≡ place_by place → IsCutShort k n (seen_at t w b i place p)
+  cut_short n t w b place p below stands = record {
+    fewer = below;
+    ending = h.ending;
+    steps = ap (λ (q : Run). q.steps) h.run;
+    place = place_of-kept v (state_of k i) h.keeps ∙ stands;
+  }
+
+  pub breaks_off : {new : Option (List ℕ)} {t : Store} {w : Kept} {b : Option Layout} (n : ℕ) (a : Seen) (place : Place) → i < n → StepGives v l now new t w b turn.WriteFault → place_of v ≡ place_by place
+      → RunGives k j n old new a (seen_at t w b i place phase.Over) how.WriteFault
+  breaks_off {new = new} {t = t} {w = w} {b = b} n a place below g stands =
+      let output : output_of k (i + 1) ≡ output_of k j ++ (h.since ++ g.0) = ap (λ (q : Run). q.output) (longer g.0 g.2) in
+      let later = run_writes (i + 1) (n - (i + 1)) n (state_at k [] 0) refl (omega (arith, below)) in
+      let part : AppendsPart old new (h.since ++ g.0) = append_part old now new h.since g.0 h.written g.1 in (
+        record {
+          short = cut_short n t w b place phase.Over below stands;
+          since = h.since;
+          before = sofar_is;
+          bytes = g.0;
+          next = output ∙ sym (append_assoc (output_of k j) h.since g.0) ∙ ap (λ (out : List ℕ). out ++ g.0) (sym sofar_is);
+          part = g.1.0;
+          less = g.1.1;
+          written = appends_then old now new h.since (take g.1.0 g.0) h.written g.1.2;
+        },
+        record {
+          bytes = (h.since ++ g.0) ++ later.more;
+          more = later.output ∙ ap (λ (out : List ℕ). out ++ later.more) output ∙ append_assoc (output_of k j) (h.since ++ g.0) later.more;
+          written = part_of_more old new (h.since ++ g.0) later.more ((h.since ++ g.0) ++ later.more) refl part;
+        },
+      )
+
+  pub finishes : (n : ℕ) (a : Seen) (place : Place) → i ≡ n → place_of v ≡ place_by place → (IsStackOf k j a → stack) → RunGives k j n old now a (seen_at s v l n place phase.Ready) how.Steps
+  finishes n a place all stands held =
+      subst (λ (n : ℕ). RunGives k j n old now a (seen_at s v l n place phase.Ready) how.Steps) all (
+        record {
+          ended = h.ending;
+          steps = ap (λ (q : Run). q.steps) h.run;
+          place = place_of-kept v (state_of k i) h.keeps ∙ stands;
+          written = since_by k j i old now h.since sofar_is h.written;
+        },
+        record {
+          world = as_kept h.keeps;
+          run = h.run ∙ ap (λ (out : List ℕ). run_at out i) (sym sofar_is);
+          ending = λ at. h.ending;
+          counted = λ at. refl;
+        },
+        λ was active. record { begun = h.begun (held was); stacked = h.stacked (held was) },
+      )
 
 -- ---- no room
 
@@ -420,16 +519,18 @@ deep_by_most k n (Some l) h = h
 abbrev IsBuiltEnd : Turn → Type 0
 IsBuiltEnd t = (t.built ≡ true) × (t.result.out.end ≡ ends.Entered)
 
-pub fills : {k : Kept} {old now new : Option (List ℕ)} {i : ℕ} {s : Store} {v : Kept} {l : Option Layout} (t : Store) (w : Kept) (b first : Option Layout) (n : ℕ) (why : Why) → most_of l ≡ most_of first → i < n → Stands k old now i s v l → IsLaidOut s v l → StepGives v l now new t w b (how.Full why)
-    → RunFails k t first old new n (Full why)
-fills {k = k} {old = old} {now = now} {i = i} {s = s} {v = v} {l = l} t w b first n why most below h laid g = record {
-  done = i;
-  fewer = below;
-  ending = h.ending;
-  written = subst (λ (o : Option (List ℕ)). Appends old o (run_of k i).state.run.output) (sym g.0) (subst (λ (bytes : List ℕ). Appends old now bytes) (sym (ap (λ (q : Run). q.output) h.run)) h.written);
-  room = room why lacks (g.2 h.output i).cause;
+pub fills : {k : Kept} {j : ℕ} {stack : Type 0} {old now new : Option (List ℕ)} {i : ℕ} {s t : Store} {v w : Kept} {l : Option Layout} (b : Option Layout) (n : ℕ) (a : Seen) (place : Place) (full : Why) → Goes k j stack old now i s v l
+    → most_of l ≡ most_of a.layout → i < n → IsReady s v → IsLaidOut s v l → StepGives v l now new t w b (turn.Full full) → place_of v ≡ place_by place → (IsStackOf k j a → stack)
+    → RunGives k j n old new a (seen_at t w b i place phase.Over) (how.Full full)
+fills {k = k} {j = j} {old = old} {new = new} {i = i} {s = s} {t = t} {v = v} {w = w} {l = l} b n a place full h most below ready laid g stands held = record {
+  short = cut_short h n t w b place phase.Over below stands;
+  written = since_by k j i old new h.since (sofar_is h) (subst (λ (o : Option (List ℕ)). Appends old o h.since) (sym g.0) h.written);
+  room = room full lacks (g.2 output i).cause;
 }
   where
+    output : List ℕ
+    output = output_of k j ++ h.since
+
     m : State
     m = (run_of k i).state
 
@@ -437,31 +538,45 @@ fills {k = k} {old = old} {now = now} {i = i} {s = s} {v = v} {l = l} t w b firs
     next = next_kept v m.kept h.keeps g.1
 
     -- what v has no room for, the state of the run has none for
-    lacks : Overfills t l m.kept (next_turn m) why
-    lacks = subst (λ (r : Run). Overfills t l m.kept (next_turn (with_kept m.kept r)) why) (sym h.run)
-        (overfills_too t l v m.kept (next_turn (state_at v h.output i)) (next_turn (state_at m.kept h.output i)) why (fills_by_words v m.kept least_of_return least_of_return (page_words_kept v m.kept h.keeps) (omega arith)) (next_same v m.kept (run_at h.output i) h.keeps) (g.2 h.output i))
+    lacks : Overfills t l m.kept (next_turn m) full
+    lacks = subst (λ (r : Run). Overfills t l m.kept (next_turn (with_kept m.kept r)) full) (sym h.run)
+        (overfills_too t l v m.kept (next_turn (state_at v output i)) (next_turn (state_at m.kept output i)) full (fills_by_words v m.kept least_of_return least_of_return (page_words_kept v m.kept h.keeps) (omega arith)) (next_same v m.kept (run_at output i) h.keeps) (g.2 output i))
 
     entered : (o : Out) → Needs (next_turn m) Stack o → IsBuiltEnd (next_turn m)
     entered _ (whole built end) = (built, end)
     entered _ (unheld built heap stops) = absurd (cc)
     entered o (untold told is asks heap) = absurd (cc)
 
-    room : (why : Why) → Overfills t l m.kept (next_turn m) why → CausesNoRoom t l v least_of_return (g.2 h.output i).out why → HasNoRoom k t first i why
-    room Heap c full = record {
+    room : (full : Why) → Overfills t l m.kept (next_turn m) full → CausesNoRoom t l v least_of_return (g.2 output i).out full → HasNoRoom k t a.layout (IsStackOf k j a) i full
+    room Heap c cause = record {
       next = next;
       out = c.out;
       needs = c.needs;
       words = c.cause.words;
-      room = by_most t first c.out.count.objects (subst (λ o. IfSome o (λ n. t.memory.limit < used t.memory.objects + c.out.count.objects + 26304 * n)) most (most_room t l c.out.count.objects c.cause.room));
+      room = by_most t a.layout c.out.count.objects (subst (λ o. IfSome o (λ n. t.memory.limit < used t.memory.objects + c.out.count.objects + 26304 * n)) most (most_room t l c.out.count.objects c.cause.room));
     }
-    room Stack c full = record {
+    room Stack c cause = λ was. record {
       next = next;
       built = (entered c.out c.needs).0;
       entered = (entered c.out c.needs).1;
-      deep = deep_by_most k i first (subst (λ o. IsSomeAnd o (λ most. IsDeep most k i)) most (is_deep k s v i l h.keeps h.ready (h.stacked laid) h.begun full));
+      deep = deep_by_most k i a.layout (subst (λ o. IsSomeAnd o (λ most. IsDeep most k i)) most (is_deep k s v i l h.keeps ready (h.stacked (held was) laid) (h.begun (held was)) cause));
     }
 
 -- ---- faults
 
 pub rose_before : (a b c : ℕ) → a ≤ b → Rose b c → Rose a c
 rose_before a b c h g = omega (arith, h, g)
+
+-- ---- two runs
+
+pub reaches_on : (k : Kept) (i j n : ℕ) (old now new : Option (List ℕ)) (a b : Seen) (e : Ending) → RunReaches k i j old now a Steps → RunReaches k j n now new b e → RunReaches k i n old new b e
+reaches_on k i j n old now new a b e g h = record {
+  ended = h.ended;
+  steps = h.steps;
+  place = h.place;
+  written = record {
+    bytes = g.written.bytes ++ h.written.bytes;
+    more = h.written.more ∙ ap (λ (xs : List ℕ). xs ++ h.written.bytes) g.written.more ∙ append_assoc (output_of k i) g.written.bytes h.written.bytes;
+    written = appends_then old now new g.written.bytes h.written.bytes g.written.written h.written.written;
+  };
+}

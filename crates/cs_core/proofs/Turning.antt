@@ -120,13 +120,13 @@ ended_stops s t reason (lost built over fault) =
     ap (λ b. (if b then add_count no_count (finish_of s t.result) else stops s no_count why.NotBuilt).ending) built ∙ ap (λ (p : Step). p.ending) (over_finish s t.result over) ∙ ap (λ (p : Step). p.ending) is
 
 -- an active process leaves the state as it is, and else no process is active
-active_stays : (v x : Kept) → Keeps v x → is_idle v ≡ false → Keeps v (without_context x)
+pub active_stays : (v x : Kept) → Keeps v x → is_idle v ≡ false → Keeps v (without_context x)
 active_stays v x k idle =
     let none : is_idle x ≡ false = idle_kept v x k ∙ idle in
     let is : without_context x ≡ x = rw none in
     subst (Keeps v) (sym is) k
 
-idle_stays : (x : Kept) → is_idle x ≡ true → is_idle (without_context x) ≡ true
+pub idle_stays : (x : Kept) → is_idle x ≡ true → is_idle (without_context x) ≡ true
 unfolding is_idle suspend_of state.active_process state.slots_of state.scheduler_of state.special_at
 idle_stays x h = go (is_left x)
   where
@@ -134,7 +134,7 @@ idle_stays x h = go (is_left x)
     go true = h
     go false = h
 
-next_stays : (x : Kept) → (without_context x).rest.next ≡ x.rest.next
+pub next_stays : (x : Kept) → (without_context x).rest.next ≡ x.rest.next
 unfolding suspend_of
 next_stays x = go (is_left x)
   where

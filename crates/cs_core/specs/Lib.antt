@@ -3,4 +3,5 @@ pub mod Numbers
 pub mod Stacked
 pub mod Stepped
 pub mod Deep
+pub mod VmParts
 pub mod Running

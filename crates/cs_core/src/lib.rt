@@ -1,6 +1,10 @@
 //! The machine: steps and runs over any world.
 #![tactic(auto)]
 
+pub mod laws;
 mod primitive;
-pub mod run;
+mod run;
 mod step;
+mod vm;
+
+pub use vm::Vm;

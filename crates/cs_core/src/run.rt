@@ -1,74 +1,34 @@
-//! A run of steps.
-ghost use Rattle.std.specs.Prelude.{◌≡◌, ◌≤◌, false, IfErr, IfOk};
+//! The loop of a run: step behind step.
+ghost use Rattle.std.specs.Prelude.{◌≡◌, ◌≤◌, ℕ, false, Some};
 ghost use Rattle.cs_model.specs.Due.{is_idle};
 ghost use Rattle.cs_model.specs.Read.{IsRunning};
 ghost use Rattle.cs_model.specs.Ref.{named_object};
 ghost use Rattle.cs_model.specs.Report.{no_place, place_of};
-ghost use Rattle.cs_model.specs.State.{active_process};
-ghost use Rattle.cs_acts.specs.Layout.{IsFresh, IsLaidOut};
+ghost use Rattle.cs_model.specs.State.{Kept, active_process};
+ghost use Rattle.cs_acts.specs.declared.run.Phase.TheVariants as phase;
+ghost use Rattle.cs_acts.specs.Layout.{IsLaidOut};
 ghost use Rattle.cs_acts.specs.Names.{IsNamed, NamesOption, name_of};
 ghost use Rattle.cs_acts.specs.Ready.{IsSound};
-ghost use Rattle.cs_core.specs.Running.{BreaksIn, RunCausedByFault, RunFails, RunGives, RunLeads, ending_at_rest};
-ghost use Rattle.cs_core.specs.Running.{ending_of, place_by};
+ghost use Rattle.cs_core.specs.Running.{InPhase, RunCausedByFault, RunGives, Stands, UnlessBroken, ending_at_rest};
+ghost use Rattle.cs_core.specs.Running.{ending_of, phase_behind, place_by};
+ghost use Rattle.cs_core.specs.VmParts.{seen_at};
 
 use crate::step::{BIRTH_LIMIT, StepEnd, step};
 use cs_acts::read::{active_process, nil, same};
-use cs_acts::{Full, World};
+use cs_acts::{Place, RunEnd, World};
 use cs_model::Stop;
 use cs_send::Sender;
 use cs_shelf::Sink;
 use cs_word::{Kind, Oop};
 
-/// How a run ends.
-#[derive(Clone, Copy, PartialEq, Eq, Debug)]
-pub enum Ending {
-    /// The steps that were asked for are done.
-    Steps,
-    /// No process is active and no event is left.
-    Idle,
-    /// A step stops, and the run stands before it.
-    Stopped(Stop),
+/// How far a machine has come.
+#[derive(Clone, Copy)]
+pub(crate) struct Position {
+    /// The bytecodes that are completed.
+    pub(crate) steps: u64,
+    /// Where the machine stands behind them.
+    pub(crate) place: Place,
 }
-
-/// Where a run stands.
-///
-/// All three are `None` where no process is active.
-#[derive(Clone, Copy, PartialEq, Eq, Debug)]
-pub struct Place {
-    /// The birth of the active process.
-    pub process: Option<u64>,
-    /// The birth of the active context.
-    pub context: Option<u64>,
-    /// The active context's pc, which counts the bytes of its method from 1 on, header and literals too.
-    pub pc: Option<u32>,
-}
-
-/// What a run comes to.
-#[derive(Clone, Copy, PartialEq, Eq, Debug)]
-pub struct Ran {
-    /// How it ends.
-    pub ending: Ending,
-    /// The bytecodes that it completed.
-    pub steps: u64,
-    /// Where it stands then.
-    pub place: Place,
-}
-
-/// Why a run breaks off.
-#[derive(Clone, Copy, PartialEq, Eq, Debug)]
-pub enum RunError {
-    /// The world has no room for what the next bytecode leads to.
-    Full(Full),
-    /// The sink failed.
-    WriteFault,
-}
-
-/// Where no process is active.
-const NOWHERE: Place = Place {
-    process: None,
-    context: None,
-    pc: None,
-};
 
 /// The birth of the object that a word names, if it names one.
 fn birth_of<W: World>(w: &W, o: Oop) -> Option<u64>
@@ -83,7 +43,7 @@ fn birth_of<W: World>(w: &W, o: Oop) -> Option<u64>
 }
 
 /// Where the machine stands, whose active process this is.
-fn place_of<W: World>(w: &W, process: Option<Oop>) -> Place
+pub(crate) fn place_of<W: World>(w: &W, process: Option<Oop>) -> Place
     requires sound { IsSound (W.stored w.now) (W.view w.now) }
     requires process { NamesOption (W.stored w.now) process (active_process (W.view w.now)) }
     requires running { is_idle (W.view w.now) ≡ false → IsRunning (W.view w.now) }
@@ -92,10 +52,10 @@ fn place_of<W: World>(w: &W, process: Option<Oop>) -> Place
 {
     let active = w.active();
     let Some(process) = process else {
-        return NOWHERE;
+        return Place::NOWHERE;
     };
     if same(w, process, nil(w)) {
-        return NOWHERE;
+        return Place::NOWHERE;
     }
     Place {
         process: birth_of(w, process),
@@ -115,74 +75,68 @@ fn is_idle<W: World>(w: &W) -> bool
     }
 }
 
-/// Runs `n` steps, or fewer where one of them ends the run.
+/// Goes on until `n` bytecodes are completed, or an earlier end.
 ///
-/// Behind `Steps` and `Idle` the world stands where the run does, and another run may begin there. Behind `Stopped` it
-/// has begun a step that isn't completed.
-///
-/// An error breaks the run off. Where the sink failed, it has taken a first part of what the run writes; where there is
-/// no room for what a bytecode leads to, it has taken all that the steps before wrote.
-pub fn run<W: World, K: Sink>(
+/// The position is that before a step which isn't completed.
+pub(crate) fn go_on<W: World, K: Sink>(
     w: &mut W,
     sender: &mut Sender,
+    at: &mut Position,
     n: u64,
     out: &mut K,
-) -> Result<Ran, RunError>
-    requires sound { IsSound (W.stored w.old) (W.view w.old) }
-    requires running { is_idle (W.view w.old) ≡ false → IsRunning (W.view w.old) }
-    requires fresh { IsFresh (W.view w.old) (W.layout w.old) }
-    ensures ran { IfOk result (λ r. RunGives (W.view w.old) (K.taken out.old) (K.taken out.new) n r) }
-    ensures failed { IfErr result (λ e. RunFails (W.view w.old) (W.stored w.new) (W.layout w.old) (K.taken out.old)
-        (K.taken out.new) n e) }
-    ensures world { IfOk result (λ r. RunLeads (W.view w.old) n (W.stored w.new) (W.view w.new) r.ending) }
-    ensures breaks { IfErr result (λ e. BreaksIn (W.view w.old) (K.taken out.old) (K.taken out.new) n e) }
+) -> RunEnd
+    requires ready { InPhase phase.Ready (W.stored w.old) (W.view w.old) }
+    requires within { at.old.steps ≤ n }
+    ensures gives { (k : Kept) (j : ℕ) →
+        let before = seen_at (W.stored w.old) (W.view w.old) (W.layout w.old) at.old.steps at.old.place phase.Ready in
+        let behind = seen_at (W.stored w.new) (W.view w.new) (W.layout w.new) at.new.steps at.new.place
+        (phase_behind result) in
+        Stands k j before → RunGives k j n (K.taken out.old) (K.taken out.new) before behind result }
+    ensures follows { InPhase (phase_behind result) (W.stored w.new) (W.view w.new) }
+    ensures sound { UnlessBroken result (IsSound (W.stored w.new) (W.view w.new)) }
     ensures limit { (W.stored w.new).memory.limit ≡ (W.stored w.old).memory.limit }
     ensures never_falls { K.fault_count out.old ≤ K.fault_count out.new }
-    ensures cause { IfErr result (λ e. RunCausedByFault (K.fault_count out.old) (K.fault_count out.new) e) }
+    ensures cause { RunCausedByFault (K.fault_count out.old) (K.fault_count out.new) result }
 {
     if is_idle(w) {
-        return Ok(at_rest(w, 0, n));
+        return at_rest(w, at, n);
     }
     let mut process = active_process(w);
-    for steps in 0..n {
-        let before = place_of(w, process);
+    for steps in at.steps..n {
+        let place = place_of(w, process);
+        *at = Position { place, steps };
         match step(w, sender, out) {
             StepEnd::Active(active) => process = Some(active),
-            StepEnd::Idle => return Ok(at_rest(w, steps + 1, n)),
-            StepEnd::Stopped(reason) => return Ok(Ran {
-                ending: Ending::Stopped(reason),
-                steps,
-                place: before,
-            }),
-            StepEnd::Full(why) => return Err(RunError::Full(why)),
-            StepEnd::WriteFault => return Err(RunError::WriteFault),
+            StepEnd::Idle => {
+                at.steps = steps + 1;
+                return at_rest(w, at, n);
+            }
+            StepEnd::Stopped(reason) => return RunEnd::Stopped(reason),
+            StepEnd::Full(why) => return RunEnd::Full(why),
+            StepEnd::WriteFault => return RunEnd::WriteFault,
         }
     }
-    Ok(Ran {
-        ending: Ending::Steps,
-        steps: n,
+    *at = Position {
         place: place_of(w, process),
-    })
+        steps: n,
+    };
+    RunEnd::Steps
 }
 
-/// A run of `n` steps in which no process is active behind the first ones of them, so that no further bytecode is done.
-/// A further step stops where births are used up, which is looked at before the process is.
-fn at_rest<W: World>(w: &W, steps: u64, n: u64) -> Ran
+/// The end of a run to `n` in which no process is active, so that no further bytecode is done. A further step stops
+/// where births are used up, which is looked at before the process is.
+fn at_rest<W: World>(w: &W, at: &mut Position, n: u64) -> RunEnd
     requires { IsSound (W.stored w.now) (W.view w.now) }
-    ensures steps { result.steps ≡ steps }
-    ensures place { place_by result.place ≡ no_place }
-    ensures ending { ending_of result.ending ≡ ending_at_rest (W.view w.now).rest.next steps n }
+    ensures steps { at.new.steps ≡ at.old.steps }
+    ensures place { place_by at.new.place ≡ no_place }
+    ensures ending { ending_of result ≡ Some (ending_at_rest (W.view w.now).rest.next at.old.steps n) }
 {
-    let ending = if steps == n {
-        Ending::Steps
+    at.place = Place::NOWHERE;
+    if at.steps == n {
+        RunEnd::Steps
     } else if w.next_birth() > BIRTH_LIMIT {
-        Ending::Stopped(Stop::BirthLimit)
+        RunEnd::Stopped(Stop::BirthLimit)
     } else {
-        Ending::Idle
-    };
-    Ran {
-        ending,
-        steps,
-        place: NOWHERE,
+        RunEnd::Idle
     }
 }
