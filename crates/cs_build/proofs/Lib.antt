@@ -35,3 +35,4 @@ pub mod Locating
 pub mod Forming
 pub mod Seating
 pub mod Imaging
+pub mod Totalling
