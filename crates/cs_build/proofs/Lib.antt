@@ -36,3 +36,4 @@ pub mod Forming
 pub mod Seating
 pub mod Imaging
 pub mod Totalling
+pub mod ObjectsThere
