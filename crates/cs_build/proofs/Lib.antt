@@ -37,3 +37,4 @@ pub mod Seating
 pub mod Imaging
 pub mod Totalling
 pub mod ObjectsThere
+pub mod Entering
