@@ -38,3 +38,4 @@ pub mod Imaging
 pub mod Totalling
 pub mod ObjectsThere
 pub mod Entering
+pub mod Tabling
