@@ -188,6 +188,11 @@ table_formed os cs g h H long last are = record {
         let few : index < long = grind (arith, nat_tests, e) in
         class_in_cases index few differs filled (has_index g index cs) refl
 
+pub entry_filled : {C : Type 0} (os : List Obj) (cs : List C) (g h : C → ℕ) (H : ℕ → ℕ) (long last i : ℕ) → AreEntries os cs g h H long last
+    → has_index g i cs ≡ true → i < long → i ≢ 3 → slice_index (table_of g h long last cs) i ≢ 0
+entry_filled os cs g h H long last i are has few differs = λ absent. has_some g h H (λ k n. n ≢ 0) i cs are.numbers are.filled has
+    (sym (entry_with (i == 3) (has_index g i cs) last (H i) (unequal i 3 differs) has) ∙ sym (in_table g h H long last i cs are.numbers few) ∙ absent)
+
 pub table_entries : {C : Type 0} (os : List Obj) (cs : List C) (g h : C → ℕ) (H : ℕ → ℕ) (long last : ℕ) → AreEntries os cs g h H long last → 0 < length os
     → AllByRecursion (λ number. number < length os) (table_of g h long last cs)
 table_entries {C} os cs g h H long last are filled =

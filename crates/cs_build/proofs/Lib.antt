@@ -39,3 +39,4 @@ pub mod Totalling
 pub mod ObjectsThere
 pub mod Entering
 pub mod Tabling
+pub mod Kinding

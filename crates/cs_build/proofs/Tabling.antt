@@ -21,7 +21,7 @@ use Rattle.cs_build.specs.Formed.{IsClassAt, IsFormedTable, IsTableOf}
 use Rattle.cs_build.specs.Judged.{IsJudged}
 use Rattle.cs_build.specs.Numbered.{first_at}
 use Rattle.cs_build.specs.Wholes.{table_by, table_made}
-use Rattle.cs_build.proofs.Entering.{AreEntries, has_at, has_index, map_is, table_entries, table_formed, table_length, table_of}
+use Rattle.cs_build.proofs.Entering.{AreEntries, entry_filled, has_at, has_index, map_is, table_entries, table_formed, table_length, table_of}
 use Rattle.cs_build.proofs.Noting.{bytes_eq_self, position_is}
 use Rattle.cs_build.proofs.Sounding.{and_true}
 use Rattle.cs_build.proofs.Standing.{classes_are, find_none, find_position, position_within}
@@ -31,7 +31,7 @@ use Rattle.cs_build.proofs.ObjectsThere.{birth_named, object_there, process_name
 -- ---- the indices of places
 
 -- the place of a class with this index
-abbrev place_at : ℕ → ℕ
+abbrev pub place_at : ℕ → ℕ
 place_at i = if nat_lt i 52 then unwrap_or (position (λ k. k == i) known_indices) 0 else i - 30
 
 abbrev is_good_place : ℕ → Bool
@@ -48,12 +48,12 @@ in_range p a (suc n) k e low high = go (a == k) refl (λ next. in_range p (a + 1
 good_places : list_all is_good_place (range_with_len 0 22) ≡ true
 good_places = refl
 
-record IsGoodIndex (p i : ℕ) : Type 0 where
-  back : place_at i ≡ p
-  zero_free : i ≢ 0
-  hidden_free : i ≢ 16
-  few : i < p + 52
-  later : 22 ≤ p → i ≡ p + 30
+pub record IsGoodIndex (p i : ℕ) : Type 0 where
+  pub back : place_at i ≡ p
+  pub zero_free : i ≢ 0
+  pub hidden_free : i ≢ 16
+  pub few : i < p + 52
+  pub later : 22 ≤ p → i ≡ p + 30
 
 told : (a b : ℕ) → (a == b) ≡ true → a ≡ b
 told a b e = grind (arith, nat_tests, e)
@@ -61,7 +61,7 @@ told a b e = grind (arith, nat_tests, e)
 differs : (a b : ℕ) → not (a == b) ≡ true → a ≢ b
 differs a b e = grind (arith, nat_tests, e)
 
-good_index : (p : ℕ) → IsGoodIndex p (index_at p)
+pub good_index : (p : ℕ) → IsGoodIndex p (index_at p)
 good_index p = go (nat_lt p 22) refl
   where
     low : p < 22 → IsGoodIndex p (index_at p)
@@ -93,10 +93,10 @@ good_index p = go (nat_lt p 22) refl
 
 -- ---- the place of a class
 
-blank : ClassLine
+abbrev pub blank : ClassLine
 blank = record { name = []; super = None; format = pos 0; fields = pos 0 }
 
-abbrev is_line : List ℕ → ClassLine → Bool
+abbrev pub is_line : List ℕ → ClassLine → Bool
 is_line name c = bytes_eq c.name name
 
 record IsListed (lines : List ClassLine) (name : List ℕ) : Type 0 where
@@ -113,7 +113,7 @@ find_any p (c ∷ lines) e none = go (p c) e none (find_any p lines)
     go true e none r = absurd (cc)
     go false e none r = r e none
 
-find_passes : (p : ClassLine → Bool) (lines : List ClassLine) (c : ClassLine) → find p lines ≡ Some c → p c ≡ true
+pub find_passes : (p : ClassLine → Bool) (lines : List ClassLine) (c : ClassLine) → find p lines ≡ Some c → p c ≡ true
 find_passes p [] c e = absurd (cc)
 find_passes p (x ∷ lines) c e = go (p x) refl e (find_passes p lines c)
   where
@@ -147,10 +147,10 @@ all_listed lines = all_by_place (λ c. IsListed lines c.name) lines
 
 -- ---- indices and numbers of classes
 
-unfoldable index_of_line : List Form → ClassLine → ℕ
+unfoldable pub index_of_line : List Form → ClassLine → ℕ
 index_of_line forms c = class_index forms c.name
 
-unfoldable number_of_line : List Form → ClassLine → ℕ
+unfoldable pub number_of_line : List Form → ClassLine → ℕ
 number_of_line forms c = unwrap_or (named_birth forms c.name) 0
 
 -- the number of the class with an index
@@ -228,7 +228,7 @@ unfolding index_of_line
 known_index forms c k e = ap (λ o. option_map_or index_at o 0) (sym (position_is (is_line c.name) (all_classes forms))
     ∙ first_front (is_line c.name) 0 k known_classes (flat_map class_lines_in forms) e)
 
-has_known : (forms : List Form) (i k : ℕ) (front : List ClassLine) (c : ClassLine) (rest : List ClassLine) → known_classes ≡ front ++ c ∷ rest
+pub has_known : (forms : List Form) (i k : ℕ) (front : List ClassLine) (c : ClassLine) (rest : List ClassLine) → known_classes ≡ front ++ c ∷ rest
     → first_at (is_line c.name) 0 known_classes ≡ Some k → index_at k ≡ i → has_index (index_of_line forms) i (all_classes forms) ≡ true
 has_known forms i k front c rest e place is =
     ap (λ known. has_index (index_of_line forms) i (known ++ flat_map class_lines_in forms)) e
@@ -239,12 +239,12 @@ has_known forms i k front c rest e place is =
     shift [] ys zs = refl
     shift (x ∷ xs) ys zs = ap (λ l. x ∷ l) (shift xs ys zs)
 
-known_at : ℕ → ClassLine
+unfoldable pub known_at : ℕ → ClassLine
 known_at k = get_or known_classes k blank
 
 -- ---- the table
 
-abbrev table_long : List Form → ℕ
+abbrev pub table_long : List Form → ℕ
 table_long forms = 1024 * ((length (all_classes forms) + 1053) / 1024)
 
 small_integer : ClassLine
@@ -321,6 +321,11 @@ text_table_is forms judged =
     subst (λ m. IsTableOf (table_made forms) (insert m 3 last)) (sym (map_by_is forms (all_classes forms)))
     (subst (λ t. IsTableOf t (insert (from_entries (map (λ c. (index_of_line forms c, number_of_line forms c)) (all_classes forms))) 3 last)) (sym (table_is forms))
     (map_is (text_objects forms) (all_classes forms) (index_of_line forms) (number_of_line forms) (number_at forms) (table_long forms) last (entries forms judged)))
+
+-- an index that some class has is filled
+pub index_filled : (forms : List Form) (i : ℕ) → IsJudged forms → has_index (index_of_line forms) i (all_classes forms) ≡ true → i < table_long forms → i ≢ 3 → slice_index (table_made forms) i ≢ 0
+index_filled forms i judged has few differs = subst (λ t. slice_index t i ≢ 0) (sym (table_is forms))
+    (entry_filled (text_objects forms) (all_classes forms) (index_of_line forms) (number_of_line forms) (number_at forms) (table_long forms) _ i (entries forms judged) has few differs)
 
 pub text_table_length : (forms : List Form) → length (table_made forms) ≡ table_long forms
 text_table_length forms = ap length (table_is forms) ∙ table_length (index_of_line forms) (number_of_line forms) (table_long forms) _ (all_classes forms)
