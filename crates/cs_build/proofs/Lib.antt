@@ -40,3 +40,5 @@ pub mod ObjectsThere
 pub mod Entering
 pub mod Tabling
 pub mod Kinding
+pub mod LineShapes
+pub mod ProcessShapes
