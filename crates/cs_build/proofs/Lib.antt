@@ -42,3 +42,4 @@ pub mod Tabling
 pub mod Kinding
 pub mod LineShapes
 pub mod ProcessShapes
+pub mod FirstShapes
