@@ -35,3 +35,6 @@ pub mod Locating
 pub mod Forming
 pub mod Seating
 pub mod Imaging
+pub mod Gathering
+pub mod Shaping
+pub mod Faultless
