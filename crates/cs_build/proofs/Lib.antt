@@ -38,3 +38,5 @@ pub mod Imaging
 pub mod Gathering
 pub mod Shaping
 pub mod Faultless
+pub mod Totalling
+pub mod ObjectsThere
