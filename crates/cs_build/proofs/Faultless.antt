@@ -1,9 +1,8 @@
 -- A text that has no fault is judged.
 use Rattle.std.proofs.Common.{◌≡◌, ℕ, ◌+◌, ◌≤◌, Bool, true, false, cond, nat_lt, List, [], ◌∷◌, ◌++◌, Some, None, Option, length, ap, sym, subst, ◌∙◌, refl, arith, append_assoc, if◌then◌else◌}
-use Rattle.std.specs.Prelude.{◌&&◌, not, count_by, find, flat_map, fold, map, option_map, option_to_list, IfSome}
+use Rattle.std.specs.Prelude.{◌&&◌, not, count_by, find, flat_map, option_map, option_to_list, IfSome}
 use Rattle.std.specs.Option.{option_or}
-use Rattle.std.specs.List.{AllByRecursion, list_all, list_any}
-use Rattle.std.specs.Str.{bytes_eq}
+use Rattle.std.specs.List.{AllByRecursion, list_all}
 use Rattle.std.proofs.lemmas.Bool.{and_from, or_parts}
 use Rattle.std.proofs.lemmas.Bool.Decides.{nat_tests}
 use Rattle.std.proofs.lemmas.List.{append-nil, length-append}
@@ -11,11 +10,12 @@ use Rattle.std.proofs.lemmas.List.Sums.{sum_by-cons}
 use Rattle.cs_model.specs.BuilderText.{Form, form_in, forms_from, is_inside, is_skipped}
 use Rattle.cs_model.specs.BuilderFault as fault
 use Rattle.cs_model.specs.BuilderFault.{BuildFault, all_known, class_lines, class_lines_in, known_classes, forms_of, form_fault, is_known, is_open, is_too_much, is_twice, is_in_range, has_names, lines_fault, line_fault, mention_fault, mentions_in, numbered_forms, text_fault}
-use Rattle.cs_model.specs.Builder.{selector_names, special_symbols, symbols_in, symbols_of, with_new}
+use Rattle.cs_model.specs.Builder.{symbols_in}
 use Rattle.cs_model.specs.Text.{is_too_long, lines_of}
+use Rattle.cs_model.proofs.Same.{all-append}
 use Rattle.cs_build.specs.Stored.{IsByte}
 use Rattle.cs_build.specs.Judged.{HasBytes, IsJudged, IsJudgedLine, are_nested, is_inner}
-use Rattle.cs_build.proofs.Gathering.{all_append, names_of_bytes}
+use Rattle.cs_build.proofs.Symboling.{symbols_bytes}
 use Rattle.cs_build.proofs.Shaping.{IsSaid, OfBytes, begins_class, line_said, lines_bytes}
 
 -- ---- the parts of the verdict
@@ -123,7 +123,7 @@ line_more inside line lines form forms is are = record {
     sum_by-cons (λ l. cond (begins_class l) 1 0) line lines,
     length-append (class_lines_in form) (flat_map class_lines_in forms),
   );
-  symbols = all_append OfBytes (symbols_in form) (flat_map symbols_in forms) is.symbols are.symbols;
+  symbols = all-append OfBytes (symbols_in form) (flat_map symbols_in forms) is.symbols are.symbols;
   bytes = (is.bytes, are.bytes);
 }
 
@@ -144,34 +144,6 @@ lines_said inside number (line ∷ lines) all =
 
 under : (most n : ℕ) → nat_lt most n ≡ false → n ≤ most
 under most n h = grind (arith, nat_tests, h)
-
--- ---- symbols
-
-new_bytes : (names : List (List ℕ)) (name : List ℕ) → AllByRecursion OfBytes names → OfBytes name → AllByRecursion OfBytes (with_new names name)
-new_bytes names name all units = go (list_any (bytes_eq name) names)
-  where
-    go : (b : Bool) → AllByRecursion OfBytes (if b then names else names ++ name ∷ [])
-    go true = all
-    go false = all_append OfBytes names (name ∷ []) all (units, tt)
-
-fold_bytes : (names more : List (List ℕ)) → AllByRecursion OfBytes names → AllByRecursion OfBytes more → AllByRecursion OfBytes (fold with_new names more)
-fold_bytes names [] all rest = all
-fold_bytes names (name ∷ more) all rest = fold_bytes (with_new names name) more (new_bytes names name all rest.0) rest.1
-
-known_names : List (List ℕ)
-known_names = map (λ e. e.0) selector_names ++ map (λ e. e.1) special_symbols ++ map (λ c. c.name) known_classes
-
-symbols_are : (forms : List Form) → symbols_of forms ≡ fold with_new [] (known_names ++ flat_map symbols_in forms)
-unfolding known_names
-symbols_are forms = refl
-
-known_bytes : AllByRecursion OfBytes known_names
-unfolding known_names
-known_bytes = names_of_bytes (map (λ e. e.0) selector_names ++ map (λ e. e.1) special_symbols ++ map (λ c. c.name) known_classes) refl
-
-symbols_bytes : (forms : List Form) → AllByRecursion OfBytes (flat_map symbols_in forms) → AllByRecursion OfBytes (symbols_of forms)
-symbols_bytes forms all = subst (AllByRecursion OfBytes) (sym (symbols_are forms))
-    (fold_bytes [] (known_names ++ flat_map symbols_in forms) tt (all_append OfBytes known_names (flat_map symbols_in forms) known_bytes all))
 
 -- ---- the whole
 

@@ -1,39 +1,20 @@
--- What holds of each element of a list that is put together of others.
-use Rattle.std.proofs.Common.{◌≡◌, ℕ, ◌&&◌, Bool, true, false, cond, nat_lt, List, [], ◌∷◌, ◌++◌, map, zero, suc, refl, arith, slice_get, replicate}
-use Rattle.std.specs.Prelude.{Some, flat_map, filter}
+-- What holds of each element of a list that is made of another.
+use Rattle.std.proofs.Common.{◌≡◌, ℕ, ◌&&◌, Bool, true, false, cond, nat_lt, List, [], ◌∷◌, map, refl, arith}
+use Rattle.std.specs.Prelude.{Option, flat_map, filter, unwrap_or, IfSome, Some, None}
 use Rattle.std.specs.List.{AllByRecursion, list_all}
 use Rattle.std.proofs.lemmas.Bool.Decides.{nat_tests}
+use Rattle.cs_model.proofs.Same.{all-append}
 use Rattle.cs_build.specs.Stored.{IsByte}
 
-pub all_append : {A : Type 0} (P : A → Type 0) (xs ys : List A) → AllByRecursion P xs → AllByRecursion P ys → AllByRecursion P (xs ++ ys)
-all_append P [] ys left right = right
-all_append P (x ∷ xs) ys left right = (left.0, all_append P xs ys left.1 right)
-
-pub all_left : {A : Type 0} (P : A → Type 0) (xs ys : List A) → AllByRecursion P (xs ++ ys) → AllByRecursion P xs
-all_left P [] ys all = tt
-all_left P (x ∷ xs) ys all = (all.0, all_left P xs ys all.1)
-
-pub all_right : {A : Type 0} (P : A → Type 0) (xs ys : List A) → AllByRecursion P (xs ++ ys) → AllByRecursion P ys
-all_right P [] ys all = all
-all_right P (x ∷ xs) ys all = all_right P xs ys all.1
-
-pub all_each : {A : Type 0} (P : A → Type 0) (xs : List A) → ((x : A) → P x) → AllByRecursion P xs
-all_each P [] each = tt
-all_each P (x ∷ xs) each = (each x, all_each P xs each)
-
--- of elements of which one thing holds another holds
-pub all_so : {A : Type 0} (Q P : A → Type 0) (xs : List A) → ((x : A) → Q x → P x) → AllByRecursion Q xs → AllByRecursion P xs
-all_so Q P [] each all = tt
-all_so Q P (x ∷ xs) each all = (each x all.0, all_so Q P xs each all.1)
-
-pub all_mapped : {A B : Type 0} (Q : A → Type 0) (P : B → Type 0) (f : A → B) (xs : List A) → ((x : A) → Q x → P (f x)) → AllByRecursion Q xs → AllByRecursion P (map f xs)
+pub all_mapped : {A B : Type 0} (Q : A → Type 0) (P : B → Type 0) (f : A → B) (xs : List A) → ((x : A) → Q x → P (f x)) → AllByRecursion Q xs
+    → AllByRecursion P (map f xs)
 all_mapped Q P f [] each all = tt
 all_mapped Q P f (x ∷ xs) each all = (each x all.0, all_mapped Q P f xs each all.1)
 
-pub all_flat : {A B : Type 0} (Q : A → Type 0) (P : B → Type 0) (f : A → List B) (xs : List A) → ((x : A) → Q x → AllByRecursion P (f x)) → AllByRecursion Q xs
-    → AllByRecursion P (flat_map f xs)
+pub all_flat : {A B : Type 0} (Q : A → Type 0) (P : B → Type 0) (f : A → List B) (xs : List A) → ((x : A) → Q x → AllByRecursion P (f x))
+    → AllByRecursion Q xs → AllByRecursion P (flat_map f xs)
 all_flat Q P f [] each all = tt
-all_flat Q P f (x ∷ xs) each all = all_append P (f x) (flat_map f xs) (each x all.0) (all_flat Q P f xs each all.1)
+all_flat Q P f (x ∷ xs) each all = all-append P (f x) (flat_map f xs) (each x all.0) (all_flat Q P f xs each all.1)
 
 pub all_kept : {A : Type 0} (P : A → Type 0) (p : A → Bool) (xs : List A) → AllByRecursion P xs → AllByRecursion P (filter p xs)
 all_kept P p [] all = tt
@@ -43,15 +24,9 @@ all_kept P p (x ∷ xs) all = go (p x) (all_kept P p xs all.1)
     go true rest = (all.0, rest)
     go false rest = rest
 
-pub all_replicate : {A : Type 0} (P : A → Type 0) (n : ℕ) (x : A) → P x → AllByRecursion P (replicate n x)
-all_replicate P zero x h = tt
-all_replicate P (suc n) x h = (h, all_replicate P n x h)
-
--- an element at a place
-pub all_at : {A : Type 0} (P : A → Type 0) (xs : List A) (k : ℕ) (x : A) → AllByRecursion P xs → slice_get xs k ≡ Some x → P x
-all_at P [] k x all e = absurd (cc)
-all_at P (y ∷ xs) zero x all e = let same : y ≡ x = cc in rw (← same) all.0
-all_at P (y ∷ xs) (suc k) x all e = all_at P xs k x all.1 e
+pub all_if_some : {A : Type 0} (P : A → Type 0) (o : Option (List A)) → IfSome o (AllByRecursion P) → AllByRecursion P (unwrap_or o [])
+all_if_some P None h = tt
+all_if_some P (Some xs) h = h
 
 -- elements that pass a test
 pub all_passed : {A : Type 0} (P : A → Type 0) (p : A → Bool) → ((x : A) → p x ≡ true → P x) → (xs : List A) → list_all p xs ≡ true → AllByRecursion P xs

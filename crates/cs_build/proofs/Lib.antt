@@ -37,6 +37,10 @@ pub mod Seating
 pub mod Imaging
 pub mod Gathering
 pub mod Shaping
+pub mod Symboling
 pub mod Faultless
 pub mod Totalling
 pub mod ObjectsThere
+pub mod Referring
+pub mod Encoding
+pub mod Heading

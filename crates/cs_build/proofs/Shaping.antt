@@ -13,9 +13,10 @@ use Rattle.cs_model.specs.BuilderText.{Mention, Form, Class, Object, Bytes, Meth
 use Rattle.cs_model.specs.BuilderText as text
 use Rattle.cs_model.specs.BuilderFault.{class_lines_in}
 use Rattle.cs_model.specs.Builder.{symbol_in, symbols_in}
+use Rattle.cs_model.proofs.Same.{all-append}
 use Rattle.cs_build.specs.Stored.{IsByte}
 use Rattle.cs_build.specs.Judged.{HasBytes, is_inner}
-use Rattle.cs_build.proofs.Gathering.{all_append, all_kept}
+use Rattle.cs_build.proofs.Gathering.{all_kept}
 
 abbrev pub OfBytes : List ℕ → Type 0
 OfBytes word = AllByRecursion IsByte word
@@ -29,28 +30,28 @@ pub record IsSaid (inside : Bool) (most : ℕ) (form : Form) : Type 0 where
 
 -- ---- what may be none
 
-some_map : {A B : Type 0} (Q : A → Type 0) (P : B → Type 0) (f : A → B) (o : Option A) → IfSome o Q → ((x : A) → Q x → P (f x)) → IfSome (option_map f o) P
+pub some_map : {A B : Type 0} (Q : A → Type 0) (P : B → Type 0) (f : A → B) (o : Option A) → IfSome o Q → ((x : A) → Q x → P (f x)) → IfSome (option_map f o) P
 some_map Q P f None h each = tt
 some_map Q P f (Some x) h each = each x h
 
-some_any : {A B : Type 0} (P : B → Type 0) (f : A → B) (o : Option A) → ((x : A) → P (f x)) → IfSome (option_map f o) P
+pub some_any : {A B : Type 0} (P : B → Type 0) (f : A → B) (o : Option A) → ((x : A) → P (f x)) → IfSome (option_map f o) P
 some_any P f None each = tt
 some_any P f (Some x) each = each x
 
-some_then : {A B : Type 0} (Q : A → Type 0) (P : B → Type 0) (f : A → Option B) (o : Option A) → IfSome o Q → ((x : A) → Q x → IfSome (f x) P)
+pub some_then : {A B : Type 0} (Q : A → Type 0) (P : B → Type 0) (f : A → Option B) (o : Option A) → IfSome o Q → ((x : A) → Q x → IfSome (f x) P)
     → IfSome (option_and_then f o) P
 some_then Q P f None h each = tt
 some_then Q P f (Some x) h each = each x h
 
-then_any : {A B : Type 0} (P : B → Type 0) (f : A → Option B) (o : Option A) → ((x : A) → IfSome (f x) P) → IfSome (option_and_then f o) P
+pub then_any : {A B : Type 0} (P : B → Type 0) (f : A → Option B) (o : Option A) → ((x : A) → IfSome (f x) P) → IfSome (option_and_then f o) P
 then_any P f None each = tt
 then_any P f (Some x) each = each x
 
-some_if : {A : Type 0} (P : A → Type 0) (b : Bool) (o p : Option A) → IfSome o P → IfSome p P → IfSome (if b then o else p) P
+pub some_if : {A : Type 0} (P : A → Type 0) (b : Bool) (o p : Option A) → IfSome o P → IfSome p P → IfSome (if b then o else p) P
 some_if P true o p h k = h
 some_if P false o p h k = k
 
-some_or : {A : Type 0} (P : A → Type 0) (o p : Option A) → IfSome o P → IfSome p P → IfSome (option_or o p) P
+pub some_or : {A : Type 0} (P : A → Type 0) (o p : Option A) → IfSome o P → IfSome p P → IfSome (option_or o p) P
 some_or P None p h k = k
 some_or P (Some x) p h k = h
 
@@ -89,7 +90,7 @@ mentions_said (word ∷ words) units =
     some_then NamesBytes (λ ms. AllByRecursion OfBytes (flat_map symbol_in ms)) (λ m. option_map (λ ms. m ∷ ms) (all_of mention_in words)) (mention_in word)
     (mention_said word units.0)
     (λ m here. some_map (λ ms. AllByRecursion OfBytes (flat_map symbol_in ms)) (λ ms. AllByRecursion OfBytes (flat_map symbol_in ms)) (λ ms. m ∷ ms)
-    (all_of mention_in words) (mentions_said words units.1) (λ ms rest. all_append OfBytes (symbol_in m) (flat_map symbol_in ms) here rest))
+    (all_of mention_in words) (mentions_said words units.1) (λ ms rest. all-append OfBytes (symbol_in m) (flat_map symbol_in ms) here rest))
 
 -- ---- lines outside of methods
 
@@ -141,13 +142,13 @@ process_said : (words : List (List ℕ)) → AllByRecursion OfBytes words → If
 process_said (name ∷ priority ∷ class ∷ selector ∷ receiver ∷ []) units =
     then_any (IsSaid false 0) _ (integer_in priority) (λ p. some_then NamesBytes (IsSaid false 0) _ (mention_in receiver) (mention_said receiver units.1.1.1.1.0)
     (λ x here. some_if (IsSaid false 0) (is_name name && is_name class) (Some (process_line name p class selector x)) None
-    (record { place = refl; classes = omega arith; symbols = all_append OfBytes (symbol_in x) [] here tt; bytes = tt }) tt))
+    (record { place = refl; classes = omega arith; symbols = all-append OfBytes (symbol_in x) [] here tt; bytes = tt }) tt))
 process_said words units = tt
 
 special_said : (words : List (List ℕ)) → AllByRecursion OfBytes words → IfSome (special_form words) (IsSaid false 0)
 special_said (place ∷ value ∷ []) units =
     then_any (IsSaid false 0) _ (integer_in place) (λ k. some_map NamesBytes (IsSaid false 0) (λ x. Special k x) (mention_in value) (mention_said value units.1.0)
-    (λ x here. record { place = refl; classes = omega arith; symbols = all_append OfBytes (symbol_in x) [] here tt; bytes = tt }))
+    (λ x here. record { place = refl; classes = omega arith; symbols = all-append OfBytes (symbol_in x) [] here tt; bytes = tt }))
 special_said words units = tt
 
 name_said : (form : List ℕ → Form) (words : List (List ℕ)) → ((name : List ℕ) → IsSaid false 0 (form name)) → IfSome (name_form form words) (IsSaid false 0)
@@ -217,7 +218,7 @@ short_said word last units =
     (some_if (IsSaid true 0) (is_name last) (Some (JumpTo word last)) None (record { place = refl; classes = omega arith; symbols = tt; bytes = tt }) tt)
     (some_if (IsSaid true 0) (bytes_eq word (codes "lit")) _ _
     (some_map NamesBytes (IsSaid true 0) (λ x. Literal x) (mention_in last) (mention_said last units)
-    (λ x here. record { place = refl; classes = omega arith; symbols = all_append OfBytes (symbol_in x) [] here tt; bytes = tt }))
+    (λ x here. record { place = refl; classes = omega arith; symbols = all-append OfBytes (symbol_in x) [] here tt; bytes = tt }))
     (some_if (IsSaid true 0) (bytes_eq word (codes "byte")) _ _
     (some_any (IsSaid true 0) (λ n. Byte n) (integer_in last) (λ n. record { place = refl; classes = omega arith; symbols = tt; bytes = tt }))
     (then_any (IsSaid true 0) (one_form word) (integer_in last) (one_said word))))
