@@ -44,3 +44,9 @@ pub mod ObjectsThere
 pub mod Referring
 pub mod Encoding
 pub mod Heading
+pub mod Entering
+pub mod Tabling
+pub mod Kinding
+pub mod LineShapes
+pub mod ProcessShapes
+pub mod Referred

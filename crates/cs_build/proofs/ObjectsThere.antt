@@ -114,7 +114,7 @@ place_none passes at (form ∷ all) e = go (passes form) refl (place_none passes
     go true is h = absurd (false≢true (sym e ∙ ap (λ b. b || list_any passes all) is))
     go false is h = h (sym (ap (λ b. b || list_any passes all) is) ∙ e)
 
-place_behind : (passes : Form → Bool) (at : ℕ) (above rest : List Form) → list_any passes above ≡ false
+pub place_behind : (passes : Form → Bool) (at : ℕ) (above rest : List Form) → list_any passes above ≡ false
     → place_where object_count passes at (above ++ rest) ≡ place_where object_count passes (at + sum_by object_count above) rest
 place_behind passes at [] rest e = ap (λ n. place_where object_count passes n rest) (omega arith)
 place_behind passes at (form ∷ above) rest e = go (passes form) refl (place_behind passes (at + object_count form) above rest)
