@@ -196,7 +196,7 @@ lines_apart front (line ∷ lines) rest e h =
     let both : (not (list_any (is_named line.name) (map (λ c. text.Class c) front)) ≡ true) × (is_apart (front ++ line ∷ []) lines ≡ true) = and_true _ _ e in (
       (λ name is. ap (λ q. list_any (is_named q) (map (λ c. text.Class c) front)) ((bytes_eq-Decides name line.name).0 (sym (or_false (bytes_eq name line.name)) ∙ is)) ∙ not_true _ both.0),
       subst (λ fs. ApartFrom fs (map (λ c. text.Class c) lines ++ rest)) (map_end front line)
-      (lines_apart (front ++ line ∷ []) lines rest both.1 (subst (λ ls. ApartFrom (map (λ c. text.Class c) ls) rest) (sym (append_assoc front (line ∷ []) lines)) h)),
+          (lines_apart (front ++ line ∷ []) lines rest both.1 (subst (λ ls. ApartFrom (map (λ c. text.Class c) ls) rest) (sym (append_assoc front (line ∷ []) lines)) h)),
     )
 
 -- the lines of the text
@@ -226,7 +226,7 @@ own_apart known forms front [] h e = tt
 own_apart known forms front (form ∷ rest) h e = (
   (λ name is. any_append (is_named name) (map (λ c. text.Class c) known) front ∙ ap (λ b. b || list_any (is_named name) front) (known_named name known) ∙ h front form rest e name is),
   subst (λ fs. ApartFrom fs rest) (sym (append_assoc (map (λ c. text.Class c) known) front (form ∷ [])))
-  (own_apart known forms (front ++ form ∷ []) rest h (e ∙ sym (append_assoc front (form ∷ []) rest))),
+      (own_apart known forms (front ++ form ∷ []) rest h (e ∙ sym (append_assoc front (form ∷ []) rest))),
 )
 
 end_nil : (xs : List Form) → xs ++ [] ≡ xs

@@ -1,5 +1,5 @@
 -- What the lines of a text are, where the text has no fault.
-use Rattle.std.specs.Prelude.{◌≡◌, ℕ, ◌≤◌, ◌&&◌, Bool, true, false, not, Some, List, [], ◌∷◌, ◌++◌, length, if◌then◌else◌, ⊤}
+use Rattle.std.specs.Prelude.{◌≡◌, ◌≤◌, ◌&&◌, Bool, true, false, not, Some, List, [], ◌∷◌, ◌++◌, length, if◌then◌else◌, ⊤}
 use Rattle.std.specs.List.{AllByRecursion, list_all}
 use Rattle.cs_model.specs.BuilderText.{Form, Literal, Byte, Label, Plain, JumpTo, ClosureTo, End, is_inside}
 use Rattle.cs_model.specs.BuilderFault.{all_classes, has_names, is_in_range, is_known, is_open, is_twice, mentions_in}
