@@ -51,3 +51,5 @@ pub mod LineShapes
 pub mod ProcessShapes
 pub mod FirstShapes
 pub mod Referred
+pub mod Rooting
+pub mod TextFormed
