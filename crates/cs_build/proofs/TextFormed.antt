@@ -1,15 +1,16 @@
 -- The objects of a text without fault are those of an image that can be opened.
 use Rattle.std.proofs.Common.{◌≡◌, ℕ, zero, suc, ◌+◌, ◌*◌, ◌/◌, ◌^◌, ◌<◌, ◌≤◌, Bool, true, false, max, List, [], ◌∷◌, ◌++◌, length, map, take, replicate, Some, None, Option, refl, ap, ap₂, sym, subst, ◌∙◌, arith}
-use Rattle.std.specs.Prelude.{pos, flat_map, ◌&&◌}
+use Rattle.std.specs.Prelude.{pos, flat_map, ◌&&◌, Ok}
 use Rattle.std.specs.Option.{option_map_or}
 use Rattle.std.specs.List.{AllByRecursion}
 use Rattle.cs_model.specs.Obj.{Obj, Head, Context, Ptr, Raw, Method, Ctx, new_head}
 use Rattle.cs_model.specs.Ref.{Ref, Small}
-use Rattle.cs_model.specs.SavedFile.{page_place, saved_base, saved_size}
+use Rattle.cs_model.specs.Image.{image_of}
+use Rattle.cs_model.specs.SavedFile.{page_place, saved_base, saved_bytes, saved_size}
 use Rattle.cs_model.specs.BuilderText as text
 use Rattle.cs_model.specs.BuilderText.{Form, ClassLine}
 use Rattle.cs_model.specs.BuilderFault.{is_between, is_class_format, known_classes}
-use Rattle.cs_model.specs.Builder.{all_forms, class_object, nil_ref, objects_in, text_objects}
+use Rattle.cs_model.specs.Builder.{all_forms, class_object, class_table, nil_ref, objects_in, text_objects, text_state}
 use Rattle.cs_model.proofs.Same.{all-append}
 use Rattle.cs_model.proofs.SavedSeen.{all_each}
 use Rattle.cs_build.specs.Firsts.{first_made}
@@ -18,16 +19,18 @@ use Rattle.cs_build.specs.Grouped.{all_dictionaries, symbol_objects}
 use Rattle.cs_build.specs.Judged.{HasBytes, IsJudged}
 use Rattle.cs_build.specs.Laid.{FitsLaid, FitsLayout, FitsRef, Laid, context_refs, file_for, laid, laid_size, laid_slots}
 use Rattle.cs_build.specs.Stored.{IsStored}
-use Rattle.cs_build.specs.Wholes.{table_made}
+use Rattle.cs_build.specs.Wholes.{objects_made, table_made}
 use Rattle.cs_build.proofs.Filing.{size_of_file}
 use Rattle.cs_build.proofs.FirstShapes.{dictionaries_shaped, first_shaped, symbols_shaped}
 use Rattle.cs_build.proofs.Kinding.{IsShaped, stored_format}
 use Rattle.cs_build.proofs.LineShapes.{Refers, Shaped, bytes_shaped, class_shaped, count_small, format_between, is_sized, method_shaped, object_shaped}
 use Rattle.cs_build.proofs.ProcessShapes.{process_objects_shaped}
 use Rattle.cs_build.proofs.Putting.{length-map, map_take, size_cons}
+use Rattle.cs_build.proofs.Imaging.{image_is}
+use Rattle.cs_build.proofs.Referred.{referred}
 use Rattle.cs_build.proofs.Rooting.{at_split, text_roots}
 use Rattle.cs_build.proofs.Sounding.{and_true}
-use Rattle.cs_build.proofs.Tabling.{text_table_entries, text_table_few, text_table_formed, text_table_pages}
+use Rattle.cs_build.proofs.Tabling.{text_table_entries, text_table_few, text_table_formed, text_table_is, text_table_pages}
 use Rattle.cs_build.proofs.Totalling.{all_by_place, lines_made, made_in_parts, total_made}
 
 -- ---- the objects of all lines
@@ -132,16 +135,19 @@ record IsSmallFile (ls : List Laid) (table : List ℕ) : Type 0 where
   size : saved_base + 4 * page_place (file_for ls table).objects (length table / 1024) ≤ 2 ^ 31
   words : laid_size ls < 2 ^ 28
 
-small_file : (os : List Obj) (table : List ℕ) (limit : ℕ) → HasRoom os table limit → IsSmallFile (map laid os) table
-small_file os table limit room =
-    let file : 64 + 4 * page_place (file_for (map laid os) table).objects (length table / 1024) ≤ 536870912 = room.file in record {
-      size = omega (arith, file);
-      words = omega (arith, file, size_of_file (map laid os) table);
-    }
+-- a file of 536,870,912 bytes has room for these objects and a class table
+abbrev pub HasFile : List Obj → List ℕ → Type 0
+HasFile os table = 64 + 4 * (laid_size (map laid os) + 22 + 1028 * (length table / 1024)) ≤ 536870912
 
-layout : (forms : List Form) (limit : ℕ) → IsJudged forms → Refers forms → HasRoom (text_objects forms) (table_made forms) limit → FitsLayout (map laid (text_objects forms)) (table_made forms)
-layout forms limit judged refers room =
-    let small : IsSmallFile (map laid (text_objects forms)) (table_made forms) = small_file (text_objects forms) (table_made forms) limit room in
+small_file : (os : List Obj) (table : List ℕ) → HasFile os table → IsSmallFile (map laid os) table
+small_file os table file = record {
+  size = omega (arith, file, size_of_file (map laid os) table);
+  words = omega (arith, file);
+}
+
+layout : (forms : List Form) → IsJudged forms → Refers forms → HasFile (text_objects forms) (table_made forms) → FitsLayout (map laid (text_objects forms)) (table_made forms)
+layout forms judged refers room =
+    let small : IsSmallFile (map laid (text_objects forms)) (table_made forms) = small_file (text_objects forms) (table_made forms) room in
     let long : length (map laid (text_objects forms)) ≡ length (text_objects forms) = length-map laid (text_objects forms) in record {
       four = many (length (text_objects forms)) (length (map laid (text_objects forms))) long (refers.numbers 16 (omega arith));
       first = subst (AllByRecursion (λ l. laid_slots l ≡ 0)) (sym (sym (map_take laid 3 (text_objects forms)) ∙ ap (map laid) (first_three forms))) (refl, (refl, (refl, tt)));
@@ -160,10 +166,10 @@ layout forms limit judged refers room =
     le : (n : ℕ) → n ≤ n
     le n = omega arith
 
-pub text_formed : (forms : List Form) (limit : ℕ) → IsJudged forms → Refers forms → HasRoom (text_objects forms) (table_made forms) limit → IsFormedImage (text_objects forms) (table_made forms)
-text_formed forms limit judged refers room =
+text_formed : (forms : List Form) → IsJudged forms → Refers forms → HasFile (text_objects forms) (table_made forms) → IsFormedImage (text_objects forms) (table_made forms)
+text_formed forms judged refers room =
     let shaped : AllByRecursion (Shaped forms) (text_objects forms) = text_shaped forms judged refers in record {
-      layout = layout forms limit judged refers room;
+      layout = layout forms judged refers room;
       stored = all_each (Shaped forms) (IsStored (length (text_objects forms))) (λ o s. s.stored) (text_objects forms) shaped;
       first = subst (AllByRecursion (λ o. (laid o).format ≡ 0)) (sym (first_three forms)) (refl, (refl, (refl, tt)));
       bodies = all_each (Shaped forms) IsFormed (λ o s. s.formed) (text_objects forms) shaped;
@@ -172,3 +178,19 @@ text_formed forms limit judged refers room =
       entries = text_table_formed forms judged;
       roots = text_roots forms judged refers;
     }
+
+pub judged_formed : (forms : List Form) → IsJudged forms → HasFile (objects_made forms) (table_made forms) → IsFormedImage (objects_made forms) (table_made forms)
+unfolding objects_made
+judged_formed forms judged room = text_formed forms judged (referred forms judged) room
+
+room_file : (os : List Obj) (table : List ℕ) (limit : ℕ) → HasRoom os table limit → HasFile os table
+room_file os table limit room =
+    let file : 64 + 4 * page_place (file_for (map laid os) table).objects (length table / 1024) ≤ 536870912 = room.file in
+    omega (arith, file, size_of_file (map laid os) table)
+
+-- the image of the file of judged lines is their state
+pub judged_image : (forms : List Form) (limit : ℕ) → IsJudged forms → HasRoom (objects_made forms) (table_made forms) limit
+    → image_of (saved_bytes (file_for (map laid (objects_made forms)) (table_made forms))) limit ≡ Ok (text_state forms)
+unfolding objects_made
+judged_image forms limit judged room = image_is (text_objects forms) (table_made forms) (class_table forms) limit
+    (judged_formed forms judged (room_file (text_objects forms) (table_made forms) limit room)) room (text_table_is forms judged)
