@@ -16,7 +16,7 @@ use Rattle.cs_build.specs.Formed.{IsClassAt, IsFormedTable, IsTableOf, class_in}
 same_test : (a b : ℕ) → eq_by_cmp nat_cmp a b ≡ (a == b)
 same_test a b = grind (arith, nat_tests)
 
-told : (a b : ℕ) → (a == b) ≡ true → a ≡ b
+pub told : (a b : ℕ) → (a == b) ≡ true → a ≡ b
 told a b e = grind (arith, nat_tests, e)
 
 other : (a b : ℕ) → (a == b) ≡ false → a ≢ b

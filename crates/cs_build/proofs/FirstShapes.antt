@@ -21,6 +21,7 @@ use Rattle.cs_build.specs.Laid.{FitsRef}
 use Rattle.cs_build.specs.Standing.{symbol_names}
 use Rattle.cs_build.specs.Stored.{IsByte}
 use Rattle.cs_build.specs.Wholes.{table_made}
+use Rattle.cs_build.proofs.Gathering.{all_flat}
 use Rattle.cs_build.proofs.Grouping.{methods_few}
 use Rattle.cs_build.proofs.Kinding.{HasKinds, IsKind, all_kinds, pointers_shaped, raw_shaped}
 use Rattle.cs_build.proofs.LineShapes.{AreReferred, Refers, Shaped, count_small}
@@ -68,10 +69,6 @@ given_specials forms above (text.Special place value) below judged refers e =
     three (negsuc n) same h = absurd (cc)
 given_specials forms above form below judged refers e = tt
 
-all_given : (P : ℕ × Ref → Type 0) (f : Form → List (ℕ × Ref)) (all : List Form) → AllByRecursion (λ form. AllByRecursion P (f form)) all → AllByRecursion P (flat_map f all)
-all_given P f [] h = tt
-all_given P f (form ∷ all) h = all-append P (f form) (flat_map f all) h.0 (all_given P f all h.1)
-
 pub all_special : (forms : List Form) → IsJudged forms → Refers forms → AllByRecursion (IsSpecial (length (text_objects forms))) (other_specials forms)
 unfolding other_specials
 all_special forms judged refers =
@@ -85,7 +82,7 @@ all_special forms judged refers =
     rest : AllByRecursion (IsSpecial (length (text_objects forms))) (map (λ e. (e.0, symbol_ref forms e.1)) special_symbols ++ flat_map (special_given forms) forms)
     rest = all-append (IsSpecial (length (text_objects forms))) (map (λ e. (e.0, symbol_ref forms e.1)) special_symbols) (flat_map (special_given forms) forms)
         (symbol_specials (length (text_objects forms)) (symbol_ref forms) special_symbols (λ name. refers.symbols name) refl)
-        (all_given (IsSpecial (length (text_objects forms))) (special_given forms) forms
+        (all_flat (λ form. AllByRecursion (IsSpecial (length (text_objects forms))) (special_given forms form)) (IsSpecial (length (text_objects forms))) (special_given forms) forms (λ form h. h)
         (all_by_place (λ form. AllByRecursion (IsSpecial (length (text_objects forms))) (special_given forms form)) forms
         (λ above form below e. given_specials forms above form below judged refers e)))
 

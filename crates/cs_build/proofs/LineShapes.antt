@@ -7,7 +7,7 @@ use Rattle.std.specs.Str.{bytes_eq}
 use Rattle.std.proofs.lemmas.Bool.{false≢true}
 use Rattle.std.proofs.lemmas.Bool.Decides.{nat_tests}
 use Rattle.std.proofs.lemmas.Int.{ints}
-use Rattle.std.proofs.lemmas.List.{length-replicate}
+use Rattle.std.proofs.lemmas.List.{append_assoc}
 use Rattle.std.proofs.lemmas.List.Concat.{flat_map-append}
 use Rattle.std.proofs.lemmas.Slice.Eq.{bytes_eq-Decides}
 use Rattle.cs_word.specs.Word.{IsSmall}
@@ -29,7 +29,7 @@ use Rattle.cs_build.proofs.Contexts.{size_is, temporaries_fit}
 use Rattle.cs_build.proofs.Kinding.{HasClass, HasKinds, IsKind, IsShaped, all_kinds, class_of_index, has_class, index_few, kind_of_class, pointers_shaped, raw_shaped}
 use Rattle.cs_build.proofs.ObjectsThere.{IsPlaced, object_there, placed}
 use Rattle.cs_build.proofs.Sounding.{and_true, natural_between, natural_least}
-use Rattle.cs_build.proofs.Totalling.{HasMethod, all_by_place, method_of_process}
+use Rattle.cs_build.proofs.Totalling.{found_first}
 
 -- ---- what references of a text name
 
@@ -108,22 +108,10 @@ class_shaped forms line judged refers e =
 -- ---- objects and bytes
 
 -- a class above is the text's class of its name
-find_front : {X : Type 0} (p : X → Bool) (xs ys : List X) (x : X) → find p xs ≡ Some x → find p (xs ++ ys) ≡ Some x
-find_front p [] ys x e = absurd (cc)
-find_front p (y ∷ xs) ys x e = go (p y) e (find_front p xs ys x)
-  where
-    go : (b : Bool) → (if b then Some y else find p xs) ≡ Some x → (find p xs ≡ Some x → find p (xs ++ ys) ≡ Some x) → (if b then Some y else find p (xs ++ ys)) ≡ Some x
-    go true e h = e
-    go false e h = h e
-
-shift : {X : Type 0} (xs ys zs : List X) → xs ++ (ys ++ zs) ≡ (xs ++ ys) ++ zs
-shift [] ys zs = refl
-shift (x ∷ xs) ys zs = ap (λ l. x ∷ l) (shift xs ys zs)
-
 classes_front : (known : List ClassLine) (above rest : List Form) (p : ClassLine → Bool) (c : ClassLine) → find p (known ++ flat_map class_lines_in above) ≡ Some c
     → find p (known ++ flat_map class_lines_in (above ++ rest)) ≡ Some c
 classes_front known above rest p c e = ap (λ ls. find p (known ++ ls)) (flat_map-append class_lines_in above rest)
-    ∙ ap (find p) (shift known (flat_map class_lines_in above) (flat_map class_lines_in rest)) ∙ find_front p (known ++ flat_map class_lines_in above) (flat_map class_lines_in rest) c e
+    ∙ ap (find p) (sym (append_assoc known (flat_map class_lines_in above) (flat_map class_lines_in rest))) ∙ found_first p (known ++ flat_map class_lines_in above) (flat_map class_lines_in rest) c e
 
 class_above : (above rest : List Form) (name : List ℕ) (c : ClassLine) → class_named above name ≡ Some c → class_named (above ++ rest) name ≡ Some c
 class_above above rest name c e = classes_front known_classes above rest (λ l. bytes_eq l.name name) c e

@@ -26,6 +26,7 @@ use Rattle.cs_build.proofs.Kinding.{IsShaped, stored_format}
 use Rattle.cs_build.proofs.LineShapes.{Refers, Shaped, bytes_shaped, class_shaped, count_small, format_between, is_sized, method_shaped, object_shaped}
 use Rattle.cs_build.proofs.ProcessShapes.{process_objects_shaped}
 use Rattle.cs_build.proofs.Putting.{length-map, map_take, size_cons}
+use Rattle.cs_build.proofs.Gathering.{all_flat}
 use Rattle.cs_build.proofs.Imaging.{image_is}
 use Rattle.cs_build.proofs.Referred.{referred}
 use Rattle.cs_build.proofs.Rooting.{at_split, text_roots}
@@ -54,13 +55,9 @@ known_shaped forms (line ∷ lines) judged refers sized = ((class_shaped forms l
 known_sized : AllByRecursion (λ line. is_sized line ≡ true) known_classes
 known_sized = (refl, (refl, (refl, (refl, (refl, (refl, (refl, (refl, (refl, (refl, (refl, (refl, (refl, (refl, (refl, (refl, (refl, (refl, (refl, (refl, (refl, (refl, tt))))))))))))))))))))))
 
-flat_shaped : (P : Obj → Type 0) (f : Form → List Obj) (all : List Form) → AllByRecursion (λ form. AllByRecursion P (f form)) all → AllByRecursion P (flat_map f all)
-flat_shaped P f [] h = tt
-flat_shaped P f (form ∷ all) h = all-append P (f form) (flat_map f all) h.0 (flat_shaped P f all h.1)
-
 lines_shaped : (forms : List Form) → IsJudged forms → Refers forms → AllByRecursion (Shaped forms) (lines_made forms)
 unfolding lines_made
-lines_shaped forms judged refers = flat_shaped (Shaped forms) (objects_in forms) (all_forms forms)
+lines_shaped forms judged refers = all_flat (λ form. AllByRecursion (Shaped forms) (objects_in forms form)) (Shaped forms) (objects_in forms) (all_forms forms) (λ form h. h)
     (all-append (λ form. AllByRecursion (Shaped forms) (objects_in forms form)) (map (λ c. text.Class c) known_classes) forms (known_shaped forms known_classes judged refers known_sized)
     (all_by_place (λ form. AllByRecursion (Shaped forms) (objects_in forms form)) forms (λ above form below e. line_shaped forms above form below judged refers e)))
 

@@ -61,7 +61,7 @@ methods_append (text.Method line ∷ above) rest c = go (bytes_eq line.class c) 
     go false e = e
 methods_append (form ∷ above) rest c = methods_append above rest c
 
-found_first : {X : Type 0} (p : X → Bool) (xs ys : List X) (x : X) → find p xs ≡ Some x → find p (xs ++ ys) ≡ Some x
+pub found_first : {X : Type 0} (p : X → Bool) (xs ys : List X) (x : X) → find p xs ≡ Some x → find p (xs ++ ys) ≡ Some x
 found_first p [] ys x e = absurd (cc)
 found_first p (y ∷ xs) ys x e = go (p y) e (found_first p xs ys x)
   where
