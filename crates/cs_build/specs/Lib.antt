@@ -17,3 +17,4 @@ pub mod Grouped
 pub mod Firsts
 pub mod Wholes
 pub mod Formed
+pub mod Judged
