@@ -70,7 +70,7 @@ raw_shaped os table total class bytes kind differs units = record {
 
 -- ---- what has room in a file
 
-stored_format : (total : ℕ) (o : Obj) → IsStored total o → (laid o).format < 2 ^ 5
+pub stored_format : (total : ℕ) (o : Obj) → IsStored total o → (laid o).format < 2 ^ 5
 stored_format total (Ptr head slots) s = pointer_format head.format s.pointers
   where
     pointer_format : (f : ℕ) → is_pointer_format f ≡ true → f < 2 ^ 5

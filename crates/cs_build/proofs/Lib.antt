@@ -49,4 +49,7 @@ pub mod Tabling
 pub mod Kinding
 pub mod LineShapes
 pub mod ProcessShapes
+pub mod FirstShapes
 pub mod Referred
+pub mod Rooting
+pub mod TextFormed
