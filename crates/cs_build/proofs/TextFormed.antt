@@ -78,8 +78,25 @@ stored_refs : (total : ℕ) (o : Obj) → 0 < total → IsStored total o → All
 stored_refs total (Ptr head slots) h s = s.refs
 stored_refs total (Raw head bytes) h s = tt
 stored_refs total (Method head header literals bytecodes) h s = (count_small header s.small, s.refs)
-stored_refs total (Ctx c) h s = (s.sender, (pc, (count_small (length c.stack) deep, (s.method, (s.closure, (s.receiver,
-    all-append (FitsRef total) c.stack (replicate _ nil_ref) s.stack (nils _)))))))
+stored_refs total (Ctx c) h s = (
+  s.sender,
+  (
+    pc,
+    (
+      count_small (length c.stack) deep,
+      (
+        s.method,
+        (
+          s.closure,
+          (
+            s.receiver,
+            all-append (FitsRef total) c.stack (replicate _ nil_ref) s.stack (nils _),
+          ),
+        ),
+      ),
+    ),
+  ),
+)
   where
     pc : FitsRef total (option_map_or (λ pc. Small (pos pc)) c.pc nil_ref)
     pc = subst (λ (o : Option ℕ). FitsRef total (option_map_or (λ pc. Small (pos pc)) o nil_ref)) (sym s.pc) (count_small s.at s.fits)
@@ -112,9 +129,10 @@ objects_fit : (os all : List Obj) (table : List ℕ) (total n : ℕ) → 0 < tot
 objects_fit [] all table total n h few shaped size = tt
 objects_fit (o ∷ os) all table total n h few shaped size =
     let cons : laid_size (laid o ∷ map laid os) ≡ saved_size (laid_slots (laid o)) + laid_size (map laid os) = size_cons (laid o) (map laid os) in
-    let one : laid_slots (laid o) ≤ saved_size (laid_slots (laid o)) = slots_within (laid_slots (laid o)) in
-    (object_fits all table total o h shaped.0 (below (laid_slots (laid o)) (saved_size (laid_slots (laid o))) (laid_size (map laid os)) (laid_size (laid o ∷ map laid os)) cons one size few),
-    objects_fit os all table total n h few shaped.1 (rest (saved_size (laid_slots (laid o))) (laid_size (map laid os)) (laid_size (laid o ∷ map laid os)) cons size))
+    let one : laid_slots (laid o) ≤ saved_size (laid_slots (laid o)) = slots_within (laid_slots (laid o)) in (
+      object_fits all table total o h shaped.0 (below (laid_slots (laid o)) (saved_size (laid_slots (laid o))) (laid_size (map laid os)) (laid_size (laid o ∷ map laid os)) cons one size few),
+      objects_fit os all table total n h few shaped.1 (rest (saved_size (laid_slots (laid o))) (laid_size (map laid os)) (laid_size (laid o ∷ map laid os)) cons size),
+    )
   where
     slots_within : (slots : ℕ) → slots ≤ saved_size slots
     slots_within slots = omega arith
