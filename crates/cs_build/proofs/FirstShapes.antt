@@ -1,5 +1,5 @@
 -- The objects in front of a text's lines and those behind them, as an image may hold them.
-use Rattle.std.proofs.Common.{◌≡◌, ◌≢◌, ℕ, zero, suc, ◌+◌, ◌*◌, ◌^◌, ◌<◌, ◌≤◌, Bool, true, false, nat_lt, List, [], ◌∷◌, ◌++◌, length, map, replicate, Some, None, Option, refl, ap, sym, subst, ◌∙◌, arith, slice_get}
+use Rattle.std.proofs.Common.{◌≡◌, ◌≢◌, ℕ, zero, suc, ◌+◌, ◌^◌, ◌<◌, ◌≤◌, true, nat_lt, List, [], ◌∷◌, ◌++◌, length, map, replicate, Some, refl, ap, sym, subst, ◌∙◌, arith, slice_get}
 use Rattle.std.specs.Prelude.{ℤ, pos, negsuc, codes, flat_map, fold, slice_set, ◌&&◌, not}
 use Rattle.std.specs.List.{AllByRecursion, enumerate_from, list_all, range_with_len}
 use Rattle.std.proofs.lemmas.Bool.{false≢true}
@@ -12,7 +12,7 @@ use Rattle.cs_model.specs.Words.{plain_format}
 use Rattle.cs_model.specs.BuilderText as text
 use Rattle.cs_model.specs.BuilderText.{Form, ClassLine, MethodLine}
 use Rattle.cs_model.specs.BuilderFault.{all_classes, fits, is_between}
-use Rattle.cs_model.specs.Builder.{active_ref, class_ref, dictionary_objects, first_list, list_object, method_birth, methods_of, natural, nil_ref, obj_or_nil, raw_object, selector_names, selector_slots, special_given, special_objects, special_slots, special_symbols, symbol_ref, symbols_of, text_objects, values_birth, with_special}
+use Rattle.cs_model.specs.Builder.{active_ref, class_ref, dictionary_objects, first_list, list_object, method_birth, methods_of, natural, nil_ref, obj_or_nil, raw_object, selector_names, selector_slots, special_given, special_slots, special_symbols, symbol_ref, symbols_of, text_objects, values_birth, with_special}
 use Rattle.cs_model.proofs.Same.{all-append, all-replicate, all-slice_set}
 use Rattle.cs_build.specs.Firsts.{first_made}
 use Rattle.cs_build.specs.Grouped.{all_dictionaries, symbol_objects}
@@ -24,7 +24,7 @@ use Rattle.cs_build.specs.Wholes.{table_made}
 use Rattle.cs_build.proofs.Gathering.{all_flat}
 use Rattle.cs_build.proofs.Grouping.{methods_few}
 use Rattle.cs_build.proofs.Kinding.{HasKinds, IsKind, all_kinds, pointers_shaped, raw_shaped}
-use Rattle.cs_build.proofs.LineShapes.{AreReferred, Refers, Shaped, count_small}
+use Rattle.cs_build.proofs.LineShapes.{Refers, Shaped, count_small}
 use Rattle.cs_build.proofs.Sounding.{and_true}
 use Rattle.cs_build.proofs.Totalling.{all_by_place}
 

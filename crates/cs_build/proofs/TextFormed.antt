@@ -1,23 +1,23 @@
 -- The objects of a text without fault are those of an image that can be opened.
-use Rattle.std.proofs.Common.{◌≡◌, ℕ, zero, suc, ◌+◌, ◌*◌, ◌/◌, ◌^◌, ◌<◌, ◌≤◌, Bool, true, false, max, List, [], ◌∷◌, ◌++◌, length, map, take, replicate, Some, None, Option, refl, ap, ap₂, sym, subst, ◌∙◌, arith}
-use Rattle.std.specs.Prelude.{pos, flat_map, ◌&&◌, Ok}
+use Rattle.std.proofs.Common.{◌≡◌, ℕ, zero, suc, ◌+◌, ◌*◌, ◌/◌, ◌^◌, ◌<◌, ◌≤◌, true, List, [], ◌∷◌, ◌++◌, length, map, take, replicate, Option, refl, ap, ap₂, sym, subst, ◌∙◌, arith}
+use Rattle.std.specs.Prelude.{pos, ◌&&◌, Ok}
 use Rattle.std.specs.Option.{option_map_or}
 use Rattle.std.specs.List.{AllByRecursion}
-use Rattle.cs_model.specs.Obj.{Obj, Head, Context, Ptr, Raw, Method, Ctx, new_head}
-use Rattle.cs_model.specs.Ref.{Ref, Small}
+use Rattle.cs_model.specs.Obj.{Obj, Ptr, Raw, Method, Ctx, new_head}
+use Rattle.cs_model.specs.Ref.{Small}
 use Rattle.cs_model.specs.Image.{image_of}
 use Rattle.cs_model.specs.SavedFile.{page_place, saved_base, saved_bytes, saved_size}
 use Rattle.cs_model.specs.BuilderText as text
 use Rattle.cs_model.specs.BuilderText.{Form, ClassLine}
 use Rattle.cs_model.specs.BuilderFault.{is_between, is_class_format, known_classes}
-use Rattle.cs_model.specs.Builder.{all_forms, class_object, class_table, nil_ref, objects_in, text_objects, text_state}
+use Rattle.cs_model.specs.Builder.{all_forms, class_table, nil_ref, objects_in, text_objects, text_state}
 use Rattle.cs_model.proofs.Same.{all-append}
 use Rattle.cs_model.proofs.SavedSeen.{all_each}
 use Rattle.cs_build.specs.Firsts.{first_made}
 use Rattle.cs_build.specs.Formed.{HasKind, HasRoom, IsFormed, IsFormedContext, IsFormedImage}
 use Rattle.cs_build.specs.Grouped.{all_dictionaries, symbol_objects}
 use Rattle.cs_build.specs.Judged.{HasBytes, IsJudged}
-use Rattle.cs_build.specs.Laid.{FitsLaid, FitsLayout, FitsRef, Laid, context_refs, file_for, laid, laid_size, laid_slots}
+use Rattle.cs_build.specs.Laid.{FitsLaid, FitsLayout, FitsRef, Laid, file_for, laid, laid_size, laid_slots}
 use Rattle.cs_build.specs.Stored.{IsStored}
 use Rattle.cs_build.specs.Wholes.{objects_made, table_made}
 use Rattle.cs_build.proofs.Filing.{size_of_file}
@@ -32,7 +32,7 @@ use Rattle.cs_build.proofs.Referred.{referred}
 use Rattle.cs_build.proofs.Rooting.{at_split, text_roots}
 use Rattle.cs_build.proofs.Sounding.{and_true}
 use Rattle.cs_build.proofs.Tabling.{text_table_entries, text_table_few, text_table_formed, text_table_is, text_table_pages}
-use Rattle.cs_build.proofs.Totalling.{all_by_place, lines_made, made_in_parts, total_made}
+use Rattle.cs_build.proofs.Totalling.{all_by_place, lines_made, made_in_parts}
 
 -- ---- the objects of all lines
 
