@@ -1,5 +1,5 @@
 -- The objects in front of a text's lines and those behind them, as an image may hold them.
-use Rattle.std.proofs.Common.{◌≡◌, ◌≢◌, ℕ, zero, suc, ◌+◌, ◌*◌, ◌^◌, ◌<◌, ◌≤◌, Bool, true, false, nat_lt, List, [], ◌∷◌, ◌++◌, length, map, replicate, Some, None, Option, refl, ap, sym, subst, ◌∙◌, arith, slice_get}
+use Rattle.std.proofs.Common.{◌≡◌, ◌≢◌, ℕ, zero, suc, ◌+◌, ◌^◌, ◌<◌, ◌≤◌, true, nat_lt, List, [], ◌∷◌, ◌++◌, length, map, replicate, Some, refl, ap, sym, subst, ◌∙◌, arith, slice_get}
 use Rattle.std.specs.Prelude.{ℤ, pos, negsuc, codes, flat_map, fold, slice_set, ◌&&◌, not}
 use Rattle.std.specs.List.{AllByRecursion, enumerate_from, list_all, range_with_len}
 use Rattle.std.proofs.lemmas.Bool.{false≢true}
@@ -12,7 +12,7 @@ use Rattle.cs_model.specs.Words.{plain_format}
 use Rattle.cs_model.specs.BuilderText as text
 use Rattle.cs_model.specs.BuilderText.{Form, ClassLine, MethodLine}
 use Rattle.cs_model.specs.BuilderFault.{all_classes, fits, is_between}
-use Rattle.cs_model.specs.Builder.{active_ref, class_ref, dictionary_objects, first_list, list_object, method_birth, methods_of, natural, nil_ref, obj_or_nil, raw_object, selector_names, selector_slots, special_given, special_objects, special_slots, special_symbols, symbol_ref, symbols_of, text_objects, values_birth, with_special}
+use Rattle.cs_model.specs.Builder.{active_ref, class_ref, dictionary_objects, first_list, list_object, method_birth, methods_of, natural, nil_ref, obj_or_nil, raw_object, selector_names, selector_slots, special_given, special_slots, special_symbols, symbol_ref, symbols_of, text_objects, values_birth, with_special}
 use Rattle.cs_model.proofs.Same.{all-append, all-replicate, all-slice_set}
 use Rattle.cs_build.specs.Firsts.{first_made}
 use Rattle.cs_build.specs.Grouped.{all_dictionaries, symbol_objects}
@@ -21,9 +21,10 @@ use Rattle.cs_build.specs.Laid.{FitsRef}
 use Rattle.cs_build.specs.Standing.{symbol_names}
 use Rattle.cs_build.specs.Stored.{IsByte}
 use Rattle.cs_build.specs.Wholes.{table_made}
+use Rattle.cs_build.proofs.Gathering.{all_flat}
 use Rattle.cs_build.proofs.Grouping.{methods_few}
 use Rattle.cs_build.proofs.Kinding.{HasKinds, IsKind, all_kinds, pointers_shaped, raw_shaped}
-use Rattle.cs_build.proofs.LineShapes.{AreReferred, Refers, Shaped, count_small}
+use Rattle.cs_build.proofs.LineShapes.{Refers, Shaped, count_small}
 use Rattle.cs_build.proofs.Sounding.{and_true}
 use Rattle.cs_build.proofs.Totalling.{all_by_place}
 
@@ -68,10 +69,6 @@ given_specials forms above (text.Special place value) below judged refers e =
     three (negsuc n) same h = absurd (cc)
 given_specials forms above form below judged refers e = tt
 
-all_given : (P : ℕ × Ref → Type 0) (f : Form → List (ℕ × Ref)) (all : List Form) → AllByRecursion (λ form. AllByRecursion P (f form)) all → AllByRecursion P (flat_map f all)
-all_given P f [] h = tt
-all_given P f (form ∷ all) h = all-append P (f form) (flat_map f all) h.0 (all_given P f all h.1)
-
 pub all_special : (forms : List Form) → IsJudged forms → Refers forms → AllByRecursion (IsSpecial (length (text_objects forms))) (other_specials forms)
 unfolding other_specials
 all_special forms judged refers = (
@@ -94,7 +91,7 @@ all_special forms judged refers = (
     rest : AllByRecursion (IsSpecial (length (text_objects forms))) (map (λ e. (e.0, symbol_ref forms e.1)) special_symbols ++ flat_map (special_given forms) forms)
     rest = all-append (IsSpecial (length (text_objects forms))) (map (λ e. (e.0, symbol_ref forms e.1)) special_symbols) (flat_map (special_given forms) forms)
         (symbol_specials (length (text_objects forms)) (symbol_ref forms) special_symbols (λ name. refers.symbols name) refl)
-        (all_given (IsSpecial (length (text_objects forms))) (special_given forms) forms
+        (all_flat (λ form. AllByRecursion (IsSpecial (length (text_objects forms))) (special_given forms form)) (IsSpecial (length (text_objects forms))) (special_given forms) forms (λ form h. h)
         (all_by_place (λ form. AllByRecursion (IsSpecial (length (text_objects forms))) (special_given forms form)) forms
         (λ above form below e. given_specials forms above form below judged refers e)))
 

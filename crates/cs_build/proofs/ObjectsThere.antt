@@ -1,11 +1,11 @@
 -- Which object stands at which number, among the objects of a text.
-use Rattle.std.proofs.Common.{◌≡◌, ℕ, zero, suc, ◌+◌, ◌<◌, Bool, true, false, List, [], ◌∷◌, ◌++◌, length, map, Some, None, Option, refl, ap, ap₂, sym, subst, ◌∙◌, arith, if◌then◌else◌, slice_get, length-append}
+use Rattle.std.proofs.Common.{◌≡◌, ℕ, ◌+◌, Bool, true, false, List, [], ◌∷◌, ◌++◌, length, map, Some, None, Option, refl, ap, ap₂, sym, subst, ◌∙◌, arith, if◌then◌else◌, slice_get}
 use Rattle.std.specs.Prelude.{flat_map, sum_by, ◌||◌, ◌&&◌, not}
 use Rattle.std.specs.List.{AllByRecursion, list_any}
 use Rattle.std.specs.Str.{bytes_eq}
 use Rattle.std.proofs.lemmas.Bool.{false≢true}
 use Rattle.std.proofs.lemmas.Slice.Eq.{bytes_eq-Decides}
-use Rattle.std.proofs.lemmas.List.{append_assoc}
+use Rattle.std.proofs.lemmas.List.{append-nil, append_assoc, map_push}
 use Rattle.std.proofs.lemmas.List.Concat.{flat_map-append}
 use Rattle.std.proofs.lemmas.List.Sums.{sum_by-cons}
 use Rattle.cs_model.specs.Obj.{Obj}
@@ -18,6 +18,7 @@ use Rattle.cs_build.specs.Judged.{IsJudged}
 use Rattle.cs_build.specs.Firsts.{first_made}
 use Rattle.cs_build.specs.Grouped.{all_dictionaries, symbol_objects}
 use Rattle.cs_build.proofs.Noting.{bytes_eq_turned}
+use Rattle.cs_build.proofs.Queueing.{or_nothing}
 use Rattle.cs_build.proofs.Sounding.{and_true}
 use Rattle.cs_build.proofs.Totalling.{IsCounted, all_counted, first_counted, lines_made, made_counted, made_in_parts}
 
@@ -177,25 +178,13 @@ not_true : (b : Bool) → not b ≡ true → b ≡ false
 not_true true e = absurd (cc)
 not_true false e = refl
 
-or_false : (b : Bool) → b || false ≡ b
-or_false true = refl
-or_false false = refl
-
-map_end : (front : List ClassLine) (line : ClassLine) → map (λ c. text.Class c) (front ++ line ∷ []) ≡ map (λ c. text.Class c) front ++ text.Class line ∷ []
-map_end [] line = refl
-map_end (c ∷ front) line = ap (λ fs. text.Class c ∷ fs) (map_end front line)
-
 lines_apart : (front lines : List ClassLine) (rest : List Form) → is_apart front lines ≡ true → ApartFrom (map (λ c. text.Class c) (front ++ lines)) rest
     → ApartFrom (map (λ c. text.Class c) front) (map (λ c. text.Class c) lines ++ rest)
-lines_apart front [] rest e h = subst (λ ls. ApartFrom (map (λ c. text.Class c) ls) rest) (nil_end front) h
-  where
-    nil_end : (xs : List ClassLine) → xs ++ [] ≡ xs
-    nil_end [] = refl
-    nil_end (x ∷ xs) = ap (λ ys. x ∷ ys) (nil_end xs)
+lines_apart front [] rest e h = subst (λ ls. ApartFrom (map (λ c. text.Class c) ls) rest) (append-nil front) h
 lines_apart front (line ∷ lines) rest e h =
     let both : (not (list_any (is_named line.name) (map (λ c. text.Class c) front)) ≡ true) × (is_apart (front ++ line ∷ []) lines ≡ true) = and_true _ _ e in (
-      (λ name is. ap (λ q. list_any (is_named q) (map (λ c. text.Class c) front)) ((bytes_eq-Decides name line.name).0 (sym (or_false (bytes_eq name line.name)) ∙ is)) ∙ not_true _ both.0),
-      subst (λ fs. ApartFrom fs (map (λ c. text.Class c) lines ++ rest)) (map_end front line)
+      (λ name is. ap (λ q. list_any (is_named q) (map (λ c. text.Class c) front)) ((bytes_eq-Decides name line.name).0 (sym (or_nothing (bytes_eq name line.name)) ∙ is)) ∙ not_true _ both.0),
+      subst (λ fs. ApartFrom fs (map (λ c. text.Class c) lines ++ rest)) (map_push (λ c. text.Class c) front line)
           (lines_apart (front ++ line ∷ []) lines rest both.1 (subst (λ ls. ApartFrom (map (λ c. text.Class c) ls) rest) (sym (append_assoc front (line ∷ []) lines)) h)),
     )
 
@@ -203,14 +192,14 @@ lines_apart front (line ∷ lines) rest e h =
 
 known_named : (name : List ℕ) (lines : List ClassLine) → list_any (is_named name) (map (λ c. text.Class c) lines) ≡ list_any (λ c. bytes_eq c.name name) lines
 known_named name [] = refl
-known_named name (line ∷ lines) = ap₂ (λ a b. a || b) (or_false (bytes_eq name line.name) ∙ bytes_eq_turned name line.name) (known_named name lines)
+known_named name (line ∷ lines) = ap₂ (λ a b. a || b) (or_nothing (bytes_eq name line.name) ∙ bytes_eq_turned name line.name) (known_named name lines)
 
 abbrev pub names_free : List Form → Form → Type 0
 names_free above form = (name : List ℕ) → is_named name form ≡ true → is_taken above name ≡ false
 
 one_free : (above : List Form) (name : List ℕ) (own : List ℕ) → list_any (is_taken above) (own ∷ []) ≡ false → list_any (bytes_eq name) (own ∷ []) ≡ true → is_taken above name ≡ false
 one_free above name own e is =
-    ap (is_taken above) ((bytes_eq-Decides name own).0 (sym (or_false (bytes_eq name own)) ∙ is)) ∙ sym (or_false (is_taken above own)) ∙ e
+    ap (is_taken above) ((bytes_eq-Decides name own).0 (sym (or_nothing (bytes_eq name own)) ∙ is)) ∙ sym (or_nothing (is_taken above own)) ∙ e
 
 free : (forms above : List Form) (form : Form) (below : List Form) → IsJudged forms → forms ≡ above ++ form ∷ below → names_free above form
 free forms above (text.Class line) below judged e name is = one_free above name line.name (judged.lines above (text.Class line) below e).new is
@@ -229,22 +218,18 @@ own_apart known forms front (form ∷ rest) h e = (
       (own_apart known forms (front ++ form ∷ []) rest h (e ∙ sym (append_assoc front (form ∷ []) rest))),
 )
 
-end_nil : (xs : List Form) → xs ++ [] ≡ xs
-end_nil [] = refl
-end_nil (x ∷ xs) = ap (λ ys. x ∷ ys) (end_nil xs)
-
 known_check : is_apart [] known_classes ≡ true
 known_check = refl
 
 all_apart : (forms : List Form) → IsJudged forms → ApartFrom [] (all_forms forms)
 all_apart forms judged = lines_apart [] known_classes forms known_check
-    (subst (λ fs. ApartFrom fs forms) (end_nil (map (λ c. text.Class c) known_classes))
+    (subst (λ fs. ApartFrom fs forms) (append-nil (map (λ c. text.Class c) known_classes))
     (own_apart known_classes forms [] forms (λ above form below e. free forms above form below judged e) refl))
 
 -- ---- the numbers of named things
 
 named_in_name : (name : List ℕ) (form : Form) → is_process_named name form ≡ true → is_named name form ≡ true
-named_in_name name (text.Process line) e = or_false (bytes_eq name line.name) ∙ bytes_eq_turned name line.name ∙ e
+named_in_name name (text.Process line) e = or_nothing (bytes_eq name line.name) ∙ bytes_eq_turned name line.name ∙ e
 named_in_name name form e = absurd (false≢true e)
 
 any_less : (p q : Form → Bool) → ((form : Form) → p form ≡ true → q form ≡ true) → (xs : List Form) → list_any q xs ≡ false → list_any p xs ≡ false

@@ -1,32 +1,32 @@
 -- The processes of a text and the contexts in which they begin, as an image may hold them.
-use Rattle.std.proofs.Common.{◌≡◌, ◌≢◌, ℕ, zero, suc, ◌+◌, ◌-◌, ◌*◌, ◌/◌, ◌%◌, ◌^◌, ◌<◌, ◌≤◌, ◌==◌, Bool, true, false, List, [], ◌∷◌, ◌++◌, length, map, replicate, Some, None, Option, refl, ap, ap₂, sym, subst, ◌∙◌, arith, if◌then◌else◌, slice_get, length-append}
-use Rattle.std.specs.Prelude.{ℤ, pos, negsuc, find, flat_map, sum_by, is_some, int_lt, ◌||◌, ◌&&◌, not, nat_le}
+use Rattle.std.proofs.Common.{◌≡◌, ℕ, suc, ◌+◌, ◌*◌, ◌^◌, ◌<◌, ◌≤◌, ◌==◌, Bool, true, false, List, [], ◌∷◌, ◌++◌, length, map, replicate, Some, None, Option, refl, ap, ap₂, sym, subst, ◌∙◌, arith, if◌then◌else◌, slice_get}
+use Rattle.std.specs.Prelude.{ℤ, pos, negsuc, find, flat_map, sum_by, is_some, ◌||◌, ◌&&◌, nat_le}
 use Rattle.std.specs.Option.{option_map_or}
 use Rattle.std.specs.List.{AllByRecursion, list_any}
 use Rattle.std.specs.Str.{bytes_eq}
 use Rattle.std.proofs.lemmas.Bool.Decides.{nat_tests}
-use Rattle.std.proofs.lemmas.List.{length-replicate}
+use Rattle.std.proofs.lemmas.List.{append_assoc, length-replicate}
 use Rattle.std.proofs.lemmas.List.Concat.{flat_map-append}
 use Rattle.std.proofs.lemmas.Slice.Eq.{bytes_eq-Decides}
 use Rattle.cs_word.specs.Word.{IsSmall}
-use Rattle.cs_model.specs.Obj.{Obj, Context, Ctx, Method, Ptr, context_size, first_pc, lies_between, new_head}
+use Rattle.cs_model.specs.Obj.{Obj, Ctx, Ptr, context_size, first_pc, new_head}
 use Rattle.cs_model.specs.Ref.{Ref, Small}
 use Rattle.cs_model.specs.Ref as ref
 use Rattle.cs_model.specs.BuilderText as text
 use Rattle.cs_model.specs.BuilderText.{Form, MethodLine, ProcessLine}
 use Rattle.cs_model.specs.BuilderFault.{fits, is_between, known_classes, method_fits, method_named, methods_in, most_temporaries, place_where}
-use Rattle.cs_model.specs.Builder.{all_forms, begin_pc, birth_where, bit_of, body_of, built_bytecodes, built_header, built_literals, built_process, first_context, is_method_of, is_process_named, list_birth, list_if_ready, method_birth, method_for, method_object, natural, nil_ref, obj_or_nil, object_count, primitive_bytes, process_objects, process_ref, ready_in, text_objects}
+use Rattle.cs_model.specs.Builder.{all_forms, begin_pc, birth_where, bit_of, built_bytecodes, built_header, built_literals, built_process, first_context, is_method_of, is_process_named, list_birth, method_birth, method_object, natural, nil_ref, obj_or_nil, object_count, primitive_bytes, process_objects, ready_in, text_objects}
 use Rattle.cs_model.proofs.Same.{all-append, all-replicate}
-use Rattle.cs_build.specs.Formed.{FormedContext, NamesMethod}
+use Rattle.cs_build.specs.Formed.{FormedContext}
 use Rattle.cs_build.specs.Judged.{IsJudged}
 use Rattle.cs_build.specs.Laid.{FitsRef}
 use Rattle.cs_build.specs.Wholes.{table_made}
 use Rattle.cs_build.proofs.Contexts.{size_is, temporaries_fit}
-use Rattle.cs_build.proofs.Kinding.{HasKinds, IsKind, IsShaped, all_kinds, pointers_shaped}
-use Rattle.cs_build.proofs.LineShapes.{AreReferred, Refers, Shaped, count_small}
+use Rattle.cs_build.proofs.Kinding.{IsKind, all_kinds, pointers_shaped}
+use Rattle.cs_build.proofs.LineShapes.{Refers, Shaped, count_small}
 use Rattle.cs_build.proofs.ObjectsThere.{object_there, place_behind}
-use Rattle.cs_build.proofs.Sounding.{and_true, natural_between, natural_least}
-use Rattle.cs_build.proofs.Totalling.{HasMethod, method_of_process}
+use Rattle.cs_build.proofs.Sounding.{and_true, natural_between}
+use Rattle.cs_build.proofs.Totalling.{HasMethod, found_first, method_of_process}
 
 -- ---- the line of a method
 
@@ -67,17 +67,9 @@ line_of c s (text.Method line ∷ forms) m e = go (bytes_eq line.class c) (bytes
     go false b ea eb e r = line_cons c s (text.Method line) forms m (ap (λ x. x && bytes_eq line.selector s) ea) (r e)
 line_of c s (form ∷ forms) m e = line_cons c s form forms m refl (line_of c s forms m e)
 
-find_front : (p : MethodLine → Bool) (xs ys : List MethodLine) (x : MethodLine) → find p xs ≡ Some x → find p (xs ++ ys) ≡ Some x
-find_front p [] ys x e = absurd (cc)
-find_front p (y ∷ xs) ys x e = go (p y) e (find_front p xs ys x)
-  where
-    go : (b : Bool) → (if b then Some y else find p xs) ≡ Some x → (find p xs ≡ Some x → find p (xs ++ ys) ≡ Some x) → (if b then Some y else find p (xs ++ ys)) ≡ Some x
-    go true e h = e
-    go false e h = h e
-
 named_front : (above rest : List Form) (c s : List ℕ) (m : MethodLine) → method_named above c s ≡ Some m → method_named (above ++ rest) c s ≡ Some m
 named_front above rest c s m e = ap (find (λ l. bytes_eq l.class c && bytes_eq l.selector s)) (flat_map-append methods_in above rest)
-    ∙ find_front (λ l. bytes_eq l.class c && bytes_eq l.selector s) (flat_map methods_in above) (flat_map methods_in rest) m e
+    ∙ found_first (λ l. bytes_eq l.class c && bytes_eq l.selector s) (flat_map methods_in above) (flat_map methods_in rest) m e
 
 -- ---- its object
 
@@ -98,10 +90,6 @@ place_of_line passes front above form below absent e = place_behind passes 16 (f
 any_known : (c s : List ℕ) (above : List Form) → list_any (is_method_of c s) (map (λ l. text.Class l) known_classes ++ above) ≡ list_any (is_method_of c s) above
 any_known c s above = refl
 
-forms_shift : (xs ys zs : List Form) → xs ++ (ys ++ zs) ≡ (xs ++ ys) ++ zs
-forms_shift [] ys zs = refl
-forms_shift (x ∷ xs) ys zs = ap (λ l. x ∷ l) (forms_shift xs ys zs)
-
 method_of_line : (forms above : List Form) (m : MethodLine) (below : List Form) → IsJudged forms → forms ≡ above ++ text.Method m ∷ below
     → list_any (is_method_of m.class m.selector) above ≡ false → IsMethodThere forms m
 method_of_line forms above m below judged e absent = record {
@@ -117,7 +105,7 @@ method_of_line forms above m below judged e absent = record {
     nothing n = omega arith
 
     whole : all_forms forms ≡ (map (λ l. text.Class l) known_classes ++ above) ++ text.Method m ∷ below
-    whole = ap (λ fs. map (λ l. text.Class l) known_classes ++ fs) e ∙ forms_shift (map (λ l. text.Class l) known_classes) above (text.Method m ∷ below)
+    whole = ap (λ fs. map (λ l. text.Class l) known_classes ++ fs) e ∙ sym (append_assoc (map (λ l. text.Class l) known_classes) above (text.Method m ∷ below))
 
 pub method_there : (forms : List Form) (p : ProcessLine) → IsJudged forms → (has : HasMethod forms p) → IsMethodThere forms has.line
 method_there forms p judged has =

@@ -1,6 +1,6 @@
 -- The class table of a text without fault.
-use Rattle.std.proofs.Common.{◌≡◌, ◌≢◌, ℕ, zero, suc, ◌+◌, ◌-◌, ◌*◌, ◌/◌, ◌<◌, ◌≤◌, ◌==◌, Bool, true, false, cond, nat_lt, List, [], ◌∷◌, ◌++◌, length, map, take, drop, Some, None, Option, refl, ap, ap₂, sym, subst, ◌∙◌, arith, if◌then◌else◌, get_or, slice_index, slice_get, length-append}
-use Rattle.std.specs.Prelude.{pos, codes, find, flat_map, fold, position, sum_by, unwrap_or, option_map, ◌||◌, ◌&&◌, not, IfSome}
+use Rattle.std.proofs.Common.{◌≡◌, ◌≢◌, ℕ, zero, suc, ◌+◌, ◌-◌, ◌*◌, ◌/◌, ◌<◌, ◌≤◌, ◌==◌, Bool, true, false, nat_lt, List, [], ◌∷◌, ◌++◌, length, map, take, drop, Some, None, Option, refl, ap, ap₂, sym, subst, ◌∙◌, arith, if◌then◌else◌, get_or, slice_index, slice_get}
+use Rattle.std.specs.Prelude.{pos, codes, find, flat_map, position, sum_by, unwrap_or, option_map, ◌||◌, ◌&&◌, not, IfSome}
 use Rattle.std.specs.Option.{option_map_or, option_or}
 use Rattle.std.specs.List.{AllByRecursion, list_all, list_any, range_with_len}
 use Rattle.std.specs.Ordering.{nat_cmp}
@@ -8,20 +8,21 @@ use Rattle.std.specs.FinMap.{from_entries, insert}
 use Rattle.std.specs.Str.{bytes_eq}
 use Rattle.std.proofs.lemmas.Bool.{false≢true}
 use Rattle.std.proofs.lemmas.Bool.Decides.{nat_tests}
+use Rattle.std.proofs.lemmas.List.{append_assoc}
 use Rattle.std.proofs.lemmas.Slice.Eq.{bytes_eq-Decides}
 use Rattle.cs_model.specs.Obj.{Obj, Ptr, given_hash, new_head}
 use Rattle.cs_model.specs.Ref.{Ref}
 use Rattle.cs_model.specs.BuilderText as text
 use Rattle.cs_model.specs.BuilderText.{Form, ClassLine}
 use Rattle.cs_model.specs.BuilderFault.{all_classes, class_lines_in, is_named, known_classes}
-use Rattle.cs_model.specs.Builder.{all_forms, birth_where, class_index, class_object, class_place, class_table, index_at, is_process_named, known_indices, named_birth, object_count, text_objects}
-use Rattle.cs_model.proofs.Same.{all-append}
+use Rattle.cs_model.specs.Builder.{all_forms, class_index, class_object, class_table, index_at, known_indices, named_birth, object_count, text_objects}
 use Rattle.cs_model.proofs.SavedSeen.{all_each}
 use Rattle.cs_build.specs.Formed.{IsClassAt, IsFormedTable, IsTableOf}
 use Rattle.cs_build.specs.Judged.{IsJudged}
 use Rattle.cs_build.specs.Numbered.{first_at}
 use Rattle.cs_build.specs.Wholes.{table_by, table_made}
-use Rattle.cs_build.proofs.Entering.{AreEntries, entry_filled, has_at, has_index, map_is, table_entries, table_formed, table_length, table_of}
+use Rattle.cs_build.proofs.Entering.{AreEntries, entry_filled, has_at, has_index, map_is, table_entries, table_formed, table_length, table_of, told}
+use Rattle.cs_build.proofs.Gathering.{all_flat}
 use Rattle.cs_build.proofs.Noting.{bytes_eq_self, position_is}
 use Rattle.cs_build.proofs.Sounding.{and_true}
 use Rattle.cs_build.proofs.Standing.{classes_are, find_none, find_position, position_within}
@@ -54,9 +55,6 @@ pub record IsGoodIndex (p i : ℕ) : Type 0 where
   pub hidden_free : i ≢ 16
   pub few : i < p + 52
   pub later : 22 ≤ p → i ≡ p + 30
-
-told : (a b : ℕ) → (a == b) ≡ true → a ≡ b
-told a b e = grind (arith, nat_tests, e)
 
 differs : (a b : ℕ) → not (a == b) ≡ true → a ≢ b
 differs a b e = grind (arith, nat_tests, e)
@@ -200,16 +198,12 @@ class_there forms above line below judged e =
       high = λ none. omega (arith, number, none);
     }
 
-flat_all : (P : ClassLine → Type 0) (all : List Form) → AllByRecursion (λ form. AllByRecursion P (class_lines_in form)) all → AllByRecursion P (flat_map class_lines_in all)
-flat_all P [] h = tt
-flat_all P (form ∷ all) h = all-append P (class_lines_in form) (flat_map class_lines_in all) h.0 (flat_all P all h.1)
-
 line_classes : (forms above : List Form) (form : Form) (below : List Form) → IsJudged forms → all_forms forms ≡ above ++ form ∷ below → AllByRecursion (IsClassThere forms) (class_lines_in form)
 line_classes forms above (text.Class line) below judged e = (class_there forms above line below judged e, tt)
 line_classes forms above form below judged e = tt
 
 classes_there : (forms : List Form) → IsJudged forms → AllByRecursion (IsClassThere forms) (all_classes forms)
-classes_there forms judged = subst (AllByRecursion (IsClassThere forms)) (classes_are forms) (flat_all (IsClassThere forms) (all_forms forms)
+classes_there forms judged = subst (AllByRecursion (IsClassThere forms)) (classes_are forms) (all_flat (λ form. AllByRecursion (IsClassThere forms) (class_lines_in form)) (IsClassThere forms) class_lines_in (all_forms forms) (λ form h. h)
     (all_by_place (λ form. AllByRecursion (IsClassThere forms) (class_lines_in form)) (all_forms forms) (λ above form below e. line_classes forms above form below judged e)))
 
 -- ---- the classes that have their indices in every text
@@ -232,12 +226,8 @@ pub has_known : (forms : List Form) (i k : ℕ) (front : List ClassLine) (c : Cl
     → first_at (is_line c.name) 0 known_classes ≡ Some k → index_at k ≡ i → has_index (index_of_line forms) i (all_classes forms) ≡ true
 has_known forms i k front c rest e place is =
     ap (λ known. has_index (index_of_line forms) i (known ++ flat_map class_lines_in forms)) e
-    ∙ ap (has_index (index_of_line forms) i) (shift front (c ∷ rest) (flat_map class_lines_in forms))
+    ∙ ap (has_index (index_of_line forms) i) (append_assoc front (c ∷ rest) (flat_map class_lines_in forms))
     ∙ has_at (index_of_line forms) i front c (rest ++ flat_map class_lines_in forms) (sym (known_index forms c k place ∙ is))
-  where
-    shift : (xs ys zs : List ClassLine) → (xs ++ ys) ++ zs ≡ xs ++ (ys ++ zs)
-    shift [] ys zs = refl
-    shift (x ∷ xs) ys zs = ap (λ l. x ∷ l) (shift xs ys zs)
 
 unfoldable pub known_at : ℕ → ClassLine
 known_at k = get_or known_classes k blank
@@ -246,9 +236,6 @@ known_at k = get_or known_classes k blank
 
 abbrev pub table_long : List Form → ℕ
 table_long forms = 1024 * ((length (all_classes forms) + 1053) / 1024)
-
-small_integer : ClassLine
-small_integer = known_at 7
 
 last_is : (forms : List Form) → unwrap_or (named_birth forms (codes "SmallInteger")) 0 ≡ number_at forms 1
 unfolding number_at number_of_line

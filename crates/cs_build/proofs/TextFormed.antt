@@ -1,23 +1,23 @@
 -- The objects of a text without fault are those of an image that can be opened.
-use Rattle.std.proofs.Common.{◌≡◌, ℕ, zero, suc, ◌+◌, ◌*◌, ◌/◌, ◌^◌, ◌<◌, ◌≤◌, Bool, true, false, max, List, [], ◌∷◌, ◌++◌, length, map, take, replicate, Some, None, Option, refl, ap, ap₂, sym, subst, ◌∙◌, arith}
-use Rattle.std.specs.Prelude.{pos, flat_map, ◌&&◌, Ok}
+use Rattle.std.proofs.Common.{◌≡◌, ℕ, zero, suc, ◌+◌, ◌*◌, ◌/◌, ◌^◌, ◌<◌, ◌≤◌, true, List, [], ◌∷◌, ◌++◌, length, map, take, replicate, Option, refl, ap, ap₂, sym, subst, ◌∙◌, arith}
+use Rattle.std.specs.Prelude.{pos, ◌&&◌, Ok}
 use Rattle.std.specs.Option.{option_map_or}
 use Rattle.std.specs.List.{AllByRecursion}
-use Rattle.cs_model.specs.Obj.{Obj, Head, Context, Ptr, Raw, Method, Ctx, new_head}
-use Rattle.cs_model.specs.Ref.{Ref, Small}
+use Rattle.cs_model.specs.Obj.{Obj, Ptr, Raw, Method, Ctx, new_head}
+use Rattle.cs_model.specs.Ref.{Small}
 use Rattle.cs_model.specs.Image.{image_of}
 use Rattle.cs_model.specs.SavedFile.{page_place, saved_base, saved_bytes, saved_size}
 use Rattle.cs_model.specs.BuilderText as text
 use Rattle.cs_model.specs.BuilderText.{Form, ClassLine}
 use Rattle.cs_model.specs.BuilderFault.{is_between, is_class_format, known_classes}
-use Rattle.cs_model.specs.Builder.{all_forms, class_object, class_table, nil_ref, objects_in, text_objects, text_state}
+use Rattle.cs_model.specs.Builder.{all_forms, class_table, nil_ref, objects_in, text_objects, text_state}
 use Rattle.cs_model.proofs.Same.{all-append}
 use Rattle.cs_model.proofs.SavedSeen.{all_each}
 use Rattle.cs_build.specs.Firsts.{first_made}
 use Rattle.cs_build.specs.Formed.{HasKind, HasRoom, IsFormed, IsFormedContext, IsFormedImage}
 use Rattle.cs_build.specs.Grouped.{all_dictionaries, symbol_objects}
 use Rattle.cs_build.specs.Judged.{HasBytes, IsJudged}
-use Rattle.cs_build.specs.Laid.{FitsLaid, FitsLayout, FitsRef, Laid, context_refs, file_for, laid, laid_size, laid_slots}
+use Rattle.cs_build.specs.Laid.{FitsLaid, FitsLayout, FitsRef, Laid, file_for, laid, laid_size, laid_slots}
 use Rattle.cs_build.specs.Stored.{IsStored}
 use Rattle.cs_build.specs.Wholes.{objects_made, table_made}
 use Rattle.cs_build.proofs.Filing.{size_of_file}
@@ -26,12 +26,13 @@ use Rattle.cs_build.proofs.Kinding.{IsShaped, stored_format}
 use Rattle.cs_build.proofs.LineShapes.{Refers, Shaped, bytes_shaped, class_shaped, count_small, format_between, is_sized, method_shaped, object_shaped}
 use Rattle.cs_build.proofs.ProcessShapes.{process_objects_shaped}
 use Rattle.cs_build.proofs.Putting.{length-map, map_take, size_cons}
+use Rattle.cs_build.proofs.Gathering.{all_flat}
 use Rattle.cs_build.proofs.Imaging.{image_is}
 use Rattle.cs_build.proofs.Referred.{referred}
 use Rattle.cs_build.proofs.Rooting.{at_split, text_roots}
 use Rattle.cs_build.proofs.Sounding.{and_true}
 use Rattle.cs_build.proofs.Tabling.{text_table_entries, text_table_few, text_table_formed, text_table_is, text_table_pages}
-use Rattle.cs_build.proofs.Totalling.{all_by_place, lines_made, made_in_parts, total_made}
+use Rattle.cs_build.proofs.Totalling.{all_by_place, lines_made, made_in_parts}
 
 -- ---- the objects of all lines
 
@@ -54,13 +55,9 @@ known_shaped forms (line ∷ lines) judged refers sized = ((class_shaped forms l
 known_sized : AllByRecursion (λ line. is_sized line ≡ true) known_classes
 known_sized = (refl, (refl, (refl, (refl, (refl, (refl, (refl, (refl, (refl, (refl, (refl, (refl, (refl, (refl, (refl, (refl, (refl, (refl, (refl, (refl, (refl, (refl, tt))))))))))))))))))))))
 
-flat_shaped : (P : Obj → Type 0) (f : Form → List Obj) (all : List Form) → AllByRecursion (λ form. AllByRecursion P (f form)) all → AllByRecursion P (flat_map f all)
-flat_shaped P f [] h = tt
-flat_shaped P f (form ∷ all) h = all-append P (f form) (flat_map f all) h.0 (flat_shaped P f all h.1)
-
 lines_shaped : (forms : List Form) → IsJudged forms → Refers forms → AllByRecursion (Shaped forms) (lines_made forms)
 unfolding lines_made
-lines_shaped forms judged refers = flat_shaped (Shaped forms) (objects_in forms) (all_forms forms)
+lines_shaped forms judged refers = all_flat (λ form. AllByRecursion (Shaped forms) (objects_in forms form)) (Shaped forms) (objects_in forms) (all_forms forms) (λ form h. h)
     (all-append (λ form. AllByRecursion (Shaped forms) (objects_in forms form)) (map (λ c. text.Class c) known_classes) forms (known_shaped forms known_classes judged refers known_sized)
     (all_by_place (λ form. AllByRecursion (Shaped forms) (objects_in forms form)) forms (λ above form below e. line_shaped forms above form below judged refers e)))
 
