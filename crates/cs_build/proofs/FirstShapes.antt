@@ -1,5 +1,5 @@
 -- The objects in front of a text's lines and those behind them, as an image may hold them.
-use Rattle.std.proofs.Common.{◌≡◌, ◌≢◌, ℕ, zero, suc, ◌+◌, ◌*◌, ◌^◌, ◌<◌, ◌≤◌, Bool, true, false, nat_lt, List, [], ◌∷◌, ◌++◌, length, map, replicate, Some, None, Option, refl, ap, sym, subst, ◌∙◌, arith, slice_get}
+use Rattle.std.proofs.Common.{◌≡◌, ◌≢◌, ℕ, zero, suc, ◌+◌, ◌^◌, ◌<◌, ◌≤◌, true, nat_lt, List, [], ◌∷◌, ◌++◌, length, map, replicate, Some, refl, ap, sym, subst, ◌∙◌, arith, slice_get}
 use Rattle.std.specs.Prelude.{ℤ, pos, negsuc, codes, flat_map, fold, slice_set, ◌&&◌, not}
 use Rattle.std.specs.List.{AllByRecursion, enumerate_from, list_all, range_with_len}
 use Rattle.std.proofs.lemmas.Bool.{false≢true}
@@ -12,7 +12,7 @@ use Rattle.cs_model.specs.Words.{plain_format}
 use Rattle.cs_model.specs.BuilderText as text
 use Rattle.cs_model.specs.BuilderText.{Form, ClassLine, MethodLine}
 use Rattle.cs_model.specs.BuilderFault.{all_classes, fits, is_between}
-use Rattle.cs_model.specs.Builder.{active_ref, class_ref, dictionary_objects, first_list, list_object, method_birth, methods_of, natural, nil_ref, obj_or_nil, raw_object, selector_names, selector_slots, special_given, special_objects, special_slots, special_symbols, symbol_ref, symbols_of, text_objects, values_birth, with_special}
+use Rattle.cs_model.specs.Builder.{active_ref, class_ref, dictionary_objects, first_list, list_object, method_birth, methods_of, natural, nil_ref, obj_or_nil, raw_object, selector_names, selector_slots, special_given, special_slots, special_symbols, symbol_ref, symbols_of, text_objects, values_birth, with_special}
 use Rattle.cs_model.proofs.Same.{all-append, all-replicate, all-slice_set}
 use Rattle.cs_build.specs.Firsts.{first_made}
 use Rattle.cs_build.specs.Grouped.{all_dictionaries, symbol_objects}
@@ -24,7 +24,7 @@ use Rattle.cs_build.specs.Wholes.{table_made}
 use Rattle.cs_build.proofs.Gathering.{all_flat}
 use Rattle.cs_build.proofs.Grouping.{methods_few}
 use Rattle.cs_build.proofs.Kinding.{HasKinds, IsKind, all_kinds, pointers_shaped, raw_shaped}
-use Rattle.cs_build.proofs.LineShapes.{AreReferred, Refers, Shaped, count_small}
+use Rattle.cs_build.proofs.LineShapes.{Refers, Shaped, count_small}
 use Rattle.cs_build.proofs.Sounding.{and_true}
 use Rattle.cs_build.proofs.Totalling.{all_by_place}
 
@@ -71,13 +71,22 @@ given_specials forms above form below judged refers e = tt
 
 pub all_special : (forms : List Form) → IsJudged forms → Refers forms → AllByRecursion (IsSpecial (length (text_objects forms))) (other_specials forms)
 unfolding other_specials
-all_special forms judged refers =
-    (record { fits = refers.numbers 4 (omega arith); differs = λ e. omega (arith, e) },
-    (record { fits = refers.classes (codes "Array"); differs = λ e. omega (arith, e) },
-    (record { fits = refers.classes (codes "Point"); differs = λ e. omega (arith, e) },
-    (record { fits = refers.classes (codes "Message"); differs = λ e. omega (arith, e) },
-    (record { fits = refers.classes (codes "Semaphore"); differs = λ e. omega (arith, e) },
-    rest)))))
+all_special forms judged refers = (
+  record { fits = refers.numbers 4 (omega arith); differs = λ e. omega (arith, e) },
+  (
+    record { fits = refers.classes (codes "Array"); differs = λ e. omega (arith, e) },
+    (
+      record { fits = refers.classes (codes "Point"); differs = λ e. omega (arith, e) },
+      (
+        record { fits = refers.classes (codes "Message"); differs = λ e. omega (arith, e) },
+        (
+          record { fits = refers.classes (codes "Semaphore"); differs = λ e. omega (arith, e) },
+          rest,
+        ),
+      ),
+    ),
+  ),
+)
   where
     rest : AllByRecursion (IsSpecial (length (text_objects forms))) (map (λ e. (e.0, symbol_ref forms e.1)) special_symbols ++ flat_map (special_given forms) forms)
     rest = all-append (IsSpecial (length (text_objects forms))) (map (λ e. (e.0, symbol_ref forms e.1)) special_symbols) (flat_map (special_given forms) forms)
@@ -141,38 +150,68 @@ selectors_shaped forms judged refers =
 
 pub first_shaped : (forms : List Form) → IsJudged forms → Refers forms → AllByRecursion (Shaped forms) (first_made forms)
 unfolding first_made
-first_shaped forms judged refers =
-    (plain_shaped forms 34 0 [] kinds.nil (λ e. omega (arith, e)) (omega arith) refl tt (λ e. refl),
-    (plain_shaped forms 35 0 [] kinds.no_truth (λ e. omega (arith, e)) (omega arith) refl tt (λ e. refl),
-    (plain_shaped forms 38 0 [] kinds.truth (λ e. omega (arith, e)) (omega arith) refl tt (λ e. refl),
-    (special_shaped forms judged refers,
-    (selectors_shaped forms judged refers,
-    (plain_shaped forms 49 1 (nil_ref ∷ ref.Obj 6 ∷ []) kinds.association (λ e. omega (arith, e)) (omega arith) refl
-    (refers.numbers 0 (omega arith), (refers.numbers 6 (omega arith), tt)) (λ e. absurd (omega (arith, e))),
-    (plain_shaped forms 48 1 (ref.Obj 7 ∷ active_ref forms ∷ []) kinds.scheduler (λ e. omega (arith, e)) (omega arith) refl
-    (refers.numbers 7 (omega arith), (refers.processes _, tt)) (λ e. absurd (omega (arith, e))),
-    (plain_shaped forms 39 2 (map (λ i. ref.Obj i) (range_with_len first_list 8)) kinds.array (λ e. omega (arith, e)) (omega arith) refl lists (λ e. absurd (omega (arith, e))),
-    all_map (Shaped forms) (list_object forms) (range_with_len 1 8) (λ k. list_shaped forms judged refers k)))))))))
+first_shaped forms judged refers = (
+  plain_shaped forms 34 0 [] kinds.nil (λ e. omega (arith, e)) (omega arith) refl tt (λ e. refl),
+  (
+    plain_shaped forms 35 0 [] kinds.no_truth (λ e. omega (arith, e)) (omega arith) refl tt (λ e. refl),
+    (
+      plain_shaped forms 38 0 [] kinds.truth (λ e. omega (arith, e)) (omega arith) refl tt (λ e. refl),
+      (
+        special_shaped forms judged refers,
+        (
+          selectors_shaped forms judged refers,
+          (
+            plain_shaped forms 49 1 (nil_ref ∷ ref.Obj 6 ∷ []) kinds.association (λ e. omega (arith, e)) (omega arith) refl
+                (refers.numbers 0 (omega arith), (refers.numbers 6 (omega arith), tt)) (λ e. absurd (omega (arith, e))),
+            (
+              plain_shaped forms 48 1 (ref.Obj 7 ∷ active_ref forms ∷ []) kinds.scheduler (λ e. omega (arith, e)) (omega arith) refl
+                  (refers.numbers 7 (omega arith), (refers.processes _, tt)) (λ e. absurd (omega (arith, e))),
+              (
+                plain_shaped forms 39 2 (map (λ i. ref.Obj i) (range_with_len first_list 8)) kinds.array (λ e. omega (arith, e)) (omega arith) refl lists (λ e. absurd (omega (arith, e))),
+                all_map (Shaped forms) (list_object forms) (range_with_len 1 8) (λ k. list_shaped forms judged refers k),
+              ),
+            ),
+          ),
+        ),
+      ),
+    ),
+  ),
+)
   where
     kinds : HasKinds (table_made forms)
     kinds = all_kinds forms judged
 
     lists : AllByRecursion (FitsRef (length (text_objects forms))) (map (λ i. ref.Obj i) (range_with_len first_list 8))
-    lists = (refers.numbers 8 (omega arith), (refers.numbers 9 (omega arith), (refers.numbers 10 (omega arith), (refers.numbers 11 (omega arith),
-        (refers.numbers 12 (omega arith), (refers.numbers 13 (omega arith), (refers.numbers 14 (omega arith), (refers.numbers 15 (omega arith), tt))))))))
+    lists = (
+      refers.numbers 8 (omega arith),
+      (
+        refers.numbers 9 (omega arith),
+        (
+          refers.numbers 10 (omega arith),
+          (
+            refers.numbers 11 (omega arith),
+            (refers.numbers 12 (omega arith), (refers.numbers 13 (omega arith), (refers.numbers 14 (omega arith), (refers.numbers 15 (omega arith), tt)))),
+          ),
+        ),
+      ),
+    )
 
 -- ---- the dictionaries and the symbols
 
 pair_shaped : (forms : List Form) (place : ℕ) (methods : List MethodLine) → IsJudged forms → Refers forms → place < length (all_classes forms) → length methods ≤ length forms
     → AllByRecursion (Shaped forms) (Ptr (new_head 50 3) (Small (pos (length methods)) ∷ ref.Obj (values_birth forms place) ∷ map (λ m. symbol_ref forms m.selector) methods)
     ∷ Ptr (new_head 39 2) (map (λ m. obj_or_nil (method_birth forms m.class m.selector)) methods) ∷ [])
-pair_shaped forms place methods judged refers h few =
-    (plain_shaped forms 50 3 _ (all_kinds forms judged).dictionary (λ e. omega (arith, e)) (omega arith) refl
-    (count_small (length methods) (small (length methods) (length forms) few judged.few),
-    (refers.values place h, all_map (FitsRef (length (text_objects forms))) (λ (m : MethodLine). symbol_ref forms m.selector) methods (λ m. refers.symbols m.selector))) (λ e. absurd (omega (arith, e))),
-    (plain_shaped forms 39 2 _ (all_kinds forms judged).array (λ e. omega (arith, e)) (omega arith) refl
-    (all_map (FitsRef (length (text_objects forms))) (λ (m : MethodLine). obj_or_nil (method_birth forms m.class m.selector)) methods (λ m. refers.methods m.class m.selector)) (λ e. absurd (omega (arith, e))),
-    tt))
+pair_shaped forms place methods judged refers h few = (
+  plain_shaped forms 50 3 _ (all_kinds forms judged).dictionary (λ e. omega (arith, e)) (omega arith) refl (
+    count_small (length methods) (small (length methods) (length forms) few judged.few),
+    (refers.values place h, all_map (FitsRef (length (text_objects forms))) (λ (m : MethodLine). symbol_ref forms m.selector) methods (λ m. refers.symbols m.selector)),
+  ) (λ e. absurd (omega (arith, e))),
+  (
+    plain_shaped forms 39 2 _ (all_kinds forms judged).array (λ e. omega (arith, e)) (omega arith) refl
+        (all_map (FitsRef (length (text_objects forms))) (λ (m : MethodLine). obj_or_nil (method_birth forms m.class m.selector)) methods (λ m. refers.methods m.class m.selector)) (λ e. absurd (omega (arith, e))),
+    tt,
+  ),
+)
   where
     small : (k n : ℕ) → k ≤ n → n ≤ 262144 → k < 2 ^ 30
     small k n h few = omega (arith, h, few)

@@ -1,26 +1,25 @@
 -- Objects of a text, as an image may hold them, and the indices of their classes.
-use Rattle.std.proofs.Common.{◌≡◌, ◌≢◌, ℕ, zero, suc, ◌+◌, ◌-◌, ◌*◌, ◌/◌, ◌%◌, ◌^◌, ◌<◌, ◌≤◌, ◌==◌, Bool, true, false, nat_lt, List, [], ◌∷◌, ◌++◌, length, map, take, drop, Some, None, Option, refl, ap, sym, subst, ◌∙◌, arith, if◌then◌else◌, get_or, slice_index}
-use Rattle.std.specs.Prelude.{find, position, pos, codes, ◌||◌, IfSome, nat_le}
+use Rattle.std.proofs.Common.{◌≡◌, ◌≢◌, ℕ, zero, suc, ◌+◌, ◌*◌, ◌/◌, ◌^◌, ◌<◌, ◌≤◌, ◌==◌, Bool, true, false, nat_lt, List, [], ◌∷◌, ◌++◌, length, take, drop, Some, None, Option, refl, ap, sym, subst, ◌∙◌, arith, get_or, slice_index}
+use Rattle.std.specs.Prelude.{find, position, ◌||◌, IfSome}
 use Rattle.std.specs.Option.{option_map_or}
 use Rattle.std.specs.List.{AllByRecursion}
-use Rattle.std.specs.Str.{bytes_eq}
 use Rattle.std.proofs.lemmas.Bool.Decides.{nat_tests}
 use Rattle.std.proofs.lemmas.Slice.Eq.{bytes_eq-Decides}
-use Rattle.cs_model.specs.Obj.{Obj, Head, Ptr, Raw, Method, Ctx, context_class, given_hash, new_head}
+use Rattle.cs_model.specs.Obj.{Obj, Head, Ptr, Raw, Method, Ctx, given_hash, new_head}
 use Rattle.cs_model.specs.Ref.{Ref}
-use Rattle.cs_model.specs.Words.{is_pointer_format, plain, plain_format}
+use Rattle.cs_model.specs.Words.{is_pointer_format, plain_format}
 use Rattle.cs_model.specs.BuilderText.{Form, ClassLine}
 use Rattle.cs_model.specs.BuilderFault.{all_classes, class_named, known_classes}
 use Rattle.cs_model.specs.Builder.{class_index, class_place, index_at, natural, raw_object, spare}
 use Rattle.cs_build.specs.Formed.{HasKind, IsFormed, IsFormedContext}
 use Rattle.cs_build.specs.Judged.{IsJudged}
-use Rattle.cs_build.specs.Laid.{FitsLaid, FitsRef, laid, laid_slots}
+use Rattle.cs_build.specs.Laid.{FitsRef, laid}
 use Rattle.cs_build.specs.Numbered.{first_at}
 use Rattle.cs_build.specs.Stored.{IsByte, IsStored}
 use Rattle.cs_build.specs.Wholes.{table_made}
 use Rattle.cs_build.proofs.Entering.{has_index}
 use Rattle.cs_build.proofs.Standing.{find_none, find_position, position_within}
-use Rattle.cs_build.proofs.Tabling.{IsGoodIndex, blank, find_passes, good_index, has_known, index_filled, index_of_line, is_line, known_at, place_at, table_long}
+use Rattle.cs_build.proofs.Tabling.{IsGoodIndex, blank, find_passes, good_index, has_known, index_filled, index_of_line, is_line, known_at, place_at}
 
 -- ---- what an image may hold
 

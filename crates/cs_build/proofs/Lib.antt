@@ -31,6 +31,7 @@ pub mod InnerLemmas
 pub mod Judging
 pub mod Narrowing
 pub mod Wholing
+pub mod Built
 pub mod Locating
 pub mod Forming
 pub mod Seating

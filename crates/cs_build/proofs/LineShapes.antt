@@ -1,6 +1,6 @@
 -- The objects of a text's lines, as an image may hold them.
-use Rattle.std.proofs.Common.{◌≡◌, ◌≢◌, ℕ, zero, suc, ◌+◌, ◌-◌, ◌*◌, ◌/◌, ◌%◌, ◌^◌, ◌<◌, ◌≤◌, ◌==◌, Bool, true, false, cond, nat_lt, List, [], ◌∷◌, ◌++◌, length, map, replicate, Some, None, Option, refl, ap, ap₂, sym, subst, ◌∙◌, arith, if◌then◌else◌, get_or, slice_get, length-append}
-use Rattle.std.specs.Prelude.{ℤ, pos, negsuc, codes, find, flat_map, sum_by, is_some, int_lt, option_map, unwrap_or, ◌||◌, ◌&&◌, not, nat_le, ◌*ℤ◌, ◌+ℤ◌}
+use Rattle.std.proofs.Common.{◌≡◌, ◌≢◌, ℕ, zero, suc, ◌+◌, ◌*◌, ◌^◌, ◌<◌, ◌≤◌, ◌==◌, Bool, true, false, nat_lt, List, [], ◌∷◌, ◌++◌, length, map, Some, None, Option, refl, ap, sym, subst, ◌∙◌, arith, if◌then◌else◌}
+use Rattle.std.specs.Prelude.{ℤ, pos, negsuc, codes, find, flat_map, int_lt, option_map, ◌||◌, ◌&&◌, not, ◌*ℤ◌, ◌+ℤ◌}
 use Rattle.std.specs.Option.{option_map_or}
 use Rattle.std.specs.List.{AllByRecursion, list_all, list_any}
 use Rattle.std.specs.Str.{bytes_eq}
@@ -9,25 +9,19 @@ use Rattle.std.proofs.lemmas.Bool.Decides.{nat_tests}
 use Rattle.std.proofs.lemmas.Int.{ints}
 use Rattle.std.proofs.lemmas.List.{append_assoc}
 use Rattle.std.proofs.lemmas.List.Concat.{flat_map-append}
-use Rattle.std.proofs.lemmas.Slice.Eq.{bytes_eq-Decides}
 use Rattle.cs_word.specs.Word.{IsSmall}
-use Rattle.cs_model.specs.Obj.{Obj, Head, Context, Ptr, Raw, Method, Ctx, context_size, first_pc, given_hash, is_header, lies_between, literal_count, new_head}
-use Rattle.cs_model.specs.Ref.{Ref, Small}
-use Rattle.cs_model.specs.Ref as ref
+use Rattle.cs_model.specs.Obj.{Obj, Ptr, given_hash, is_header, literal_count, new_head}
+use Rattle.cs_model.specs.Ref.{Ref}
 use Rattle.cs_model.specs.Words.{plain_format}
 use Rattle.cs_model.specs.BuilderText as text
 use Rattle.cs_model.specs.BuilderText.{Form, ClassLine, MethodLine, ProcessLine, Mention}
-use Rattle.cs_model.specs.BuilderFault.{all_classes, class_named, class_lines_in, fits, has_pointers, is_between, is_bytes_class, is_class_format, is_object_class, known_classes, may_have, method_fits, method_named, methods_in, most_temporaries, slots_fit, begins_process, place_where}
-use Rattle.cs_model.specs.Builder.{all_forms, begin_pc, birth_where, bit_of, body_of, built_bytecodes, built_header, built_literals, built_process, class_format, class_index, class_object, class_place, class_ref, class_slots, dictionary_birth, first_context, is_method_of, is_process_named, list_birth, list_if_ready, mention_ref, method_birth, method_for, method_object, natural, nil_ref, obj_or_nil, object_count, objects_in, pointer_object, primitive_bytes, process_objects, process_ref, raw_object, symbol_ref, text_objects, values_birth}
-use Rattle.cs_model.proofs.Same.{all-append, all-replicate}
-use Rattle.cs_build.specs.Formed.{FormedContext, NamesMethod}
-use Rattle.cs_build.specs.Judged.{HasBytes, IsJudged, IsJudgedLine}
+use Rattle.cs_model.specs.BuilderFault.{all_classes, class_named, class_lines_in, fits, has_pointers, is_between, is_bytes_class, is_class_format, is_object_class, known_classes, may_have, method_fits, slots_fit}
+use Rattle.cs_model.specs.Builder.{birth_where, built_bytecodes, built_header, built_literals, class_format, class_index, class_object, class_place, class_ref, dictionary_birth, is_process_named, mention_ref, method_birth, method_object, natural, nil_ref, obj_or_nil, pointer_object, process_ref, raw_object, symbol_ref, text_objects, values_birth}
+use Rattle.cs_build.specs.Judged.{IsJudged, IsJudgedLine}
 use Rattle.cs_build.specs.Laid.{FitsRef}
 use Rattle.cs_build.specs.Stored.{IsByte}
 use Rattle.cs_build.specs.Wholes.{table_made}
-use Rattle.cs_build.proofs.Contexts.{size_is, temporaries_fit}
 use Rattle.cs_build.proofs.Kinding.{HasClass, HasKinds, IsKind, IsShaped, all_kinds, class_of_index, has_class, index_few, kind_of_class, pointers_shaped, raw_shaped}
-use Rattle.cs_build.proofs.ObjectsThere.{IsPlaced, object_there, placed}
 use Rattle.cs_build.proofs.Sounding.{and_true, natural_between, natural_least}
 use Rattle.cs_build.proofs.Totalling.{found_first}
 

@@ -1,6 +1,6 @@
 -- The processes of a text and the contexts in which they begin, as an image may hold them.
-use Rattle.std.proofs.Common.{◌≡◌, ◌≢◌, ℕ, zero, suc, ◌+◌, ◌-◌, ◌*◌, ◌/◌, ◌%◌, ◌^◌, ◌<◌, ◌≤◌, ◌==◌, Bool, true, false, List, [], ◌∷◌, ◌++◌, length, map, replicate, Some, None, Option, refl, ap, ap₂, sym, subst, ◌∙◌, arith, if◌then◌else◌, slice_get, length-append}
-use Rattle.std.specs.Prelude.{ℤ, pos, negsuc, find, flat_map, sum_by, is_some, int_lt, ◌||◌, ◌&&◌, not, nat_le}
+use Rattle.std.proofs.Common.{◌≡◌, ℕ, suc, ◌+◌, ◌*◌, ◌^◌, ◌<◌, ◌≤◌, ◌==◌, Bool, true, false, List, [], ◌∷◌, ◌++◌, length, map, replicate, Some, None, Option, refl, ap, ap₂, sym, subst, ◌∙◌, arith, if◌then◌else◌, slice_get}
+use Rattle.std.specs.Prelude.{ℤ, pos, negsuc, find, flat_map, sum_by, is_some, ◌||◌, ◌&&◌, nat_le}
 use Rattle.std.specs.Option.{option_map_or}
 use Rattle.std.specs.List.{AllByRecursion, list_any}
 use Rattle.std.specs.Str.{bytes_eq}
@@ -9,23 +9,23 @@ use Rattle.std.proofs.lemmas.List.{append_assoc, length-replicate}
 use Rattle.std.proofs.lemmas.List.Concat.{flat_map-append}
 use Rattle.std.proofs.lemmas.Slice.Eq.{bytes_eq-Decides}
 use Rattle.cs_word.specs.Word.{IsSmall}
-use Rattle.cs_model.specs.Obj.{Obj, Context, Ctx, Method, Ptr, context_size, first_pc, lies_between, new_head}
+use Rattle.cs_model.specs.Obj.{Obj, Ctx, Ptr, context_size, first_pc, new_head}
 use Rattle.cs_model.specs.Ref.{Ref, Small}
 use Rattle.cs_model.specs.Ref as ref
 use Rattle.cs_model.specs.BuilderText as text
 use Rattle.cs_model.specs.BuilderText.{Form, MethodLine, ProcessLine}
 use Rattle.cs_model.specs.BuilderFault.{fits, is_between, known_classes, method_fits, method_named, methods_in, most_temporaries, place_where}
-use Rattle.cs_model.specs.Builder.{all_forms, begin_pc, birth_where, bit_of, body_of, built_bytecodes, built_header, built_literals, built_process, first_context, is_method_of, is_process_named, list_birth, list_if_ready, method_birth, method_for, method_object, natural, nil_ref, obj_or_nil, object_count, primitive_bytes, process_objects, process_ref, ready_in, text_objects}
+use Rattle.cs_model.specs.Builder.{all_forms, begin_pc, birth_where, bit_of, built_bytecodes, built_header, built_literals, built_process, first_context, is_method_of, is_process_named, list_birth, method_birth, method_object, natural, nil_ref, obj_or_nil, object_count, primitive_bytes, process_objects, ready_in, text_objects}
 use Rattle.cs_model.proofs.Same.{all-append, all-replicate}
-use Rattle.cs_build.specs.Formed.{FormedContext, NamesMethod}
+use Rattle.cs_build.specs.Formed.{FormedContext}
 use Rattle.cs_build.specs.Judged.{IsJudged}
 use Rattle.cs_build.specs.Laid.{FitsRef}
 use Rattle.cs_build.specs.Wholes.{table_made}
 use Rattle.cs_build.proofs.Contexts.{size_is, temporaries_fit}
-use Rattle.cs_build.proofs.Kinding.{HasKinds, IsKind, IsShaped, all_kinds, pointers_shaped}
-use Rattle.cs_build.proofs.LineShapes.{AreReferred, Refers, Shaped, count_small}
+use Rattle.cs_build.proofs.Kinding.{IsKind, all_kinds, pointers_shaped}
+use Rattle.cs_build.proofs.LineShapes.{Refers, Shaped, count_small}
 use Rattle.cs_build.proofs.ObjectsThere.{object_there, place_behind}
-use Rattle.cs_build.proofs.Sounding.{and_true, natural_between, natural_least}
+use Rattle.cs_build.proofs.Sounding.{and_true, natural_between}
 use Rattle.cs_build.proofs.Totalling.{HasMethod, found_first, method_of_process}
 
 -- ---- the line of a method

@@ -7,7 +7,7 @@ use Rattle.cs_build.specs.Judged.{IsJudged}
 use Rattle.cs_build.proofs.Encoding.{bytecodes_fit}
 use Rattle.cs_build.proofs.Heading.{header_counted, header_formed, header_small, literals_few, literals_fit}
 use Rattle.cs_build.proofs.LineShapes.{AreReferred, Refers}
-use Rattle.cs_build.proofs.Referring.{class_fits, context_fits, dictionary_fits, mention_fits, method_fits_ref, number_fits, process_fits, symbol_fits, values_below}
+use Rattle.cs_build.proofs.Referring.{class_fits, context_fits, dictionary_fits, mention_fits, method_birth_fits, number_fits, process_fits, symbol_fits, values_below}
 use Rattle.cs_build.proofs.Totalling.{total_made}
 
 referred_among : (forms : List Form) (total : ℕ) → IsJudged forms → total ≡ first_symbol forms + length (symbols_of forms) → AreReferred forms total
@@ -16,7 +16,7 @@ referred_among forms total judged counted = record {
   mentions = λ m h. mention_fits forms total counted m h;
   symbols = λ name. symbol_fits forms total counted name;
   classes = λ name. class_fits forms total counted name;
-  methods = λ class selector. method_fits_ref forms total counted class selector;
+  methods = λ class selector. method_birth_fits forms total counted class selector;
   dictionaries = λ class. dictionary_fits forms total counted class;
   values = λ place h. values_below forms total counted place h;
   processes = λ name. process_fits forms total counted name;

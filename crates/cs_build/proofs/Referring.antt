@@ -154,8 +154,8 @@ module _ (forms : List Form) (total : ℕ) (counted : total ≡ first_symbol for
   pub class_fits : (name : List ℕ) → FitsRef total (class_ref forms name)
   class_fits name = named_fits name
 
-  pub method_fits_ref : (class selector : List ℕ) → FitsRef total (obj_or_nil (method_birth forms class selector))
-  method_fits_ref class selector = birth_fits total (method_birth forms class selector) some
+  pub method_birth_fits : (class selector : List ℕ) → FitsRef total (obj_or_nil (method_birth forms class selector))
+  method_birth_fits class selector = birth_fits total (method_birth forms class selector) some
       (least_below (method_birth forms class selector) (first_dictionary forms) total
       (birth_least forms (is_method_of class selector) 1 (method_makes class selector)) lines_below)
 
@@ -202,7 +202,7 @@ module _ (forms : List Form) (total : ℕ) (counted : total ≡ first_symbol for
   mention_fits (text.Named name) e = named_fits name
   mention_fits (text.Dictionary class) e = dictionary_fits class
   mention_fits (text.Values class) e = values_fit class
-  mention_fits (text.MethodOf class selector) e = method_fits_ref class selector
+  mention_fits (text.MethodOf class selector) e = method_birth_fits class selector
 
 -- ---- what lines refer to
 

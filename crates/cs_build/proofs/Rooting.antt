@@ -1,22 +1,21 @@
 -- The roots of a text's objects: the special objects, the scheduler and the active process.
-use Rattle.std.proofs.Common.{◌≡◌, ◌≢◌, ℕ, zero, suc, ◌+◌, ◌≤◌, Bool, true, false, List, [], ◌∷◌, ◌++◌, length, map, replicate, Some, None, Option, refl, ap, ap₂, sym, subst, ◌∙◌, arith, slice_get}
-use Rattle.std.specs.Prelude.{pos, filter_map, fold, slice_set, sum_by, option_and_then, option_map, unwrap_or}
+use Rattle.std.proofs.Common.{◌≡◌, ◌≢◌, ℕ, ◌+◌, ◌≤◌, true, List, [], ◌∷◌, ◌++◌, length, map, replicate, Some, None, Option, refl, ap, subst, ◌∙◌, arith, slice_get}
+use Rattle.std.specs.Prelude.{filter_map, slice_set, sum_by, option_and_then, option_map, unwrap_or}
 use Rattle.std.specs.Option.{option_map_or}
 use Rattle.std.specs.List.{AllByRecursion}
-use Rattle.std.specs.Str.{bytes_eq}
 use Rattle.std.proofs.lemmas.Bool.{false≢true}
 use Rattle.std.proofs.lemmas.Slice.Eq.{bytes_eq-Decides}
-use Rattle.cs_model.specs.Obj.{Obj, Ctx, Ptr, new_head}
+use Rattle.cs_model.specs.Obj.{Obj, Ctx, new_head}
 use Rattle.cs_model.specs.Ref.{Ref}
 use Rattle.cs_model.specs.Ref as ref
 use Rattle.cs_model.specs.Text.{first_that}
 use Rattle.cs_model.specs.BuilderText as text
 use Rattle.cs_model.specs.BuilderText.{Form, ClassLine, MethodLine, ProcessLine}
 use Rattle.cs_model.specs.BuilderFault.{known_classes}
-use Rattle.cs_model.specs.Builder.{active_name, active_ref, all_forms, birth_where, built_process, first_context, is_process_named, method_for, nil_ref, obj_or_nil, object_count, objects_in, process_birth, process_objects, special_slots, text_objects, with_special}
+use Rattle.cs_model.specs.Builder.{active_name, active_ref, all_forms, birth_where, built_process, first_context, is_process_named, method_for, nil_ref, obj_or_nil, object_count, process_birth, special_slots, text_objects}
 use Rattle.cs_model.proofs.Same.{all-append}
 use Rattle.cs_build.specs.Firsts.{first_made}
-use Rattle.cs_build.specs.Formed.{HasSlots, IsFormedProcess, IsFormedRoots}
+use Rattle.cs_build.specs.Formed.{IsFormedProcess, IsFormedRoots}
 use Rattle.cs_build.specs.Judged.{IsJudged}
 use Rattle.cs_build.proofs.FirstShapes.{all_special, other_specials, specials_are, specials_length, third_stays}
 use Rattle.cs_build.proofs.LineShapes.{Refers}

@@ -1,6 +1,6 @@
 -- The class table of a text without fault.
-use Rattle.std.proofs.Common.{◌≡◌, ◌≢◌, ℕ, zero, suc, ◌+◌, ◌-◌, ◌*◌, ◌/◌, ◌<◌, ◌≤◌, ◌==◌, Bool, true, false, cond, nat_lt, List, [], ◌∷◌, ◌++◌, length, map, take, drop, Some, None, Option, refl, ap, ap₂, sym, subst, ◌∙◌, arith, if◌then◌else◌, get_or, slice_index, slice_get, length-append}
-use Rattle.std.specs.Prelude.{pos, codes, find, flat_map, fold, position, sum_by, unwrap_or, option_map, ◌||◌, ◌&&◌, not, IfSome}
+use Rattle.std.proofs.Common.{◌≡◌, ◌≢◌, ℕ, zero, suc, ◌+◌, ◌-◌, ◌*◌, ◌/◌, ◌<◌, ◌≤◌, ◌==◌, Bool, true, false, nat_lt, List, [], ◌∷◌, ◌++◌, length, map, take, drop, Some, None, Option, refl, ap, ap₂, sym, subst, ◌∙◌, arith, if◌then◌else◌, get_or, slice_index, slice_get}
+use Rattle.std.specs.Prelude.{pos, codes, find, flat_map, position, sum_by, unwrap_or, option_map, ◌||◌, ◌&&◌, not, IfSome}
 use Rattle.std.specs.Option.{option_map_or, option_or}
 use Rattle.std.specs.List.{AllByRecursion, list_all, list_any, range_with_len}
 use Rattle.std.specs.Ordering.{nat_cmp}
@@ -15,8 +15,7 @@ use Rattle.cs_model.specs.Ref.{Ref}
 use Rattle.cs_model.specs.BuilderText as text
 use Rattle.cs_model.specs.BuilderText.{Form, ClassLine}
 use Rattle.cs_model.specs.BuilderFault.{all_classes, class_lines_in, is_named, known_classes}
-use Rattle.cs_model.specs.Builder.{all_forms, birth_where, class_index, class_object, class_place, class_table, index_at, is_process_named, known_indices, named_birth, object_count, text_objects}
-use Rattle.cs_model.proofs.Same.{all-append}
+use Rattle.cs_model.specs.Builder.{all_forms, class_index, class_object, class_table, index_at, known_indices, named_birth, object_count, text_objects}
 use Rattle.cs_model.proofs.SavedSeen.{all_each}
 use Rattle.cs_build.specs.Formed.{IsClassAt, IsFormedTable, IsTableOf}
 use Rattle.cs_build.specs.Judged.{IsJudged}

@@ -1,23 +1,23 @@
 -- The objects of a text without fault are those of an image that can be opened.
-use Rattle.std.proofs.Common.{◌≡◌, ℕ, zero, suc, ◌+◌, ◌*◌, ◌/◌, ◌^◌, ◌<◌, ◌≤◌, Bool, true, false, max, List, [], ◌∷◌, ◌++◌, length, map, take, replicate, Some, None, Option, refl, ap, ap₂, sym, subst, ◌∙◌, arith}
-use Rattle.std.specs.Prelude.{pos, flat_map, ◌&&◌, Ok}
+use Rattle.std.proofs.Common.{◌≡◌, ℕ, zero, suc, ◌+◌, ◌*◌, ◌/◌, ◌^◌, ◌<◌, ◌≤◌, true, List, [], ◌∷◌, ◌++◌, length, map, take, replicate, Option, refl, ap, ap₂, sym, subst, ◌∙◌, arith}
+use Rattle.std.specs.Prelude.{pos, ◌&&◌, Ok}
 use Rattle.std.specs.Option.{option_map_or}
 use Rattle.std.specs.List.{AllByRecursion}
-use Rattle.cs_model.specs.Obj.{Obj, Head, Context, Ptr, Raw, Method, Ctx, new_head}
-use Rattle.cs_model.specs.Ref.{Ref, Small}
+use Rattle.cs_model.specs.Obj.{Obj, Ptr, Raw, Method, Ctx, new_head}
+use Rattle.cs_model.specs.Ref.{Small}
 use Rattle.cs_model.specs.Image.{image_of}
 use Rattle.cs_model.specs.SavedFile.{page_place, saved_base, saved_bytes, saved_size}
 use Rattle.cs_model.specs.BuilderText as text
 use Rattle.cs_model.specs.BuilderText.{Form, ClassLine}
 use Rattle.cs_model.specs.BuilderFault.{is_between, is_class_format, known_classes}
-use Rattle.cs_model.specs.Builder.{all_forms, class_object, class_table, nil_ref, objects_in, text_objects, text_state}
+use Rattle.cs_model.specs.Builder.{all_forms, class_table, nil_ref, objects_in, text_objects, text_state}
 use Rattle.cs_model.proofs.Same.{all-append}
 use Rattle.cs_model.proofs.SavedSeen.{all_each}
 use Rattle.cs_build.specs.Firsts.{first_made}
 use Rattle.cs_build.specs.Formed.{HasKind, HasRoom, IsFormed, IsFormedContext, IsFormedImage}
 use Rattle.cs_build.specs.Grouped.{all_dictionaries, symbol_objects}
 use Rattle.cs_build.specs.Judged.{HasBytes, IsJudged}
-use Rattle.cs_build.specs.Laid.{FitsLaid, FitsLayout, FitsRef, Laid, context_refs, file_for, laid, laid_size, laid_slots}
+use Rattle.cs_build.specs.Laid.{FitsLaid, FitsLayout, FitsRef, Laid, file_for, laid, laid_size, laid_slots}
 use Rattle.cs_build.specs.Stored.{IsStored}
 use Rattle.cs_build.specs.Wholes.{objects_made, table_made}
 use Rattle.cs_build.proofs.Filing.{size_of_file}
@@ -32,7 +32,7 @@ use Rattle.cs_build.proofs.Referred.{referred}
 use Rattle.cs_build.proofs.Rooting.{at_split, text_roots}
 use Rattle.cs_build.proofs.Sounding.{and_true}
 use Rattle.cs_build.proofs.Tabling.{text_table_entries, text_table_few, text_table_formed, text_table_is, text_table_pages}
-use Rattle.cs_build.proofs.Totalling.{all_by_place, lines_made, made_in_parts, total_made}
+use Rattle.cs_build.proofs.Totalling.{all_by_place, lines_made, made_in_parts}
 
 -- ---- the objects of all lines
 
@@ -75,8 +75,25 @@ stored_refs : (total : ℕ) (o : Obj) → 0 < total → IsStored total o → All
 stored_refs total (Ptr head slots) h s = s.refs
 stored_refs total (Raw head bytes) h s = tt
 stored_refs total (Method head header literals bytecodes) h s = (count_small header s.small, s.refs)
-stored_refs total (Ctx c) h s = (s.sender, (pc, (count_small (length c.stack) deep, (s.method, (s.closure, (s.receiver,
-    all-append (FitsRef total) c.stack (replicate _ nil_ref) s.stack (nils _)))))))
+stored_refs total (Ctx c) h s = (
+  s.sender,
+  (
+    pc,
+    (
+      count_small (length c.stack) deep,
+      (
+        s.method,
+        (
+          s.closure,
+          (
+            s.receiver,
+            all-append (FitsRef total) c.stack (replicate _ nil_ref) s.stack (nils _),
+          ),
+        ),
+      ),
+    ),
+  ),
+)
   where
     pc : FitsRef total (option_map_or (λ pc. Small (pos pc)) c.pc nil_ref)
     pc = subst (λ (o : Option ℕ). FitsRef total (option_map_or (λ pc. Small (pos pc)) o nil_ref)) (sym s.pc) (count_small s.at s.fits)
@@ -109,9 +126,10 @@ objects_fit : (os all : List Obj) (table : List ℕ) (total n : ℕ) → 0 < tot
 objects_fit [] all table total n h few shaped size = tt
 objects_fit (o ∷ os) all table total n h few shaped size =
     let cons : laid_size (laid o ∷ map laid os) ≡ saved_size (laid_slots (laid o)) + laid_size (map laid os) = size_cons (laid o) (map laid os) in
-    let one : laid_slots (laid o) ≤ saved_size (laid_slots (laid o)) = slots_within (laid_slots (laid o)) in
-    (object_fits all table total o h shaped.0 (below (laid_slots (laid o)) (saved_size (laid_slots (laid o))) (laid_size (map laid os)) (laid_size (laid o ∷ map laid os)) cons one size few),
-    objects_fit os all table total n h few shaped.1 (rest (saved_size (laid_slots (laid o))) (laid_size (map laid os)) (laid_size (laid o ∷ map laid os)) cons size))
+    let one : laid_slots (laid o) ≤ saved_size (laid_slots (laid o)) = slots_within (laid_slots (laid o)) in (
+      object_fits all table total o h shaped.0 (below (laid_slots (laid o)) (saved_size (laid_slots (laid o))) (laid_size (map laid os)) (laid_size (laid o ∷ map laid os)) cons one size few),
+      objects_fit os all table total n h few shaped.1 (rest (saved_size (laid_slots (laid o))) (laid_size (map laid os)) (laid_size (laid o ∷ map laid os)) cons size),
+    )
   where
     slots_within : (slots : ℕ) → slots ≤ saved_size slots
     slots_within slots = omega arith

@@ -1,22 +1,21 @@
 -- How many objects a text makes.
-use Rattle.std.proofs.Common.{◌≡◌, ℕ, zero, suc, ◌+◌, ◌*◌, Bool, true, false, List, [], ◌∷◌, ◌++◌, length, map, Some, None, Option, refl, ap, ap₂, sym, subst, ◌∙◌, arith, if◌then◌else◌, append-nil, length-append}
-use Rattle.std.specs.Prelude.{find, flat_map, sum_by, is_some, ◌&&◌}
+use Rattle.std.proofs.Common.{◌≡◌, ℕ, ◌+◌, ◌*◌, Bool, true, false, List, [], ◌∷◌, ◌++◌, length, map, Some, None, Option, refl, ap, ap₂, sym, subst, ◌∙◌, arith, if◌then◌else◌, length-append}
+use Rattle.std.specs.Prelude.{find, flat_map, sum_by, ◌&&◌}
 use Rattle.std.specs.Option.{option_map_or}
-use Rattle.std.specs.List.{AllByRecursion, enumerate_from, range_with_len}
+use Rattle.std.specs.List.{AllByRecursion, enumerate_from}
 use Rattle.std.specs.Str.{bytes_eq}
 use Rattle.std.proofs.lemmas.List.{append_assoc, length-map}
 use Rattle.std.proofs.lemmas.List.Sums.{sum_by-cons}
-use Rattle.cs_model.specs.Obj.{Obj, Ctx, Ptr}
+use Rattle.cs_model.specs.Obj.{Obj}
 use Rattle.cs_model.specs.BuilderText as text
 use Rattle.cs_model.specs.BuilderText.{Form, ClassLine, MethodLine, ProcessLine}
-use Rattle.cs_model.specs.BuilderFault.{all_classes, known_classes, methods_in, method_named, begins_process}
-use Rattle.cs_model.specs.Builder.{all_forms, dictionary_objects, first_class, first_dictionary, first_objects, first_symbol, method_for, methods_of, object_count, objects_in, process_objects, symbols_of, text_objects}
+use Rattle.cs_model.specs.BuilderFault.{all_classes, known_classes, method_named, begins_process}
+use Rattle.cs_model.specs.Builder.{all_forms, dictionary_objects, first_dictionary, first_symbol, method_for, methods_of, object_count, objects_in, symbols_of, text_objects}
 use Rattle.cs_model.proofs.Same.{all-append}
-use Rattle.cs_build.specs.Judged.{IsJudged, IsJudgedLine}
+use Rattle.cs_build.specs.Judged.{IsJudged}
 use Rattle.cs_build.specs.Firsts.{first_made}
 use Rattle.cs_build.specs.Grouped.{all_dictionaries, symbol_objects}
 use Rattle.cs_build.specs.Standing.{symbol_names}
-use Rattle.cs_build.specs.Wholes.{objects_made}
 
 -- ---- what holds of each element, by those in front of it
 

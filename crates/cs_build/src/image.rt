@@ -1,7 +1,7 @@
 //! The file of an image: a header of 64 bytes, and behind it the heap as 32-bit Spur lays it out.
 
 ghost use Rattle.std.specs.Prelude.{◌≡◌, ◌∷◌, ◌++◌, ◌+◌, ◌-◌, ◌*◌, ◌/◌, ◌%◌, ◌^◌, ◌<◌, ◌≤◌, [], length, map, take};
-ghost use Rattle.std.specs.Prelude.{drop};
+ghost use Rattle.std.specs.Prelude.{drop, nat_le};
 ghost use Rattle.std.specs.Prelude.{flat_map, min, replicate, slice_index, OnOk, IfOk};
 ghost use Rattle.std.specs.List.{AllByRecursion};
 ghost use Rattle.cs_model.specs.Words.{bytes_of_words};
@@ -12,6 +12,7 @@ ghost use Rattle.cs_model.specs.SavedFile.{free_lists, table_root, page_place};
 ghost use Rattle.cs_build.specs.Laid.{laid_by, laid_slots, reference_by, ref_word, byte_words, laid_words, saved_by};
 ghost use Rattle.cs_build.specs.Laid.{addresses_from, laid_addresses, page_of, table_pages, file_for, FitsRef};
 ghost use Rattle.cs_build.specs.Laid.{FitsLaid};
+ghost use Rattle.cs_build.specs.Wholes.{file_size};
 ghost use Rattle.cs_build.specs.Laid.{FitsLayout, head_words, put_words};
 ghost use Rattle.cs_build.specs.Laid.{root_words, root_word_of, all_header_words, laid_size, head_bits_of};
 ghost use Rattle.cs_model.specs.SavedFile.{hidden_object, saved_heap};
@@ -34,7 +35,10 @@ const HIDDEN_WORDS: u64 = 22;
 const PAGE_WORDS: u64 = 1028;
 
 /// How many entries a page of the class table has.
-const PAGE_ENTRIES: usize = 1024;
+pub(crate) const PAGE_ENTRIES: usize = 1024;
+
+/// The most words of a heap in a file, which has 536,870,912 bytes at most, and 64 of them in front.
+const MOST_WORDS: u64 = (536_870_912 - 64) / 4;
 
 /// How many words stand before the header of an object with so many slots: from 255 on an overflow word of 64 bits.
 fn words_before(slots: usize) -> u64
@@ -45,7 +49,7 @@ fn words_before(slots: usize) -> u64
 
 /// How many words the body of an object with so many slots has.
 fn body_size(slots: usize) -> u64
-    requires { slots < 2 ^ 32 }
+    requires { slots < 2 ^ 63 + 2 ^ 62 }
     ensures { result ≡ body_size_of slots }
 {
     2 * ((slots as u64 + 1) / 2).max(1)
@@ -53,7 +57,7 @@ fn body_size(slots: usize) -> u64
 
 /// How many words an object with so many slots takes.
 fn object_size(slots: usize) -> u64
-    requires { slots < 2 ^ 32 }
+    requires { slots < 2 ^ 63 + 2 ^ 62 }
     ensures { result ≡ saved_size slots }
 {
     words_before(slots) + 2 + body_size(slots)
@@ -61,7 +65,6 @@ fn object_size(slots: usize) -> u64
 
 /// How many slots an object takes.
 fn slot_count(object: &Object) -> usize
-    requires { laid_slots (laid_by object.now) < 2 ^ 32 }
     ensures { result ≡ laid_slots (laid_by object.now) }
 {
     object.slots.len() + (object.bytes.len() + 3) / 4
@@ -305,6 +308,21 @@ fn put_addresses(
         place += object_size(slots);
     }
     Ok(place)
+}
+
+/// Whether there is room in a file for objects and a class table of so many pages.
+pub(crate) fn has_room(objects: &[Object], pages: usize) -> bool
+    requires { pages < 2 ^ 53 }
+    ensures { result ≡ nat_le (file_size (map laid_by objects.now) pages) 536870912 }
+{
+    let mut words = HIDDEN_WORDS + PAGE_WORDS * pages as u64;
+    for object in objects {
+        if words > MOST_WORDS {
+            return false;
+        }
+        words += object_size(slot_count(object));
+    }
+    words <= MOST_WORDS
 }
 
 /// Appends the heap: nil, false and true, the hidden objects, the other visible objects and the pages.

@@ -3,13 +3,14 @@
 ghost use Rattle.std.specs.Prelude.{◌≡◌, map, pos, IfOk};
 ghost use Rattle.cs_model.specs.BuilderText.{Class};
 ghost use Rattle.cs_model.specs.BuilderFault.{known_classes, kind_of_object};
+ghost use Rattle.cs_model.specs.Builder.{all_forms};
 ghost use Rattle.cs_build.specs.Meaning.{form_by};
 
 use crate::form::{ClassLine, Form};
 use std::alloc::{AllocError, Global};
 
 /// A class whose superclass is Object.
-fn kind_of(name: &'static str, format: i32, fields: i32) -> Form<'static>
+fn kind_of<'a>(name: &'static str, format: i32, fields: i32) -> Form<'a>
     ensures { form_by result ≡ Class (record (kind_of_object name.now 0 0) { format = format; fields = fields }) }
 {
     Form::Class(ClassLine {
@@ -21,7 +22,7 @@ fn kind_of(name: &'static str, format: i32, fields: i32) -> Form<'static>
 }
 
 /// The lines of these classes, in the order of their objects.
-pub(crate) fn known_forms(alloc: Global) -> Result<Vec<Form<'static>>, AllocError>
+fn known_forms<'a>(alloc: Global) -> Result<Vec<Form<'a>>, AllocError>
     ensures { IfOk result (λ forms. map form_by forms.items ≡ map (λ c. Class c) known_classes) }
 {
     let object = Form::Class(ClassLine {
@@ -64,4 +65,16 @@ pub(crate) fn known_forms(alloc: Global) -> Result<Vec<Form<'static>>, AllocErro
         ],
     )?;
     Ok(forms)
+}
+
+/// The lines of a text with those of these classes in front.
+pub(crate) fn with_known<'a>(
+    alloc: Global,
+    forms: Vec<Form<'a>>,
+) -> Result<Vec<Form<'a>>, AllocError>
+    ensures { IfOk result (λ all. map form_by all.items ≡ all_forms (map form_by forms.entry.items)) }
+{
+    let mut all = known_forms(alloc)?;
+    all.extend(forms)?;
+    Ok(all)
 }

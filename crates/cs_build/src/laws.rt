@@ -34,7 +34,7 @@ pub fn a_text_without_fault_is_judged()
 pub fn the_objects_of_a_text_without_fault_are_formed()
     ensures formed { (text : List ℕ) → AllByRecursion IsByte text → text_fault text ≡ None
         → 64 + 4 * (laid_size (map laid (objects_made (forms_of text))) + 22
-            + 1028 * (length (table_made (forms_of text)) / 1024)) ≤ 536870912
+        + 1028 * (length (table_made (forms_of text)) / 1024)) ≤ 536870912
         → IsFormedImage (objects_made (forms_of text)) (table_made (forms_of text)) }
     ensures classes { (text : List ℕ) → AllByRecursion IsByte text → text_fault text ≡ None
         → IsTableOf (table_made (forms_of text)) (class_table (forms_of text)) }

@@ -2,7 +2,9 @@
 #![tactic(auto)]
 
 mod above;
+mod building;
 mod bytecodes;
+mod class_table;
 mod classes;
 mod code;
 mod error;
@@ -31,5 +33,6 @@ mod text;
 mod whole;
 mod word;
 
+pub use building::{BuiltImage, build};
 pub use error::BuildError;
 pub use generate::gen_text;

@@ -6,14 +6,6 @@ use Rattle.cs_build.proofs.Putting.{map_last, size_last, addresses_last, size_wi
 use Rattle.cs_build.specs.declared.object.Object.{Object}
 use Rattle.cs_build.proofs.image.put_addresses.Goals as goal
 
-pub slot_count-slots-requires : goal.slot_count-slots-requires
-slot_count-slots-requires c = omega (
-  arith,
-  c.requires,
-  slots_within (laid_slots (laid_by c.object-item.result)),
-  size_within laid_by c.args.objects.now c.loop-object.object-index c.object-item.result c.object-item.is c.loop-object-test.true,
-)
-
 pub object_size-place-requires : goal.object_size-place-requires
 object_size-place-requires c = omega (
   arith,
