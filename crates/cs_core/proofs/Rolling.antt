@@ -39,7 +39,7 @@ use Rattle.cs_core.specs.Stepped.{CausesNoRoom, IsNext, Needs, whole, unheld, un
 use Rattle.cs_core.proofs.Growing.{part_of_more, run_writes}
 use Rattle.cs_core.specs.Deep.{AllBegun, IsDeep, most_of, run_of, state_of}
 use Rattle.cs_core.specs.Stacked.{IsStacked}
-use Rattle.cs_core.specs.Running.{HasNoRoom, InPhase, IsCutShort, IsStackOf, RunCausedByFault, RunGives, RunReaches, Stands, StandsFor, UnlessBroken, WritesSince, as_kept, at_rest, ending_at_rest, ending_of, output_of, phase_behind, place_by}
+use Rattle.cs_core.specs.Running.{HasNoRoom, InPhase, IsCutShort, IsStackOf, RunGives, RunReaches, Stands, StandsFor, WritesSince, as_kept, at_rest, ending_at_rest, ending_of, output_of, phase_behind, place_by}
 use Rattle.cs_core.specs.VmParts.{Seen, seen_at}
 use Rattle.cs_core.proofs.Carrying.{overfills_too}
 use Rattle.cs_core.proofs.Deepening.{begun_at_start, begun_on, is_deep}

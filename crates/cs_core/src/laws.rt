@@ -9,5 +9,4 @@ ghost use Rattle.cs_core.specs.VmParts.{Seen};
 pub fn run_goes_on()
     ensures { (k : Kept) (i j n : ℕ) (old now new : Option (List ℕ)) (a b : Seen) (e : Ending) →
         RunReaches k i j old now a Steps → RunReaches k j n now new b e → RunReaches k i n old new b e }
-{
-}
+{}

@@ -38,11 +38,11 @@ impl<W: World> Model for Vm<W> {
     ghost Value = { VmParts W };
 
     ghost view = { λ m. record {
-        world = m.world;
-        steps = m.at.steps;
-        place = m.at.place;
-        phase = m.phase;
-        finds = m.sender.full;
+      world = m.world;
+      steps = m.at.steps;
+      place = m.at.place;
+      phase = m.phase;
+      finds = m.sender.full;
     } };
 
     ghost invariant = { λ m. InPhase m.phase (W.stored m.world) (W.view m.world) };
@@ -101,13 +101,7 @@ impl<W: World> Vm<W> {
         if let Phase::Idle = self.phase {
             return RunEnd::Idle;
         }
-        let end = go_on(
-            &mut self.world,
-            &mut self.sender,
-            &mut self.at,
-            n,
-            out,
-        );
+        let end = go_on(&mut self.world, &mut self.sender, &mut self.at, n, out);
         self.phase = phase_behind(end);
         end
     }

@@ -1,4 +1,4 @@
-use Rattle.std.proofs.Common.{◌≡◌, ◌∙◌, ◌+◌, ◌≤◌, ℕ, sym, refl, arith, false}
+use Rattle.std.proofs.Common.{◌≡◌, ◌∙◌, ◌+◌, ◌≤◌, sym, refl, arith, false}
 use Rattle.cs_model.specs.Due.{is_idle}
 use Rattle.cs_acts.specs.declared.run.Phase.TheVariants as phase
 use Rattle.cs_core.specs.VmParts.{Seen, seen_at}
