@@ -1,7 +1,10 @@
 -- What the program answers to the words behind its name, and what it prints.
-use Rattle.std.specs.Prelude.{◌≡◌, ◌⊎◌, ℕ, zero, suc, ◌+◌, ◌<◌, ◌≤◌, true, if◌then◌else◌, List, ◌++◌, codes, decimal, Option, Some, None, Ok, Err, IfSome, IsSomeAnd}
-use Rattle.cs_shelf.specs.Outside.{Appends, AppendsPart, Fault, Rose, read_fault}
-use Rattle.cs_model.specs.Obj.{Obj, is_context}
+use Rattle.std.specs.Prelude.{◌≡◌, ◌⊎◌, ℕ, zero, suc, ◌+◌, ◌<◌, ◌≤◌, ◌==◌, ◌||◌, true, if◌then◌else◌, List, ◌++◌, codes, decimal, length, take, sum_by, Option, Some, None, option_map, Ok, Err, IfSome, IsSomeAnd}
+use Rattle.cs_shelf.specs.Outside.{Appends, AppendsPart, Fault, Rose, read_fault, save_fault}
+use Rattle.cs_build.specs.Wholes.{file_bytes}
+use Rattle.cs_model.specs.Builder.{text_objects, text_state}
+use Rattle.cs_model.specs.BuilderFault.{BuildFault, forms_of, text_fault, text_fault_name}
+use Rattle.cs_model.specs.Obj.{Obj, is_context, words_of}
 use Rattle.cs_model.specs.State.{Kept, object_at}
 use Rattle.cs_model.specs.Image.{image_of}
 use Rattle.cs_model.specs.ImageFault.{ImageFault, image_fault_name}
@@ -34,6 +37,13 @@ pub record ReadFailed (shelf : Reading) (name : List ℕ) : Type 0 where
   pub rose : Rose shelf.before shelf.behind
   pub last : shelf.last ≡ read_fault name
 
+-- what a shelf tells of a save: what it had taken since the last start before the call, where it tells that, and what it has taken
+-- behind it; and what each name holds then
+pub record Saving : Type 0 where
+  pub old : Option (List ℕ)
+  pub new : Option (List ℕ)
+  pub held : List ℕ → Option (List ℕ)
+
 -- what a sink tells: what it had taken and what it has taken behind, and its counts of faults before and behind
 pub record Writing : Type 0 where
   pub old : Option (List ℕ)
@@ -60,6 +70,13 @@ image_text fault = codes "cogstack: image " ++ image_fault_name fault ++ codes "
 
 abbrev pub refused_image : ImageFault → Answer
 refused_image fault = answering 3 (image_text fault)
+
+-- with the fault of a text, and its line where it has one
+abbrev pub fault_text : BuildFault → List ℕ
+fault_text fault = codes "cogstack: text " ++ text_fault_name fault ++ codes "\n"
+
+abbrev pub refused_text : BuildFault → Answer
+refused_text fault = answering 4 (fault_text fault)
 
 abbrev pub read_text : List ℕ → List ℕ
 read_text name = codes "cogstack: read " ++ name ++ codes "\n"
@@ -95,6 +112,10 @@ sameness_answer (Some place) = answering 9 (codes "differ " ++ decimal place ++ 
 
 abbrev pub same_answer : Kept → Kept → Answer
 same_answer k l = sameness_answer (difference (canon k) (canon l))
+
+-- an image of so many objects is built and saved
+abbrev pub built_answer : ℕ → Answer
+built_answer objects = answering 0 (codes "built objects=" ++ decimal objects ++ codes "\n")
 
 -- ---- what is printed
 
@@ -202,21 +223,80 @@ pub data SameAnswered (file : List ℕ) (o : Options) (shelf : Reading) (out : W
   first_loaded : (k : Kept) → IsImage (shelf.content file) o.heap k → IsSomeAnd o.other (λ other. OtherAnswered k other o.heap shelf out status)
       → SameAnswered file o shelf out status
 
+-- ---- building
+
+-- These bytes are a text with the fault. Where the shelf tells a content, it is these bytes.
+pub record HasTextFault (content : Option (List ℕ)) (fault : BuildFault) : Type 0 where
+  pub bytes : List ℕ
+  pub told : IfSome content (λ held. bytes ≡ held)
+  pub is : text_fault bytes ≡ Some fault
+
+-- A text without faults is read. Where the shelf tells a content, it is this text.
+pub record IsText (content : Option (List ℕ)) (text : List ℕ) : Type 0 where
+  pub told : IfSome content (λ held. text ≡ held)
+  pub none : text_fault text ≡ None
+
+-- The file that is built of a text: in each heap with room for the text's objects its image is the state that the text describes.
+pub record IsBuilt (text bytes : List ℕ) : Type 0 where
+  pub file : bytes ≡ file_bytes (forms_of text)
+  pub image : (limit : ℕ) → sum_by words_of (text_objects (forms_of text)) ≤ limit → image_of bytes limit ≡ Ok (text_state (forms_of text))
+
+-- A call of the shelf failed while bytes were saved under a name: it took the first of them, and nothing is printed.
+pub record SaveFailed (name bytes : List ℕ) (shelf : Reading) (saving : Saving) (out : Writing) (status : ℕ) : Type 0 where
+  pub status_is : status ≡ write_failed
+  pub rose : Rose shelf.before shelf.behind
+  pub last : shelf.last ≡ save_fault name
+  pub count : ℕ
+  pub part : saving.new ≡ option_map (λ (taken : List ℕ). take count bytes) saving.old
+  pub nothing : out.new ≡ out.old
+
+-- bytes are saved under a name before the answer is printed
+pub data Saved (name bytes : List ℕ) (a : Answer) (shelf : Reading) (saving : Saving) (out : Writing) (status : ℕ) : Type 0 where
+  held : saving.held name ≡ option_map (λ (taken : List ℕ). bytes) saving.old → Printed a out status → Saved name bytes a shelf saving out status
+  unsaved : SaveFailed name bytes shelf saving out status → Saved name bytes a shelf saving out status
+
+abbrev pub BuildSaved : Option (List ℕ) → List ℕ → List ℕ → Reading → Saving → Writing → ℕ → Type 0
+BuildSaved save text bytes shelf saving out status =
+    IsSomeAnd save (λ name. Saved name bytes (built_answer (length (text_objects (forms_of text)))) shelf saving out status)
+
+-- an image is built of a text
+pub data BuildAnswered (file : List ℕ) (o : Options) (shelf : Reading) (saving : Saving) (out : Writing) (status : ℕ) : Type 0 where
+  text_unread : ReadFailed shelf file → Printed (failed_read file) out status → BuildAnswered file o shelf saving out status
+  text_refused : (fault : BuildFault) → HasTextFault (shelf.content file) fault → Printed (refused_text fault) out status → BuildAnswered file o shelf saving out status
+  build_memory : Printed no_memory out status → BuildAnswered file o shelf saving out status
+  built : (text bytes : List ℕ) → IsText (shelf.content file) text → IsBuilt text bytes → BuildSaved o.save text bytes shelf saving out status
+      → BuildAnswered file o shelf saving out status
+
 -- what is answered to each command; those that aren't there yet are refused with their lines
-abbrev pub CommandAnswered : Command → List ℕ → Options → Reading → Writing → ℕ → Type 0
-CommandAnswered Run file o shelf out status = RunAnswered file o shelf out status
-CommandAnswered Build file o shelf out status = ⊥
-CommandAnswered Inspect file o shelf out status = InspectAnswered file o shelf out status
-CommandAnswered Same file o shelf out status = SameAnswered file o shelf out status
-CommandAnswered (Gen k) file o shelf out status = ⊥
+abbrev pub CommandAnswered : Command → List ℕ → Options → Reading → Saving → Writing → ℕ → Type 0
+CommandAnswered Run file o shelf saving out status = RunAnswered file o shelf out status
+CommandAnswered Build file o shelf saving out status = BuildAnswered file o shelf saving out status
+CommandAnswered Inspect file o shelf saving out status = InspectAnswered file o shelf out status
+CommandAnswered Same file o shelf saving out status = SameAnswered file o shelf out status
+CommandAnswered (Gen k) file o shelf saving out status = ⊥
+
+-- the name under which a command saves, if it comes to that: its status is then 0, or that of a failed write
+abbrev pub saves_as : Command → Options → Option (List ℕ)
+saves_as Run o = None
+saves_as Build o = o.save
+saves_as Inspect o = None
+saves_as Same o = None
+saves_as (Gen k) o = None
+
+abbrev pub saved_name : Command → Options → ℕ → Option (List ℕ)
+saved_name command o status = if status == 0 || status == write_failed then saves_as command o else None
+
+abbrev pub name_saved : Option CommandLine → ℕ → Option (List ℕ)
+name_saved None status = None
+name_saved (Some line) status = saved_name line.command line.options status
 
 -- ---- the call
 
 -- a line that isn't taken is refused
-abbrev pub LineAnswered : Option CommandLine → Reading → Writing → ℕ → Type 0
-LineAnswered None shelf out status = Printed refused_line out status
-LineAnswered (Some line) shelf out status = CommandAnswered line.command line.file line.options shelf out status
+abbrev pub LineAnswered : Option CommandLine → Reading → Saving → Writing → ℕ → Type 0
+LineAnswered None shelf saving out status = Printed refused_line out status
+LineAnswered (Some line) shelf saving out status = CommandAnswered line.command line.file line.options shelf saving out status
 
 -- What the call answers to its words. Memory may be wanted while the line is read; all else is as said.
-abbrev pub Answered : Option CommandLine → Reading → Writing → ℕ → Type 0
-Answered line shelf out status = OrMemory out status (LineAnswered line shelf out status)
+abbrev pub Answered : Option CommandLine → Reading → Saving → Writing → ℕ → Type 0
+Answered line shelf saving out status = OrMemory out status (LineAnswered line shelf saving out status)

@@ -3,4 +3,5 @@ pub mod Told
 pub mod Meaning
 pub mod Possible
 pub mod Answer
+pub mod Building
 pub mod Loading

@@ -4,6 +4,7 @@
 //! [`line::Line`]; one that asks for what the program can't do yet is refused like any other that is wrong.
 #![tactic(auto)]
 
+mod building;
 mod image;
 mod inspect;
 mod line;
@@ -13,6 +14,7 @@ mod refusal;
 mod report;
 mod running;
 mod same;
+mod text_refusal;
 mod top;
 
 pub use top::cogstack;

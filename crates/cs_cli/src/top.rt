@@ -1,10 +1,11 @@
 //! The call that the program makes.
 
-ghost use Rattle.std.specs.Prelude.{◌≡◌, List, ℕ, true, map, string_bytes};
-ghost use Rattle.cs_cli.specs.Answer.{Answered, CommandAnswered};
+ghost use Rattle.std.specs.Prelude.{◌≡◌, ◌≢◌, List, ℕ, Some, true, map, string_bytes};
+ghost use Rattle.cs_cli.specs.Answer.{Answered, CommandAnswered, name_saved, saved_name};
 ghost use Rattle.cs_cli.specs.Meaning.{command_by, line_by, options_by};
 ghost use Rattle.cs_cli.specs.Possible.{IsInRange, is_possible, line_of};
 
+use crate::building::build_file;
 use crate::inspect::inspect;
 use crate::line::{Command, Line, parse};
 use crate::printing::{NO_MEMORY, print};
@@ -31,12 +32,18 @@ pub fn cogstack<S: Shelf, K: Sink>(
           last = S.last_fault shelf.new;
         })
         (record {
+          old = S.taken shelf.old;
+          new = S.taken shelf.new;
+          held = S.content shelf.new;
+        })
+        (record {
           old = K.taken out.old;
           new = K.taken out.new;
           before = K.fault_count out.old;
           behind = K.fault_count out.new;
         }) result }
-    ensures contents { (name : List ℕ) → S.content shelf.new name ≡ S.content shelf.old name }
+    ensures contents { (name : List ℕ) → name_saved (line_of (map string_bytes words.now)) result ≢ Some name
+        → S.content shelf.new name ≡ S.content shelf.old name }
 {
     match parse(alloc, words) {
         Ok(Some(line)) => answer(alloc, &line, shelf, out),
@@ -57,18 +64,26 @@ fn answer<S: Shelf, K: Sink>(alloc: Global, line: &Line<'_>, shelf: &mut S, out:
           last = S.last_fault shelf.new;
         })
         (record {
+          old = S.taken shelf.old;
+          new = S.taken shelf.new;
+          held = S.content shelf.new;
+        })
+        (record {
           old = K.taken out.old;
           new = K.taken out.new;
           before = K.fault_count out.old;
           behind = K.fault_count out.new;
         }) result }
-    ensures contents { (name : List ℕ) → S.content shelf.new name ≡ S.content shelf.old name }
+    ensures contents { (name : List ℕ) →
+        saved_name (command_by line.now.command) (options_by line.now.options) result ≢ Some name
+        → S.content shelf.new name ≡ S.content shelf.old name }
 {
     match line.command {
         Command::Run => run_file(alloc, line, shelf, out),
         Command::Inspect => inspect(alloc, line, shelf, out),
+        Command::Build => build_file(alloc, line, shelf, out),
         Command::Same => same(alloc, line, shelf, out),
-        // a line with one of these isn't possible yet
-        Command::Build | Command::Gen(_) => unreachable!(),
+        // a line with this one isn't possible yet
+        Command::Gen(_) => unreachable!(),
     }
 }

@@ -23,7 +23,7 @@ pub use file_shelf::FileShelf;
 pub use mem_shelf::MemShelf;
 pub use mem_sink::MemSink;
 pub use out_sink::OutSink;
-pub use whole::{ReadError, append_whole, read_whole, write_whole};
+pub use whole::{ReadError, append_whole, read_whole, save_whole, write_whole};
 
 /// The outside refused a call, and its count of faults rose.
 #[derive(Clone, Copy, PartialEq, Eq, Debug)]

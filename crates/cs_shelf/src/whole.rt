@@ -1,7 +1,7 @@
 //! Reads and writes of a whole: loops over the calls of a shelf and a sink.
 
 ghost use Rattle.std.specs.Prelude.{◌≡◌, ◌≢◌, ℕ, ◌+◌, ◌<◌, ◌≤◌, List, Some, None, Err, IfOk, OnOk, OnErr, IfSome};
-ghost use Rattle.std.specs.Prelude.{IsSome, length, vec_len};
+ghost use Rattle.std.specs.Prelude.{IsSome, length, option_map, take, vec_len};
 ghost use Rattle.cs_shelf.specs.Outside.{Rose, read_fault, save_fault, Appends, AppendsPart, AsksTo};
 
 use crate::{Failed, Shelf, Sink};
@@ -52,6 +52,31 @@ pub fn append_whole<S: Shelf>(shelf: &mut S, bytes: &[u8]) -> Result<(), Failed>
         let n = shelf.append(&bytes[at..])?;
         at += n;
     }
+    Ok(())
+}
+
+/// Saves a content under a name: these bytes, each once and in order.
+///
+/// `Failed` comes only where a call failed. Then no content is begun any more, the shelf has taken the first of the
+/// bytes since it began, maybe none or all, and nothing is said of what the name holds.
+pub fn save_whole<S: Shelf>(shelf: &mut S, name: &str, bytes: &[u8]) -> Result<(), Failed>
+    requires name { length name.now ≤ 4096 }
+    ensures saved { OnOk result (S.content shelf.new name.now ≡ option_map
+        (λ (taken : List ℕ). bytes.now) (S.taken shelf.old)) }
+    ensures part { OnErr result ((n : ℕ) × (S.taken shelf.new ≡ option_map
+        (λ (taken : List ℕ). take n bytes.now) (S.taken shelf.old))) }
+
+    ensures none_begun { S.begun shelf.new ≡ None }
+    ensures contents { (other : List ℕ) → other ≢ name.now → S.content shelf.new other ≡ S.content shelf.old other }
+    ensures asked_stays { S.asked shelf.new ≡ S.asked shelf.old }
+    ensures never_falls { S.fault_count shelf.old ≤ S.fault_count shelf.new }
+    ensures cause { OnErr result (Rose (S.fault_count shelf.old) (S.fault_count shelf.new)) }
+    ensures last { OnErr result (S.last_fault shelf.new ≡ save_fault name.now) }
+    ensures last_stays { OnOk result (S.last_fault shelf.new ≡ S.last_fault shelf.old) }
+{
+    shelf.start(name)?;
+    append_whole(shelf, bytes)?;
+    shelf.finish()?;
     Ok(())
 }
 
