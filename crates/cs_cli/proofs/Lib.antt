@@ -3,6 +3,7 @@ pub mod Uses
 pub mod Walking
 pub mod Turns
 pub mod Telling
+pub mod Texts
 pub mod Agreeing
 pub mod Parts
 pub mod Reading

@@ -264,7 +264,7 @@ pub data BuildAnswered (file : List ℕ) (o : Options) (shelf : Reading) (saving
   text_unread : ReadFailed shelf file → Printed (failed_read file) out status → BuildAnswered file o shelf saving out status
   text_refused : (fault : BuildFault) → HasTextFault (shelf.content file) fault → Printed (refused_text fault) out status → BuildAnswered file o shelf saving out status
   build_memory : Printed no_memory out status → BuildAnswered file o shelf saving out status
-  built : (text bytes : List ℕ) → IsText (shelf.content file) text → IsBuilt text bytes → BuildSaved o.save text bytes shelf saving out status
+  image_built : (text bytes : List ℕ) → IsText (shelf.content file) text → IsBuilt text bytes → BuildSaved o.save text bytes shelf saving out status
       → BuildAnswered file o shelf saving out status
 
 -- what is answered to each command; those that aren't there yet are refused with their lines
