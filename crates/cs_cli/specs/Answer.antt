@@ -1,5 +1,5 @@
 -- What the program answers to the words behind its name, and what it prints.
-use Rattle.std.specs.Prelude.{◌≡◌, ◌⊎◌, ℕ, zero, suc, ◌+◌, ◌<◌, ◌≤◌, true, if◌then◌else◌, List, ◌++◌, codes, decimal, Option, Some, None, Ok, Err, IfSome, IsSomeAnd}
+use Rattle.std.specs.Prelude.{◌≡◌, ◌⊎◌, ℕ, zero, suc, ◌+◌, ◌<◌, ◌≤◌, true, if◌then◌else◌, List, ◌++◌, codes, decimal, Option, Some, None, Ok, Err, IfSome, IsSomeAnd, unwrap_or}
 use Rattle.cs_shelf.specs.Outside.{Appends, AppendsPart, Fault, Rose, read_fault}
 use Rattle.cs_model.specs.Obj.{Obj, is_context}
 use Rattle.cs_model.specs.State.{Kept, object_at}
@@ -16,7 +16,9 @@ use Rattle.cs_model.specs.Print.{print_of}
 use Rattle.cs_model.specs.Step as model
 use Rattle.cs_model.specs.Step.{bytecode}
 use Rattle.cs_model.specs.Report.{Place, report_line, report_of}
+use Rattle.cs_acts.specs.declared.run.RunEnd.{RunEnd}
 use Rattle.cs_core.specs.Deep.{IsDeep, run_of, state_of}
+use Rattle.cs_core.specs.Running.{ending_of}
 use Rattle.cs_core.specs.Stepped.{IsNext, Needs, next_turn}
 use Rattle.cs_acts.specs.declared.act.Full.TheVariants.{Heap}
 
@@ -75,6 +77,10 @@ run_status model.Steps = 0
 run_status model.Quit = 0
 run_status model.Idle = 0
 run_status (model.Stopped reason) = 1
+
+-- the ending that is reported, where the model has it
+abbrev pub reported_ending : RunEnd → model.Ending
+reported_ending end = unwrap_or (ending_of end) model.Steps
 
 -- the report of a run that ended so behind so many steps
 abbrev pub report_answer : model.Ending → ℕ → Place → Answer
