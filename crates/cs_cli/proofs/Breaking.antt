@@ -1,6 +1,5 @@
 -- What a run from the start on reports: its end, that there is no room, or that its sink failed.
 use Rattle.std.proofs.Common.{◌≡◌, inl, inr, refl, arith, ap, subst, sym, ◌∙◌, ℕ, ◌<◌, ◌≤◌, List, ◌++◌, Option, Some, None, IsSomeAnd, codes}
-use Rattle.std.specs.Prelude.{IfSome}
 use Rattle.cs_shelf.specs.Outside.{Appends, AppendsPart, Rose}
 use Rattle.cs_model.specs.State.{Kept}
 use Rattle.cs_model.specs.Demand.{words_held}
@@ -14,9 +13,9 @@ use Rattle.cs_acts.specs.Layout.{Layout}
 use Rattle.cs_core.specs.Deep.{IsDeep, most_of, run_of, state_of}
 use Rattle.cs_core.specs.Stepped.{IsNext}
 use Rattle.cs_model.specs.Report.{report_line, report_of}
-use Rattle.cs_core.specs.Running.{IsStackOf, RunCausedByFault, RunFills, RunGives, WritesPart, WritesSince, ending_of, output_of, place_by}
+use Rattle.cs_core.specs.Running.{IsStackOf, RunCausedByFault, RunFills, RunGives, WritesPart, WritesSince, output_of, place_by}
 use Rattle.cs_core.specs.VmParts.{Seen}
-use Rattle.cs_cli.specs.Answer.{IsUnderWay, Printed, Reported, answering, report_answer, run_status}
+use Rattle.cs_cli.specs.Answer.{IsUnderWay, Printed, Reported, answering, report_answer, reported_ending, run_status}
 use Rattle.cs_cli.specs.Answer as answer
 use Rattle.cs_cli.proofs.Within.{HasEnded, IsWithin, zero_within}
 use Rattle.cs_cli.proofs.Writings.{part_of, printed_behind, run_printed, writing}
@@ -63,11 +62,10 @@ fault_reported k x y m a b i j n limit end is h cause =
 
 -- the report of a run that isn't broken off
 pub end_reported : (k : Kept) (y : Seen) (m : Option ℕ) (a b c : Option (List ℕ)) (i j l n limit : ℕ) (end : RunEnd) (steps : ℕ) (place : Place) (status : ℕ) → HasEnded k n a b y end → y.stored.memory.limit ≡ limit → steps ≡ y.steps → place ≡ y.place → i ≤ j
-    → IfSome (ending_of end) (λ e. Printed (report_answer e steps (place_by place)) (writing b c j l) status) → Reported k n m limit (writing a c i l) status
-end_reported k y m a b c i j l n limit end steps place status h words count stands le printed =
-    let e = h.ending in
+    → Printed (report_answer (reported_ending end) steps (place_by place)) (writing b c j l) status → Reported k n m limit (writing a c i l) status
+end_reported k y m a b c i j l n limit end steps place status h words count stands le shown =
+    let e = reported_ending end in
     let text = codes "\n" ++ report_line e steps (place_by place) in
-    let shown : Printed (report_answer e steps (place_by place)) (writing b c j l) status = subst (λ o. IfSome o (λ e. Printed (report_answer e steps (place_by place)) (writing b c j l) status)) h.is printed in
     answer.ended (zero_within limit e (state_of k n) (writing b c j l) text status (subst (λ w. IsWithin w e (state_of k n)) words h.within) shown)
     (run_printed (run_of k n) e steps (place_by place) a b c i j l (run_status e) text status h.reaches.ended (h.reaches.steps ∙ sym count) (h.reaches.place ∙ sym (ap place_by stands))
     (all_written k n a b h.reaches.written) le refl refl shown)

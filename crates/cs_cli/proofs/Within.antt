@@ -1,5 +1,5 @@
 -- What a run that isn't stopped keeps of its objects fits the heap.
-use Rattle.std.proofs.Common.{◌≡◌, ◌∙◌, ℕ, zero, suc, ◌+◌, ◌≤◌, Bool, true, false, if◌then◌else◌, List, Option, Some, None, inl, inr, refl, sym, ap, subst, arith}
+use Rattle.std.proofs.Common.{◌≡◌, ◌∙◌, ℕ, zero, suc, ◌+◌, ◌≤◌, Bool, true, false, if◌then◌else◌, List, Option, Some, None, inl, inr, refl, sym, ap, subst, arith, IsSome}
 use Rattle.std.specs.FinMap.{get}
 use Rattle.cs_classes.specs.Meaning.{objects_of}
 use Rattle.cs_classes.proofs.Counting.{heap_words, words_by, words_by-less}
@@ -13,11 +13,11 @@ use Rattle.cs_acts.specs.Ready.{Holds, IsSound}
 use Rattle.cs_acts.specs.declared.act.Full.{Full as Why}
 use Rattle.cs_acts.specs.declared.run.RunEnd.{RunEnd}
 use Rattle.cs_acts.specs.declared.run.RunEnd.TheVariants.{Steps, Quit, Idle, Snapshot, Stopped, Full, WriteFault}
-use Rattle.cs_core.specs.Deep.{run_of, state_of}
-use Rattle.cs_core.specs.Running.{RunGives, RunReaches, StandsFor, UnlessBroken, as_kept, at_rest, ending_of, place_by}
+use Rattle.cs_core.specs.Deep.{state_of}
+use Rattle.cs_core.specs.Running.{RunGives, RunReaches, StandsFor, UnlessBroken, as_kept, at_rest, ending_of}
 use Rattle.cs_core.specs.VmParts.{Seen}
 use Rattle.cs_model.specs.Step as model
-use Rattle.cs_cli.specs.Answer.{Printed, Writing, answering, object_words_below, object_words_held, run_status, unless_context}
+use Rattle.cs_cli.specs.Answer.{Printed, Writing, answering, object_words_below, object_words_held, reported_ending, run_status, unless_context}
 
 -- ---- words
 
@@ -90,17 +90,16 @@ zero_within limit (model.Stopped reason) m out text status within (inr (is, rose
 
 -- a run that isn't broken off has an end of the model
 pub record HasEnded (k : Kept) (n : ℕ) (old new : Option (List ℕ)) (b : Seen) (end : RunEnd) : Type 0 where
-  pub ending : model.Ending
-  pub is : ending_of end ≡ Some ending
-  pub reaches : RunReaches k 0 n old new b ending
-  pub within : IsWithin b.stored.memory.limit ending (state_of k n)
+  pub reported : IsSome (ending_of end)
+  pub reaches : RunReaches k 0 n old new b (reported_ending end)
+  pub within : IsWithin b.stored.memory.limit (reported_ending end) (state_of k n)
 
 pub has_ended : (k : Kept) (n : ℕ) (old new : Option (List ℕ)) (a b : Seen) (end : RunEnd) → ((why : Why) → end ≡ Full why → ⊥) → (end ≡ WriteFault → ⊥) → RunGives k 0 n old new a b end
     → UnlessBroken end (IsSound b.stored b.view) → HasEnded k n old new b end
-has_ended k n old new a b Steps room sink h sound = record { ending = model.Steps; is = refl; reaches = h.0; within = stands_within b.stored b.view (state_of k n) sound h.1.world }
+has_ended k n old new a b Steps room sink h sound = record { reported = tt; reaches = h.0; within = stands_within b.stored b.view (state_of k n) sound h.1.world }
 has_ended k n old new a b Quit room sink h sound = absurd h
-has_ended k n old new a b Idle room sink h sound = record { ending = model.Idle; is = refl; reaches = h.0; within = stands_within b.stored b.view (state_of k n) sound h.1.world }
+has_ended k n old new a b Idle room sink h sound = record { reported = tt; reaches = h.0; within = stands_within b.stored b.view (state_of k n) sound h.1.world }
 has_ended k n old new a b Snapshot room sink h sound = absurd h
-has_ended k n old new a b (Stopped reason) room sink h sound = record { ending = model.Stopped reason; is = refl; reaches = h.0; within = tt }
+has_ended k n old new a b (Stopped reason) room sink h sound = record { reported = tt; reaches = h.0; within = tt }
 has_ended k n old new a b (Full why) room sink h sound = absurd (room why refl)
 has_ended k n old new a b WriteFault room sink h sound = absurd (sink refl)

@@ -1,5 +1,5 @@
 -- What the program answers to the words behind its name, and what it prints.
-use Rattle.std.specs.Prelude.{◌≡◌, ◌⊎◌, ℕ, zero, suc, ◌+◌, ◌<◌, ◌≤◌, ◌==◌, ◌||◌, true, if◌then◌else◌, List, ◌++◌, codes, decimal, length, take, sum_by, Option, Some, None, option_map, Ok, Err, IfSome, IsSomeAnd}
+use Rattle.std.specs.Prelude.{◌≡◌, ◌⊎◌, ℕ, zero, suc, ◌+◌, ◌<◌, ◌≤◌, ◌==◌, ◌||◌, true, if◌then◌else◌, List, ◌++◌, codes, decimal, length, take, sum_by, Option, Some, None, option_map, Ok, Err, IfSome, IsSomeAnd, unwrap_or}
 use Rattle.cs_shelf.specs.Outside.{Appends, AppendsPart, Fault, Rose, read_fault, save_fault}
 use Rattle.cs_build.specs.Wholes.{file_bytes}
 use Rattle.cs_model.specs.Builder.{text_objects, text_state}
@@ -9,7 +9,8 @@ use Rattle.cs_model.specs.State.{Kept, object_at}
 use Rattle.cs_model.specs.Image.{image_of}
 use Rattle.cs_model.specs.ImageFault.{ImageFault, image_fault_name}
 use Rattle.cs_model.specs.Settle.{open_kept}
-use Rattle.cs_model.specs.CommandLine.{Command, Run, Build, Inspect, Same, Gen, CommandLine, Options, run_pages}
+use Rattle.cs_model.specs.CommandLine.{Command, Run, Build, Inspect, Same, Gen, CommandLine, Options, run_pages, steps_of}
+use Rattle.cs_model.specs.Generator.{generated}
 use Rattle.cs_model.specs.Demand.{words_held, words_taken}
 use Rattle.cs_model.specs.End as ends
 use Rattle.cs_model.specs.End.{Out}
@@ -19,7 +20,9 @@ use Rattle.cs_model.specs.Print.{print_of}
 use Rattle.cs_model.specs.Step as model
 use Rattle.cs_model.specs.Step.{bytecode}
 use Rattle.cs_model.specs.Report.{Place, report_line, report_of}
+use Rattle.cs_acts.specs.declared.run.RunEnd.{RunEnd}
 use Rattle.cs_core.specs.Deep.{IsDeep, run_of, state_of}
+use Rattle.cs_core.specs.Running.{ending_of}
 use Rattle.cs_core.specs.Stepped.{IsNext, Needs, next_turn}
 use Rattle.cs_acts.specs.declared.act.Full.TheVariants.{Heap}
 
@@ -92,6 +95,10 @@ run_status model.Steps = 0
 run_status model.Quit = 0
 run_status model.Idle = 0
 run_status (model.Stopped reason) = 1
+
+-- the ending that is reported, where the model has it
+abbrev pub reported_ending : RunEnd → model.Ending
+reported_ending end = unwrap_or (ending_of end) model.Steps
 
 -- the report of a run that ended so behind so many steps
 abbrev pub report_answer : model.Ending → ℕ → Place → Answer
@@ -267,13 +274,35 @@ pub data BuildAnswered (file : List ℕ) (o : Options) (shelf : Reading) (saving
   image_built : (text bytes : List ℕ) → IsText (shelf.content file) text → IsBuilt text bytes → BuildSaved o.save text bytes shelf saving out status
       → BuildAnswered file o shelf saving out status
 
--- what is answered to each command; those that aren't there yet are refused with their lines
+-- ---- generated images
+
+-- the first line of what is printed of a generated image of so many objects
+abbrev pub generated_line : ℕ → ℕ → List ℕ
+generated_line k objects = codes "gen " ++ decimal k ++ codes " objects=" ++ decimal objects ++ codes "\n"
+
+-- a first line is printed, and behind it a run is reported; or the sink failed before that, and took a first part of the line
+pub data Headed (line : List ℕ) (k : Kept) (n : ℕ) (pages : Option ℕ) (limit : ℕ) (out : Writing) (status : ℕ) : Type 0 where
+  headed : (written : Option (List ℕ)) (faults : ℕ) → Appends out.old written line → out.before ≤ faults
+      → Reported k n pages limit (record { old = written; new = out.new; before = faults; behind = out.behind }) status → Headed line k n pages limit out status
+  headless : status ≡ write_failed → Rose out.before out.behind → AppendsPart out.old out.new line → Headed line k n pages limit out status
+
+-- The image of a generated text is run. Where the text has a fault, or the image is none of a heap of so many words, that is told.
+pub data GenAnswered (k : ℕ) (o : Options) (out : Writing) (status : ℕ) : Type 0 where
+  gen_memory : Printed no_memory out status → GenAnswered k o out status
+  gen_text_refused : (fault : BuildFault) → text_fault (generated k) ≡ Some fault → Printed (refused_text fault) out status → GenAnswered k o out status
+  gen_refused : (bytes : List ℕ) (fault : ImageFault) → IsBuilt (generated k) bytes → image_of bytes o.heap ≡ Err fault → Printed (refused_image fault) out status
+      → GenAnswered k o out status
+  gen_ran : (bytes : List ℕ) (s : Kept) → IsBuilt (generated k) bytes → image_of bytes o.heap ≡ Ok s
+      → OrMemory out status (Headed (generated_line k (length (text_objects (forms_of (generated k))))) (open_kept s) (steps_of (Gen k) o) (Some (run_pages o)) o.heap out status)
+      → GenAnswered k o out status
+
+-- what is answered to each command
 abbrev pub CommandAnswered : Command → List ℕ → Options → Reading → Saving → Writing → ℕ → Type 0
 CommandAnswered Run file o shelf saving out status = RunAnswered file o shelf out status
 CommandAnswered Build file o shelf saving out status = BuildAnswered file o shelf saving out status
 CommandAnswered Inspect file o shelf saving out status = InspectAnswered file o shelf out status
 CommandAnswered Same file o shelf saving out status = SameAnswered file o shelf out status
-CommandAnswered (Gen k) file o shelf saving out status = ⊥
+CommandAnswered (Gen k) file o shelf saving out status = GenAnswered k o out status
 
 -- the name under which a command saves, if it comes to that: its status is then 0, or that of a failed write
 abbrev pub saves_as : Command → Options → Option (List ℕ)

@@ -7,14 +7,14 @@ use Rattle.cs_model.specs.Line.{longest_name}
 abbrev pub has_known_options : Options → Bool
 has_known_options o = is_none o.events && is_none o.snapshot && not o.stats && not (run_pages o == 0)
 
--- What each command does by now: a run is done, but isn't saved at its end, an image is built of a text and saved, one is printed, and two
--- are compared.
+-- What each command does by now: an image is run, also a generated one, but isn't saved at its end, one is built of a text and saved, one is
+-- printed, and two are compared.
 abbrev pub can_do : Command → Options → Bool
 can_do Run o = is_none o.save
 can_do Build o = is_some o.save
 can_do Inspect o = true
 can_do Same o = is_some o.other
-can_do (Gen k) o = false
+can_do (Gen k) o = is_none o.save
 
 abbrev pub is_possible : CommandLine → Bool
 is_possible line = has_known_options line.options && can_do line.command line.options

@@ -330,10 +330,10 @@ impl Line<'_> {
         ensures { result ≡ can_do (command_by self.now.command) (options_by self.now.options) }
     {
         match self.command {
-            Command::Run => self.options.save.is_none(),
+            Command::Run | Command::Gen(_) => self.options.save.is_none(),
+            Command::Build => self.options.save.is_some(),
             Command::Inspect => true,
             Command::Same => self.options.other.is_some(),
-            Command::Build | Command::Gen(_) => false,
         }
     }
 }

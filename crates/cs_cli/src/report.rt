@@ -3,10 +3,11 @@
 //! The line is the word of the ending, for a stop also its reason, and then
 //! `steps=S process=P context=C pc=Q`. The words and names are this machine's own.
 
-ghost use Rattle.std.specs.Prelude.{◌≡◌, ◌≤◌, ◌+◌, ◌++◌, IfSome, IsSome, codes, length};
+ghost use Rattle.std.specs.Prelude.{◌≡◌, ◌≤◌, ◌+◌, ◌++◌, IsSome, codes, length};
 ghost use Rattle.arrayvec.specs.ArrayString.{array_string_len};
 ghost use Rattle.cs_model.specs.Report.{ending_text, report_line, number_text};
 ghost use Rattle.cs_core.specs.Running.{ending_of, place_by};
+ghost use Rattle.cs_cli.specs.Answer.{reported_ending};
 
 use arrayvec::ArrayString;
 use cs_acts::{Place, RunEnd};
@@ -22,7 +23,7 @@ pub const LONGEST_REPORT: usize = 132;
 /// It takes no memory.
 pub fn report(end: RunEnd, steps: u64, place: &Place) -> ArrayString<LONGEST_REPORT>
     requires { IsSome (ending_of end) }
-    ensures { IfSome (ending_of end) (λ e. result.bytes ≡ codes "\n" ++ report_line e steps (place_by place.now)) }
+    ensures { result.bytes ≡ codes "\n" ++ report_line (reported_ending end) steps (place_by place.now) }
 {
     let mut text = ArrayString::new();
     text.push_str("\n");
@@ -39,7 +40,7 @@ pub fn report(end: RunEnd, steps: u64, place: &Place) -> ArrayString<LONGEST_REP
 fn push_ending(text: &mut ArrayString<LONGEST_REPORT>, end: RunEnd)
     requires reported { IsSome (ending_of end) }
     requires room { array_string_len text.old + 21 ≤ LONGEST_REPORT }
-    ensures text { IfSome (ending_of end) (λ e. text.new.bytes ≡ text.old.bytes ++ ending_text e) }
+    ensures text { text.new.bytes ≡ text.old.bytes ++ ending_text (reported_ending end) }
     ensures within { array_string_len text.new ≤ array_string_len text.old + 21 }
 {
     match end {

@@ -1,6 +1,6 @@
 //! The command that runs an image.
 
-ghost use Rattle.std.specs.Prelude.{◌≡◌, ◌≤◌, IfSome, IsSome, List, ℕ, Some, false};
+ghost use Rattle.std.specs.Prelude.{◌≡◌, ◌≤◌, IsSome, List, ℕ, Some, false};
 ghost use Rattle.cs_classes.specs.Meaning.{loaded_kept};
 ghost use Rattle.cs_model.specs.CommandLine.{run_pages};
 ghost use Rattle.cs_model.specs.Due.{is_idle};
@@ -10,7 +10,7 @@ ghost use Rattle.cs_acts.specs.Layout.{IsFresh};
 ghost use Rattle.cs_acts.specs.Ready.{IsSound};
 ghost use Rattle.cs_core.specs.Deep.{most_of};
 ghost use Rattle.cs_core.specs.Running.{ending_of, place_by};
-ghost use Rattle.cs_cli.specs.Answer.{Begun, Printed, Reported, RunAnswered, report_answer, run_status};
+ghost use Rattle.cs_cli.specs.Answer.{Begun, Printed, Reported, RunAnswered, report_answer, reported_ending, run_status};
 ghost use Rattle.cs_cli.specs.Loading.{IsOpenable};
 ghost use Rattle.cs_cli.specs.Meaning.{line_by, options_by};
 ghost use Rattle.cs_cli.specs.Possible.{IsInRange};
@@ -135,13 +135,13 @@ fn run_and_report<W: World + Drop, K: Sink>(world: W, sender: Sender, steps: u64
 /// Prints the report of a run, and gives its status, or that of a failed write.
 fn print_report<K: Sink>(end: RunEnd, steps: u64, place: &Place, out: &mut K) -> u8
     requires { IsSome (ending_of end) }
-    ensures printed { IfSome (ending_of end) (λ e. Printed (report_answer e steps (place_by place.now))
+    ensures { Printed (report_answer (reported_ending end) steps (place_by place.now))
         (record {
           old = K.taken out.old;
           new = K.taken out.new;
           before = K.fault_count out.old;
           behind = K.fault_count out.new;
-        }) result) }
+        }) result }
 {
     let text = report(end, steps, place);
     print(out, status_of(end), text.as_str())
@@ -150,7 +150,7 @@ fn print_report<K: Sink>(end: RunEnd, steps: u64, place: &Place, out: &mut K) ->
 /// The status of a run that ends so.
 fn status_of(end: RunEnd) -> u8
     requires { IsSome (ending_of end) }
-    ensures { IfSome (ending_of end) (λ e. result ≡ run_status e) }
+    ensures { result ≡ run_status (reported_ending end) }
 {
     match end {
         RunEnd::Steps | RunEnd::Quit | RunEnd::Idle => 0,
