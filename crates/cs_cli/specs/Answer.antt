@@ -286,6 +286,10 @@ pub data Headed (line : List ℕ) (k : Kept) (n : ℕ) (pages : Option ℕ) (lim
       → Reported k n pages limit (record { old = written; new = out.new; before = faults; behind = out.behind }) status → Headed line k n pages limit out status
   headless : status ≡ write_failed → Rose out.before out.behind → AppendsPart out.old out.new line → Headed line k n pages limit out status
 
+-- or memory is wanted before anything is printed
+abbrev pub BegunBehind : List ℕ → Kept → ℕ → Option ℕ → ℕ → Writing → ℕ → Type 0
+BegunBehind line k n pages limit out status = OrMemory out status (Headed line k n pages limit out status)
+
 -- The image of a generated text is run. Where the text has a fault, or the image is none of a heap of so many words, that is told.
 pub data GenAnswered (k : ℕ) (o : Options) (out : Writing) (status : ℕ) : Type 0 where
   gen_memory : Printed no_memory out status → GenAnswered k o out status
@@ -293,7 +297,7 @@ pub data GenAnswered (k : ℕ) (o : Options) (out : Writing) (status : ℕ) : Ty
   gen_refused : (bytes : List ℕ) (fault : ImageFault) → IsBuilt (generated k) bytes → image_of bytes o.heap ≡ Err fault → Printed (refused_image fault) out status
       → GenAnswered k o out status
   gen_ran : (bytes : List ℕ) (s : Kept) → IsBuilt (generated k) bytes → image_of bytes o.heap ≡ Ok s
-      → OrMemory out status (Headed (generated_line k (length (text_objects (forms_of (generated k))))) (open_kept s) (steps_of (Gen k) o) (Some (run_pages o)) o.heap out status)
+      → BegunBehind (generated_line k (length (text_objects (forms_of (generated k))))) (open_kept s) (steps_of (Gen k) o) (Some (run_pages o)) o.heap out status
       → GenAnswered k o out status
 
 -- what is answered to each command

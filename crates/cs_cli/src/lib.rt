@@ -5,6 +5,7 @@
 #![tactic(auto)]
 
 mod building;
+mod generating;
 mod image;
 mod inspect;
 mod line;

@@ -45,7 +45,7 @@ pub(crate) fn refuse<K: Sink>(out: &mut K, name: &str, why: Refusal) -> u8
 }
 
 /// Says which fault a file has, or that memory is refused, and gives the status.
-fn refuse_image<K: Sink>(out: &mut K, error: ImageError) -> u8
+pub(crate) fn refuse_image<K: Sink>(out: &mut K, error: ImageError) -> u8
     ensures { Printed (image_answer error)
         (record {
           old = K.taken out.old;

@@ -10,7 +10,7 @@ ghost use Rattle.cs_acts.specs.Layout.{IsFresh};
 ghost use Rattle.cs_acts.specs.Ready.{IsSound};
 ghost use Rattle.cs_core.specs.Deep.{most_of};
 ghost use Rattle.cs_core.specs.Running.{ending_of, place_by};
-ghost use Rattle.cs_cli.specs.Answer.{Begun, Printed, Reported, RunAnswered, report_answer, reported_ending, run_status};
+ghost use Rattle.cs_cli.specs.Answer.{BegunBehind, Headed, Printed, Reported, RunAnswered, report_answer, reported_ending, run_status};
 ghost use Rattle.cs_cli.specs.Loading.{IsOpenable};
 ghost use Rattle.cs_cli.specs.Meaning.{line_by, options_by};
 ghost use Rattle.cs_cli.specs.Possible.{IsInRange};
@@ -24,7 +24,7 @@ use cs_acts::{Full, Place, RunEnd, World};
 use cs_core::Vm;
 use cs_image::Loaded;
 use cs_send::Sender;
-use cs_shelf::{Shelf, Sink};
+use cs_shelf::{Shelf, Sink, write_whole};
 use cs_stack::StackWorld;
 use std::alloc::Global;
 
@@ -66,18 +66,26 @@ pub(crate) fn run_file<S: Shelf, K: Sink>(
             loaded,
             line.options.page_count(),
             line.options.steps,
+            "",
             out,
         ),
         Err(why) => refuse(out, line.file, why),
     }
 }
 
-/// Opens an image on so many stack pages, 2 to 64, and runs it.
-fn open_and_run<K: Sink>(alloc: Global, loaded: Loaded, pages: u32, steps: u64, out: &mut K) -> u8
+/// Opens an image on so many stack pages, 2 to 64, prints a first line, which may be empty, and runs the image.
+pub(crate) fn open_and_run<K: Sink>(
+    alloc: Global,
+    loaded: Loaded,
+    pages: u32,
+    steps: u64,
+    first: &str,
+    out: &mut K,
+) -> u8
     requires openable { IsOpenable loaded }
     requires few { 2 ≤ pages }
     requires many { pages ≤ 64 }
-    ensures { Begun (open_kept (loaded_kept loaded)) steps (Some pages) loaded.heap.limit (record {
+    ensures { BegunBehind first.now (open_kept (loaded_kept loaded)) steps (Some pages) loaded.heap.limit (record {
       old = K.taken out.old;
       new = K.taken out.new;
       before = K.fault_count out.old;
@@ -85,26 +93,58 @@ fn open_and_run<K: Sink>(alloc: Global, loaded: Loaded, pages: u32, steps: u64, 
     }) result }
 {
     match StackWorld::new(alloc, loaded, pages) {
-        Ok(world) => begin(alloc, world, steps, out),
+        Ok(world) => begin(alloc, world, steps, first, out),
         Err(_) => print(out, NO_MEMORY, "cogstack: memory\n"),
     }
 }
 
-/// Runs an image, where memory for what sends its messages is had.
-fn begin<W: World + Drop, K: Sink>(alloc: Global, world: W, steps: u64, out: &mut K) -> u8
+/// Prints a first line and runs an image, where memory for what sends its messages is had.
+fn begin<W: World + Drop, K: Sink>(
+    alloc: Global,
+    world: W,
+    steps: u64,
+    first: &str,
+    out: &mut K,
+) -> u8
     requires sound { IsSound (W.stored world) (W.view world) }
     requires running { is_idle (W.view world) ≡ false → IsRunning (W.view world) }
     requires fresh { IsFresh (W.view world) (W.layout world) }
-    ensures { Begun (W.view world) steps (most_of (W.layout world)) (W.stored world).memory.limit (record {
-      old = K.taken out.old;
-      new = K.taken out.new;
-      before = K.fault_count out.old;
-      behind = K.fault_count out.new;
-    }) result }
+    ensures { BegunBehind first.now (W.view world) steps (most_of (W.layout world)) (W.stored world).memory.limit
+        (record {
+          old = K.taken out.old;
+          new = K.taken out.new;
+          before = K.fault_count out.old;
+          behind = K.fault_count out.new;
+        }) result }
 {
     match Sender::new(alloc) {
-        Ok(sender) => run_and_report(world, sender, steps, out),
+        Ok(sender) => run_behind(world, sender, steps, first, out),
         Err(_) => print(out, NO_MEMORY, "cogstack: memory\n"),
+    }
+}
+
+/// Prints a first line, and runs an image behind it.
+fn run_behind<W: World + Drop, K: Sink>(
+    world: W,
+    sender: Sender,
+    steps: u64,
+    first: &str,
+    out: &mut K,
+) -> u8
+    requires sound { IsSound (W.stored world) (W.view world) }
+    requires running { is_idle (W.view world) ≡ false → IsRunning (W.view world) }
+    requires fresh { IsFresh (W.view world) (W.layout world) }
+    ensures { Headed first.now (W.view world) steps (most_of (W.layout world)) (W.stored world).memory.limit
+        (record {
+          old = K.taken out.old;
+          new = K.taken out.new;
+          before = K.fault_count out.old;
+          behind = K.fault_count out.new;
+        }) result }
+{
+    match write_whole(out, first.as_bytes()) {
+        Ok(()) => run_and_report(world, sender, steps, out),
+        Err(_) => WRITE_FAILED,
     }
 }
 

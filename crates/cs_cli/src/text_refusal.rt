@@ -45,7 +45,7 @@ pub(crate) fn refuse_text<K: Sink>(out: &mut K, name: &str, why: TextRefusal) ->
 }
 
 /// Says which fault a text has, or that memory is refused, and gives the status.
-fn refuse_fault<K: Sink>(out: &mut K, error: BuildError) -> u8
+pub(crate) fn refuse_fault<K: Sink>(out: &mut K, error: BuildError) -> u8
     ensures { Printed (text_answer error)
         (record {
           old = K.taken out.old;

@@ -6,6 +6,7 @@ ghost use Rattle.cs_cli.specs.Meaning.{command_by, line_by, options_by};
 ghost use Rattle.cs_cli.specs.Possible.{IsInRange, is_possible, line_of};
 
 use crate::building::build_file;
+use crate::generating::generate;
 use crate::inspect::inspect;
 use crate::line::{Command, Line, parse};
 use crate::printing::{NO_MEMORY, print};
@@ -83,7 +84,6 @@ fn answer<S: Shelf, K: Sink>(alloc: Global, line: &Line<'_>, shelf: &mut S, out:
         Command::Inspect => inspect(alloc, line, shelf, out),
         Command::Build => build_file(alloc, line, shelf, out),
         Command::Same => same(alloc, line, shelf, out),
-        // a line with this one isn't possible yet
-        Command::Gen(_) => unreachable!(),
+        Command::Gen(k) => generate(alloc, k, line, out),
     }
 }
