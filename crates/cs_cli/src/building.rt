@@ -94,12 +94,7 @@ fn image_of_file<S: Shelf>(
 }
 
 /// Saves an image under a name, says of how many objects it is, and gives the status.
-fn save_image<S: Shelf, K: Sink>(
-    image: &BuiltImage,
-    name: &str,
-    shelf: &mut S,
-    out: &mut K,
-) -> u8
+fn save_image<S: Shelf, K: Sink>(image: &BuiltImage, name: &str, shelf: &mut S, out: &mut K) -> u8
     requires { length name.now ≤ 4096 }
     ensures saved { Saved name.now image.now.bytes.items (built_answer image.now.objects)
         (record {

@@ -6,8 +6,8 @@ use Rattle.cs_acts.specs.declared.run.Phase.TheVariants as phase
 use Rattle.cs_acts.specs.declared.run.RunEnd.{RunEnd}
 use Rattle.cs_acts.specs.Layout.{Layout}
 use Rattle.cs_acts.specs.Names.{Store}
-use Rattle.cs_core.specs.Running.{CanRun, InPhase, RunGives, Stands}
-use Rattle.cs_core.specs.VmParts.{Seen, VmParts, seen}
+use Rattle.cs_core.specs.Running.{CanRun, InPhase, RunGives, StandsAt}
+use Rattle.cs_core.specs.VmParts.{Seen, VmParts, seen_through}
 
 -- where it may be asked to, and isn't at rest
 pub is_ready : (p : Phase) (s : Store) (v : Kept) → CanRun p → InPhase p s v → (p ≡ phase.Idle → ⊥) → p ≡ phase.Ready
@@ -26,10 +26,10 @@ module _ {W : Type 0} (m n : VmParts W) (is : m ≡ n) where
   pub limit_same : (stored : W → Store) → (stored m.world).memory.limit ≡ (stored n.world).memory.limit
   limit_same stored = ap (λ (x : VmParts W). (stored x.world).memory.limit) is
 
-  pub seen_same : (stored : W → Store) (view : W → Kept) (layout : W → Option Layout) → seen stored view layout m ≡ seen stored view layout n
-  seen_same stored view layout = ap (λ (x : VmParts W). seen stored view layout x) is
+  pub seen_same : (stored : W → Store) (view : W → Kept) (layout : W → Option Layout) → seen_through stored view layout m ≡ seen_through stored view layout n
+  seen_same stored view layout = ap (λ (x : VmParts W). seen_through stored view layout x) is
 
-pub gives_same : (k : Kept) (j n : ℕ) (old new : Option (List ℕ)) (a first b last : Seen) (end : RunEnd) → first ≡ a → last ≡ b → Stands k j a → (Stands k j first → RunGives k j n old new first last end) → RunGives k j n old new a b end
+pub gives_same : (k : Kept) (j n : ℕ) (old new : Option (List ℕ)) (a first b last : Seen) (end : RunEnd) → first ≡ a → last ≡ b → StandsAt k j a → (StandsAt k j first → RunGives k j n old new first last end) → RunGives k j n old new a b end
 gives_same k j n old new a first b last end before behind h gives =
     subst (λ (x : Seen). RunGives k j n old new x b end) before
-    (subst (λ (y : Seen). RunGives k j n old new first y end) behind (gives (subst (λ (x : Seen). Stands k j x) (sym before) h)))
+    (subst (λ (y : Seen). RunGives k j n old new first y end) behind (gives (subst (λ (x : Seen). StandsAt k j x) (sym before) h)))

@@ -39,7 +39,7 @@ use Rattle.cs_core.specs.Stepped.{CausesNoRoom, IsNext, Needs, whole, unheld, un
 use Rattle.cs_core.proofs.Growing.{part_of_more, run_writes}
 use Rattle.cs_core.specs.Deep.{AllBegun, IsDeep, most_of, run_of, state_of}
 use Rattle.cs_core.specs.Stacked.{IsStacked}
-use Rattle.cs_core.specs.Running.{HasNoRoom, InPhase, IsCutShort, IsStackOf, RunGives, RunReaches, Stands, StandsFor, WritesSince, as_kept, at_rest, ending_at_rest, ending_of, output_of, phase_behind, place_by}
+use Rattle.cs_core.specs.Running.{HasNoRoom, InPhase, IsCutShort, IsStackOf, RunGives, RunReaches, StandsAt, StandsFor, WritesSince, as_kept, at_rest, ending_at_rest, ending_of, output_of, phase_behind, place_by}
 use Rattle.cs_core.specs.VmParts.{Seen, seen_at}
 use Rattle.cs_core.proofs.Carrying.{overfills_too}
 use Rattle.cs_core.proofs.Deepening.{begun_at_start, begun_on, is_deep}
@@ -252,7 +252,7 @@ module _ {k : Kept} {j i : ℕ} {old new : Option (List ℕ)} {v : Kept} (n : �
     written = since_by k j n old new h.since resting_output h.written;
   }
 
-  resting_stands : (e : Ending) (p : Phase) → ending_at_rest v.rest.next i n ≡ e → (p ≡ phase.Ready → e ≡ Steps) → Stands k n (seen_at s v l i place p)
+  resting_stands : (e : Ending) (p : Phase) → ending_at_rest v.rest.next i n ≡ e → (p ≡ phase.Ready → e ≡ Steps) → StandsAt k n (seen_at s v l i place p)
   resting_stands e p is ready = record {
     world = resting_world;
     run = resting_run ∙ ap (λ (bytes : List ℕ). run_at bytes i) (sym resting_output);
@@ -310,7 +310,7 @@ unfolding run_by
 started_state k = refl
 
 -- a machine that has done nothing yet
-pub starts : (v k : Kept) (s : Store) (l : Option Layout) (place : Place) → Keeps v k → Stands k 0 (seen_at s v l 0 place phase.Ready)
+pub starts : (v k : Kept) (s : Store) (l : Option Layout) (place : Place) → Keeps v k → StandsAt k 0 (seen_at s v l 0 place phase.Ready)
 starts v k s l place keeps = record {
   world = subst (λ (x : State). StandsFor v x.kept) (sym (started_state k)) (as_kept keeps);
   run = ap (λ (x : State). x.run) (started_state k) ∙ sym (ap (λ (x : State). run_at x.run.output 0) (started_state k));
@@ -334,7 +334,7 @@ keeps_active v m active (at_rest idle keeps) =
     let is : without_context v ≡ v = rw active in
     subst (λ (x : Kept). Keeps x m) is keeps
 
-pub begins : (k : Kept) (j : ℕ) (old : Option (List ℕ)) (a : Seen) → a.phase ≡ phase.Ready → is_idle a.view ≡ false → Stands k j a → Goes k j (IsStackOf k j a) old old a.steps a.stored a.view a.layout
+pub begins : (k : Kept) (j : ℕ) (old : Option (List ℕ)) (a : Seen) → a.phase ≡ phase.Ready → is_idle a.view ≡ false → StandsAt k j a → Goes k j (IsStackOf k j a) old old a.steps a.stored a.view a.layout
 begins k j old a ready active h =
     let at = h.counted ready in
     record {
@@ -347,7 +347,7 @@ begins k j old a ready active h =
       stacked = λ held. (held active).stacked;
     }
 
-pub begins_idle : (k : Kept) (j : ℕ) (old : Option (List ℕ)) (a : Seen) → a.phase ≡ phase.Ready → is_idle a.view ≡ true → Stands k j a → IsResting k j a.steps old old a.view
+pub begins_idle : (k : Kept) (j : ℕ) (old : Option (List ℕ)) (a : Seen) → a.phase ≡ phase.Ready → is_idle a.view ≡ true → StandsAt k j a → IsResting k j a.steps old old a.view
 begins_idle k j old a ready none h =
     let at = h.counted ready in
     record {

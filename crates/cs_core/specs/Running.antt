@@ -106,7 +106,7 @@ output_of k n = (run_of k n).state.run.output
 
 -- A machine stands for the state k at n: the run of n steps from k comes to a state that its world stands for, and whose run parts are
 -- those of the machine, but for the output, which it doesn't keep. In the phase Ready these steps are all done, and it has counted them.
-pub record Stands (k : Kept) (n : ℕ) (m : Seen) : Type 0 where
+pub record StandsAt (k : Kept) (n : ℕ) (m : Seen) : Type 0 where
   pub world : StandsFor m.view (state_of k n)
   pub run : (run_of k n).state.run ≡ run_at (output_of k n) m.steps
   pub ending : m.phase ≡ phase.Ready → (run_of k n).ending ≡ model.Steps
@@ -195,9 +195,9 @@ pub record RunBreaks (k : Kept) (j n : ℕ) (old new : Option (List ℕ)) (b : S
 -- the model from k, and behind Steps and Idle the machine stands for k at n. A step that stops where it had begun leaves the world
 -- within it, and for no state between two steps.
 abbrev pub RunGives : Kept → ℕ → ℕ → Option (List ℕ) → Option (List ℕ) → Seen → Seen → RunEnd → Type 0
-RunGives k j n old new a b Steps = RunReaches k j n old new b model.Steps × Stands k n b × (IsStackOf k j a → IsStackOf k n b)
+RunGives k j n old new a b Steps = RunReaches k j n old new b model.Steps × StandsAt k n b × (IsStackOf k j a → IsStackOf k n b)
 RunGives k j n old new a b Quit = ⊥
-RunGives k j n old new a b Idle = RunReaches k j n old new b model.Idle × Stands k n b
+RunGives k j n old new a b Idle = RunReaches k j n old new b model.Idle × StandsAt k n b
 RunGives k j n old new a b Snapshot = ⊥
 RunGives k j n old new a b (Stopped reason) = RunReaches k j n old new b (model.Stopped reason) × (can_begin (state_of k n) ≡ false → StandsFor b.view (state_of k n))
 RunGives k j n old new a b (Full why) = RunFills k j n old new a b why

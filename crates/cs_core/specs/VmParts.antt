@@ -26,5 +26,5 @@ pub record Seen : Type 0 where
 abbrev pub seen_at : Store → Kept → Option Layout → ℕ → Place → Phase → Seen
 seen_at stored view layout steps place phase = record { stored = stored; view = view; layout = layout; steps = steps; place = place; phase = phase }
 
-abbrev pub seen : {W : Type 0} → (W → Store) → (W → Kept) → (W → Option Layout) → VmParts W → Seen
-seen stored view layout m = seen_at (stored m.world) (view m.world) (layout m.world) m.steps m.place m.phase
+abbrev pub seen_through : {W : Type 0} → (W → Store) → (W → Kept) → (W → Option Layout) → VmParts W → Seen
+seen_through stored view layout m = seen_at (stored m.world) (view m.world) (layout m.world) m.steps m.place m.phase

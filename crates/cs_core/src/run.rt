@@ -9,7 +9,7 @@ ghost use Rattle.cs_acts.specs.declared.run.Phase.TheVariants as phase;
 ghost use Rattle.cs_acts.specs.Layout.{IsLaidOut};
 ghost use Rattle.cs_acts.specs.Names.{IsNamed, NamesOption, name_of};
 ghost use Rattle.cs_acts.specs.Ready.{IsSound};
-ghost use Rattle.cs_core.specs.Running.{InPhase, RunCausedByFault, RunGives, Stands, UnlessBroken, ending_at_rest};
+ghost use Rattle.cs_core.specs.Running.{InPhase, RunCausedByFault, RunGives, StandsAt, UnlessBroken, ending_at_rest};
 ghost use Rattle.cs_core.specs.Running.{ending_of, phase_behind, place_by};
 ghost use Rattle.cs_core.specs.VmParts.{seen_at};
 
@@ -91,7 +91,7 @@ pub(crate) fn go_on<W: World, K: Sink>(
         let before = seen_at (W.stored w.old) (W.view w.old) (W.layout w.old) at.old.steps at.old.place phase.Ready in
         let behind = seen_at (W.stored w.new) (W.view w.new) (W.layout w.new) at.new.steps at.new.place
         (phase_behind result) in
-        Stands k j before → RunGives k j n (K.taken out.old) (K.taken out.new) before behind result }
+        StandsAt k j before → RunGives k j n (K.taken out.old) (K.taken out.new) before behind result }
     ensures follows { InPhase (phase_behind result) (W.stored w.new) (W.view w.new) }
     ensures sound { UnlessBroken result (IsSound (W.stored w.new) (W.view w.new)) }
     ensures limit { (W.stored w.new).memory.limit ≡ (W.stored w.old).memory.limit }

@@ -8,9 +8,9 @@ ghost use Rattle.cs_model.specs.State.{Kept};
 ghost use Rattle.cs_acts.specs.declared.run.Phase.TheVariants as phase;
 ghost use Rattle.cs_acts.specs.Layout.{IsFresh};
 ghost use Rattle.cs_acts.specs.Ready.{IsSound};
-ghost use Rattle.cs_core.specs.Running.{CanRun, InPhase, IsStackOf, RunCausedByFault, RunGives, Stands, UnlessBroken};
+ghost use Rattle.cs_core.specs.Running.{CanRun, InPhase, IsStackOf, RunCausedByFault, RunGives, StandsAt, UnlessBroken};
 ghost use Rattle.cs_core.specs.Running.{end_again, phase_behind, place_by};
-ghost use Rattle.cs_core.specs.VmParts.{seen};
+ghost use Rattle.cs_core.specs.VmParts.{seen_through};
 
 use crate::run::{Position, go_on, place_of};
 use cs_acts::read::active_process;
@@ -60,9 +60,9 @@ impl<W: World> Vm<W> {
         ensures place { place_of (W.view world) ≡ place_by result.place }
         ensures phase { result.phase ≡ phase.Ready }
         ensures finds { result.finds ≡ sender.full }
-        ensures stands { (k : Kept) → Keeps (W.view world) k → Stands k 0 (seen W.stored W.view W.layout result) }
+        ensures stands { (k : Kept) → Keeps (W.view world) k → StandsAt k 0 (seen_through W.stored W.view W.layout result) }
         ensures stack { (k : Kept) → Keeps (W.view world) k → IsFresh (W.view world) (W.layout world) →
-            IsStackOf k 0 (seen W.stored W.view W.layout result) }
+            IsStackOf k 0 (seen_through W.stored W.view W.layout result) }
     {
         let process = active_process(&world);
         let place = place_of(&world, process);
@@ -90,8 +90,8 @@ impl<W: World> Vm<W> {
         ensures again { IfSome (end_again self.old.phase) (λ end. (result ≡ end) × (self.new ≡ self.old)
             × (out.new ≡ out.old)) }
         ensures gives { (k : Kept) (j : ℕ) → self.old.phase ≡ phase.Ready →
-            Stands k j (seen W.stored W.view W.layout self.old) → RunGives k j n (K.taken out.old) (K.taken out.new)
-            (seen W.stored W.view W.layout self.old) (seen W.stored W.view W.layout self.new) result }
+            StandsAt k j (seen_through W.stored W.view W.layout self.old) → RunGives k j n (K.taken out.old) (K.taken out.new)
+            (seen_through W.stored W.view W.layout self.old) (seen_through W.stored W.view W.layout self.new) result }
         ensures sound { UnlessBroken result (IsSound (W.stored self.new.world) (W.view self.new.world)) }
         ensures limit { (W.stored self.new.world).memory.limit ≡ (W.stored self.old.world).memory.limit }
         ensures never_falls { K.fault_count out.old ≤ K.fault_count out.new }
