@@ -1,60 +1,45 @@
--- What the lines of a text without faults give a builder: lines that fit what is made of them, and room for it.
-use Rattle.std.proofs.Common.{◌≡◌, ℕ, ◌+◌, ◌*◌, ◌/◌, ◌-◌, ◌≤◌, ◌<◌, ◌==◌, Bool, true, false, if◌then◌else◌, List, [], ◌∷◌, ◌++◌, length, map, refl, ap, ap₂, sym, subst, ◌∙◌, arith, append_assoc, length-append, length-replicate}
-use Rattle.std.specs.Prelude.{ℤ, pos, negsuc, ◌&&◌, ◌||◌, nat_le, max, replicate, sum_by, codes, Ok}
-use Rattle.std.specs.Ordering.{nat_cmp}
-use Rattle.std.specs.FinMap.{FinMap}
-use Rattle.std.specs.List.{AllByRecursion, list_all, list_any}
+-- What the lines of a text without faults give a builder: lines that fit what is made of them, and the image of its file.
+use Rattle.std.proofs.Common.{◌≡◌, ℕ, ◌+◌, ◌*◌, ◌/◌, ◌-◌, ◌≤◌, ◌<◌, Bool, true, false, if◌then◌else◌, List, [], ◌∷◌, ◌++◌, length, map, refl, ap, ap₂, sym, subst, ◌∙◌, arith, length-append}
+use Rattle.std.specs.Prelude.{◌&&◌, nat_le, max, replicate, sum_by}
+use Rattle.std.specs.List.{AllByRecursion, list_all}
+use Rattle.std.proofs.lemmas.List.{length-replicate}
 use Rattle.std.proofs.lemmas.List.Folds.{list_all-append}
 use Rattle.std.proofs.lemmas.List.Sums.{sum_by-cons}
-use Rattle.std.proofs.lemmas.Bool.Decides.{nat_tests}
-use Rattle.cs_model.specs.Ref.{Ref}
-use Rattle.cs_model.specs.Obj.{Obj, Context, Ptr, Raw, Method, Ctx, slot_count, words_of, words_of_slots}
-use Rattle.cs_model.specs.Builder.{all_forms, class_table, nil_ref, text_objects, text_state}
+use Rattle.cs_model.specs.Obj.{Obj, Ptr, Raw, Method, Ctx, slot_count, words_of, words_of_slots}
+use Rattle.cs_model.specs.Builder.{all_forms, nil_ref, text_objects}
 use Rattle.cs_model.specs.BuilderText as text
 use Rattle.cs_model.specs.BuilderFault.{is_between, is_class_format, is_in_range, known_classes}
 use Rattle.cs_model.specs.Image.{image_of}
-use Rattle.cs_model.specs.SavedFile.{body_size, page_place, saved_bytes, saved_size, words_before}
-use Rattle.cs_build.specs.Formed.{HasRoom, IsFormedImage, IsTableOf, state_by}
+use Rattle.cs_model.specs.SavedFile.{saved_bytes, saved_size}
+use Rattle.cs_build.specs.declared.form.Form.{Form}
+use Rattle.cs_build.specs.declared.numbering.Numbering.{Numbering}
+use Rattle.cs_build.specs.Formed.{HasRoom, IsFormedImage}
 use Rattle.cs_build.specs.Judged.{IsJudged}
 use Rattle.cs_build.specs.Laid.{FitsLayout, Laid, file_for, laid, laid_size, laid_slots}
+use Rattle.cs_build.specs.Meaning.{form_by}
 use Rattle.cs_build.specs.Sound.{is_sound}
-use Rattle.cs_build.specs.Standing.{own_forms}
+use Rattle.cs_build.specs.Standing.{forms_in, own_forms}
 use Rattle.cs_build.specs.Stored.{IsStored}
 use Rattle.cs_build.specs.Wholes.{IsImageOf, file_bytes, file_size, objects_made, table_made}
 use Rattle.cs_build.proofs.Filing.{size_of_file}
-use Rattle.cs_build.proofs.Imaging.{image_is}
+use Rattle.cs_build.proofs.LineShapes.{format_between}
 use Rattle.cs_build.proofs.Putting.{size_cons}
 use Rattle.cs_build.proofs.Sounding.{and_true}
+use Rattle.cs_build.proofs.TextFormed.{judged_formed, judged_image}
+use Rattle.cs_build.proofs.Totalling.{all_by_place}
 
 -- ---- the lines, with those of the known classes in front
 
-pub own_is : (forms : List text.Form) → own_forms (all_forms forms) ≡ forms
+own_is : (forms : List text.Form) → own_forms (all_forms forms) ≡ forms
 unfolding own_forms
 own_is forms = refl
 
 pub whole_lines : (all forms : List text.Form) → all ≡ all_forms forms → all ≡ all_forms (own_forms all)
 whole_lines all forms e = e ∙ ap all_forms (sym (own_is forms) ∙ ap own_forms (sym e))
 
-known_count : length (map (λ c. text.Class c) known_classes) ≡ 22
-known_count = refl
-
-pub few_lines : (forms : List text.Form) → length forms ≤ 262144 → length (all_forms forms) < 2 ^ 26
-few_lines forms h = omega (arith, h, known_count, length-append (map (λ c. text.Class c) known_classes) forms)
-
--- ---- numbers that fit
-
--- what is listed passes, where all that are listed do
-listed : (p : ℕ → Bool) (ns : List ℕ) (n : ℕ) → list_all p ns ≡ true → list_any (λ m. m == n) ns ≡ true → p n ≡ true
-listed p [] n all h = absurd (cc)
-listed p (m ∷ ns) n all h = go (m == n) refl h
-  where
-    go : (b : Bool) → (m == n) ≡ b → (b || list_any (λ k. k == n) ns) ≡ true → p n ≡ true
-    go true e g = let same : m ≡ n = grind (arith, nat_tests, e) in subst (λ k. p k ≡ true) same (and_true _ _ all).0
-    go false e g = listed p ns n (and_true (p m) (list_all p ns) all).1 g
-
-format_between : (z : ℤ) → is_class_format z ≡ true → is_between 0 31 z ≡ true
-format_between (pos n) e = listed (λ k. is_between 0 31 (pos k)) (0 ∷ 1 ∷ 2 ∷ 3 ∷ 4 ∷ 5 ∷ 9 ∷ 10 ∷ 12 ∷ 16 ∷ 24 ∷ []) n refl e
-format_between (negsuc n) e = absurd (cc)
+pub lines_again : (n : Numbering) (lines : List Form) (forms : List text.Form) → n.forms.now ≡ lines → map form_by lines ≡ all_forms forms → forms_in n ≡ forms
+unfolding forms_in
+lines_again n lines forms e h = ap (λ (fs : List Form). own_forms (map form_by fs)) e ∙ ap own_forms h ∙ own_is forms
 
 line_sound : (above : List text.Form) (form : text.Form) → is_in_range above form ≡ true → is_sound form ≡ true
 line_sound above (text.Class line) e =
@@ -65,20 +50,17 @@ line_sound above (text.Process line) e = (and_true _ _ e).0
 line_sound above (text.Byte value) e = e
 line_sound above form e = refl
 
-each_line : (p : text.Form → Bool) (above forms all : List text.Form) → all ≡ above ++ forms
-    → ((a : List text.Form) (form : text.Form) (b : List text.Form) → all ≡ (a ++ (form ∷ b)) → p form ≡ true) → list_all p forms ≡ true
-each_line p above [] all e h = refl
-each_line p above (form ∷ forms) all e h =
-    let here : p form ≡ true = h above form forms e in
-    let rest : list_all p forms ≡ true = each_line p (above ++ form ∷ []) forms all (e ∙ sym (append_assoc above (form ∷ []) forms)) h in
-    ap₂ (λ a b. a && b) here rest
+all_pass : {A : Type 0} (p : A → Bool) (xs : List A) → AllByRecursion (λ x. p x ≡ true) xs → list_all p xs ≡ true
+all_pass p [] all = refl
+all_pass p (x ∷ xs) all = ap₂ (λ a b. a && b) all.0 (all_pass p xs all.1)
 
 known_sound : list_all is_sound (map (λ c. text.Class c) known_classes) ≡ true
 known_sound = refl
 
-pub judged_sound : (forms : List text.Form) → IsJudged forms → list_all is_sound (all_forms forms) ≡ true
-judged_sound forms judged = list_all-append is_sound (map (λ c. text.Class c) known_classes) forms
-    ∙ ap₂ (λ a b. a && b) known_sound (each_line is_sound [] forms forms refl (λ a form b e. line_sound a form (judged.lines a form b e).fits))
+pub sound_lines : (forms : List text.Form) → IsJudged forms → list_all is_sound (all_forms forms) ≡ true
+sound_lines forms judged = list_all-append is_sound (map (λ c. text.Class c) known_classes) forms
+    ∙ ap₂ (λ a b. a && b) known_sound
+    (all_pass is_sound forms (all_by_place (λ form. is_sound form ≡ true) forms (λ above form below e. line_sound above form (judged.lines above form below e).fits)))
 
 -- ---- how many objects, and of how many words
 
@@ -115,39 +97,29 @@ file_is : (forms : List text.Form) → saved_bytes (file_for (map laid (objects_
 unfolding file_bytes
 file_is forms = refl
 
--- the file of such objects and of such a class table
-pub bytes_are : (forms : List text.Form) (bytes : List ℕ) (ls : List Laid) (table : List ℕ) → bytes ≡ saved_bytes (file_for ls table)
+pub bytes_made : (forms : List text.Form) (bytes : List ℕ) (ls : List Laid) (table : List ℕ) → bytes ≡ saved_bytes (file_for ls table)
     → ls ≡ map laid (objects_made forms) → table ≡ table_made forms → bytes ≡ file_bytes forms
-bytes_are forms bytes ls table e objects entries = e ∙ ap₂ (λ l t. saved_bytes (file_for l t)) objects entries ∙ file_is forms
+bytes_made forms bytes ls table e objects entries = e ∙ ap₂ (λ (l : List Laid) (t : List ℕ). saved_bytes (file_for l t)) objects entries ∙ file_is forms
 
 pub made_is_text : (forms : List text.Form) → objects_made forms ≡ text_objects forms
 unfolding objects_made
 made_is_text forms = refl
 
-state_is_text : (forms : List text.Form) → state_by (objects_made forms) (class_table forms) ≡ text_state forms
-unfolding objects_made
-state_is_text forms = refl
-
-made_words : (forms : List text.Form) (n : ℕ) → sum_by words_of (text_objects forms) ≤ n → sum_by words_of (objects_made forms) ≤ n
-unfolding objects_made
-made_words forms n h = h
-
-pub image_of_text : (forms : List text.Form) (bytes : List ℕ) → bytes ≡ file_bytes forms → IsFormedImage (objects_made forms) (table_made forms)
-    → file_size (map laid (objects_made forms)) (length (table_made forms) / 1024) ≤ 536870912 → IsTableOf (table_made forms) (class_table forms) → IsImageOf bytes forms
-image_of_text forms bytes e formed file entries limit h =
-    let os : List Obj = objects_made forms in
-    let size = size_of_file (map laid (objects_made forms)) (table_made forms) in
-    let words : laid_size (map laid (objects_made forms)) ≡ sum_by words_of (objects_made forms) = words_are (length (objects_made forms)) (objects_made forms) formed.stored in
-    ap (λ b. image_of b limit) (e ∙ sym (file_is forms))
-    ∙ image_is (objects_made forms) (table_made forms) (class_table forms) limit formed
-    (record { file = omega (arith, file, size); heap = omega (arith, made_words forms limit h, words, size) }) entries
-    ∙ ap Ok (state_is_text forms)
-
--- ---- what the code has made
-
 pub room_made : (ls ms : List Laid) (table entries : List ℕ) → ls ≡ ms → table ≡ entries → file_size ls (length table / 1024) ≤ 536870912 → file_size ms (length entries / 1024) ≤ 536870912
 room_made ls ms table entries e f h = omega (arith, h, ap laid_size e, ap (λ (t : List ℕ). length t / 1024) f)
 
-pub layout_made : (forms : List text.Form) (ls : List Laid) (table : List ℕ) → ls ≡ map laid (objects_made forms) → table ≡ table_made forms
-    → IsFormedImage (objects_made forms) (table_made forms) → FitsLayout ls table
-layout_made forms ls table e f formed = subst (λ (l : List Laid). FitsLayout l table) (sym e) (subst (FitsLayout (map laid (objects_made forms))) (sym f) formed.layout)
+pub layout_made : (forms : List text.Form) (ls : List Laid) (table : List ℕ) → IsJudged forms → ls ≡ map laid (objects_made forms) → table ≡ table_made forms
+    → file_size ls (length table / 1024) ≤ 536870912 → FitsLayout ls table
+layout_made forms ls table judged e f room =
+    let formed : IsFormedImage (objects_made forms) (table_made forms) = judged_formed forms judged (room_made ls (map laid (objects_made forms)) table (table_made forms) e f room) in
+    subst (λ (l : List Laid). FitsLayout l table) (sym e) (subst (FitsLayout (map laid (objects_made forms))) (sym f) formed.layout)
+
+pub image_made : (forms : List text.Form) (bytes : List ℕ) → IsJudged forms → bytes ≡ file_bytes forms
+    → file_size (map laid (objects_made forms)) (length (table_made forms) / 1024) ≤ 536870912 → IsImageOf bytes forms
+image_made forms bytes judged e file limit h =
+    let formed : IsFormedImage (objects_made forms) (table_made forms) = judged_formed forms judged file in
+    let size = size_of_file (map laid (objects_made forms)) (table_made forms) in
+    let words : laid_size (map laid (objects_made forms)) ≡ sum_by words_of (text_objects forms) =
+    words_are (length (objects_made forms)) (objects_made forms) formed.stored ∙ ap (sum_by words_of) (made_is_text forms) in
+    let room : HasRoom (objects_made forms) (table_made forms) limit = record { file = omega (arith, file, size); heap = omega (arith, h, words, size) } in
+    ap (λ b. image_of b limit) (e ∙ sym (file_is forms)) ∙ judged_image forms limit judged room

@@ -31,7 +31,6 @@ pub mod InnerLemmas
 pub mod Judging
 pub mod Narrowing
 pub mod Wholing
-pub mod Built
 pub mod Locating
 pub mod Forming
 pub mod Seating
@@ -54,3 +53,4 @@ pub mod FirstShapes
 pub mod Referred
 pub mod Rooting
 pub mod TextFormed
+pub mod Built

@@ -5,8 +5,7 @@ use Rattle.cs_model.specs.Image.{image_of}
 use Rattle.cs_model.specs.SavedFile.{saved_bytes}
 use Rattle.cs_model.specs.BuilderText.{Form, ClassLine}
 use Rattle.cs_model.specs.BuilderFault.{all_classes}
-use Rattle.cs_model.specs.Builder.{class_index, class_table, named_birth, text_objects, text_state}
-use Rattle.cs_build.specs.Formed.{IsFormedImage, IsTableOf}
+use Rattle.cs_model.specs.Builder.{class_index, named_birth, text_objects, text_state}
 use Rattle.cs_build.specs.Laid.{Laid, laid, laid_size, file_for}
 
 unfoldable pub objects_made : List Form → List Obj
@@ -35,8 +34,3 @@ file_bytes forms = saved_bytes (file_for (map laid (objects_made forms)) (table_
 -- In a heap that has room for all objects, bytes are an image of the state of a text's lines.
 abbrev pub IsImageOf : List ℕ → List Form → Type 0
 IsImageOf bytes forms = (limit : ℕ) → sum_by words_of (text_objects forms) ≤ limit → image_of bytes limit ≡ Ok (text_state forms)
-
--- The objects of a text's lines make an image that can be opened, if a file has room for them.
-pub record AreFormable (forms : List Form) : Type 0 where
-  pub formed : file_size (map laid (objects_made forms)) (length (table_made forms) / 1024) ≤ 536870912 → IsFormedImage (objects_made forms) (table_made forms)
-  pub table : IsTableOf (table_made forms) (class_table forms)

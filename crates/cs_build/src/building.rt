@@ -6,7 +6,7 @@ ghost use Rattle.cs_model.specs.Builder.{text_objects};
 ghost use Rattle.cs_build.specs.Judged.{IsJudged};
 ghost use Rattle.cs_build.specs.Lines.{TellsFault};
 ghost use Rattle.cs_build.specs.Meaning.{form_by};
-ghost use Rattle.cs_build.specs.Wholes.{AreFormable, IsImageOf, file_bytes, objects_made};
+ghost use Rattle.cs_build.specs.Wholes.{IsImageOf, file_bytes, objects_made};
 
 use crate::class_table::class_table;
 use crate::error::BuildError;
@@ -30,8 +30,7 @@ pub struct BuiltImage {
 /// The image of the lines of a text without faults. Where that doesn't fit in a file, it answers as where memory is
 /// refused.
 fn image_of_lines(alloc: Global, lines: Vec<Form<'_>>) -> Result<BuiltImage, AllocError>
-    requires judged { IsJudged (map form_by lines.items) }
-    requires formable { AreFormable (map form_by lines.items) }
+    requires { IsJudged (map form_by lines.items) }
     ensures bytes { IfOk result (λ built. built.bytes.items ≡ file_bytes (map form_by lines.entry.items)) }
     ensures image { IfOk result (λ built. IsImageOf built.bytes.items (map form_by lines.entry.items)) }
     ensures objects { IfOk result (λ built. built.objects ≡ length (objects_made (map form_by lines.entry.items))) }

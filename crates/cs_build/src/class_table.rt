@@ -35,11 +35,7 @@ fn enter_class(table: &mut Vec<u32>, numbering: &Numbering<'_, '_>, line: &Class
 }
 
 /// Enters classes.
-fn enter_classes(
-    table: &mut Vec<u32>,
-    numbering: &Numbering<'_, '_>,
-    lines: &[ClassLine<'_>],
-)
+fn enter_classes(table: &mut Vec<u32>, numbering: &Numbering<'_, '_>, lines: &[ClassLine<'_>])
     requires { NumbersStand numbering.now }
     ensures { table.new.items
         ≡ fold (class_entered (forms_in numbering.now)) table.old.items (map class_by lines.now) }
@@ -61,6 +57,10 @@ pub(crate) fn class_table(
     let pages = (lines.len() + UNUSED_INDICES).div_ceil(PAGE_ENTRIES);
     let mut table = vec![in alloc; 0u32; PAGE_ENTRIES * pages]?;
     enter_classes(&mut table, numbering, lines);
-    set_entry(&mut table, SECOND_INTEGER_INDEX, numbering.named(b"SmallInteger"));
+    set_entry(
+        &mut table,
+        SECOND_INTEGER_INDEX,
+        numbering.named(b"SmallInteger"),
+    );
     Ok(table)
 }

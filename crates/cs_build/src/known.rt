@@ -70,11 +70,11 @@ fn known_forms<'a>(alloc: Global) -> Result<Vec<Form<'a>>, AllocError>
 /// The lines of a text with those of these classes in front.
 pub(crate) fn with_known<'a>(
     alloc: Global,
-    forms: Vec<Form<'a>>,
+    mut forms: Vec<Form<'a>>,
 ) -> Result<Vec<Form<'a>>, AllocError>
     ensures { IfOk result (λ all. map form_by all.items ≡ all_forms (map form_by forms.entry.items)) }
 {
     let mut all = known_forms(alloc)?;
-    all.extend(forms)?;
+    all.append(&mut forms)?;
     Ok(all)
 }

@@ -29,7 +29,7 @@ returns c =
     let zeros = c.in_ok-table.ensures.items_if_clones_equal (λ y e. e) in
     let size : 1024 * c.div_ceil-pages.result ≡ 1024 * ((c.len.result + 30) / 1024 + min 1 ((c.len.result + 30) % 1024)) = ap (λ n. 1024 * n) c.div_ceil-pages.ensures in
     let filled : c.enter_classes.new.table.items ≡ fold (class_entered forms) (replicate (1024 * ((c.len.result + 30) / 1024 + min 1 ((c.len.result + 30) % 1024))) 0) lines =
-        c.enter_classes.ensures ∙ ap₂ (λ (t : List ℕ) (ls : List ClassLine). fold (class_entered forms) t (map class_by ls)) (zeros ∙ ap (λ (n : ℕ). replicate n 0) size) c.deref.ensures.value in
+    c.enter_classes.ensures ∙ ap₂ (λ (t : List ℕ) (ls : List ClassLine). fold (class_entered forms) t (map class_by ls)) (zeros ∙ ap (λ (n : ℕ). replicate n 0) size) c.deref.ensures.value in
     let long : c.len.result ≡ length lines = c.len.ensures ∙ c.args.numbering.now.classes.lines.ok.0 ∙ sym (length-map c.args.numbering.now.classes.lines.items class_by) in
     c.set_entry.ensures ∙ ap₂ (λ (t : List ℕ) (o : Option ℕ). slice_set t 3 (unwrap_or o 0)) filled c.named.ensures
     ∙ as_table forms c.len.result lines long c.requires.lines
