@@ -1,7 +1,8 @@
 -- What the lines of a text without faults give a builder: lines that fit what is made of them, and the image of its file.
-use Rattle.std.proofs.Common.{◌≡◌, ℕ, ◌+◌, ◌*◌, ◌/◌, ◌-◌, ◌≤◌, ◌<◌, Bool, true, false, if◌then◌else◌, List, [], ◌∷◌, ◌++◌, length, map, refl, ap, ap₂, sym, subst, ◌∙◌, arith, length-append, length-replicate}
+use Rattle.std.proofs.Common.{◌≡◌, ℕ, ◌+◌, ◌*◌, ◌/◌, ◌-◌, ◌≤◌, Bool, true, false, if◌then◌else◌, List, [], ◌∷◌, length, map, refl, ap, ap₂, sym, subst, ◌∙◌, arith, length-append}
 use Rattle.std.specs.Prelude.{◌&&◌, nat_le, max, replicate, sum_by}
 use Rattle.std.specs.List.{AllByRecursion, list_all}
+use Rattle.std.proofs.lemmas.List.{length-replicate}
 use Rattle.std.proofs.lemmas.List.Folds.{list_all-append}
 use Rattle.std.proofs.lemmas.List.Sums.{sum_by-cons}
 use Rattle.cs_model.specs.Obj.{Obj, Ptr, Raw, Method, Ctx, slot_count, words_of, words_of_slots}
@@ -39,14 +40,6 @@ whole_lines all forms e = e ∙ ap all_forms (sym (own_is forms) ∙ ap own_form
 pub lines_again : (n : Numbering) (lines : List Form) (forms : List text.Form) → n.forms.now ≡ lines → map form_by lines ≡ all_forms forms → forms_in n ≡ forms
 unfolding forms_in
 lines_again n lines forms e h = ap (λ (fs : List Form). own_forms (map form_by fs)) e ∙ ap own_forms h ∙ own_is forms
-
-known_count : length (map (λ c. text.Class c) known_classes) ≡ 22
-known_count = refl
-
-pub few_lines : (forms : List text.Form) → IsJudged forms → length (all_forms forms) < 2 ^ 26
-few_lines forms judged =
-    let few : length forms ≤ 262144 = judged.few in
-    omega (arith, few, known_count, length-append (map (λ c. text.Class c) known_classes) forms)
 
 line_sound : (above : List text.Form) (form : text.Form) → is_in_range above form ≡ true → is_sound form ≡ true
 line_sound above (text.Class line) e =

@@ -1,8 +1,7 @@
 -- The bytes of instructions, and the labels of a method.
-use Rattle.std.proofs.Common.{◌≡◌, ℕ, ◌+◌, ◌*◌, ◌≤◌, ◌<◌, Bool, true, false, List, [], ◌∷◌, ◌++◌, Some, None, Option, length, ap, sym, ◌∙◌, refl, arith, if◌then◌else◌}
-use Rattle.std.specs.Prelude.{find, option_map, option_and_then, unwrap_or, ◌&&◌, IfSome, sum_by}
+use Rattle.std.proofs.Common.{◌≡◌, ℕ, ◌+◌, ◌≤◌, ◌<◌, Bool, true, false, List, [], ◌∷◌, Some, None, Option, length, ap, sym, ◌∙◌, refl, arith, if◌then◌else◌}
+use Rattle.std.specs.Prelude.{find, option_map, option_and_then, ◌&&◌, IfSome}
 use Rattle.std.specs.Option.{option_map_or, option_or}
-use Rattle.std.proofs.lemmas.List.Sums.{sum_by-cons}
 use Rattle.cs_model.specs.declared.instruction.Op.{Op}
 use Rattle.cs_model.specs.declared.instruction.Instr.{Instr}
 use Rattle.cs_model.specs.Assemble.{IsInstr, assembled, bytes_of, has_form}

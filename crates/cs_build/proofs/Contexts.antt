@@ -1,11 +1,11 @@
 -- The slots of the context in which a process begins.
-use Rattle.std.proofs.Common.{◌≡◌, ℕ, ◌+◌, ◌-◌, ◌*◌, ◌/◌, ◌%◌, ◌^◌, ◌==◌, ◌≤◌, Bool, true, false, List, [], ◌∷◌, ◌++◌, length, replicate, ap, sym, ◌∙◌, refl, arith, if◌then◌else◌}
-use Rattle.std.specs.Prelude.{pos, is_some, ◌&&◌}
+use Rattle.std.proofs.Common.{◌≡◌, ℕ, ◌+◌, ◌-◌, ◌*◌, ◌/◌, ◌%◌, ◌^◌, ◌==◌, ◌≤◌, Bool, true, false, [], ◌∷◌, ◌++◌, length, replicate, ap, sym, ◌∙◌, refl, arith, if◌then◌else◌}
+use Rattle.std.specs.Prelude.{pos, is_some}
 use Rattle.std.proofs.lemmas.List.{length-replicate, replicate-append-replicate}
 use Rattle.cs_model.specs.Ref.{Ref, Small}
 use Rattle.cs_model.specs.Obj.{context_size}
 use Rattle.cs_model.specs.BuilderText as text
-use Rattle.cs_model.specs.BuilderFault.{is_between, method_fits, most_temporaries}
+use Rattle.cs_model.specs.BuilderFault.{method_fits, most_temporaries}
 use Rattle.cs_model.specs.Builder.{bit_of, built_header, natural, nil_ref}
 use Rattle.cs_build.proofs.Sounding.{and_true, natural_between}
 

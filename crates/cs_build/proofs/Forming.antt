@@ -1,5 +1,5 @@
 -- The objects of a formed image are sound in its file.
-use Rattle.std.proofs.Common.{◌≡◌, ◌≢◌, ℕ, zero, suc, ◌+◌, ◌-◌, ◌*◌, ◌/◌, ◌%◌, ◌^◌, ◌<◌, ◌≤◌, ◌==◌, ◌&&◌, ◌||◌, not, Bool, true, false, cond, leb, nat_lt, List, [], ◌∷◌, ◌++◌, length, map, take, drop, replicate, Option, Some, None, unwrap_or, refl, ap, ap₂, sym, subst, ◌∙◌, arith, slice_get, slice_index, append-nil, length-append}
+use Rattle.std.proofs.Common.{◌≡◌, ℕ, zero, suc, ◌+◌, ◌-◌, ◌*◌, ◌/◌, ◌%◌, ◌^◌, ◌<◌, ◌==◌, ◌&&◌, ◌||◌, Bool, true, false, cond, nat_lt, List, [], ◌∷◌, ◌++◌, length, map, take, Option, Some, unwrap_or, refl, ap, ap₂, sym, subst, ◌∙◌, arith, slice_get, slice_index, append-nil}
 use Rattle.std.proofs.lemmas.Int.{ints}
 use Rattle.std.proofs.lemmas.Bool.Decides.{nat_tests}
 use Rattle.std.proofs.Math.Seq.{take-append_seam}
@@ -9,18 +9,16 @@ use Rattle.std.specs.List.{AllByRecursion}
 use Rattle.cs_word.specs.Word.{IsSmall, small_word}
 use Rattle.cs_model.specs.Ref.{Ref, natural_of}
 use Rattle.cs_model.specs.Ref as ref
-use Rattle.cs_model.specs.Obj.{Obj, Head, Context, Ptr, Raw, Method, Ctx, new_head, context_class, first_pc, is_header, lies_between, literal_count}
-use Rattle.cs_model.specs.Words.{small_value, natural_in_word, header_in_words, literals_in_words, bytecode_count, is_pointer_format, is_method_format, unused_bytes, unused_units}
-use Rattle.cs_model.specs.Builder.{nil_ref, spare}
-use Rattle.cs_model.specs.ImageFile.{FileObject}
-use Rattle.cs_model.specs.ImageFault.{is_body, is_pc_of, is_stackp, is_file_method}
-use Rattle.cs_model.specs.SavedFile.{SavedObject, SavedFile, saved_base, placed_at}
-use Rattle.cs_model.specs.SoundFile.{IsFound, NamesSaved, IsReference, IsSavedContext, saved_references}
-use Rattle.cs_build.specs.Laid.{Laid, FitsRef, laid, laid_slots, laid_words, ref_word, byte_words, saved_by, laid_addresses, context_refs, file_for}
-use Rattle.cs_build.specs.Stored.{StoredMethod, StoredContext, StoredPointers, StoredBytes, IsStored}
-use Rattle.cs_build.specs.Formed.{IsFormed, FormedContext, IsFormedContext, NamesMethod}
+use Rattle.cs_model.specs.Obj.{Obj, Head, Ptr, Raw, Method, Ctx, new_head, is_header, literal_count}
+use Rattle.cs_model.specs.Words.{small_value, natural_in_word, header_in_words, literals_in_words, is_pointer_format, is_method_format}
+use Rattle.cs_model.specs.Builder.{spare}
+use Rattle.cs_model.specs.ImageFault.{is_body}
+use Rattle.cs_model.specs.SoundFile.{IsReference, saved_references}
+use Rattle.cs_build.specs.Laid.{FitsRef, laid, laid_slots, laid_words, ref_word, byte_words, saved_by, laid_addresses, context_refs, file_for}
+use Rattle.cs_build.specs.Stored.{StoredMethod, IsStored}
+use Rattle.cs_build.specs.Formed.{IsFormed}
 use Rattle.cs_build.proofs.Putting.{slots_of_laid, length-map}
-use Rattle.cs_build.proofs.Locating.{IsBare, found_at, zero_address}
+use Rattle.cs_build.proofs.Locating.{IsBare, found_at}
 
 -- ---- numbers in words
 

@@ -1,25 +1,25 @@
 -- The file of a formed image has no fault, and describes the state of its objects.
-use Rattle.std.proofs.Common.{◌≡◌, ◌≢◌, ℕ, zero, suc, ◌+◌, ◌*◌, ◌/◌, ◌<◌, ◌≤◌, ◌==◌, ◌&&◌, not, Bool, true, false, cond, leb, inl, inr, List, [], ◌∷◌, ◌++◌, length, map, take, drop, replicate, Option, Some, None, refl, ap, ap₂, sym, subst, ◌∙◌, arith, rules, slice_get, slice_index, option_map}
+use Rattle.std.proofs.Common.{◌≡◌, ◌≢◌, ℕ, zero, suc, ◌/◌, ◌<◌, ◌≤◌, ◌==◌, ◌&&◌, not, Bool, true, false, cond, leb, inl, inr, List, [], ◌∷◌, ◌++◌, length, map, take, drop, replicate, Option, Some, None, refl, ap, ap₂, sym, subst, ◌∙◌, arith, rules, slice_get, slice_index, option_map}
 use Rattle.std.proofs.lemmas.Option.{slice_get-map}
 use Rattle.std.proofs.lemmas.Bool.Decides.{nat_tests, eqb_tells}
 use Rattle.std.specs.Prelude.{Ok}
-use Rattle.std.specs.List.{AllByRecursion, enumerate_from, range_with_len}
+use Rattle.std.specs.List.{AllByRecursion, enumerate_from}
 use Rattle.std.specs.Ordering.{nat_cmp}
 use Rattle.std.specs.Cmp.{nat_cmp_total}
 use Rattle.std.specs.FinMap.{FinMap, from_entries, get, get-empty, gets, insert, nat_cmp-IsAntisymmetric, same_map}
 use Rattle.cs_model.specs.State.{Kept}
 use Rattle.cs_model.specs.Obj.{Obj, Ptr, Raw, Method, Ctx, context_class}
-use Rattle.cs_model.specs.Builder.{header_bytes, spare}
-use Rattle.cs_model.specs.Image.{image_of, described}
+use Rattle.cs_model.specs.Builder.{header_bytes}
+use Rattle.cs_model.specs.Image.{image_of}
 use Rattle.cs_model.specs.ImageFile.{u32_at}
 use Rattle.cs_model.specs.ImageFault.{is_bad_format, is_bad_header_size, is_bad_profile, is_body, table_size}
-use Rattle.cs_model.specs.SavedFile.{SavedObject, SavedBirths, SavedFile, FitsFile, IsSeen, birth_words, page_place, saved_base, saved_bytes, saved_sizes}
-use Rattle.cs_model.specs.SoundFile.{IsReference, IsSavedContext, IsSoundFile, IsSoundSection, births_saved, next_by, saved_birth, saved_classes, saved_entry, saved_references, state_of_file}
+use Rattle.cs_model.specs.SavedFile.{SavedObject, SavedBirths, SavedFile, FitsFile, IsSeen, birth_words, page_place, saved_base, saved_bytes}
+use Rattle.cs_model.specs.SoundFile.{IsReference, IsSavedContext, IsSoundFile, births_saved, next_by, saved_birth, saved_classes, saved_entry, saved_references, state_of_file}
 use Rattle.cs_model.proofs.SavedDescribing.{image_there, state_there}
 use Rattle.cs_build.specs.Laid.{Laid, FitsLaid, laid, laid_addresses, saved_by, file_for}
 use Rattle.cs_build.specs.Stored.{IsStored}
 use Rattle.cs_build.specs.Formed.{HasKind, HasRoom, IsFormed, IsFormedContext, IsFormedImage, IsTableOf, class_in, state_by}
-use Rattle.cs_build.proofs.Putting.{length-map, map_take, slots_of_laid}
+use Rattle.cs_build.proofs.Putting.{length-map}
 use Rattle.cs_build.proofs.Filing.{count_pages, objects_are, pages_are}
 use Rattle.cs_build.proofs.Fitting.{file_fits}
 use Rattle.cs_build.proofs.Describing.{kept_objects}

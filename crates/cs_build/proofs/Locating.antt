@@ -1,5 +1,5 @@
 -- Where the objects of a file lie, and what its words name.
-use Rattle.std.proofs.Common.{◌≡◌, ◌≢◌, ℕ, zero, suc, ◌+◌, ◌*◌, ◌/◌, ◌%◌, ◌<◌, ◌≤◌, Bool, true, false, cond, leb, nat_lt, List, [], ◌∷◌, ◌++◌, length, map, take, drop, Option, Some, None, refl, ap, ap₂, sym, ◌∙◌, arith, slice_get, slice_index, option_map, length-take, length-drop}
+use Rattle.std.proofs.Common.{◌≡◌, ◌≢◌, ℕ, zero, suc, ◌+◌, ◌*◌, ◌/◌, ◌%◌, ◌<◌, ◌≤◌, Bool, true, false, cond, leb, nat_lt, List, [], ◌∷◌, length, map, take, drop, Option, Some, refl, ap, ap₂, sym, ◌∙◌, arith, slice_get, slice_index, option_map, length-take, length-drop}
 use Rattle.std.specs.Option.{option_map_or}
 use Rattle.std.specs.List.{AllByRecursion, range_with_len}
 use Rattle.std.proofs.lemmas.List.{get_or-map}
@@ -9,7 +9,7 @@ use Rattle.std.proofs.lemmas.Bool.Decides.{nat_tests}
 use Rattle.cs_model.specs.Obj.{Obj}
 use Rattle.cs_model.specs.ImageFile.{FileObject}
 use Rattle.cs_model.specs.SavedFile.{SavedObject, SavedFile, FitsFile, placed_at, saved_base, saved_size, saved_sizes, words_before}
-use Rattle.cs_model.specs.SoundFile.{IsFound, saved_address, saved_birth, saved_entry, births_saved, births_by}
+use Rattle.cs_model.specs.SoundFile.{IsFound, saved_address, saved_birth, saved_entry, births_saved}
 use Rattle.cs_model.proofs.SavedBirths.{birth_by_number}
 use Rattle.cs_build.specs.Laid.{Laid, laid, laid_slots, laid_size, saved_by, addresses_from, laid_addresses, page_of, file_for}
 use Rattle.cs_build.proofs.Putting.{slots_of_laid, size_cons, length-map, map_take}

@@ -1,5 +1,5 @@
 -- The methods of a text.
-use Rattle.std.proofs.Common.{◌≡◌, ℕ, zero, suc, ◌+◌, ◌≤◌, ◌<◌, ◌*◌, ◌^◌, Bool, true, false, cond, List, [], ◌∷◌, ◌++◌, length, map, take, Some, None, Option, ap, ap₂, sym, subst, ◌∙◌, refl, arith, if◌then◌else◌}
+use Rattle.std.proofs.Common.{◌≡◌, ℕ, zero, suc, ◌≤◌, ◌<◌, ◌^◌, Bool, true, false, List, [], ◌∷◌, length, take, Some, None, Option, ap, sym, ◌∙◌, refl, arith, if◌then◌else◌}
 use Rattle.std.specs.Prelude.{find, option_map, ◌&&◌, IfSome, count_by, unwrap_or}
 use Rattle.std.specs.Option.{option_or}
 use Rattle.std.specs.List.{list_all, before_first, position_or_len}
@@ -8,15 +8,13 @@ use Rattle.std.proofs.lemmas.List.{length-map, length-take}
 use Rattle.std.proofs.lemmas.Slice.Eq.{bytes_eq-Decides}
 use Rattle.cs_model.specs.BuilderText as text
 use Rattle.cs_model.specs.BuilderFault.{is_end_line, is_literal, method_fits}
-use Rattle.cs_model.specs.Builder.{all_forms, body_behind, is_method_of, methods_of}
-use Rattle.cs_build.specs.declared.form.Form.{Form}
+use Rattle.cs_model.specs.Builder.{all_forms, body_behind, methods_of}
 use Rattle.cs_build.specs.declared.numbering.Numbered.{Numbered}
 use Rattle.cs_build.specs.Counted.{body_in}
 use Rattle.cs_build.specs.Made.{IsMethodMade}
 use Rattle.cs_build.specs.Meaning.{form_by}
-use Rattle.cs_build.specs.Numbered.{method_begun, method_found}
+use Rattle.cs_build.specs.Numbered.{method_found}
 use Rattle.cs_build.specs.Sound.{is_sound}
-use Rattle.cs_build.proofs.Noting.{bytes_eq_self}
 use Rattle.cs_build.proofs.Sounding.{and_true}
 
 find_if : (p : text.MethodLine → Bool) (a : Bool) (line : text.MethodLine) (rest : List text.MethodLine)

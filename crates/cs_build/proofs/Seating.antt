@@ -1,5 +1,5 @@
 -- The contexts, the class table and the roots of a formed image are sound in its file.
-use Rattle.std.proofs.Common.{◌≡◌, ◌≢◌, ℕ, zero, suc, ◌+◌, ◌-◌, ◌*◌, ◌/◌, ◌%◌, ◌^◌, ◌<◌, ◌≤◌, ◌==◌, ◌&&◌, ◌||◌, not, Bool, true, false, cond, leb, nat_lt, List, [], ◌∷◌, ◌++◌, length, map, take, drop, replicate, Option, Some, None, unwrap_or, refl, ap, ap₂, sym, subst, ◌∙◌, arith, slice_get, slice_index, append-nil, length-append, get_or}
+use Rattle.std.proofs.Common.{◌≡◌, ◌≢◌, ℕ, zero, suc, ◌+◌, ◌-◌, ◌*◌, ◌/◌, ◌^◌, ◌<◌, ◌≤◌, ◌==◌, ◌||◌, Bool, true, false, leb, nat_lt, List, [], ◌∷◌, length, map, replicate, Option, Some, refl, ap, ap₂, sym, subst, ◌∙◌, arith, slice_get, slice_index, append-nil, length-append}
 use Rattle.std.proofs.lemmas.Bool.Decides.{nat_tests}
 use Rattle.std.proofs.lemmas.List.{length-replicate}
 use Rattle.std.specs.Prelude.{pos, nat_le, is_some}
@@ -7,19 +7,18 @@ use Rattle.std.specs.Option.{option_map_or}
 use Rattle.std.specs.List.{AllByRecursion}
 use Rattle.cs_model.specs.Ref.{Ref}
 use Rattle.cs_model.specs.Ref as ref
-use Rattle.cs_model.specs.Obj.{Obj, Head, Context, Ptr, Raw, Method, Ctx, new_head, context_class, first_pc, lies_between, literal_count}
-use Rattle.cs_model.specs.Words.{natural_in_word, header_in_words, bytecode_count, is_pointer_format, is_method_format, unused_bytes}
+use Rattle.cs_model.specs.Obj.{Obj, Head, Context, Ptr, Method, Ctx, new_head, first_pc, lies_between, literal_count}
+use Rattle.cs_model.specs.Words.{natural_in_word, header_in_words, bytecode_count, is_method_format, unused_bytes}
 use Rattle.cs_model.specs.Builder.{nil_ref, spare}
-use Rattle.cs_model.specs.ImageFile.{FileObject}
-use Rattle.cs_model.specs.ImageFault.{is_class, is_pc_of, is_stackp, is_file_method, is_live_context, fields_of}
-use Rattle.cs_model.specs.SavedFile.{SavedObject, SavedFile, saved_base, placed_at}
+use Rattle.cs_model.specs.ImageFault.{is_class, is_pc_of, is_file_method, is_live_context, fields_of}
+use Rattle.cs_model.specs.SavedFile.{SavedFile, saved_base, placed_at}
 use Rattle.cs_model.specs.SoundFile.{IsFound, NamesSaved, IsSavedContext, IsSavedTable, IsRooted, IsActive, saved_entry}
-use Rattle.cs_build.specs.Laid.{Laid, laid, laid_slots, laid_words, ref_word, byte_words, saved_by, laid_addresses, context_refs, file_for}
+use Rattle.cs_build.specs.Laid.{laid, laid_words, ref_word, saved_by, laid_addresses, file_for}
 use Rattle.cs_build.specs.Stored.{StoredMethod, StoredContext, IsStored}
-use Rattle.cs_build.specs.Formed.{FormedContext, NamesMethod, HasSlots, IsClassAt, IsFormedTable, IsFormedProcess, IsFormedRoots}
-use Rattle.cs_build.proofs.Putting.{slots_of_laid, length-map}
+use Rattle.cs_build.specs.Formed.{FormedContext, HasSlots, IsClassAt, IsFormedTable, IsFormedProcess, IsFormedRoots}
+use Rattle.cs_build.proofs.Putting.{slots_of_laid}
 use Rattle.cs_build.proofs.Locating.{IsBare, found_at, zero_address, other_address, entry_is}
-use Rattle.cs_build.proofs.Forming.{MethodWords, method_words, natural_back, get_there}
+use Rattle.cs_build.proofs.Forming.{method_words, natural_back, get_there}
 
 -- ---- contexts
 

@@ -5,8 +5,8 @@ use Rattle.std.specs.Ordering.{nat_cmp}
 use Rattle.std.specs.FinMap.{FinMap, from_entries, get}
 use Rattle.cs_model.specs.Ref.{Ref}
 use Rattle.cs_model.specs.Ref as ref
-use Rattle.cs_model.specs.Obj.{Obj, Head, Context, Ptr, Raw, Method, Ctx, new_head, context_class, first_pc, is_header, lies_between}
-use Rattle.cs_model.specs.State.{Kept, Rest}
+use Rattle.cs_model.specs.Obj.{Obj, Head, Context, Ptr, Raw, Method, Ctx, context_class, first_pc, is_header, lies_between}
+use Rattle.cs_model.specs.State.{Kept}
 use Rattle.cs_model.specs.Words.{is_pointer_format}
 use Rattle.cs_model.specs.SavedFile.{page_place, saved_sizes}
 use Rattle.cs_model.specs.Builder.{nil_ref, header_bytes}

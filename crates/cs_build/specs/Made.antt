@@ -1,5 +1,5 @@
 -- A method that can be made.
-use Rattle.std.specs.Prelude.{◌≡◌, ℕ, ◌^◌, ◌<◌, true, length, map, count_by}
+use Rattle.std.specs.Prelude.{◌≡◌, ◌^◌, ◌<◌, true, length, map, count_by}
 use Rattle.std.specs.List.{list_all}
 use Rattle.cs_model.specs.BuilderFault.{is_literal, method_fits}
 use Rattle.cs_build.specs.declared.numbering.Numbered.{Numbered}

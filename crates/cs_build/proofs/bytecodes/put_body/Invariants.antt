@@ -1,4 +1,4 @@
-use Rattle.std.proofs.Common.{◌≡◌, ◌≤◌, ◌*◌, ◌++◌, map, drop, length, true}
+use Rattle.std.proofs.Common.{◌≡◌, ◌≤◌, ◌*◌, ◌++◌, map, drop, true}
 use Rattle.std.specs.List.{list_all}
 use Rattle.cs_model.specs.BuilderFault.{code_from}
 use Rattle.cs_build.specs.Meaning.{form_by}

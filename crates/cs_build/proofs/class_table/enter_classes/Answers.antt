@@ -1,4 +1,4 @@
-use Rattle.std.proofs.Common.{◌≡◌, ℕ, ◌+◌, List, [], drop, map, ap, None}
+use Rattle.std.proofs.Common.{ℕ, ◌+◌, List, [], drop, map, ap, None}
 use Rattle.std.specs.Prelude.{fold, pos}
 use Rattle.cs_build.specs.declared.form.ClassLine.{ClassLine}
 use Rattle.cs_build.specs.Meaning.{class_by}

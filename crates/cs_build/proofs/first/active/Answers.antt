@@ -1,4 +1,4 @@
-use Rattle.std.proofs.Common.{◌≡◌, List, ap, ◌∙◌}
+use Rattle.std.proofs.Common.{List, ap, ◌∙◌}
 use Rattle.std.specs.Prelude.{filter_map}
 use Rattle.cs_model.specs.BuilderText as text
 use Rattle.cs_model.specs.Text.{first_that}

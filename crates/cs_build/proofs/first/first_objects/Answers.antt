@@ -1,7 +1,6 @@
-use Rattle.std.proofs.Common.{◌≡◌, ◌++◌, List, map, ap, sym, ◌∙◌}
-use Rattle.std.proofs.lemmas.List.{map-append}
+use Rattle.std.proofs.Common.{◌++◌, List, map, ap, ◌∙◌}
 use Rattle.cs_build.specs.Firsts.{all_lists, first_made, heads_made, selector_array_of, special_array_of}
-use Rattle.cs_build.specs.Laid.{Laid, laid, laid_by}
+use Rattle.cs_build.specs.Laid.{Laid, laid}
 use Rattle.cs_build.specs.Standing.{forms_in}
 use Rattle.cs_build.proofs.first.first_objects.Goals as goal
 

@@ -1,5 +1,4 @@
-use Rattle.std.proofs.Common.{◌≡◌, List, map, refl, ap, ◌∙◌}
-use Rattle.cs_model.specs.Ref.{Ref}
+use Rattle.std.proofs.Common.{map, refl, ap, ◌∙◌}
 use Rattle.cs_model.specs.Builder.{obj_or_nil}
 use Rattle.cs_build.specs.Laid.{reference_by}
 use Rattle.cs_build.proofs.Firsting.{set_more}

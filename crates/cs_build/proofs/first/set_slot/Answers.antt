@@ -1,4 +1,3 @@
-use Rattle.std.proofs.Common.{◌≡◌}
 use Rattle.std.proofs.lemmas.List.{map-set}
 use Rattle.cs_build.specs.Laid.{reference_by}
 use Rattle.cs_build.proofs.first.set_slot.Goals as goal

@@ -1,4 +1,4 @@
-use Rattle.std.proofs.Common.{◌≡◌, ℕ, ◌+◌, ◌<◌, ◌≤◌, List, [], Bor, length, map, drop, get_or, ap, ◌∙◌, arith}
+use Rattle.std.proofs.Common.{ℕ, ◌+◌, List, [], Bor, map, drop, get_or, ap, ◌∙◌, arith}
 use Rattle.std.specs.Prelude.{fold, slice_set}
 use Rattle.cs_model.specs.Ref.{Ref}
 use Rattle.cs_model.specs.BuilderText as text

@@ -1,4 +1,4 @@
-use Rattle.std.proofs.Common.{◌≡◌, ℕ, List, map, replicate, ap, ◌∙◌}
+use Rattle.std.proofs.Common.{ℕ, List, map, replicate, ap, ◌∙◌}
 use Rattle.std.specs.Prelude.{flat_map, fold}
 use Rattle.cs_model.specs.Ref.{Ref}
 use Rattle.cs_model.specs.Obj.{Ptr, new_head}

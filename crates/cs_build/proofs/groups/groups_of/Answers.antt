@@ -1,4 +1,4 @@
-use Rattle.std.proofs.Common.{◌≡◌, ℕ, ◌+◌, ◌∷◌, ◌++◌, List, [], Bor, Vec, Global, map, drop, ap, sym, ◌∙◌, append_assoc, append-nil}
+use Rattle.std.proofs.Common.{ℕ, ◌+◌, ◌∷◌, ◌++◌, List, [], Bor, Vec, Global, map, drop, ap, sym, ◌∙◌, append-nil}
 use Rattle.cs_model.specs.BuilderText as text
 use Rattle.cs_model.specs.Builder.{methods_of}
 use Rattle.cs_build.specs.declared.form.Form.{Form}

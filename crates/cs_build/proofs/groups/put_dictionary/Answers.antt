@@ -1,4 +1,4 @@
-use Rattle.std.proofs.Common.{◌≡◌, ◌∷◌, ◌++◌, List, [], map, ap, sym, ◌∙◌, append_assoc}
+use Rattle.std.proofs.Common.{◌∷◌, ◌++◌, List, [], map, ap, ◌∙◌, append_assoc}
 use Rattle.cs_model.specs.BuilderText as text
 use Rattle.cs_model.specs.Builder.{dictionary_object, values_object}
 use Rattle.cs_build.specs.Laid.{Laid, laid, laid_by}

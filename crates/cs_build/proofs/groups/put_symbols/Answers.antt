@@ -1,4 +1,4 @@
-use Rattle.std.proofs.Common.{◌≡◌, ℕ, ◌+◌, ◌++◌, List, [], Bor, map, drop, ap, sym, ◌∙◌, append-nil}
+use Rattle.std.proofs.Common.{ℕ, ◌+◌, ◌++◌, List, [], Bor, map, drop, ap, sym, ◌∙◌, append-nil}
 use Rattle.cs_model.specs.Builder.{raw_object}
 use Rattle.cs_build.specs.declared.object.Object.{Object}
 use Rattle.cs_build.specs.Laid.{laid, laid_by}

@@ -1,4 +1,3 @@
-use Rattle.std.proofs.Common.{[]}
 use Rattle.cs_build.proofs.groups.take_group.Goals as goal
 
 pub returns-in-Some-clause-rest : goal.returns-in-Some-clause-rest

@@ -1,7 +1,7 @@
-use Rattle.std.proofs.Common.{◌≡◌, ℕ, ◌+◌, ◌*◌, ◌<◌, ◌≤◌, Bool, true, false, map, refl, sym, arith}
+use Rattle.std.proofs.Common.{◌≡◌, ℕ, ◌<◌, false, map, arith}
 use Rattle.std.specs.Prelude.{nat_le}
 use Rattle.std.proofs.lemmas.Bool.Decides.{nat_tests}
-use Rattle.cs_build.specs.Laid.{laid_by, laid_size}
+use Rattle.cs_build.specs.Laid.{laid_by}
 use Rattle.cs_build.specs.Wholes.{file_size}
 use Rattle.cs_build.proofs.Putting.{size_within}
 use Rattle.cs_build.proofs.image.has_room.Goals as goal

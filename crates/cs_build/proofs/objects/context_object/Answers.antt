@@ -1,4 +1,4 @@
-use Rattle.std.proofs.Common.{◌≡◌, ℕ, ◌∷◌, ◌++◌, List, [], length, map, replicate, ap, ◌∙◌, sym, arith, ◌<◌, ◌≤◌}
+use Rattle.std.proofs.Common.{◌≡◌, ℕ, ◌∷◌, ◌++◌, List, [], length, map, replicate, ap, ◌∙◌, arith}
 use Rattle.std.specs.Prelude.{pos}
 use Rattle.cs_model.specs.Ref.{Ref, Small}
 use Rattle.cs_model.specs.Obj.{Ptr, new_head, context_size}
@@ -11,7 +11,7 @@ use Rattle.cs_build.specs.Making.{begin_at, method_literals}
 use Rattle.cs_build.specs.Meaning.{form_by, mention_by, method_line_by}
 use Rattle.cs_build.specs.Standing.{forms_in}
 use Rattle.cs_build.proofs.Literals.{count_is, count_few}
-use Rattle.cs_build.proofs.Contexts.{four, refs_of_context, size_is, temporaries_fit}
+use Rattle.cs_build.proofs.Contexts.{refs_of_context, size_is, temporaries_fit}
 use Rattle.cs_build.proofs.objects.context_object.Goals as goal
 
 pub returns : goal.returns

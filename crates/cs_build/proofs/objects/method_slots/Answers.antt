@@ -1,4 +1,4 @@
-use Rattle.std.proofs.Common.{◌≡◌, ◌∷◌, ◌++◌, List, map, ap, ◌∙◌}
+use Rattle.std.proofs.Common.{◌∷◌, ◌++◌, List, map, ap, ◌∙◌}
 use Rattle.cs_model.specs.Ref.{Ref}
 use Rattle.cs_build.specs.declared.object.Reference.{Reference}
 use Rattle.cs_build.specs.Laid.{reference_by}

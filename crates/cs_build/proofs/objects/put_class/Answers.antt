@@ -1,6 +1,4 @@
-use Rattle.std.proofs.Common.{◌≡◌, ap, ◌∙◌}
-use Rattle.cs_model.specs.Builder.{raw_object}
-use Rattle.cs_build.specs.Laid.{laid, laid_by}
+use Rattle.cs_build.specs.Laid.{laid_by}
 use Rattle.cs_build.proofs.Walking.{pushed_one}
 use Rattle.cs_build.proofs.objects.put_class.Goals as goal
 

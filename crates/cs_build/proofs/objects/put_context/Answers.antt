@@ -1,17 +1,14 @@
-use Rattle.std.proofs.Common.{◌≡◌, ℕ, ◌+◌, ◌∷◌, ◌++◌, ◌<◌, List, [], Some, None, Option, length, map, ap, ap₂, sym, ◌∙◌, arith, append_assoc, append-nil}
-use Rattle.std.proofs.lemmas.List.{map-append}
-use Rattle.cs_model.specs.Obj.{Obj, Ctx}
+use Rattle.std.proofs.Common.{◌≡◌, ℕ, ◌∷◌, ◌++◌, List, [], Option, map, ap, ap₂, sym, ◌∙◌, append-nil}
+use Rattle.cs_model.specs.Obj.{Ctx}
 use Rattle.cs_model.specs.BuilderText as text
 use Rattle.cs_model.specs.Builder.{body_behind, body_of, first_context}
 use Rattle.std.specs.Option.{option_map_or}
-use Rattle.cs_build.specs.declared.object.Object.{Object}
-use Rattle.cs_build.specs.Laid.{Laid, laid, laid_by}
-use Rattle.cs_build.specs.Making.{context_made, contexts_made, method_made, process_made}
-use Rattle.cs_build.specs.Meaning.{form_by, mention_by, method_line_by, process_by}
+use Rattle.cs_build.specs.Laid.{laid, laid_by}
+use Rattle.cs_build.specs.Making.{context_made}
+use Rattle.cs_build.specs.Meaning.{form_by, mention_by, method_line_by}
 use Rattle.cs_build.specs.Standing.{forms_in}
 use Rattle.cs_build.proofs.Walking.{pushed_one}
 use Rattle.cs_build.proofs.MethodsFound.{IsFound, found, not_found}
-use Rattle.cs_build.proofs.Literals.{count_few}
 use Rattle.cs_build.proofs.objects.put_context.Goals as goal
 
 pub returns-in_ok-push-in-Some : goal.returns-in_ok-push-in-Some

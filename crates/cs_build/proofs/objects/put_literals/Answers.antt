@@ -1,4 +1,4 @@
-use Rattle.std.proofs.Common.{◌≡◌, ◌+◌, ◌∷◌, ◌++◌, List, [], map, drop, ap, sym, ◌∙◌, append-nil}
+use Rattle.std.proofs.Common.{◌+◌, ◌∷◌, ◌++◌, List, [], map, drop, ap, sym, ◌∙◌, append-nil}
 use Rattle.cs_model.specs.Ref.{Ref}
 use Rattle.cs_build.specs.declared.form.Form.{Form}
 use Rattle.cs_build.specs.Laid.{reference_by}

@@ -1,16 +1,11 @@
-use Rattle.std.proofs.Common.{◌≡◌, ℕ, ◌+◌, ◌∷◌, ◌++◌, ◌<◌, List, [], Some, None, Option, length, map, ap, ap₂, sym, ◌∙◌, arith, append_assoc}
-use Rattle.std.proofs.lemmas.List.{map-append}
-use Rattle.cs_model.specs.Obj.{Obj, Ctx}
+use Rattle.std.proofs.Common.{List, map, ap, sym, ◌∙◌}
 use Rattle.cs_model.specs.BuilderText as text
-use Rattle.cs_model.specs.Builder.{body_behind, body_of}
-use Rattle.cs_build.specs.declared.object.Object.{Object}
-use Rattle.cs_build.specs.Laid.{Laid, laid, laid_by}
-use Rattle.cs_build.specs.Making.{context_made, contexts_made, method_made, process_made}
-use Rattle.cs_build.specs.Meaning.{form_by, mention_by, method_line_by, process_by}
+use Rattle.cs_build.specs.Laid.{laid, laid_by}
+use Rattle.cs_build.specs.Making.{method_made}
+use Rattle.cs_build.specs.Meaning.{form_by, method_line_by}
 use Rattle.cs_build.specs.Standing.{forms_in}
 use Rattle.cs_build.proofs.Walking.{pushed_one}
-use Rattle.cs_build.proofs.MethodsFound.{IsFound, found, not_found}
-use Rattle.cs_build.proofs.Literals.{count_few}
+use Rattle.cs_build.proofs.MethodsFound.{IsFound, found}
 use Rattle.cs_build.proofs.objects.put_method.Goals as goal
 
 pub returns : goal.returns

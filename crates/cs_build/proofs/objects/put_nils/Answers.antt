@@ -1,8 +1,7 @@
-use Rattle.std.proofs.Common.{◌≡◌, ◌∷◌, ◌++◌, List, [], map, replicate, ap, sym, ◌∙◌, append-nil, append_assoc}
+use Rattle.std.proofs.Common.{◌∷◌, ◌++◌, List, [], map, replicate, ap, sym, ◌∙◌, append-nil, append_assoc}
 use Rattle.std.proofs.lemmas.List.{map_push, replicate_more}
 use Rattle.cs_model.specs.Ref.{Ref}
 use Rattle.cs_model.specs.Builder.{nil_ref}
-use Rattle.cs_build.specs.declared.object.Reference.{Reference}
 use Rattle.cs_build.specs.Laid.{reference_by}
 use Rattle.cs_build.proofs.objects.put_nils.Goals as goal
 

@@ -1,4 +1,4 @@
-use Rattle.std.proofs.Common.{◌≡◌, ap, ◌∙◌}
+use Rattle.std.proofs.Common.{ap, ◌∙◌}
 use Rattle.cs_model.specs.Builder.{raw_object}
 use Rattle.cs_build.specs.Laid.{laid, laid_by}
 use Rattle.cs_build.proofs.Walking.{pushed_one}

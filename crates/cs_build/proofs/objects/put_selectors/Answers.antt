@@ -1,8 +1,7 @@
-use Rattle.std.proofs.Common.{◌≡◌, ◌+◌, ◌++◌, false, List, [], None, map, drop, ap, sym, ◌∙◌, append-nil}
+use Rattle.std.proofs.Common.{◌+◌, ◌++◌, false, List, [], None, map, drop, sym, ◌∙◌, append-nil}
 use Rattle.std.specs.Prelude.{pos}
-use Rattle.cs_model.specs.Ref.{Ref}
 use Rattle.cs_model.specs.BuilderText as text
-use Rattle.cs_model.specs.Builder.{method_birth, obj_or_nil, symbol_ref}
+use Rattle.cs_model.specs.Builder.{symbol_ref}
 use Rattle.cs_build.specs.declared.form.MethodLine.{MethodLine}
 use Rattle.cs_build.specs.declared.object.Reference.{Reference}
 use Rattle.cs_build.specs.Laid.{reference_by}

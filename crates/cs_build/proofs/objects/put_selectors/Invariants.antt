@@ -1,7 +1,7 @@
 use Rattle.std.proofs.Common.{◌≡◌, ◌++◌, map, drop}
-use Rattle.cs_model.specs.Builder.{mention_ref, method_birth, obj_or_nil, symbol_ref}
+use Rattle.cs_model.specs.Builder.{symbol_ref}
 use Rattle.cs_build.specs.Laid.{reference_by}
-use Rattle.cs_build.specs.Meaning.{mention_by, method_line_by}
+use Rattle.cs_build.specs.Meaning.{method_line_by}
 use Rattle.cs_build.specs.Standing.{forms_in}
 use Rattle.cs_build.proofs.objects.put_selectors.Given as goal
 

@@ -1,6 +1,5 @@
-use Rattle.std.proofs.Common.{◌≡◌, ◌+◌, ◌++◌, List, [], map, drop, ap, sym, ◌∙◌, append-nil}
+use Rattle.std.proofs.Common.{◌+◌, ◌++◌, List, map, drop, ap, sym, ◌∙◌, append-nil}
 use Rattle.std.specs.Prelude.{pos}
-use Rattle.cs_model.specs.Ref.{Ref}
 use Rattle.cs_model.specs.Builder.{mention_ref}
 use Rattle.cs_build.specs.declared.form.Mention.{Mention}
 use Rattle.cs_build.specs.declared.form.Mention.TheVariants.{Number}

@@ -1,4 +1,4 @@
-use Rattle.std.proofs.Common.{◌≡◌, ℕ, Bool, true, false, List, [], ◌∷◌, ◌++◌, ap, sym, subst, ◌∙◌}
+use Rattle.std.proofs.Common.{◌≡◌, ℕ, Bool, List, ◌++◌, ap, sym, subst, ◌∙◌}
 use Rattle.cs_build.specs.declared.form.Form.{Form}
 use Rattle.cs_build.specs.Meaning.{form_by}
 use Rattle.cs_build.specs.Queued.{IsQueue, has_in, ready_at}

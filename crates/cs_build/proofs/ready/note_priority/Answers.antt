@@ -1,7 +1,6 @@
-use Rattle.std.proofs.Common.{◌≡◌, ℕ, ◌==◌, Bool, true, cond, List, ap, sym, ◌∙◌}
+use Rattle.std.proofs.Common.{◌≡◌, ℕ, ◌==◌, Bool, true, cond, ap, sym, ◌∙◌}
 use Rattle.std.specs.Prelude.{◌&&◌, ◌||◌}
 use Rattle.std.specs.Str.{bytes_eq}
-use Rattle.cs_model.specs.Builder.{natural}
 use Rattle.cs_build.specs.declared.form.Form.{Form}
 use Rattle.cs_build.specs.Meaning.{form_by}
 use Rattle.cs_build.specs.Queued.{has_in, is_process_at}

@@ -1,6 +1,5 @@
-use Rattle.std.proofs.Common.{◌≡◌, ◌++◌, List, map, ap, sym, subst, ◌∙◌}
+use Rattle.std.proofs.Common.{List, subst}
 use Rattle.cs_model.specs.BuilderText as text
-use Rattle.cs_model.specs.Builder.{all_forms}
 use Rattle.cs_build.specs.Grouped.{AreGroups}
 use Rattle.cs_build.specs.Readied.{AreReadied}
 use Rattle.cs_build.specs.Standing.{forms_in}

@@ -1,4 +1,4 @@
-use Rattle.std.proofs.Common.{◌≤◌, ◌<◌, true, length, List, arith}
+use Rattle.std.proofs.Common.{true, length, List, arith}
 use Rattle.std.specs.List.{list_all}
 use Rattle.std.proofs.lemmas.List.{length-map}
 use Rattle.cs_model.specs.BuilderText as text

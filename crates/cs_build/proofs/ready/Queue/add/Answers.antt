@@ -1,4 +1,4 @@
-use Rattle.std.proofs.Common.{◌≡◌, ℕ, List, Option, Bor, refl, ap₂, sym, ◌∙◌}
+use Rattle.std.proofs.Common.{ℕ, List, Option, refl, ap₂, sym, ◌∙◌}
 use Rattle.cs_build.specs.Queued.{linked_behind}
 use Rattle.cs_build.proofs.Queueing.{first_new, behind_more}
 use Rattle.cs_build.proofs.ready.Queue.add.Goals as goal
