@@ -96,10 +96,10 @@ pub record HasEnded (k : Kept) (n : ℕ) (old new : Option (List ℕ)) (b : Seen
 
 pub has_ended : (k : Kept) (n : ℕ) (old new : Option (List ℕ)) (a b : Seen) (end : RunEnd) → ((why : Why) → end ≡ Full why → ⊥) → (end ≡ WriteFault → ⊥) → RunGives k 0 n old new a b end
     → UnlessBroken end (IsSound b.stored b.view) → HasEnded k n old new b end
-has_ended k n old new a b Steps room sink h sound = record { reported = tt; reaches = h.0; within = stands_within b.stored b.view (state_of k n) sound h.1.world }
+has_ended k n old new a b Steps room sink h sound = record { reported = refl; reaches = h.0; within = stands_within b.stored b.view (state_of k n) sound h.1.world }
 has_ended k n old new a b Quit room sink h sound = absurd h
-has_ended k n old new a b Idle room sink h sound = record { reported = tt; reaches = h.0; within = stands_within b.stored b.view (state_of k n) sound h.1.world }
+has_ended k n old new a b Idle room sink h sound = record { reported = refl; reaches = h.0; within = stands_within b.stored b.view (state_of k n) sound h.1.world }
 has_ended k n old new a b Snapshot room sink h sound = absurd h
-has_ended k n old new a b (Stopped reason) room sink h sound = record { reported = tt; reaches = h.0; within = tt }
+has_ended k n old new a b (Stopped reason) room sink h sound = record { reported = refl; reaches = h.0; within = tt }
 has_ended k n old new a b (Full why) room sink h sound = absurd (room why refl)
 has_ended k n old new a b WriteFault room sink h sound = absurd (sink refl)
