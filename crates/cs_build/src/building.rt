@@ -51,8 +51,8 @@ fn image_of_lines(alloc: Global, lines: Vec<Form<'_>>) -> Result<BuiltImage, All
 
 /// Builds the image of a text: the bytes of its file, and how many objects it has.
 ///
-/// The error is the text's first fault, and comes exactly where the text has one. `NoMemory` comes where memory is refused,
-/// and also where the file would have more than 536,870,912 bytes: that is tested, and not shown never to be.
+/// The error is the text's first fault, and comes exactly where the text has one. `NoMemory` comes where memory is
+/// refused, and also where the file would have more than 536,870,912 bytes: that is tested, and not shown never to be.
 pub fn build(alloc: Global, text: &[u8]) -> Result<BuiltImage, BuildError>
     ensures none { IfOk result (λ _. text_fault text.now ≡ None) }
     ensures fault { IfErr result (TellsFault (text_fault text.now)) }

@@ -10,7 +10,7 @@ use crate::image::PAGE_ENTRIES;
 use crate::numbering::Numbering;
 use std::alloc::{AllocError, Global};
 
-/// How many more indices there are than classes: those below 52 of which the classes that each text has leave 30 unused.
+/// How many more indices there are than classes: the classes that each text has leave 30 of those below 52 unused.
 const UNUSED_INDICES: usize = 30;
 
 /// The second index of SmallInteger.

@@ -60,7 +60,8 @@ impl<W: World> Vm<W> {
         ensures place { place_of (W.view world) ≡ place_by result.place }
         ensures phase { result.phase ≡ phase.Ready }
         ensures finds { result.finds ≡ sender.full }
-        ensures stands { (k : Kept) → Keeps (W.view world) k → StandsAt k 0 (seen_through W.stored W.view W.layout result) }
+        ensures stands { (k : Kept) → Keeps (W.view world) k
+            → StandsAt k 0 (seen_through W.stored W.view W.layout result) }
         ensures stack { (k : Kept) → Keeps (W.view world) k → IsFresh (W.view world) (W.layout world) →
             IsStackOf k 0 (seen_through W.stored W.view W.layout result) }
     {
@@ -90,7 +91,8 @@ impl<W: World> Vm<W> {
         ensures again { IfSome (end_again self.old.phase) (λ end. (result ≡ end) × (self.new ≡ self.old)
             × (out.new ≡ out.old)) }
         ensures gives { (k : Kept) (j : ℕ) → self.old.phase ≡ phase.Ready →
-            StandsAt k j (seen_through W.stored W.view W.layout self.old) → RunGives k j n (K.taken out.old) (K.taken out.new)
+            StandsAt k j (seen_through W.stored W.view W.layout self.old)
+            → RunGives k j n (K.taken out.old) (K.taken out.new)
             (seen_through W.stored W.view W.layout self.old) (seen_through W.stored W.view W.layout self.new) result }
         ensures sound { UnlessBroken result (IsSound (W.stored self.new.world) (W.view self.new.world)) }
         ensures limit { (W.stored self.new.world).memory.limit ≡ (W.stored self.old.world).memory.limit }

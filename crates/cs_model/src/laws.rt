@@ -450,7 +450,8 @@ pub fn what_is_built_is_what_a_send_finds()
 /// A primitive whose number isn't listed fails, and so it is built.
 pub fn a_number_that_is_not_listed_fails()
     ensures fails { (number args : ℕ) (s : State) → is_listed number ≡ false → prim number args s ≡ fails s }
-    ensures built { (number args : ℕ) (k : Kept) → is_listed number ≡ false → is_built_number k args (Some number) ≡ true }
+    ensures built { (number args : ℕ) (k : Kept) → is_listed number ≡ false
+        → is_built_number k args (Some number) ≡ true }
 {}
 
 /// The file of an image is read as it was put together: what is cut out of its bytes is what was given. Where each
