@@ -80,6 +80,17 @@ pub struct Loaded {
     pub roots: Roots,
 }
 
+/// Why a class makes no instance.
+#[derive(Clone, Copy, PartialEq, Eq, Debug)]
+pub enum NewError {
+    /// The class can't be instantiated with this size.
+    NotInstantiable,
+    /// The class has no index yet, and none is free.
+    TableFull,
+    /// The heap has no room for the instance.
+    HeapFull,
+}
+
 impl Classes {
     /// A table whose entries are all empty.
     pub fn new(alloc: Global) -> Result<Classes, AllocError>
