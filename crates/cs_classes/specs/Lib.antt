@@ -3,3 +3,4 @@ pub mod Meaning
 pub mod Sound
 pub mod Senders
 pub mod Kinds
+pub mod Instances

@@ -10,6 +10,7 @@
 ghost use Rattle.std.specs.Prelude.{◌≡◌, ℕ, ◌<◌, ◌≤◌, IfOk, None, option_map};
 ghost use Rattle.std.specs.FinMap.{empty, get, insert};
 
+mod instances;
 pub mod slots;
 mod words;
 
@@ -17,7 +18,7 @@ use cs_heap::Heap;
 use cs_word::Oop;
 use std::alloc::{AllocError, Global};
 use std::marker::Model;
-pub use words::{is_context, method_header};
+pub use words::{has_slots, is_context, method_header};
 
 /// The class index of contexts.
 pub const CONTEXT_CLASS: u32 = 36;
@@ -27,6 +28,9 @@ pub const CLOSURE_CLASS: u32 = 37;
 
 /// The format of objects that have named slots and others behind them, as contexts and closures are.
 pub const FIELDS_AND_INDICES: u8 = 3;
+
+/// The formats below this one are those of pointer objects.
+pub const POINTERS_END: u8 = 6;
 
 /// How many entries a class table has: one for each class index below it.
 pub const ENTRIES: u32 = 16384;

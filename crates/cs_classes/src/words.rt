@@ -4,8 +4,9 @@ ghost use Rattle.std.specs.Prelude.{◌≡◌, ◌<◌, ◌==◌, ◌&&◌, unwr
 ghost use Rattle.cs_word.specs.Word.{natural_of_word};
 ghost use Rattle.cs_heap.specs.Object.{class_at, is_object, slot_count_of, slot_of};
 ghost use Rattle.cs_model.specs.Obj.{context_class};
+ghost use Rattle.cs_classes.specs.Sound.{has_slots};
 
-use crate::CONTEXT_CLASS;
+use crate::{CONTEXT_CLASS, POINTERS_END};
 use cs_heap::Heap;
 use cs_word::{MethodHeader, Oop};
 
@@ -14,6 +15,16 @@ pub fn is_context(heap: &Heap, o: Oop) -> bool
     ensures { result ≡ (is_object heap.now.objects o.0 && class_at heap.now.objects o.0 == context_class) }
 {
     heap.is_object(o) && heap.class_index(o) == CONTEXT_CLASS
+}
+
+/// Whether a word is the address of a pointer object with at least so many slots. A context isn't one.
+pub fn has_slots(heap: &Heap, o: Oop, least: u32) -> bool
+    ensures { result ≡ has_slots heap.now.objects least o.0 }
+{
+    heap.is_object(o)
+        && heap.class_index(o) != CONTEXT_CLASS
+        && heap.format(o) < POINTERS_END
+        && heap.slot_count(o) >= least
 }
 
 /// The header of a method, which its first slot says. A slot that is no number says 0.
