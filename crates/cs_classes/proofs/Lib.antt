@@ -11,3 +11,4 @@ pub mod Writes
 pub mod Makings
 pub mod Fields
 pub mod Counting
+pub mod Indices

@@ -5,11 +5,11 @@
 
 ghost use Rattle.std.specs.Prelude.{◌≡◌, ◌+◌, ◌*◌, ◌<◌, ◌↔◌, true, IfErr, IfOk, IfSome, IsErr, IsTrue, OnErr};
 ghost use Rattle.std.specs.Prelude.{is_none, option_map, position};
-ghost use Rattle.std.specs.FinMap.{insert};
+ghost use Rattle.std.specs.FinMap.{get, insert};
 ghost use Rattle.cs_heap.specs.Format.{format_allows};
 ghost use Rattle.cs_heap.specs.Object.{is_object, next_address, size as size_of, used};
 ghost use Rattle.cs_heap.specs.Writes.{hash_stored, object_added};
-ghost use Rattle.cs_model.specs.Instance.{IndexAt, first_free_index, free_indices, is_instance_index};
+ghost use Rattle.cs_model.specs.Instance.{IndexAt, first_free_index, free_indices, is_entry, is_instance_index};
 ghost use Rattle.cs_model.specs.Instance.{is_instance_shape, lowest_free, pointer_format, unit_bytes};
 ghost use Rattle.cs_classes.specs.Instances.{entry_taken, fitting, hash_taken, index_answer, index_in_table};
 ghost use Rattle.cs_classes.specs.Instances.{behavior_index, instance_format, instance_slots, planned_memory};
@@ -17,7 +17,7 @@ ghost use Rattle.cs_classes.specs.Instances.{planned_answer, plan_of, shape_at, 
 ghost use Rattle.cs_classes.specs.declared.NewError.TheVariants as refused;
 
 use crate::slots::{CLASS_SLOTS, FIRST_STACK, INSTANCE_SHAPE};
-use crate::{CONTEXT_CLASS, Classes, ENTRIES, FIELDS_AND_INDICES, NewError, POINTERS_END, has_slots};
+use crate::{CONTEXT_CLASS, Classes, FIELDS_AND_INDICES, NewError, POINTERS_END, has_slots};
 use cs_heap::Heap;
 use cs_word::Oop;
 
@@ -153,10 +153,10 @@ impl Body {
         ensures added { IfOk result (λ _. heap.new ≡ object_added heap.old class self.format self.slots birth) }
         ensures address { IfOk result (λ o. o.0 ≡ next_address heap.old.objects self.slots) }
     {
-        let Ok(slots) = u32::try_from(self.slots) else {
+        if self.slots > u64::from(heap.limit_words()) {
             return Err(NewError::HeapFull);
-        };
-        match heap.allocate(class, self.format, slots, birth) {
+        }
+        match heap.allocate(class, self.format, self.slots as u32, birth) {
             Ok(object) => Ok(object),
             Err(_) => Err(NewError::HeapFull),
         }
@@ -231,10 +231,24 @@ impl Classes {
                 None => Err(NewError::TableFull),
             };
         }
-        if hash < ENTRIES && self.entry(hash) == Some(class) {
+        if self.is_entry(hash, class) {
             Ok(hash)
         } else {
             Err(NewError::NotInstantiable)
+        }
+    }
+
+    /// Whether the entry of this index is this class.
+    fn is_entry(&self, index: u32, class: Oop) -> bool
+        ensures value { result ≡ is_entry (get self.now index) class.0 }
+        ensures within { result ≡ true → index < 16384 }
+    {
+        if index >= self.len() {
+            return false;
+        }
+        match self.entry(index) {
+            Some(entry) => entry == class,
+            None => false,
         }
     }
 
