@@ -1,5 +1,5 @@
 -- The index that a class takes: the lowest that is empty.
-use Rattle.std.proofs.Common.{◌≡◌, ◌≢◌, ℕ, zero, suc, ◌+◌, ◌-◌, ◌<◌, ◌≤◌, Bool, true, false, cond, List, [], ◌∷◌, length, drop, take, Option, Some, None, option_map, is_some, refl, ap, sym, ◌∙◌, arith, get_or, inl, inr, length-drop, option_and_then}
+use Rattle.std.proofs.Common.{◌≡◌, ◌≢◌, ℕ, zero, suc, ◌+◌, ◌-◌, Bool, true, false, cond, List, [], ◌∷◌, length, drop, take, Option, Some, None, option_map, is_some, refl, ap, sym, ◌∙◌, arith, get_or, inl, inr, length-drop, option_and_then}
 use Rattle.std.specs.Prelude.{◌==◌, is_none, position, slice_get, if◌then◌else◌}
 use Rattle.std.specs.List.{position_from}
 use Rattle.std.specs.Option.{option_map_or}

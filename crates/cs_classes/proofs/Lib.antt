@@ -12,3 +12,4 @@ pub mod Makings
 pub mod Fields
 pub mod Counting
 pub mod Indices
+pub mod Plans

@@ -1,10 +1,10 @@
 -- What a heap means: the words of its objects as references, its objects as objects of the model, and with a class table
 -- and the roots the kept parts of a state.
-use Rattle.std.specs.Prelude.{ℕ, pos, ◌+◌, ◌-◌, ◌*◌, ◌==◌, Bool, if◌then◌else◌, nat_le, List, [], ◌∷◌, ◌++◌, length, map, take, drop, replicate, slice_index, slice_get, Option, None, unwrap_or, option_map}
+use Rattle.std.specs.Prelude.{ℕ, pos, ◌+◌, ◌-◌, ◌*◌, ◌==◌, Bool, if◌then◌else◌, List, ◌++◌, length, map, take, drop, replicate, slice_index, slice_get, Option, None, unwrap_or, option_map}
 use Rattle.std.specs.Option.{option_map_or}
 use Rattle.std.specs.Ordering.{nat_cmp}
 use Rattle.std.specs.FinMap.{FinMap, from_entries, entries}
-use Rattle.cs_model.specs.Words.{byte_in, unused_units, unused_bytes, bytes_of_words}
+use Rattle.cs_model.specs.Words.{unused_bytes, bytes_of_words}
 use Rattle.cs_word.specs.declared.Kind.{Kind}
 use Rattle.cs_word.specs.declared.Kind.TheVariants as kind
 use Rattle.cs_word.specs.Word.{kind_of, natural_of_word}

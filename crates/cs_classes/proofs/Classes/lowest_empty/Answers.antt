@@ -1,4 +1,4 @@
-use Rattle.std.proofs.Common.{ap, sym, ◌∙◌, option_map, ◌+◌}
+use Rattle.std.proofs.Common.{ap, ◌∙◌, option_map, ◌+◌}
 use Rattle.cs_model.specs.Instance.{free_indices, first_free_index, lowest_free}
 use Rattle.cs_classes.proofs.Indices.{lowest_empty}
 use Rattle.cs_classes.proofs.Classes.lowest_empty.Goals as goal

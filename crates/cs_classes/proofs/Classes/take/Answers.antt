@@ -1,6 +1,6 @@
 use Rattle.std.proofs.Common.{ap, sym, ◌∙◌, List}
-use Rattle.cs_heap.specs.Object.{Memory, Object}
-use Rattle.cs_classes.proofs.Indices.{HasIndex, has_index, hash_set-same, insert-same}
+use Rattle.cs_heap.specs.Object.{Object}
+use Rattle.cs_classes.proofs.Indices.{has_index, hash_set-same, insert-same}
 use Rattle.cs_classes.proofs.Classes.take.Goals as goal
 
 pub returns-else-hash-eq0-clause-memory : goal.returns-else-hash-eq0-clause-memory
