@@ -13,3 +13,4 @@ pub mod Fields
 pub mod Counting
 pub mod Indices
 pub mod Plans
+pub mod Taking
