@@ -14,3 +14,4 @@ pub mod Counting
 pub mod Indices
 pub mod Plans
 pub mod Taking
+pub mod Instancing

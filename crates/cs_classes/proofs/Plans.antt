@@ -78,7 +78,7 @@ plan-index format fields n index b e = ap (λ (c : Bool). if c then Make index (
 pointer_case : (f n s : ℕ) → is_instance_shape f n s ≡ true → f < 6 → IsTrue (format_allows (pointer_format f) (n + s))
 pointer_case f n s h l = grind (arith, nat_tests, h, l)
 
-raw_cases : (f n s : ℕ) → is_instance_shape f n s ≡ true → 6 ≤ f → (f ≡ 9) ⊎ ((f ≡ 10) ⊎ ((f ≡ 12) ⊎ (f ≡ 16)))
+pub raw_cases : (f n s : ℕ) → is_instance_shape f n s ≡ true → 6 ≤ f → (f ≡ 9) ⊎ ((f ≡ 10) ⊎ ((f ≡ 12) ⊎ (f ≡ 16)))
 raw_cases f n s h l = grind (arith, nat_tests, h, l)
 
 raw_allows : (f s : ℕ) → (f ≡ 9) ⊎ ((f ≡ 10) ⊎ ((f ≡ 12) ⊎ (f ≡ 16))) → IsTrue (format_allows (raw_format f (s * unit_bytes f)) ((s * unit_bytes f + 3) / 4))
