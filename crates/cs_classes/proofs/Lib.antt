@@ -15,3 +15,4 @@ pub mod Indices
 pub mod Plans
 pub mod Taking
 pub mod Instancing
+pub mod Coding

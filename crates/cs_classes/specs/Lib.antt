@@ -4,3 +4,4 @@ pub mod Sound
 pub mod Senders
 pub mod Kinds
 pub mod Instances
+pub mod Methods

@@ -12,6 +12,7 @@ ghost use Rattle.std.specs.FinMap.{empty, get, insert};
 ghost use Rattle.cs_model.specs.Instance.{next_hash};
 
 mod instances;
+mod methods;
 pub mod slots;
 mod words;
 
@@ -19,6 +20,7 @@ use cs_heap::Heap;
 use cs_word::Oop;
 use std::alloc::{AllocError, Global};
 use std::marker::Model;
+pub use methods::add_method;
 pub use words::{first_byte, has_slots, is_context, method_header};
 
 /// The class index of contexts.
