@@ -16,3 +16,4 @@ pub mod Dirty
 pub mod Naturals
 pub mod Storing
 pub mod Allocating
+pub mod Instancing

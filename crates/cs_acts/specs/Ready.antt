@@ -43,3 +43,11 @@ is_storable (Some (Ptr head slots)) i = nat_lt i (length slots)
 is_storable (Some (Raw head bytes)) i = false
 is_storable (Some (Method head header literals bytecodes)) i = nat_lt 0 i && nat_le i (length literals)
 is_storable (Some (Ctx c)) i = false
+
+-- how many bytes of an object may be written: those of raw bytes, and the bytecodes of a method
+abbrev pub byte_count : Option Obj → ℕ
+byte_count None = 0
+byte_count (Some (Ptr head slots)) = 0
+byte_count (Some (Raw head bytes)) = length bytes
+byte_count (Some (Method head header literals bytecodes)) = length bytecodes
+byte_count (Some (Ctx c)) = 0

@@ -64,3 +64,13 @@ method_in nil (Some c) = c.method
 -- field i of the context that a reference names, or a value of its stack
 abbrev pub field_of : Kept → Ref → ℕ → Option Ref
 field_of k x i = option_and_then (λ c. context_get k c i) (context_at k x)
+
+-- the pc of a context, if it has one
+abbrev pub pc_in : Option obj.Context → Option ℕ
+pc_in None = None
+pc_in (Some c) = c.pc
+
+-- the stack of a context, from the bottom
+abbrev pub stack_in : Option obj.Context → List Ref
+stack_in None = []
+stack_in (Some c) = c.stack

@@ -8,7 +8,9 @@ ghost use Rattle.cs_model.specs.Enter.{enter_block_of};
 ghost use Rattle.cs_model.specs.Read.{active_birth, active_context, depth_of, method_of, pc_of, receiver_of, size_of};
 ghost use Rattle.cs_model.specs.Read.{stack_of};
 ghost use Rattle.cs_model.specs.Operation.{add_of, cut_to_of, enter_of, leave_of, next_ref, nil_of, pop_of, push_of};
-ghost use Rattle.cs_model.specs.Operation.{set_pc_of, set_stack_of, store_of};
+ghost use Rattle.cs_model.specs.Operation.{set_fixed_of, set_pc_of, set_stack_of, store_byte_of, store_of};
+ghost use Rattle.cs_model.specs.Instance.{behavior_hash, hash_given, hash_of, instantiate};
+ghost use Rattle.cs_model.specs.PrimObject.{blank_method, can_be_fixed};
 ghost use Rattle.cs_model.specs.Return.{closure_at, context_birth, has_room, is_live, sender_birth};
 ghost use Rattle.cs_model.specs.Context.{is_context_ref};
 ghost use Rattle.cs_model.specs.Ref as ref;
@@ -16,17 +18,19 @@ ghost use Rattle.cs_heap.specs.Object.{size};
 ghost use Rattle.cs_acts.specs.declared.act.Act.{Act};
 ghost use Rattle.cs_acts.specs.declared.act.Full.TheVariants as full;
 ghost use Rattle.cs_acts.specs.Full.{CausesFull};
-ghost use Rattle.cs_acts.specs.Layout.{IsLaidOut, LaidBy, Layout, cut, entered, left};
-ghost use Rattle.cs_acts.specs.Made.{CanAllocate, MakesAtMost, blank_of, made_by_entering, made_by_reading};
+ghost use Rattle.cs_acts.specs.Layout.{IsLaidOut, LaidBy, Layout, cut, depth_if, entered, left};
+ghost use Rattle.cs_acts.specs.Made.{CanAllocate, CanMakeMethod, MakesAtMost, blank_of, code_words, made_by_entering};
+ghost use Rattle.cs_acts.specs.Made.{made_by_instantiating, made_by_reading};
+ghost use Rattle.cs_acts.specs.Instances.{GivesIndex, RefusesInstance, hashed_state, is_new, made_state};
 ghost use Rattle.cs_acts.specs.Names.{IsNamed, KeepsNames, Names, NamesOption, Store, name_of};
-ghost use Rattle.cs_acts.specs.Ready.{IsReady, IsSound, is_storable};
+ghost use Rattle.cs_acts.specs.Ready.{IsReady, IsSound, byte_count, is_storable};
 ghost use Rattle.cs_acts.specs.Targets.{CanArrive, CanCut, CanEnter, CanEnterBlock, dying_to, field_of, is_gone};
-ghost use Rattle.cs_acts.specs.Targets.{method_in};
+ghost use Rattle.cs_acts.specs.Targets.{method_in, pc_in, stack_in};
 
 use crate::{Act, Full};
-use cs_classes::{Classes, Roots};
+use cs_classes::{Classes, NewError, Roots};
 use cs_heap::Heap;
-use cs_word::Oop;
+use cs_word::{MethodHeader, Oop};
 
 /// Keeps a state of the machine.
 ///
@@ -98,6 +102,29 @@ pub trait World {
         requires stands { IsSome (act self.now a) }
         ensures { IfSome (act self.now a) (λ birth. not result ≡ has_room
             (context_in (object_at (view self.now) birth))) };
+
+    /// The pc of the context that an act stands for; None exactly where that is nil.
+    fn act_pc(&self, a: Act) -> Option<u32>
+        requires sound { IsSound (stored self.now) (view self.now) }
+        requires stands { IsSome (act self.now a) }
+        ensures { IfSome (act self.now a) (λ birth. result ≡ pc_in (context_in (object_at (view self.now) birth))) };
+
+    /// How many values the stack of the context that an act stands for holds.
+    fn act_depth(&self, a: Act) -> u32
+        requires sound { IsSound (stored self.now) (view self.now) }
+        requires stands { IsSome (act self.now a) }
+        ensures { IfSome (act self.now a) (λ birth.
+            result ≡ depth_if (context_in (object_at (view self.now) birth))) };
+
+    /// Value i of the stack of the context that an act stands for, counted from 0 at the bottom.
+    fn act_stack(&self, a: Act, i: u32) -> Oop
+        requires sound { IsSound (stored self.now) (view self.now) }
+        requires stands { IsSome (act self.now a) }
+        requires there { IfSome (act self.now a) (λ birth.
+            i < depth_if (context_in (object_at (view self.now) birth))) }
+        ensures { IfSome (act self.now a) (λ birth. Names (stored self.now) result
+            (unwrap_or (slice_get (stack_in (context_in (object_at (view self.now) birth))) i)
+            (nil_of (view self.now)))) };
 
     /// The sender of the context that an act stands for; Gone exactly where that is nil.
     fn sender_act(&self, a: Act) -> Act
@@ -184,6 +211,55 @@ pub trait World {
             (store_of m (name_of (stored self.old) o) i (name_of (stored self.old) v)) }
         ensures exact { layout self.old ≡ None → SameKept (view self.new)
             (store_of (view self.old) (name_of (stored self.old) o) i (name_of (stored self.old) v)) }
+        ensures layout { layout self.new ≡ layout self.old }
+        ensures limit { (stored self.new).memory.limit ≡ (stored self.old).memory.limit }
+        ensures contexts { MakesAtMost 0 (layout self.old) (stored self.old) (stored self.new) }
+        ensures sound { IsSound (stored self.new) (view self.new) }
+        ensures ready { IsReady (stored self.old) (view self.old) → IsReady (stored self.new) (view self.new) }
+        ensures names { KeepsNames (stored self.old) (stored self.new) };
+
+    /// Writes byte i, counted from 0, of the bytes of an object, or of a method's bytecodes. No context need be active.
+    fn store_byte(&mut self, o: Oop, i: u32, b: u8)
+        requires sound { IsSound (stored self.old) (view self.old) }
+        requires object { IsNamed (stored self.old) o }
+        requires there { i < byte_count (object_of (view self.old) (name_of (stored self.old) o)) }
+        ensures state { (m : Kept) → Keeps (view self.old) m → Keeps (view self.new)
+            (store_byte_of m (name_of (stored self.old) o) i b) }
+        ensures exact { layout self.old ≡ None → SameKept (view self.new)
+            (store_byte_of (view self.old) (name_of (stored self.old) o) i b) }
+        ensures layout { layout self.new ≡ layout self.old }
+        ensures limit { (stored self.new).memory.limit ≡ (stored self.old).memory.limit }
+        ensures contexts { MakesAtMost 0 (layout self.old) (stored self.old) (stored self.new) }
+        ensures sound { IsSound (stored self.new) (view self.new) }
+        ensures ready { IsReady (stored self.old) (view self.old) → IsReady (stored self.new) (view self.new) }
+        ensures names { KeepsNames (stored self.old) (stored self.new) };
+
+    /// The identity hash of an object, which is given to it where it has none yet. No context need be active.
+    fn hash_of(&mut self, o: Oop) -> u32
+        requires sound { IsSound (stored self.old) (view self.old) }
+        requires named { IsNamed (stored self.old) o }
+        requires object { IsSome (object_of (view self.old) (name_of (stored self.old) o)) }
+        ensures value { result ≡ hash_of (view self.old) (name_of (stored self.old) o) }
+        ensures state { (m : Kept) → Keeps (view self.old) m → Keeps (view self.new)
+            (hash_given m (name_of (stored self.old) o)) }
+        ensures exact { layout self.old ≡ None → SameKept (view self.new)
+            (hash_given (view self.old) (name_of (stored self.old) o)) }
+        ensures layout { layout self.new ≡ layout self.old }
+        ensures limit { (stored self.new).memory.limit ≡ (stored self.old).memory.limit }
+        ensures contexts { MakesAtMost 0 (layout self.old) (stored self.old) (stored self.new) }
+        ensures sound { IsSound (stored self.new) (view self.new) }
+        ensures ready { IsReady (stored self.old) (view self.old) → IsReady (stored self.new) (view self.new) }
+        ensures names { KeepsNames (stored self.old) (stored self.new) };
+
+    /// Makes an object that is no context read-only where `on`, and else ends that. No context need be active.
+    fn set_fixed(&mut self, o: Oop, on: bool)
+        requires sound { IsSound (stored self.old) (view self.old) }
+        requires named { IsNamed (stored self.old) o }
+        requires object { can_be_fixed (object_of (view self.old) (name_of (stored self.old) o)) ≡ true }
+        ensures state { (m : Kept) → Keeps (view self.old) m → Keeps (view self.new)
+            (set_fixed_of m (name_of (stored self.old) o) on) }
+        ensures exact { layout self.old ≡ None → SameKept (view self.new)
+            (set_fixed_of (view self.old) (name_of (stored self.old) o) on) }
         ensures layout { layout self.new ≡ layout self.old }
         ensures limit { (stored self.new).memory.limit ≡ (stored self.old).memory.limit }
         ensures contexts { MakesAtMost 0 (layout self.old) (stored self.old) (stored self.new) }
@@ -300,6 +376,86 @@ pub trait World {
         ensures heap_alone { IfErr result (λ why. why ≡ full.Heap) }
         ensures full { IfErr result (CausesFull (stored self.new) (layout self.old) (view self.old) (size slots)
             (add_of (view self.old) (blank_of (view self.old) class format slots))) };
+
+    /// Makes a method of this class index and header: its literals are nil, and it has `count` bytecode bytes of 0.
+    /// Behind a refusal all is as before.
+    fn new_method(&mut self, class: u32, header: MethodHeader, count: u32) -> Result<Oop, Full>
+        requires sound { IsSound (stored self.old) (view self.old) }
+        requires fits { CanMakeMethod (view self.old) class header.0 count }
+        ensures state { OnOk result ((m : Kept) → Keeps (view self.old) m
+            → Keeps (view self.new) (add_of m (blank_method m class count header.0))) }
+        ensures exact { OnOk result (layout self.old ≡ None → SameKept (view self.new)
+            (add_of (view self.old) (blank_method (view self.old) class count header.0))) }
+        ensures value { IfOk result (λ o. Names (stored self.new) o (next_ref (view self.old))) }
+        ensures layout { OnOk result (layout self.new ≡ layout self.old) }
+        ensures limit { (stored self.new).memory.limit ≡ (stored self.old).memory.limit }
+        ensures contexts { OnOk result (MakesAtMost 0 (layout self.old) (stored self.old)
+            (stored self.new)) }
+        ensures sound { OnOk result (IsSound (stored self.new) (view self.new)) }
+        ensures ready { OnOk result (IsReady (stored self.old) (view self.old)
+            → IsReady (stored self.new) (view self.new)) }
+        ensures names { OnOk result (KeepsNames (stored self.old) (stored self.new)) }
+        ensures refused_view { OnErr result (view self.new ≡ view self.old) }
+        ensures refused_stored { OnErr result (stored self.new ≡ stored self.old) }
+        ensures refused_layout { OnErr result (layout self.new ≡ layout self.old) }
+        ensures heap_alone { IfErr result (λ why. why ≡ full.Heap) }
+        ensures full { IfErr result (CausesFull (stored self.new) (layout self.old) (view self.old)
+            (size (code_words header.0 count)) (add_of (view self.old)
+            (blank_method (view self.old) class count header.0))) };
+
+    /// Makes an instance of a class, with so many indexed elements, or of the class of contexts with a stack of that
+    /// size. A class without an index takes the lowest free one.
+    ///
+    /// `NotInstantiable` and `TableFull` come exactly where the model says so, and `HeapFull` behind them. Behind a
+    /// refusal all is as before.
+    fn instantiate(&mut self, class: Oop, size: u32) -> Result<Oop, NewError>
+        requires sound { IsSound (stored self.old) (view self.old) }
+        requires named { IsNamed (stored self.old) class }
+        requires births { (view self.old).rest.next < 4611686018427387904 }
+        ensures made { OnOk result (is_new (instantiate (view self.old) (name_of (stored self.old) class) size) ≡ true) }
+        ensures state { OnOk result ((m : Kept) → Keeps (view self.old) m → Keeps (view self.new)
+            (made_state m (instantiate m (name_of (stored self.old) class) size))) }
+        ensures exact { OnOk result (layout self.old ≡ None → SameKept (view self.new)
+            (made_state (view self.old) (instantiate (view self.old) (name_of (stored self.old) class) size))) }
+        ensures value { IfOk result (λ o. Names (stored self.new) o (next_ref (view self.old))) }
+        ensures layout { OnOk result (layout self.new ≡ layout self.old) }
+        ensures limit { (stored self.new).memory.limit ≡ (stored self.old).memory.limit }
+        ensures contexts { OnOk result (MakesAtMost (made_by_instantiating (view self.old) (name_of (stored self.old) class)) (layout self.old) (stored self.old)
+            (stored self.new)) }
+        ensures sound { OnOk result (IsSound (stored self.new) (view self.new)) }
+        ensures ready { OnOk result (IsReady (stored self.old) (view self.old)
+            → IsReady (stored self.new) (view self.new)) }
+        ensures names { OnOk result (KeepsNames (stored self.old) (stored self.new)) }
+        ensures refused_view { OnErr result (view self.new ≡ view self.old) }
+        ensures refused_stored { OnErr result (stored self.new ≡ stored self.old) }
+        ensures refused_layout { OnErr result (layout self.new ≡ layout self.old) }
+        ensures refused { IfErr result (RefusesInstance (stored self.new) (layout self.old)
+            (instantiate (view self.old) (name_of (stored self.old) class) size)) };
+
+    /// The index of a class, which is given to it where it has none yet: the lowest free one, which is its identity
+    /// hash then too.
+    ///
+    /// `NotInstantiable` comes exactly where this is no class or has a hash without being in the table there, and
+    /// `TableFull` where no index is free. `HeapFull` never comes. Behind a refusal all is as before.
+    fn behavior_hash(&mut self, class: Oop) -> Result<u32, NewError>
+        requires sound { IsSound (stored self.old) (view self.old) }
+        requires named { IsNamed (stored self.old) class }
+        ensures gives { GivesIndex (behavior_hash (view self.old) (name_of (stored self.old) class)) result }
+        ensures state { OnOk result ((m : Kept) → Keeps (view self.old) m → Keeps (view self.new)
+            (hashed_state m (behavior_hash m (name_of (stored self.old) class)))) }
+        ensures exact { OnOk result (layout self.old ≡ None → SameKept (view self.new)
+            (hashed_state (view self.old) (behavior_hash (view self.old) (name_of (stored self.old) class)))) }
+        ensures layout { OnOk result (layout self.new ≡ layout self.old) }
+        ensures limit { (stored self.new).memory.limit ≡ (stored self.old).memory.limit }
+        ensures contexts { OnOk result (MakesAtMost 0 (layout self.old) (stored self.old)
+            (stored self.new)) }
+        ensures sound { OnOk result (IsSound (stored self.new) (view self.new)) }
+        ensures ready { OnOk result (IsReady (stored self.old) (view self.old)
+            → IsReady (stored self.new) (view self.new)) }
+        ensures names { OnOk result (KeepsNames (stored self.old) (stored self.new)) }
+        ensures refused_view { OnErr result (view self.new ≡ view self.old) }
+        ensures refused_stored { OnErr result (stored self.new ≡ stored self.old) }
+        ensures refused_layout { OnErr result (layout self.new ≡ layout self.old) };
 
     /// Enters a method: receiver and arguments leave the active stack, and a new context is active, with the old one as
     /// its sender. It begins at the first pc of the method, or with `skip` behind its three bytes that name a

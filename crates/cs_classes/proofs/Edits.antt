@@ -1,16 +1,18 @@
 -- What an object means when one of its words or bytes is written.
-use Rattle.std.proofs.Common.{◌≡◌, ℕ, zero, suc, ◌+◌, ◌-◌, ◌*◌, ◌/◌, ◌%◌, ◌<◌, ◌≤◌, true, false, List, [], ◌∷◌, length, map, take, drop, refl, ap, ap₂, sym, ◌∙◌, arith, get_or, set, cond, eqb, ◌⊎◌, inl, inr}
-use Rattle.std.specs.Prelude.{slice_index, unwrap_or}
-use Rattle.std.proofs.lemmas.Bool.{cases_eq, eq-eqb, ne_eqb}
+use Rattle.std.proofs.Common.{◌≡◌, ℕ, zero, suc, ◌+◌, ◌-◌, ◌*◌, ◌/◌, ◌%◌, ◌<◌, ◌≤◌, Bool, true, false, List, [], ◌∷◌, length, map, take, drop, refl, ap, ap₂, sym, ◌∙◌, arith, get_or, set, cond, eqb, ◌⊎◌, inl, inr}
+use Rattle.std.specs.Prelude.{◌==◌, if◌then◌else◌, slice_index, unwrap_or}
+use Rattle.std.proofs.lemmas.Bool.{cases_eq, eq-eqb, false≢true, ne_eqb}
+use Rattle.std.proofs.lemmas.Bool.Decides.{nat_tests}
 use Rattle.std.proofs.lemmas.List.{drop-set-add, drop-set-lt, get_or-drop, get_or-set_other, length-set, map-set, take-set-le}
 use Rattle.cs_word.specs.Word.{natural_of_word}
+use Rattle.cs_word.specs.Header.{flag_bits, with_immutable}
 use Rattle.cs_model.specs.Words.{byte_in, bytes_of_words, unused_bytes}
 use Rattle.cs_heap.specs.Format.{is_code, is_pointers}
 use Rattle.cs_heap.specs.Object.{Object, set_word, with_byte_in}
 use Rattle.cs_heap.proofs.Laws.{byte_in-with_byte_in_other, byte_in-with_byte_in_same}
 use Rattle.cs_model.specs.Ref.{Ref}
-use Rattle.cs_model.specs.Obj.{Method, Obj, Ptr, Raw, literal_count}
-use Rattle.cs_model.specs.Operation.{with_byte, with_hash, with_slot}
+use Rattle.cs_model.specs.Obj.{Head, Method, Obj, Ptr, Raw, fixed_to, literal_count}
+use Rattle.cs_model.specs.Operation.{with_byte, with_fixed, with_hash, with_slot}
 use Rattle.cs_classes.specs.Meaning.{code_in, context_of, method_header, is_heap_context, literal_words, method_meaning, obj_of, used_bytes, head_of}
 use Rattle.cs_classes.proofs.Sorts.{AContext, AMethod, Bytes, Pointers, Sort, not_pointers, obj_of-bytes, obj_of-context, obj_of-method, obj_of-pointers, sort_of}
 
@@ -169,3 +171,28 @@ obj_of-hash refer x h = go (sort_of x)
     go (Pointers o p) = obj_of-pointers refer y o p ∙ sym (ap (with_hash h) (obj_of-pointers refer x o p))
     go (AMethod o p m) = obj_of-method refer y o p m ∙ sym (ap (with_hash h) (obj_of-method refer x o p m))
     go (Bytes o p m) = obj_of-bytes refer y o p m ∙ sym (ap (with_hash h) (obj_of-bytes refer x o p m))
+
+-- ---- read-only objects
+
+-- the flags say what they were made to say
+immutable-set : (on : Bool) (n : ℕ) → ((n / 2 * 2 + (if on then 1 else 0)) % 2 == 1) ≡ on
+immutable-set true n = grind (arith, nat_tests)
+immutable-set false n = grind (arith, nat_tests)
+
+-- an object that is no context
+pub obj_of-fixed : (refer : ℕ → Ref) (x : Object) (on : Bool) → is_heap_context x ≡ false → obj_of refer (record x { flags = with_immutable on x.flags }) ≡ with_fixed on (obj_of refer x)
+unfolding obj_of method_meaning
+obj_of-fixed refer x on other = go (sort_of x)
+  where
+    y : Object
+    y = record x { flags = with_immutable on x.flags }
+
+    head : head_of y ≡ fixed_to on (head_of x)
+    head = ap (λ (b : Bool). record (head_of x) { fixed = b }) (immutable-set on (flag_bits x.flags))
+
+    go : Sort x → obj_of refer y ≡ with_fixed on (obj_of refer x)
+    go (AContext c) = absurd (false≢true (sym other ∙ c))
+    go (Pointers o p) = obj_of-pointers refer y o p ∙ ap (λ (h : Head). Ptr h (map refer x.words)) head ∙ sym (ap (with_fixed on) (obj_of-pointers refer x o p))
+    go (AMethod o p m) = obj_of-method refer y o p m ∙ ap (λ (h : Head). Method h (method_header x.words) (map refer (literal_words x.words)) (used_bytes x.format (code_in x.words))) head
+        ∙ sym (ap (with_fixed on) (obj_of-method refer x o p m))
+    go (Bytes o p m) = obj_of-bytes refer y o p m ∙ ap (λ (h : Head). Raw h (used_bytes x.format x.words)) head ∙ sym (ap (with_fixed on) (obj_of-bytes refer x o p m))

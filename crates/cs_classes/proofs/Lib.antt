@@ -11,3 +11,8 @@ pub mod Writes
 pub mod Makings
 pub mod Fields
 pub mod Counting
+pub mod Indices
+pub mod Plans
+pub mod Taking
+pub mod Instancing
+pub mod Coding

@@ -1,12 +1,13 @@
 -- A heap stays sound when an object changes in a sound way, or a sound one comes.
-use Rattle.std.proofs.Common.{◌≡◌, ℕ, zero, suc, drop, ◌-◌, ◌<◌, ◌≤◌, Bool, true, false, List, [], ◌∷◌, ◌++◌, length, Option, Some, None, option_map, refl, ap, subst, sym, ◌∙◌, arith, get_or, set, ◌⊎◌, inl, inr}
-use Rattle.std.specs.Prelude.{slice_get, slice_index, unwrap_or, ◌||◌, ◌==◌, is_some, IsTrue}
+use Rattle.std.proofs.Common.{◌≡◌, ℕ, zero, suc, drop, ◌+◌, ◌-◌, ◌*◌, ◌/◌, ◌<◌, ◌≤◌, Bool, true, false, List, [], ◌∷◌, ◌++◌, length, Option, Some, None, option_map, refl, ap, subst, sym, ◌∙◌, arith, get_or, set, ◌⊎◌, inl, inr}
+use Rattle.std.specs.Prelude.{slice_get, slice_index, unwrap_or, ◌||◌, ◌==◌, if◌then◌else◌, is_some, IsTrue}
 use Rattle.std.specs.List.{AllPass}
 use Rattle.std.proofs.lemmas.Bool.{cases_eq, false≢true}
 use Rattle.std.proofs.lemmas.Bool.Decides.{nat_tests}
 use Rattle.std.proofs.lemmas.List.{get_or-set_other, get_or-set_same, length-set}
 use Rattle.std.proofs.lemmas.List.Elements.{All-drop, All-set}
 use Rattle.std.proofs.lemmas.Option.{slice_get_within}
+use Rattle.cs_word.specs.Header.{flag_bits, with_immutable}
 use Rattle.cs_word.specs.Word.{natural_of_word}
 use Rattle.cs_heap.specs.Format.{is_code, is_pointers, format_allows}
 use Rattle.cs_heap.specs.Object.{Object, at_index, heap_object, set_word, with_object}
@@ -309,3 +310,19 @@ sound-hash os x h s = record {
   };
   method = λ m. let old = s.method m in record { header = old.header; valid = old.valid; literals = old.literals };
 }
+
+-- the mark of a read-only object, on an object that is no context
+pub sound-fixed : (os : List Object) (x : Object) (on : Bool) → IsSoundObject os x → is_heap_context x ≡ false → IsSoundObject os (record x { flags = with_immutable on x.flags })
+sound-fixed os x on s other = record {
+  kind = s.kind;
+  flags = still on (flag_bits x.flags) s.flags;
+  plain = s.plain;
+  shape = s.shape;
+  references = s.references;
+  context = λ c. absurd (false≢true (sym other ∙ c));
+  method = λ m. let old = s.method m in record { header = old.header; valid = old.valid; literals = old.literals };
+}
+  where
+    still : (on : Bool) (n : ℕ) → n < 2 → n / 2 * 2 + (if on then 1 else 0) < 2
+    still true n l = omega (arith, l)
+    still false n l = omega (arith, l)

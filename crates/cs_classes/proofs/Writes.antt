@@ -2,7 +2,7 @@
 --
 -- The premises are what the code knows of the object x at an address a: that it stands there, its sort, and that a word
 -- that is stored is a reference. Each law says that the heap is whole again, and what its kept parts are.
-use Rattle.std.proofs.Common.{◌≡◌, ℕ, pos, ◌+◌, ◌-◌, ◌*◌, ◌/◌, ◌%◌, ◌^◌, ◌<◌, ◌≤◌, true, false, List, length, take, set, Option, Some, refl, ap, subst, sym, ◌∙◌, arith, map, drop, option_map}
+use Rattle.std.proofs.Common.{◌≡◌, ℕ, pos, ◌+◌, ◌-◌, ◌*◌, ◌/◌, ◌%◌, ◌^◌, ◌<◌, ◌≤◌, Bool, true, false, List, length, take, set, Option, Some, refl, ap, subst, sym, ◌∙◌, arith, map, drop, option_map}
 use Rattle.std.specs.Prelude.{slice_index, unwrap_or, is_some, ◌==◌, ◌||◌, IsTrue}
 use Rattle.std.specs.Option.{option_map_or}
 use Rattle.std.specs.Ordering.{nat_cmp}
@@ -11,13 +11,14 @@ use Rattle.std.proofs.lemmas.Bool.{or_right}
 use Rattle.std.proofs.lemmas.Bool.Decides.{nat_tests}
 use Rattle.std.proofs.lemmas.List.{length-set}
 use Rattle.cs_word.specs.Word.{small_word, natural_of_word}
+use Rattle.cs_word.specs.Header.{with_immutable}
 use Rattle.cs_heap.specs.Format.{is_code, is_pointers}
-use Rattle.cs_heap.specs.Object.{Object, birth_at, class_at, format_at, hash_at, is_object, slot_count_of, heap_object, set_word, slot_of, byte_set, hash_set, with_object, slot_set}
+use Rattle.cs_heap.specs.Object.{Object, birth_at, class_at, format_at, hash_at, is_object, slot_count_of, heap_object, set_word, slot_of, byte_set, fixed_set, hash_set, with_object, slot_set}
 use Rattle.cs_heap.specs.Object as heap
 use Rattle.cs_model.specs.Ref.{Ref}
 use Rattle.cs_model.specs.Obj.{Context, Obj, edit_context, literal_count, popped, pushed, stored, with_pc, with_stack}
 use Rattle.cs_model.specs.State.{Kept}
-use Rattle.cs_model.specs.Operation.{edit_object, store_byte_of, store_of}
+use Rattle.cs_model.specs.Operation.{edit_object, set_fixed_of, store_byte_of, store_of}
 use Rattle.cs_model.specs.Operation as operation
 use Rattle.cs_classes.specs.declared.Roots.{Roots}
 use Rattle.cs_classes.specs.Meaning.{context_of, depth_in, method_header, is_heap_context, kept_of, obj_of, objects_of, ref_of}
@@ -25,9 +26,9 @@ use Rattle.cs_classes.specs.Sound.{IsSoundObject, IsWhole, is_reference, is_send
 use Rattle.cs_classes.proofs.Heaps.{IsEdit, is_object-object_at, object_there, set_word-IsEdit, with_object-twice}
 use Rattle.cs_classes.proofs.Objects.{get-objects_of}
 use Rattle.cs_classes.proofs.Refs.{count_of-small, is_nil_or_closure, is_nil_or_method, is_reference-small, ref_of-object, small_natural}
-use Rattle.cs_classes.proofs.Edits.{obj_of-hash, obj_of-set_byte, obj_of-set_code, obj_of-set_literal, obj_of-set_word}
+use Rattle.cs_classes.proofs.Edits.{obj_of-fixed, obj_of-hash, obj_of-set_byte, obj_of-set_code, obj_of-set_literal, obj_of-set_word}
 use Rattle.cs_classes.proofs.Contexts.{context_of-closure, context_of-lower, context_of-method, context_of-pc, context_of-push, context_of-receiver, context_of-sender, context_of-stack, context_of-stackp, depth_is, obj_of-edit_context}
-use Rattle.cs_classes.proofs.Sounds.{IsContextWrite, method_other, sound-hash, sound-set_bytes, sound-set_code, sound-set_context, sound-set_literal, sound-set_slot, sound_at, whole_context}
+use Rattle.cs_classes.proofs.Sounds.{IsContextWrite, method_other, sound-fixed, sound-hash, sound-set_bytes, sound-set_code, sound-set_context, sound-set_literal, sound-set_slot, sound_at, whole_context}
 use Rattle.cs_classes.proofs.Wholes.{HashFits, kept_of-with_object, no_entry, whole-with_hash}
 
 -- a write: the heap is whole again, and its kept parts are those that g makes
@@ -144,6 +145,15 @@ module _ {os : List Object} {table : FinMap nat_cmp ℕ} {roots : Roots} {a : �
   -- an object that has no hash yet may take any
   pub does-first_hash : (hash : ℕ) → x.hash ≡ 0 → Does os (hash_set os a hash) table roots (λ k. edit_object k (ref_of os a) (operation.with_hash hash))
   does-first_hash hash none = does-set_hash hash (λ index e three. absurd (no_entry os table roots a x h.whole h.there none index e))
+
+  -- ---- read-only objects
+
+  pub does-set_fixed : (on : Bool) → is_heap_context x ≡ false → Does os (fixed_set os a on) table roots (λ k. set_fixed_of k (ref_of os a) on)
+  unfolding set_fixed_of
+  does-set_fixed on other =
+      does-edit (λ (y : Object). record y { flags = with_immutable on y.flags }) (operation.with_fixed on)
+      (record { slots = λ (y : Object). refl; birth = λ (y : Object). refl; class = λ (y : Object). refl; format = λ (y : Object). refl })
+      refl (sound-fixed os x on sound_object other) (obj_of-fixed (ref_of os) x on other)
 
   -- ---- contexts
 

@@ -3,3 +3,5 @@ pub mod Meaning
 pub mod Sound
 pub mod Senders
 pub mod Kinds
+pub mod Instances
+pub mod Methods

@@ -1,15 +1,15 @@
 -- What a heap means: the words of its objects as references, its objects as objects of the model, and with a class table
 -- and the roots the kept parts of a state.
-use Rattle.std.specs.Prelude.{ℕ, pos, ◌+◌, ◌-◌, ◌*◌, ◌==◌, Bool, if◌then◌else◌, nat_le, List, [], ◌∷◌, ◌++◌, length, map, take, drop, replicate, slice_index, slice_get, Option, None, unwrap_or, option_map}
+use Rattle.std.specs.Prelude.{ℕ, pos, ◌+◌, ◌-◌, ◌*◌, ◌==◌, Bool, if◌then◌else◌, List, ◌++◌, length, map, take, drop, replicate, slice_index, slice_get, Option, None, unwrap_or, option_map}
 use Rattle.std.specs.Option.{option_map_or}
 use Rattle.std.specs.Ordering.{nat_cmp}
 use Rattle.std.specs.FinMap.{FinMap, from_entries, entries}
-use Rattle.cs_model.specs.Words.{byte_in, unused_units, unused_bytes, bytes_of_words}
+use Rattle.cs_model.specs.Words.{unused_bytes, bytes_of_words}
 use Rattle.cs_word.specs.declared.Kind.{Kind}
 use Rattle.cs_word.specs.declared.Kind.TheVariants as kind
 use Rattle.cs_word.specs.Word.{kind_of, natural_of_word}
 use Rattle.cs_heap.specs.Format.{is_pointers, is_code}
-use Rattle.cs_heap.specs.Object.{Object, birth_at, heap_object}
+use Rattle.cs_heap.specs.Object.{Object, birth_at, format_at, heap_object, slot_of}
 use Rattle.cs_model.specs.Ref.{Ref}
 use Rattle.cs_model.specs.Ref as ref
 use Rattle.cs_word.specs.Header.{is_immutable}
@@ -57,6 +57,11 @@ context_of refer hash words = record {
 -- the header of a method, its first slot
 abbrev pub method_header : List ℕ → ℕ
 method_header words = unwrap_or (natural_of_word (slice_index words 0)) 0
+
+-- the first byte of an object that is none of a method's header and literals
+abbrev pub first_byte_at : List Object → ℕ → ℕ
+first_byte_at objects address =
+    if is_code (format_at objects address) then 4 * (1 + literal_count (unwrap_or (natural_of_word (slot_of objects address 0)) 0)) else 0
 
 -- the literals of a method stand behind its header
 abbrev pub literal_words : List ℕ → List ℕ

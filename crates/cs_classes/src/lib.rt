@@ -9,7 +9,10 @@
 
 ghost use Rattle.std.specs.Prelude.{◌≡◌, ℕ, ◌<◌, ◌≤◌, IfOk, None, option_map};
 ghost use Rattle.std.specs.FinMap.{empty, get, insert};
+ghost use Rattle.cs_model.specs.Instance.{next_hash};
 
+mod instances;
+mod methods;
 pub mod slots;
 mod words;
 
@@ -17,7 +20,8 @@ use cs_heap::Heap;
 use cs_word::Oop;
 use std::alloc::{AllocError, Global};
 use std::marker::Model;
-pub use words::{is_context, method_header};
+pub use methods::add_method;
+pub use words::{first_byte, has_slots, is_context, method_header};
 
 /// The class index of contexts.
 pub const CONTEXT_CLASS: u32 = 36;
@@ -28,8 +32,20 @@ pub const CLOSURE_CLASS: u32 = 37;
 /// The format of objects that have named slots and others behind them, as contexts and closures are.
 pub const FIELDS_AND_INDICES: u8 = 3;
 
+/// The formats below this one are those of pointer objects.
+pub const POINTERS_END: u8 = 6;
+
+/// The formats of methods are those from this one on ..
+pub const METHODS_BEGIN: u8 = 24;
+
+/// .. and below this one.
+pub const METHODS_END: u8 = 28;
+
 /// How many entries a class table has: one for each class index below it.
 pub const ENTRIES: u32 = 16384;
+
+/// How many identity hashes there are, 0 included, which is none.
+const HASHES: u32 = 1 << 22;
 
 /// The class table.
 ///
@@ -69,6 +85,18 @@ pub struct Roots {
     pub header: [u8; 64],
 }
 
+impl Roots {
+    /// The identity hash behind the last one that was given: one more modulo 2^22, where 0 is skipped.
+    pub fn next_hash(&self) -> u32
+        requires { self.now.last_hash < 4194304 }
+        ensures value { result ≡ next_hash self.now.last_hash }
+        ensures below { result < 4194304 }
+    {
+        let next = (self.last_hash + 1) % HASHES;
+        if next == 0 { 1 } else { next }
+    }
+}
+
 /// An image in memory.
 #[derive(Drop)]
 pub struct Loaded {
@@ -78,6 +106,17 @@ pub struct Loaded {
     pub classes: Classes,
     /// What it keeps beside these.
     pub roots: Roots,
+}
+
+/// Why a class makes no instance.
+#[derive(Clone, Copy, PartialEq, Eq, Debug)]
+pub enum NewError {
+    /// The class can't be instantiated with this size.
+    NotInstantiable,
+    /// The class has no index yet, and none is free.
+    TableFull,
+    /// The heap has no room for the instance.
+    HeapFull,
 }
 
 impl Classes {

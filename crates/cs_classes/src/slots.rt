@@ -35,6 +35,13 @@ pub const ARGUMENT_COUNT: u32 = 2;
 /// The slot of a closure from which on its copied values stand. It has so many named slots.
 pub const FIRST_COPIED: u32 = 3;
 
+/// The slot of a class that says of what format its instances are and how many fields they have, by the number
+/// `format * 65536 + fields`.
+pub const INSTANCE_SHAPE: u32 = 2;
+
+/// How many slots a class has at least.
+pub const CLASS_SLOTS: u32 = 3;
+
 /// The slot of a process that holds its context while it doesn't run.
 pub const SUSPENDED_CONTEXT: u32 = 1;
 

@@ -1,14 +1,16 @@
 -- What is read of a context by its address.
-use Rattle.std.proofs.Common.{IsSome, IfSome, ◌≡◌, ℕ, ◌-◌, ◌<◌, Bool, true, false, refl, sym, ap, ap₂, subst, ◌∙◌, Option, Some, None, is_some, unwrap_or, List, length, option_and_then, arith}
+use Rattle.std.proofs.Common.{IsSome, IfSome, ◌≡◌, ℕ, ◌+◌, ◌-◌, ◌<◌, ◌≤◌, drop, get_or, length-drop, length-take, map, option_map, take, Bool, true, false, refl, sym, ap, ap₂, subst, ◌∙◌, Option, Some, None, is_some, unwrap_or, List, length, option_and_then, arith}
 use Rattle.std.specs.Prelude.{◌==◌, ◌&&◌, if◌then◌else◌, not, nat_le, nat_lt, slice_get, slice_index}
 use Rattle.std.specs.Option.{option_map_or}
 use Rattle.std.proofs.lemmas.Bool.Decides.{nat_tests}
+use Rattle.std.proofs.lemmas.List.{get_or-drop, get_or-take}
+use Rattle.std.proofs.lemmas.Option.{slice_get-get_or, slice_get-map}
 use Rattle.cs_word.specs.declared.Oop.{Oop}
 use Rattle.cs_word.specs.declared.Kind.{Kind}
 use Rattle.cs_word.specs.declared.Kind.TheVariants as kind
 use Rattle.cs_word.specs.Word.{kind_of, natural_of_word}
 use Rattle.cs_heap.specs.Object.{Object, birth_at, class_at, object_place, is_object, heap_object, slot_count_of, slot_of}
-use Rattle.cs_classes.specs.Meaning.{context_of, is_heap_context, obj_of, ref_of, ref_of_kind}
+use Rattle.cs_classes.specs.Meaning.{context_of, depth_in, is_heap_context, obj_of, ref_of, ref_of_kind}
 use Rattle.cs_classes.specs.Sound.{is_reference, is_reference_kind}
 use Rattle.cs_classes.proofs.Contexts.{depth_is}
 use Rattle.cs_classes.proofs.Heaps.{birth_of-object_at, object_there}
@@ -25,12 +27,14 @@ use Rattle.cs_model.specs.Return.{closure_at, closure_in, context_birth, has_roo
 use Rattle.cs_acts.specs.Names.{Names, name_of}
 use Rattle.cs_acts.specs.Reading.{is_context_word, object_of_kind}
 use Rattle.cs_acts.specs.Ready.{IsSound}
-use Rattle.cs_acts.specs.Targets.{method_in}
+use Rattle.cs_acts.specs.Targets.{method_in, pc_in, stack_in}
+use Rattle.cs_acts.specs.Layout.{depth_if}
 use Rattle.cs_acts.proofs.Named.{Nowhere, Place, There, place}
 use Rattle.cs_plain.specs.declared.PlainWorld.{PlainWorld}
 use Rattle.cs_plain.specs.View.{oop_birth, plain_birth, plain_stored, plain_view}
 use Rattle.cs_plain.proofs.Active as active
 use Rattle.cs_plain.proofs.Active.{meaning_there}
+use Rattle.cs_plain.proofs.Slots.{slots_at_most}
 use Rattle.cs_plain.proofs.Storing.{kind_address, no_context}
 
 -- the context at an address is the object x of the heap
@@ -79,6 +83,13 @@ module _ {w : PlainWorld} {a : Oop} {x : Object} (sound : IsSound (plain_stored 
   pub of_birth : (P : ℕ → Type 0) → P x.birth → IfSome (oop_birth w.heap.objects a) P
   of_birth P h = subst (λ o. IfSome o P) (sym at.birth) h
 
+  -- and the other way round
+  pub at_birth : (P : ℕ → Type 0) → IfSome (oop_birth w.heap.objects a) P → P x.birth
+  at_birth P h = subst (λ o. IfSome o P) at.birth h
+
+  pub few_words : length x.words ≤ 62
+  few_words = slots_at_most (length x.words) ((sound_at w.heap.objects a.0 x sound.holds.whole.heap at.there).context at.context).slots
+
   pub context_is : context_in (state.object_at (plain_view w) x.birth) ≡ Some context
   context_is = ap context_in at.means
 
@@ -113,6 +124,36 @@ module _ {w : PlainWorld} {a : Oop} {x : Object} (sound : IsSound (plain_stored 
     where
       below : (d n : ℕ) → not (nat_le n d) ≡ nat_lt d n
       below d n = grind (arith, nat_tests)
+
+  pub pc_read : natural_of_word (slot_of w.heap.objects a.0 1) ≡ pc_in (context_in (state.object_at (plain_view w) x.birth))
+  unfolding context_of
+  pc_read = ap natural_of_word (at.slot 1) ∙ sym (ap pc_in context_is)
+
+  pub depth_told : unwrap_or (natural_of_word (slot_of w.heap.objects a.0 2)) 0 ≡ depth_if (context_in (state.object_at (plain_view w) x.birth))
+  depth_told = depth_read ∙ sym (ap depth_if context_is)
+
+  -- a value of the stack is a word behind the fields
+  pub stack_within : (i : ℕ) → i < depth_if (context_in (state.object_at (plain_view w) x.birth)) → 6 + i < length x.words
+  stack_within i less =
+      let deep : depth_in x.words ≡ length context.stack = ap (λ n. unwrap_or (natural_of_word n) 0) (sym (at.slot 2)) ∙ depth_read in
+      omega (arith, less, ap depth_if context_is, deep, at.whole.depth, at.whole.fields)
+
+  pub stack_read : (v : Oop) (i : ℕ) (d : Ref) → i < depth_if (context_in (state.object_at (plain_view w) x.birth)) → v.0 ≡ slot_of w.heap.objects a.0 (6 + i)
+      → Names (plain_stored w) v (unwrap_or (slice_get (stack_in (context_in (state.object_at (plain_view w) x.birth))) i) d)
+  unfolding context_of
+  stack_read v i d less read =
+      let words : List ℕ = take (depth_in x.words) (drop 6 x.words) in
+      let word : v.0 ≡ slice_index x.words (6 + i) = read ∙ at.slot (6 + i) in
+      let deep : depth_in x.words ≡ length context.stack = ap (λ n. unwrap_or (natural_of_word n) 0) (sym (at.slot 2)) ∙ depth_read in
+      let low : i < depth_in x.words = omega (arith, less, ap depth_if context_is, deep) in
+      let few : i < length words = omega (arith, low, at.whole.depth, length-take (depth_in x.words) (drop 6 x.words), length-drop 6 x.words) in
+      let value : get_or words i 0 ≡ slice_index x.words (6 + i) = get_or-take (depth_in x.words) (drop 6 x.words) i 0 low ∙ get_or-drop 6 x.words i 0 in
+      record {
+        sound = ap (is_reference w.heap.objects) word ∙ at.named (6 + i) (stack_within i less);
+        is = ap (ref_of w.heap.objects) word
+            ∙ sym (ap (λ o. unwrap_or (slice_get (stack_in o) i) d) context_is
+            ∙ ap (λ o. unwrap_or o d) (slice_get-map (ref_of w.heap.objects) words i ∙ ap (option_map (ref_of w.heap.objects)) (slice_get-get_or words i 0 few ∙ ap (λ n. Some n) value)));
+      }
 
 -- ---- senders
 

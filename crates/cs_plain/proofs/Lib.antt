@@ -19,3 +19,5 @@ mod Entering
 mod Block
 mod Asking
 mod Allocating
+mod Editing
+mod Heads

@@ -23,7 +23,7 @@ use Rattle.cs_plain.specs.declared.PlainWorld.{PlainWorld}
 use Rattle.cs_plain.specs.View.{plain_stored, plain_view}
 use Rattle.cs_plain.proofs.Active.{Active, word_named}
 
-slots_at_most : (n : ℕ) → (n == 22 || n == 62) ≡ true → n ≤ 62
+pub slots_at_most : (n : ℕ) → (n == 22 || n == 62) ≡ true → n ≤ 62
 slots_at_most n h = grind (arith, nat_tests)
 
 module _ {w : PlainWorld} {a : Oop} {x : Object} (ready : IsReady (plain_stored w) (plain_view w)) (active : Active w a x) where

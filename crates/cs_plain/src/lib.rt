@@ -18,7 +18,9 @@ use cs_classes::slots::{
     CLOSURE, FIRST_COPIED, FIRST_STACK, METHOD, OUTER_CONTEXT, PC, PROCESS_SLOTS, RECEIVER, SENDER,
     STACK_POINTER, START_PC, SUSPENDED_CONTEXT,
 };
-use cs_classes::{CONTEXT_CLASS, Classes, FIELDS_AND_INDICES, is_context, method_header};
+use cs_classes::{
+    CONTEXT_CLASS, Classes, FIELDS_AND_INDICES, NewError, first_byte, is_context, method_header,
+};
 use cs_heap::{BASE, Heap};
 use cs_word::{MethodHeader, Oop};
 use std::alloc::{AllocError, Global};
@@ -384,6 +386,31 @@ impl World for PlainWorld {
         }
     }
 
+    fn act_pc(&self, a: Act) -> Option<u32> {
+        match a {
+            Act::Context(context) => self.heap.slot(context, PC).natural(),
+            _ => unreachable!(),
+        }
+    }
+
+    fn act_depth(&self, a: Act) -> u32 {
+        match a {
+            Act::Context(context) => self
+                .heap
+                .slot(context, STACK_POINTER)
+                .natural()
+                .unwrap_or(0),
+            _ => unreachable!(),
+        }
+    }
+
+    fn act_stack(&self, a: Act, i: u32) -> Oop {
+        match a {
+            Act::Context(context) => self.heap.slot(context, FIRST_STACK + i),
+            _ => unreachable!(),
+        }
+    }
+
     fn sender_act(&self, a: Act) -> Act {
         match a {
             Act::Context(context) => {
@@ -446,6 +473,26 @@ impl World for PlainWorld {
         self.heap.set_slot(o, i, v);
     }
 
+    fn store_byte(&mut self, o: Oop, i: u32, b: u8) {
+        let first = first_byte(&self.heap, o);
+        self.heap.set_byte(o, first + i, b);
+    }
+
+    fn hash_of(&mut self, o: Oop) -> u32 {
+        let hash = self.heap.hash(o);
+        if hash != 0 {
+            return hash;
+        }
+        let given = self.roots.next_hash();
+        self.roots.last_hash = given;
+        self.heap.set_hash(o, given);
+        given
+    }
+
+    fn set_fixed(&mut self, o: Oop, on: bool) {
+        self.heap.set_fixed(o, on);
+    }
+
     fn push(&mut self, v: Oop) {
         let context = self.active_context();
         let depth = self.depth();
@@ -497,6 +544,23 @@ impl World for PlainWorld {
             }
             Err(_) => Err(Full::Heap),
         }
+    }
+
+    fn new_method(&mut self, class: u32, header: MethodHeader, count: u32) -> Result<Oop, Full> {
+        unreachable!()
+    }
+
+    fn instantiate(&mut self, class: Oop, size: u32) -> Result<Oop, NewError> {
+        let birth = self.roots.next_birth;
+        let object = self
+            .classes
+            .instantiate(&mut self.heap, class, size, birth)?;
+        self.roots.next_birth = birth + 1;
+        Ok(object)
+    }
+
+    fn behavior_hash(&mut self, class: Oop) -> Result<u32, NewError> {
+        self.classes.behavior_hash(&mut self.heap, class)
     }
 
     fn enter(&mut self, method: Oop, args: u32, skip: bool) -> Result<(), Full> {
