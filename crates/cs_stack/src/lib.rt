@@ -19,12 +19,12 @@ mod parts;
 
 use cs_acts::read::{active_process, nil, same, slot};
 use cs_acts::{Act, Full, Loaded, Roots, World};
-use cs_classes::{Classes, NewError};
+use cs_classes::Classes;
 use cs_classes::slots::{PROCESS_SLOTS, SUSPENDED_CONTEXT};
 use cs_frame::Frames;
 use cs_heap::Heap;
 use cs_pages::Pages;
-use cs_word::{MethodHeader, Oop};
+use cs_word::Oop;
 pub use parts::Parts;
 use std::alloc::{AllocError, Global};
 use std::marker::Model;
@@ -298,18 +298,6 @@ impl World for StackWorld {
 
     fn allocate(&mut self, class: u32, format: u8, slots: u32) -> Result<Oop, Full> {
         self.parts.allocate(class, format, slots)
-    }
-
-    fn new_method(&mut self, class: u32, header: MethodHeader, count: u32) -> Result<Oop, Full> {
-        self.parts.new_method(class, header, count)
-    }
-
-    fn instantiate(&mut self, class: Oop, size: u32) -> Result<Oop, NewError> {
-        Err(NewError::HeapFull)
-    }
-
-    fn behavior_hash(&mut self, class: Oop) -> Result<u32, NewError> {
-        Err(NewError::HeapFull)
     }
 
     fn enter(&mut self, method: Oop, args: u32, skip: bool) -> Result<(), Full> {
