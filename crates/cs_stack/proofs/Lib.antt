@@ -44,6 +44,8 @@ pub mod Depths
 pub mod Altering
 pub mod Bytes
 pub mod Hashes
+pub mod Pushing
+pub mod NewMethods
 pub mod CutWays
 pub mod CutStates
 pub mod CutSteps

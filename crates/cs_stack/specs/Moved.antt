@@ -1,7 +1,7 @@
 -- What entering and leaving make of the parts.
-use Rattle.std.specs.Prelude.{◌≡◌, ◌≢◌, ◌⊎◌, ℕ, ◌+◌, ◌-◌, ◌*◌, ◌<◌, ◌≤◌, ◌||◌, Bool, true, if◌then◌else◌, List, [], ◌∷◌, ◌++◌, length, take, drop, replicate, slice_index, Option, Some, None, option_and_then}
+use Rattle.std.specs.Prelude.{pos, ◌≡◌, ◌≢◌, ◌⊎◌, ℕ, ◌+◌, ◌-◌, ◌*◌, ◌<◌, ◌≤◌, ◌||◌, Bool, true, if◌then◌else◌, List, [], ◌∷◌, ◌++◌, length, take, drop, replicate, slice_index, Option, Some, None, option_and_then}
 use Rattle.std.specs.Option.{option_map_or}
-use Rattle.cs_word.specs.Word.{natural_of_word}
+use Rattle.cs_word.specs.Word.{natural_of_word, small_word}
 use Rattle.cs_word.specs.declared.Oop.{Oop}
 use Rattle.cs_heap.specs.Object.{Object, format_at, heap_object, with_object, words_at}
 use Rattle.cs_heap.specs.Format.{is_code}
@@ -161,3 +161,9 @@ IsContextOf w r a = ((frame w.frames r).context ≡ a) × (a ≢ nil)
 -- where the bytes of the object at an address begin: those of a method behind its header and its literals
 abbrev pub first_byte : List Object → ℕ → ℕ
 first_byte os a = if is_code (format_at os a) then 4 * (1 + literal_count (header_at os a)) else 0
+
+-- ---- a new method
+
+-- a method with this header, whose literals are nil
+abbrev pub headed : ℕ → Object → Object
+headed header x = record x { words = small_word (pos header) ∷ (replicate (literal_count header) nil ++ drop (1 + literal_count header) x.words) }

@@ -24,7 +24,7 @@ use cs_classes::slots::{PROCESS_SLOTS, SUSPENDED_CONTEXT};
 use cs_frame::Frames;
 use cs_heap::Heap;
 use cs_pages::Pages;
-use cs_word::Oop;
+use cs_word::{MethodHeader, Oop};
 pub use parts::Parts;
 use std::alloc::{AllocError, Global};
 use std::marker::Model;
@@ -298,6 +298,10 @@ impl World for StackWorld {
 
     fn allocate(&mut self, class: u32, format: u8, slots: u32) -> Result<Oop, Full> {
         self.parts.allocate(class, format, slots)
+    }
+
+    fn new_method(&mut self, class: u32, header: MethodHeader, count: u32) -> Result<Oop, Full> {
+        self.parts.new_method(class, header, count)
     }
 
     fn enter(&mut self, method: Oop, args: u32, skip: bool) -> Result<(), Full> {

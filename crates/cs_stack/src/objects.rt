@@ -1,20 +1,28 @@
-//! How objects are written that are no contexts, and how any object gets its hash.
-ghost use Rattle.std.specs.Prelude.{◌≡◌, ◌<◌, true, IsSome};
-ghost use Rattle.cs_heap.specs.Object.{is_object};
+//! How objects are written and made that are no contexts, and how any object gets its hash.
+ghost use Rattle.std.specs.Prelude.{◌≡◌, ◌<◌, false, true, IsSome, IfErr, IfOk, OnErr, OnOk};
+ghost use Rattle.cs_heap.specs.Object.{is_object, is_watched, size, slot_count_of, with_object};
+ghost use Rattle.cs_model.specs.Obj.{is_header, literal_count};
 ghost use Rattle.cs_model.specs.Instance.{hash_given, hash_of, next_hash};
-ghost use Rattle.cs_model.specs.Operation.{set_fixed_of, store_byte_of};
-ghost use Rattle.cs_model.specs.PrimObject.{can_be_fixed};
+ghost use Rattle.cs_model.specs.Operation.{add_of, next_ref, set_fixed_of, store_byte_of};
+ghost use Rattle.cs_model.specs.PrimObject.{blank_method, can_be_fixed};
 ghost use Rattle.cs_model.specs.State.{object_of};
-ghost use Rattle.cs_acts.specs.Made.{MakesAtMost};
-ghost use Rattle.cs_acts.specs.Names.{IsNamed, KeepsNames, name_of};
+ghost use Rattle.cs_acts.specs.declared.act.Full.TheVariants as full;
+ghost use Rattle.cs_acts.specs.Full.{CausesFull};
+ghost use Rattle.cs_acts.specs.Made.{CanMakeMethod, MakesAtMost, code_words};
+ghost use Rattle.cs_acts.specs.Names.{IsNamed, KeepsNames, Names, name_of};
 ghost use Rattle.cs_acts.specs.Ready.{byte_count};
 ghost use Rattle.cs_stack.specs.Good.{IsGood};
-ghost use Rattle.cs_stack.specs.Moved.{first_byte};
+ghost use Rattle.cs_stack.specs.Moved.{first_byte, headed};
 ghost use Rattle.cs_stack.specs.View.{layout_of, stored_of, view_of};
 
-use crate::parts::Parts;
+use crate::parts::{NIL, Parts};
+use cs_acts::Full;
 use cs_classes::method_header;
-use cs_word::Oop;
+use cs_heap::Heap;
+use cs_word::{MethodHeader, Oop};
+
+/// The format of a method whose last slot ends with its bytecodes. Up to three more say how many bytes are unused.
+const METHOD_FORMAT: u8 = 24;
 
 /// Hashes are below this.
 const HASHES: u32 = 4_194_304;
@@ -86,6 +94,57 @@ impl Parts {
         self.roots.last_hash = hash;
         hash
     }
+
+    /// Makes a method of this class index and header, with nil for its literals and so many bytecode bytes of 0.
+    pub(crate) fn new_method(
+        &mut self,
+        class: u32,
+        header: MethodHeader,
+        count: u32,
+    ) -> Result<Oop, Full>
+        requires good { IsGood self.old }
+        requires fits { CanMakeMethod (view_of self.old) class header.0 count }
+        ensures good { IsGood self.new }
+        ensures view { OnOk result (view_of self.new ≡ add_of (view_of self.old)
+            (blank_method (view_of self.old) class count header.0)) }
+        ensures value { IfOk result (λ o. Names (stored_of self.new) o (next_ref (view_of self.old))) }
+        ensures layout { layout_of self.new ≡ layout_of self.old }
+        ensures limit { self.new.heap.limit ≡ self.old.heap.limit }
+        ensures contexts { MakesAtMost 0 (layout_of self.old) (stored_of self.old) (stored_of self.new) }
+        ensures refused { OnErr result (self.new ≡ self.old) }
+        ensures names { OnOk result (KeepsNames (stored_of self.old) (stored_of self.new)) }
+        ensures full { IfErr result (λ why. (why ≡ full.Heap) × CausesFull (stored_of self.new) (layout_of self.old)
+            (view_of self.old) (size (code_words header.0 count)) (add_of (view_of self.old)
+            (blank_method (view_of self.old) class count header.0)) why) }
+    {
+        // for what its clauses say: no class index from there on has an entry
+        let _entries = self.classes.len();
+        let birth = self.roots.next_birth;
+        let end = u64::from(count) + 3;
+        let slots = 1 + header.literals() + (end / 4) as u32;
+        let format = METHOD_FORMAT + 3 - (end % 4) as u8;
+        match self.heap.allocate(class, format, slots, birth) {
+            Ok(method) => {
+                write_header(&mut self.heap, method, header);
+                self.roots.next_birth = birth + 1;
+                Ok(method)
+            }
+            Err(_) => Err(Full::Heap),
+        }
+    }
+}
+
+/// Writes the header of a method, which isn't watched, and nil to each of its literals.
+fn write_header(heap: &mut Heap, method: Oop, header: MethodHeader)
+    requires valid { is_header header.0 ≡ true }
+    requires slots { literal_count header.0 < slot_count_of heap.old.objects method.0 }
+    requires unwatched { is_watched heap.old method.0 ≡ false }
+    ensures heap { heap.new ≡ record heap.old { objects = with_object heap.old.objects method.0 (headed header.0) } }
+{
+    for i in 0..header.literals() {
+        heap.set_slot(method, i + 1, NIL);
+    }
+    heap.set_slot(method, 0, Oop::from_natural(header.0));
 }
 
 /// The hash behind the last one that was given. Where they are used up they begin anew at 1.
