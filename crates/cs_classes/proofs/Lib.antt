@@ -8,6 +8,7 @@ pub mod Contexts
 pub mod Sounds
 pub mod Wholes
 pub mod Writes
+pub mod Fixing
 pub mod Makings
 pub mod Fields
 pub mod Counting

@@ -112,7 +112,7 @@ module _ {os : List Object} {table : FinMap nat_cmp ℕ} {roots : Roots} (w : Is
   bits_plain : (n : ℕ) → is_pointers n ≡ false → is_weak n ≡ false
   bits_plain n h = grind (arith, nat_tests)
 
-  zero_bytes : (n : ℕ) → bytes_of_words (replicate n 0) ≡ replicate (4 * n) 0
+  pub zero_bytes : (n : ℕ) → bytes_of_words (replicate n 0) ≡ replicate (4 * n) 0
   unfolding bytes_of_words
   zero_bytes zero = refl
   zero_bytes (suc n) = ap (λ (rest : List ℕ). 0 ∷ 0 ∷ 0 ∷ 0 ∷ rest) (zero_bytes n) ∙ ap (λ (m : ℕ). replicate m 0) (later n)

@@ -216,7 +216,7 @@ married_body a (q ∷ qs) h = go (λ m. married_body a qs m) (has_context a q) r
 -- ---- a context of the heap that no frame hides
 
 -- a frame that has the birth of an object has that object for a context
-body_by_birth : {f : Frame} {gs : List Frame} (w : Parts) (a p : ℕ) (x : Object) → IsGood w → heap_object w.heap.objects a ≡ Some x → IsOn f gs (frames_of w.frames p) → x.birth ≡ f.birth → f.context ≡ a
+pub body_by_birth : {f : Frame} {gs : List Frame} (w : Parts) (a p : ℕ) (x : Object) → IsGood w → heap_object w.heap.objects a ≡ Some x → IsOn f gs (frames_of w.frames p) → x.birth ≡ f.birth → f.context ≡ a
 body_by_birth {f = f} {gs = gs} w a p x good there on same =
     let os = w.heap.objects in
     let fit : FrameFits os w.roots.next_birth f gs = fits_on os w.roots.next_birth on (good.frames p) in

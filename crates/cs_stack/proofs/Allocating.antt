@@ -208,7 +208,7 @@ blank_same k m class format slots keeps = go (is_pointers format)
     go true = new_pointers_same keeps class format slots
     go false = same (blank_by false k) tt
 
-rest-add : (k : Kept) (o : Obj) → (add_of k o).rest.active ≡ k.rest.active
+pub rest-add : (k : Kept) (o : Obj) → (add_of k o).rest.active ≡ k.rest.active
 unfolding add_of
 rest-add k o = refl
 

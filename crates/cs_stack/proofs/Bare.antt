@@ -199,7 +199,7 @@ dead_sound os x first nil_is sound c =
     (write_stackp os (set_word 1 nil (set_word 0 nil x)) (small_word (pos 0)) (is_reference-small os (pos 0) (small_natural 0 (omega arith)))
     (or_right (small_word (pos 0) == nil_word os) (is_some (natural_of_word (small_word (pos 0)))) (ap is_some none)) (omega (arith, ap (λ o. unwrap_or o 0) none)))
 
-linked_context : (x : Object) → is_linked x ≡ true → is_heap_context x ≡ true
+pub linked_context : (x : Object) → is_linked x ≡ true → is_heap_context x ≡ true
 linked_context x h = go (is_heap_context x) refl h
   where
     go : (b : Bool) → is_heap_context x ≡ b → (b && names_place (slice_index x.words 0)) ≡ true → is_heap_context x ≡ true

@@ -128,7 +128,7 @@ some_within {A = A} xs k h = go (slice_get xs k) refl h
     go None e s = absurd (cc)
     go (Some x) e s = slice_get_within xs k x e
 
-mapped_at : (g : ℕ → Ref) (xs : List ℕ) (k : ℕ) → k < length xs → slice_get (map g xs) k ≡ Some (g (slice_index xs k))
+pub mapped_at : (g : ℕ → Ref) (xs : List ℕ) (k : ℕ) → k < length xs → slice_get (map g xs) k ≡ Some (g (slice_index xs k))
 mapped_at g xs k l = slice_get-map g xs k ∙ ap (option_map g) (slice_get-get_or xs k 0 l)
 
 -- a field of what a reference names, by the birth of that
@@ -259,7 +259,7 @@ module _ {w : Parts} {a : ℕ} (good : IsGood w) (c : ContextAct w a) (o : Oop) 
     | inr h ↦ omega (arith, h, word_value_within i h some, stack_counted c, depth_kept c.x c.whole.fields c.links, c.whole.depth, c.whole.fields)
   ]
 
-  stack_at : (i : ℕ) → 6 ≤ i → i - 6 < length context.stack → slice_get context.stack (i - 6) ≡ Some (ref_of w.heap.objects (slice_index words i))
+  pub stack_at : (i : ℕ) → 6 ≤ i → i - 6 < length context.stack → slice_get context.stack (i - 6) ≡ Some (ref_of w.heap.objects (slice_index words i))
   unfolding context_of
   stack_at i h l =
       let depth : i - 6 < depth_in words = omega (arith, l, stack_counted c) in

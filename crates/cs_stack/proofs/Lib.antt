@@ -40,6 +40,12 @@ pub mod Marrying
 pub mod Grown
 pub mod Allocating
 pub mod Fields
+pub mod Depths
+pub mod Altering
+pub mod Bytes
+pub mod Hashes
+pub mod Pushing
+pub mod NewMethods
 pub mod CutWays
 pub mod CutStates
 pub mod CutSteps

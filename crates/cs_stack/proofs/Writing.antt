@@ -1,13 +1,17 @@
 -- The writes of a world, each as its operation on every state that the world keeps.
-use Rattle.std.proofs.Common.{◌≡◌, ℕ, refl, sym, ap, subst, ◌∙◌, Option, Some, None}
+use Rattle.std.proofs.Common.{◌≡◌, ℕ, Bool, true, false, refl, sym, ap, subst, ◌∙◌, Option, Some, None}
+use Rattle.std.specs.Prelude.{◌==◌, if◌then◌else◌}
 use Rattle.cs_word.specs.declared.Oop.{Oop}
 use Rattle.cs_model.specs.Ref.{Ref}
 use Rattle.cs_model.specs.Obj.{Obj}
-use Rattle.cs_model.specs.Operation.{drop_of, edit_at, edit_found, edit_object, push_of, set_pc_of, set_stack_of, store_of}
-use Rattle.cs_model.specs.State.{IsHeld, Kept, object_at, put}
+use Rattle.cs_model.specs.Operation.{drop_of, edit_at, edit_found, edit_object, push_of, set_fixed_of, set_pc_of, set_stack_of, store_byte_of, store_of, with_hash}
+use Rattle.cs_model.specs.Instance.{hash_given, hash_or_zero, next_hash, with_last_hash}
+use Rattle.cs_model.specs.State.{IsHeld, Kept, object_at, object_of, put, with_rest}
 use Rattle.cs_model.specs.Keeps.{Keeps}
 use Rattle.cs_model.proofs.Same.{Same, is, same}
-use Rattle.cs_model.proofs.Operating.{drop_moved, push_moved, set_pc_moved, set_stack_moved, store_moved}
+use Rattle.cs_model.proofs.Operating.{drop_moved, push_moved, set_fixed_moved, set_pc_moved, set_stack_moved, store_byte_moved, store_moved}
+use Rattle.cs_model.proofs.LeadOperation.{edit_object-rest}
+use Rattle.cs_model.proofs.Making.{hash_given_moved}
 use Rattle.cs_model.specs.Operation as operation
 use Rattle.cs_acts.specs.Names.{IsNamed, name_of}
 use Rattle.cs_acts.specs.Ready.{IsReady, IsSound}
@@ -99,3 +103,40 @@ call-store u w v o x i e good sound object named is =
       sound = good_sound v good;
       ready = λ ready. ready_again w v good ready (ap (λ (k : Kept). k.rest.active) view ∙ ap (λ r. r.active) (rest-store (view_of w) (name_of (stored_of w) o) i (name_of (stored_of w) x)));
     }
+
+stores-by : (w v : Parts) (op : Kept → Kept) → IsGood v → view_of v ≡ op (view_of w) → (op (view_of w)).rest.active ≡ (view_of w).rest.active
+    → ((m : Kept) → Keeps (view_of w) m → Keeps (op (view_of w)) (op m)) → Stores w v op
+stores-by w v op good view active moved = record {
+  state = λ m k. subst (λ u. Keeps u (op m)) (sym view) (moved m k);
+  sound = good_sound v good;
+  ready = λ ready. ready_again w v good ready (ap (λ (k : Kept). k.rest.active) view ∙ active);
+}
+
+pub call-byte : (u w v : Parts) (o : Oop) (i b : ℕ) → u ≡ w → IsGood v → IsSound (stored_of w) (view_of w) → IsNamed (stored_of w) o
+    → view_of v ≡ store_byte_of (view_of u) (name_of (stored_of u) o) i b → Stores w v (λ m. store_byte_of m (name_of (stored_of w) o) i b)
+unfolding store_byte_of
+call-byte u w v o i b e good sound named is =
+    stores-by w v (λ m. store_byte_of m (name_of (stored_of w) o) i b) good (subst (λ u. view_of v ≡ store_byte_of (view_of u) (name_of (stored_of u) o) i b) e is)
+    (ap (λ r. r.active) (edit_object-rest (view_of w) (name_of (stored_of w) o) (operation.with_byte i b))) (λ m k. (store_byte_moved k (held_in w o sound named) i b).keeps)
+
+pub call-fixed : (u w v : Parts) (o : Oop) (on : Bool) → u ≡ w → IsGood v → IsSound (stored_of w) (view_of w) → IsNamed (stored_of w) o
+    → view_of v ≡ set_fixed_of (view_of u) (name_of (stored_of u) o) on → Stores w v (λ m. set_fixed_of m (name_of (stored_of w) o) on)
+unfolding set_fixed_of
+call-fixed u w v o on e good sound named is =
+    stores-by w v (λ m. set_fixed_of m (name_of (stored_of w) o) on) good (subst (λ u. view_of v ≡ set_fixed_of (view_of u) (name_of (stored_of u) o) on) e is)
+    (ap (λ r. r.active) (edit_object-rest (view_of w) (name_of (stored_of w) o) (operation.with_fixed on))) (λ m k. (set_fixed_moved k (held_in w o sound named) on).keeps)
+
+-- a hash that is given leaves what is active
+active-hash : (k : Kept) (x : Ref) → (hash_given k x).rest.active ≡ k.rest.active
+unfolding hash_given
+active-hash k x = go (hash_or_zero (object_of k x) == 0)
+  where
+    go : (b : Bool) → (if b then with_rest (with_last_hash (next_hash k.rest.last_hash) k.rest) (edit_object k x (with_hash (next_hash k.rest.last_hash))) else k).rest.active ≡ k.rest.active
+    go true = refl
+    go false = refl
+
+pub call-hash : (u w v : Parts) (o : Oop) → u ≡ w → IsGood v → IsSound (stored_of w) (view_of w) → IsNamed (stored_of w) o
+    → view_of v ≡ hash_given (view_of u) (name_of (stored_of u) o) → Stores w v (λ m. hash_given m (name_of (stored_of w) o))
+call-hash u w v o e good sound named is =
+    stores-by w v (λ m. hash_given m (name_of (stored_of w) o)) good (subst (λ u. view_of v ≡ hash_given (view_of u) (name_of (stored_of u) o)) e is)
+    (active-hash (view_of w) (name_of (stored_of w) o)) (λ m k. (hash_given_moved k (held_in w o sound named)).keeps)

@@ -1,14 +1,16 @@
 -- What entering and leaving make of the parts.
-use Rattle.std.specs.Prelude.{◌≡◌, ◌≢◌, ◌⊎◌, ℕ, ◌+◌, ◌-◌, ◌*◌, ◌<◌, ◌≤◌, ◌||◌, Bool, true, if◌then◌else◌, List, [], ◌∷◌, ◌++◌, length, take, drop, replicate, slice_index, Option, Some, None, option_and_then}
+use Rattle.std.specs.Prelude.{pos, ◌≡◌, ◌≢◌, ◌⊎◌, ℕ, ◌+◌, ◌-◌, ◌*◌, ◌<◌, ◌≤◌, ◌||◌, Bool, true, if◌then◌else◌, List, [], ◌∷◌, ◌++◌, length, take, drop, replicate, slice_index, Option, Some, None, option_and_then}
 use Rattle.std.specs.Option.{option_map_or}
-use Rattle.cs_word.specs.Word.{natural_of_word}
+use Rattle.cs_word.specs.Word.{natural_of_word, small_word}
 use Rattle.cs_word.specs.declared.Oop.{Oop}
-use Rattle.cs_heap.specs.Object.{Object, heap_object, with_object, words_at}
+use Rattle.cs_heap.specs.Object.{Object, format_at, heap_object, with_object, words_at}
+use Rattle.cs_heap.specs.Format.{is_code}
 use Rattle.cs_heap.specs.Writes.{slots_stored}
 use Rattle.cs_frame.specs.declared.FrameRef.{FrameRef}
 use Rattle.cs_frame.specs.declared.NewFrame.{NewFrame}
 use Rattle.cs_frame.specs.Frame.{Frame, call_cut, nil}
 use Rattle.cs_frame.specs.Page.{frame, frames_of, on_page, on_top, top, frames_used}
+use Rattle.cs_marriage.specs.Agree.{header_at}
 use Rattle.cs_marriage.specs.Marriage.{base_frame, linked}
 use Rattle.cs_model.specs.Ref.{Ref}
 use Rattle.cs_model.specs.Ref as ref
@@ -153,3 +155,15 @@ field_at k birth i = option_and_then (λ c. context_get k c i) (option_and_then 
 -- the frame at r has this context
 abbrev pub IsContextOf : Parts → FrameRef → ℕ → Type 0
 IsContextOf w r a = ((frame w.frames r).context ≡ a) × (a ≢ nil)
+
+-- ---- bytes
+
+-- where the bytes of the object at an address begin: those of a method behind its header and its literals
+abbrev pub first_byte : List Object → ℕ → ℕ
+first_byte os a = if is_code (format_at os a) then 4 * (1 + literal_count (header_at os a)) else 0
+
+-- ---- a new method
+
+-- a method with this header, whose literals are nil
+abbrev pub headed : ℕ → Object → Object
+headed header x = record x { words = small_word (pos header) ∷ (replicate (literal_count header) nil ++ drop (1 + literal_count header) x.words) }

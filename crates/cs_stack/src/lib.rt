@@ -14,6 +14,7 @@ mod arguments;
 mod cuts;
 mod looks;
 mod moves;
+mod objects;
 mod parts;
 
 use cs_acts::read::{active_process, nil, same, slot};
@@ -23,7 +24,7 @@ use cs_classes::slots::{PROCESS_SLOTS, SUSPENDED_CONTEXT};
 use cs_frame::Frames;
 use cs_heap::Heap;
 use cs_pages::Pages;
-use cs_word::Oop;
+use cs_word::{MethodHeader, Oop};
 pub use parts::Parts;
 use std::alloc::{AllocError, Global};
 use std::marker::Model;
@@ -207,6 +208,18 @@ impl World for StackWorld {
         self.parts.act_full(a)
     }
 
+    fn act_pc(&self, a: Act) -> Option<u32> {
+        self.parts.act_pc(a)
+    }
+
+    fn act_depth(&self, a: Act) -> u32 {
+        self.parts.act_depth(a)
+    }
+
+    fn act_stack(&self, a: Act, i: u32) -> Oop {
+        self.parts.act_stack(a, i)
+    }
+
     fn sender_act(&self, a: Act) -> Act {
         self.parts.sender_act(a)
     }
@@ -251,6 +264,18 @@ impl World for StackWorld {
         self.parts.store(o, i, v);
     }
 
+    fn store_byte(&mut self, o: Oop, i: u32, b: u8) {
+        self.parts.store_byte(o, i, b);
+    }
+
+    fn hash_of(&mut self, o: Oop) -> u32 {
+        self.parts.hash_of(o)
+    }
+
+    fn set_fixed(&mut self, o: Oop, on: bool) {
+        self.parts.set_fixed(o, on);
+    }
+
     fn push(&mut self, v: Oop) {
         self.parts.push(v);
     }
@@ -273,6 +298,10 @@ impl World for StackWorld {
 
     fn allocate(&mut self, class: u32, format: u8, slots: u32) -> Result<Oop, Full> {
         self.parts.allocate(class, format, slots)
+    }
+
+    fn new_method(&mut self, class: u32, header: MethodHeader, count: u32) -> Result<Oop, Full> {
+        self.parts.new_method(class, header, count)
     }
 
     fn enter(&mut self, method: Oop, args: u32, skip: bool) -> Result<(), Full> {

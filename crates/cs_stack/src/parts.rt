@@ -15,7 +15,8 @@ ghost use Rattle.cs_acts.specs.Full.{CausesFull};
 ghost use Rattle.cs_acts.specs.Made.{CanAllocate, MakesAtMost, blank_of};
 ghost use Rattle.cs_acts.specs.Names.{IsNamed, KeepsNames, Names, name_of};
 ghost use Rattle.cs_acts.specs.Ready.{IsReady, is_storable};
-ghost use Rattle.cs_acts.specs.Targets.{is_gone, method_in};
+ghost use Rattle.cs_acts.specs.Layout.{depth_if};
+ghost use Rattle.cs_acts.specs.Targets.{is_gone, method_in, pc_in, stack_in};
 ghost use Rattle.cs_model.specs.Context.{is_context_ref};
 ghost use Rattle.cs_stack.specs.View.{act_of, active_page, layout_of, stored_of, view_of};
 ghost use Rattle.cs_stack.specs.Moved.{active_number};
@@ -190,6 +191,54 @@ impl Parts {
                     .unwrap_or(0);
                 depth >= self.heap.slot_count(context) - FIRST_STACK
             }
+            Act::Gone => unreachable!(),
+        }
+    }
+
+    /// Its pc; None exactly where that is nil, which a frame's never is.
+    pub(crate) fn act_pc(&self, a: Act) -> Option<u32>
+        requires good { IsGood self.now }
+        requires stands { IsSome (act_of self.now a) }
+        ensures { IfSome (act_of self.now a) (λ birth. result ≡ pc_in
+            (context_in (object_at (view_of self.now) birth))) }
+    {
+        match a {
+            Act::Frame { page, at } => self.frames.saved_pc(FrameRef { page, at }).natural(),
+            Act::Context(context) => self.heap.slot(context, PC).natural(),
+            Act::Gone => unreachable!(),
+        }
+    }
+
+    /// How many values its stack holds.
+    pub(crate) fn act_depth(&self, a: Act) -> u32
+        requires good { IsGood self.now }
+        requires stands { IsSome (act_of self.now a) }
+        ensures { IfSome (act_of self.now a) (λ birth. result ≡ depth_if
+            (context_in (object_at (view_of self.now) birth))) }
+    {
+        match a {
+            Act::Frame { page, at } => self.frames.depth(FrameRef { page, at }),
+            Act::Context(context) => self
+                .heap
+                .slot(context, STACK_POINTER)
+                .natural()
+                .unwrap_or(0),
+            Act::Gone => unreachable!(),
+        }
+    }
+
+    /// Value i of its stack, counted from 0 at the bottom.
+    pub(crate) fn act_stack(&self, a: Act, i: u32) -> Oop
+        requires good { IsGood self.now }
+        requires stands { IsSome (act_of self.now a) }
+        requires there { IfSome (act_of self.now a) (λ birth. i < depth_if
+            (context_in (object_at (view_of self.now) birth))) }
+        ensures { IfSome (act_of self.now a) (λ birth. Names (stored_of self.now) result (unwrap_or
+            (slice_get (stack_in (context_in (object_at (view_of self.now) birth))) i) (nil_of (view_of self.now)))) }
+    {
+        match a {
+            Act::Frame { page, at } => self.frames.slot(FrameRef { page, at }, i),
+            Act::Context(context) => self.heap.slot(context, FIRST_STACK + i),
             Act::Gone => unreachable!(),
         }
     }
