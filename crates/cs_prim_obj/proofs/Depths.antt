@@ -1,5 +1,5 @@
 -- The active stack behind a write: it is what it was before.
-use Rattle.std.proofs.Common.{◌≡◌, ◌∙◌, ℕ, Bool, refl, sym, ap, inl, inr, Option, Some, None, List, length, unwrap_or}
+use Rattle.std.proofs.Common.{◌≡◌, ◌∙◌, ℕ, Bool, refl, sym, ap, inl, inr, Option, Some, None, length, unwrap_or}
 use Rattle.std.proofs.lemmas.Bool.Decides.{eqb_tells}
 use Rattle.cs_model.specs.Ref.{Ref, named_object}
 use Rattle.cs_model.specs.Obj.{Obj, Context, Ctx, context_in}

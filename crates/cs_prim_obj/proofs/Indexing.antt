@@ -1,13 +1,12 @@
 -- The elements of objects, as the heap and as the state tell them.
-use Rattle.std.proofs.Common.{◌≡◌, ◌⊎◌, inl, inr, ◌∙◌, ℕ, zero, suc, ◌+◌, ◌-◌, ◌*◌, ◌/◌, ◌%◌, ◌<◌, ◌≤◌, ◌^◌, Bool, true, false, refl, sym, ap, ap₂, subst, arith, Option, Some, None, is_some, List, [], ◌∷◌, length, map, drop, take, get_or, length-drop, length-take, pos}
-use Rattle.std.specs.Prelude.{◌==◌, ◌&&◌, if◌then◌else◌, nat_le, nat_lt, option_and_then, option_map, slice_get, slice_index, unwrap_or}
+use Rattle.std.proofs.Common.{◌≡◌, ◌⊎◌, inl, inr, ◌∙◌, ℕ, zero, suc, ◌+◌, ◌-◌, ◌*◌, ◌/◌, ◌<◌, ◌≤◌, ◌^◌, Bool, true, false, refl, sym, ap, ap₂, subst, arith, Option, Some, None, is_some, List, [], ◌∷◌, length, drop, take, get_or, pos}
+use Rattle.std.specs.Prelude.{◌==◌, if◌then◌else◌, nat_le, nat_lt, option_and_then, option_map, slice_get}
 use Rattle.std.proofs.lemmas.Bool.{false≢true}
 use Rattle.std.proofs.lemmas.Bool.Decides.{nat_tests}
-use Rattle.std.proofs.lemmas.List.{get_or-drop, get_or-take}
 use Rattle.std.proofs.lemmas.Option.{slice_get-get_or}
 use Rattle.cs_heap.specs.Object.{Object, byte_of}
 use Rattle.cs_model.specs.Arithmetic.{if_small}
-use Rattle.cs_model.specs.Element.{Range, class_shape, element_at, element_place, fields_within, named_fields, number_of, place_in, range, range_in, range_of, read_in, small_ref, unit_at}
+use Rattle.cs_model.specs.Element.{Range, class_shape, element_at, element_place, fields_within, named_fields, number_of, place_in, range, range_in, range_of, read_in, small_ref}
 use Rattle.cs_model.specs.Instance.{unit_bytes}
 use Rattle.cs_model.specs.Obj as obj
 use Rattle.cs_model.specs.Obj.{Obj, Ptr, Raw, Method, Ctx}
@@ -20,7 +19,7 @@ use Rattle.cs_prim_obj.specs.declared.contents.Contents.TheVariants.{Immediate, 
 use Rattle.cs_word.specs.declared.Oop.{Oop}
 use Rattle.cs_acts.specs.Names.{NamesOption, Store}
 use Rattle.cs_acts.specs.Ready.{byte_count}
-use Rattle.cs_prim_obj.specs.Elements.{elements, elements_in, elements_of, end_of, end_of_unit, has_size_by, is_bytes_by, number_at}
+use Rattle.cs_prim_obj.specs.Elements.{elements, elements_of, end_of, end_of_unit, has_size_by, is_bytes_by, number_at}
 use Rattle.cs_prim_obj.specs.declared.elements.Elements.{Elements}
 use Rattle.cs_prim_obj.specs.declared.elements.Unit.{Unit}
 use Rattle.cs_prim_obj.specs.declared.elements.Unit.TheVariants as unit

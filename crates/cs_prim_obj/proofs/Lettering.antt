@@ -1,6 +1,6 @@
 -- The header and the literals of a method, as the heap tells them.
-use Rattle.std.proofs.Common.{◌≡◌, ◌∙◌, ℕ, zero, suc, ◌+◌, ◌-◌, ◌<◌, ◌≤◌, true, refl, sym, ap, subst, arith, Option, Some, None, List, ◌∷◌, length, map, pos, negsuc}
-use Rattle.std.specs.Prelude.{slice_get, slice_index, option_and_then}
+use Rattle.std.proofs.Common.{◌≡◌, ◌∙◌, ℕ, zero, suc, ◌+◌, ◌<◌, ◌≤◌, true, refl, sym, ap, subst, arith, Option, Some, None, List, ◌∷◌, length, map, pos, negsuc}
+use Rattle.std.specs.Prelude.{slice_get, slice_index}
 use Rattle.std.proofs.lemmas.List.{length-map}
 use Rattle.std.proofs.lemmas.Option.{slice_get_past}
 use Rattle.cs_word.specs.declared.Oop.{Oop}
@@ -14,7 +14,7 @@ use Rattle.cs_classes.specs.Sound.{is_reference, is_reference_kind}
 use Rattle.cs_model.specs.Obj as obj
 use Rattle.cs_model.specs.Obj.{Obj, Ptr, Raw, Method, Ctx, literal_count}
 use Rattle.cs_model.specs.PrimObject.{method_slot}
-use Rattle.cs_model.specs.Ref.{Ref, Small}
+use Rattle.cs_model.specs.Ref.{Small}
 use Rattle.cs_model.specs.State.{Kept, object_of}
 use Rattle.cs_acts.specs.Names.{IsNamed, NamesOption, Store, name_of}
 use Rattle.cs_acts.specs.Ready.{Holds}

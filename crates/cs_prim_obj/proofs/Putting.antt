@@ -1,18 +1,18 @@
 -- The rows that write, and what they come to.
-use Rattle.std.proofs.Common.{◌≡◌, ◌⊎◌, inl, inr, ◌∙◌, ℕ, ◌+◌, ◌<◌, ◌≤◌, Bool, true, false, refl, sym, ap, ap₂, subst, arith, Option, Some, None, List, ◌∷◌, length, is_some, pos}
+use Rattle.std.proofs.Common.{◌≡◌, ◌⊎◌, inl, inr, ◌∙◌, ℕ, ◌+◌, ◌<◌, ◌≤◌, Bool, true, false, refl, sym, ap, ap₂, arith, Option, Some, None, List, ◌∷◌, length, is_some, pos}
 use Rattle.std.specs.Prelude.{◌&&◌, if◌then◌else◌, nat_le, nat_lt, option_and_then, option_map, slice_get}
 use Rattle.std.proofs.lemmas.Bool.{false≢true}
 use Rattle.std.proofs.lemmas.Bool.Decides.{nat_tests}
 use Rattle.std.proofs.lemmas.Option.{slice_get-get_or, slice_get_past}
 use Rattle.cs_word.specs.declared.Oop.{Oop}
 use Rattle.cs_model.specs.Context.{is_context_ref}
-use Rattle.cs_model.specs.Element.{element_place, with_element}
+use Rattle.cs_model.specs.Element.{element_place}
 use Rattle.cs_model.specs.End.{Out, given}
 use Rattle.cs_model.specs.Number.{boolean}
 use Rattle.cs_model.specs.Obj.{Obj, Ptr, Raw, Method, Ctx, context_in, slots_in}
 use Rattle.cs_model.specs.Operation.{drop_of, push_of, set_fixed_of, store_byte_of, store_of}
 use Rattle.cs_model.specs.PrimAnswer.{answer, argument, fail, receiver}
-use Rattle.cs_model.specs.PrimObject.{answer_in, at_put_prim, boolean_in, byte_code, can_be_fixed, char_at_put_prim, is_bytes, method_slot, object_at_put_prim, put_literal, set_read_only_prim, slot_at_put_prim, slot_index, slot_put, unless_read_only}
+use Rattle.cs_model.specs.PrimObject.{answer_in, boolean_in, byte_code, can_be_fixed, char_at_put_prim, is_bytes, method_slot, object_at_put_prim, put_literal, set_read_only_prim, slot_at_put_prim, slot_index, slot_put, unless_read_only}
 use Rattle.cs_model.specs.Ref.{Ref, Char, Small}
 use Rattle.cs_model.specs.State.{Kept, is_read_only, object_of}
 use Rattle.cs_acts.specs.declared.prim.PrimEnd.TheVariants as prim
@@ -26,7 +26,7 @@ use Rattle.cs_acts.specs.Storing.{slot_at, target_of}
 use Rattle.cs_acts.proofs.Held.{named_held}
 use Rattle.cs_acts.proofs.Storing.{slot_missing, slot_read_only, slot_writable}
 use Rattle.cs_prim_ctx.specs.Answered.{PerformsInPlace}
-use Rattle.cs_prim_obj.specs.Contents.{can_be_fixed_by, contents_of, literals_held}
+use Rattle.cs_prim_obj.specs.Contents.{can_be_fixed_by, contents_of}
 use Rattle.cs_prim_obj.proofs.Outcomes.{as_row, written}
 
 -- a value that was named before is answered behind a write

@@ -1,14 +1,13 @@
 -- What an object holds, as the heap and as the state tell it.
 use Rattle.std.proofs.Common.{◌≡◌, ◌≢◌, ◌∙◌, ℕ, ◌+◌, ◌-◌, ◌*◌, ◌<◌, ◌≤◌, Bool, true, false, refl, sym, ap, ap₂, subst, arith, Option, Some, None, List, length, map, drop, length-drop, length-take}
 use Rattle.std.specs.Prelude.{◌==◌, if◌then◌else◌, nat_lt, slice_index, unwrap_or}
-use Rattle.std.proofs.lemmas.Bool.{false≢true}
 use Rattle.std.proofs.lemmas.Bool.Decides.{nat_tests}
 use Rattle.std.proofs.lemmas.List.{length-map}
 use Rattle.cs_word.specs.declared.Oop.{Oop}
 use Rattle.cs_word.specs.Word.{natural_of_word}
 use Rattle.cs_heap.specs.Format.{format_allows, is_code, is_pointers}
-use Rattle.cs_heap.specs.Object.{Memory, Object, class_at, format_at, heap_object, is_object, slot_count_of, slot_of}
-use Rattle.cs_classes.specs.Meaning.{code_in, is_heap_context, literal_words, method_header, obj_of, ref_of, used_bytes, head_of}
+use Rattle.cs_heap.specs.Object.{Memory, Object, class_at, format_at, is_object, slot_count_of, slot_of}
+use Rattle.cs_classes.specs.Meaning.{code_in, literal_words, method_header, ref_of, used_bytes}
 use Rattle.cs_classes.specs.Sound.{IsSoundObject}
 use Rattle.cs_classes.proofs.Heaps.{object_there}
 use Rattle.cs_classes.proofs.Counting.{length-bytes_of}

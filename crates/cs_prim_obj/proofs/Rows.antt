@@ -1,7 +1,7 @@
 -- The rows of the table.
 use Rattle.std.proofs.Common.{◌≡◌, ◌≢◌, ◌∙◌, ℕ, ◌-◌, ◌<◌, ◌≤◌, Bool, true, false, refl, sym, ap, ap₂, subst, arith, Option, Some, None, is_some, pos, negsuc}
 use Rattle.std.specs.Prelude.{◌==◌, ◌||◌, ◌&&◌, if◌then◌else◌, nat_le, nat_lt, not, option_and_then, option_map, slice_get, unwrap_or}
-use Rattle.std.proofs.lemmas.Bool.{eqb-true, false≢true}
+use Rattle.std.proofs.lemmas.Bool.{eqb-true}
 use Rattle.std.proofs.lemmas.Bool.Decides.{nat_tests}
 use Rattle.cs_model.specs.Ref.{Ref, Small, Char, same_ref}
 use Rattle.cs_model.specs.Read.{class_of}

@@ -1,13 +1,11 @@
 -- The bytes of an object as they stand in the heap.
-use Rattle.std.proofs.Common.{◌≡◌, ◌∙◌, ℕ, ◌+◌, ◌-◌, ◌*◌, ◌/◌, ◌%◌, ◌<◌, ◌≤◌, ◌^◌, Bool, true, false, refl, sym, ap, ap₂, subst, arith, Option, Some, None, List, [], length, map, get_or, length-take, length-drop, drop}
-use Rattle.std.specs.Prelude.{slice_index, unwrap_or, ◌==◌}
-use Rattle.std.proofs.lemmas.Bool.{false≢true}
+use Rattle.std.proofs.Common.{◌≡◌, ◌∙◌, ℕ, ◌+◌, ◌-◌, ◌*◌, ◌/◌, ◌%◌, ◌<◌, ◌≤◌, true, refl, sym, ap, subst, arith, Option, Some, None, List, [], length, length-take, length-drop, drop}
+use Rattle.std.specs.Prelude.{slice_index}
 use Rattle.std.proofs.lemmas.List.{get_or-take, length-map}
 use Rattle.cs_word.specs.declared.Oop.{Oop}
-use Rattle.cs_heap.specs.Object.{Memory, Object, byte_of, format_at, slot_count_of, slot_of}
-use Rattle.cs_classes.specs.Meaning.{code_in, is_heap_context, literal_words, method_header, obj_of, ref_of, used_bytes}
+use Rattle.cs_heap.specs.Object.{Memory, Object, byte_of, slot_count_of, slot_of}
+use Rattle.cs_classes.specs.Meaning.{code_in, literal_words, method_header, ref_of}
 use Rattle.cs_classes.specs.Sound.{IsSoundObject}
-use Rattle.cs_classes.proofs.Counting.{length-bytes_of}
 use Rattle.cs_classes.proofs.Sorts.{AContext, AMethod, Bytes as RawBytes, Pointers, Sort, sort_of, obj_of-bytes, obj_of-method, obj_of-pointers}
 use Rattle.cs_classes.proofs.Sounds.{sound_at}
 use Rattle.cs_model.specs.Words.{byte_in, bytes_of_words, unused_bytes}
@@ -22,10 +20,8 @@ use Rattle.cs_acts.proofs.Held.{Says, says}
 use Rattle.cs_acts.proofs.Methods.{code_byte, get_or-bytes_of, length-literals}
 use Rattle.cs_acts.proofs.Named.{Place, There, Nowhere, field_at, place}
 use Rattle.cs_prim_obj.specs.declared.contents.Contents.{Contents}
-use Rattle.cs_prim_obj.specs.declared.contents.Contents.TheVariants.{Immediate, Slots, Bytes, Code, Context}
-use Rattle.cs_prim_obj.specs.Contents.{amount_in, contents_at, contents_of}
+use Rattle.cs_prim_obj.specs.Contents.{amount_in, contents_of}
 use Rattle.cs_prim_obj.proofs.Indexing.{StandFrom, bytes_in, front_in}
-use Rattle.cs_prim_obj.proofs.Reading.{contents_read}
 
 no_bytes : (o : Option Obj) → is_context_at o ≡ true → length (bytes_in o) ≡ 0
 no_bytes None e = refl

@@ -1,12 +1,11 @@
 -- The elements of an object as they are found and kept: in slots, or in bytes.
-use Rattle.std.specs.Prelude.{◌≡◌, ⊤, ℕ, zero, suc, ℤ, pos, ◌+◌, ◌-◌, ◌*◌, ◌/◌, ◌<◌, ◌≤◌, ◌==◌, ◌||◌, Bool, true, false, nat_le, List, [], Option, Some, None, option_map, option_and_then}
+use Rattle.std.specs.Prelude.{⊤, ℕ, zero, suc, pos, ◌+◌, ◌-◌, ◌*◌, ◌/◌, ◌<◌, ◌≤◌, ◌==◌, ◌||◌, Bool, true, false, nat_le, List, Option, Some, None, option_map, option_and_then}
 use Rattle.cs_heap.specs.Object.{Object, byte_of}
 use Rattle.cs_model.specs.Arithmetic.{floor_rem}
 use Rattle.cs_model.specs.Element.{class_shape, fields_within}
 use Rattle.cs_model.specs.Instance.{unit_bytes}
 use Rattle.cs_model.specs.Ref.{Ref, natural_of, small_of}
-use Rattle.cs_model.specs.State.{Kept, object_of}
-use Rattle.cs_prim_obj.specs.Contents.{contents_of}
+use Rattle.cs_model.specs.State.{Kept}
 use Rattle.cs_prim_obj.specs.declared.contents.Contents.{Contents}
 use Rattle.cs_prim_obj.specs.declared.contents.Contents.TheVariants.{Immediate, Slots, Bytes, Code, Context}
 use Rattle.cs_prim_obj.specs.declared.elements.Elements.{Elements}

@@ -1,4 +1,4 @@
-use Rattle.std.proofs.Common.{Some, None, sym, subst}
+use Rattle.std.proofs.Common.{subst}
 use Rattle.cs_acts.specs.Names.{NamesOption}
 use Rattle.cs_prim_obj.proofs.Outcomes.{answered_none, answered_some}
 use Rattle.cs_prim_obj.proofs.answering.answer_if.Goals as goal

@@ -1,7 +1,7 @@
-use Rattle.std.proofs.Common.{Some, None, sym, ap, arith, ◌∙◌}
+use Rattle.std.proofs.Common.{None, sym, ap, ◌∙◌}
 use Rattle.cs_acts.specs.Names.{name_of}
 use Rattle.cs_prim_obj.specs.Elements.{elements_of}
-use Rattle.cs_prim_obj.proofs.Indexing.{bytes_counted, bytes_place, no_bytes_place, placed, unplaced}
+use Rattle.cs_prim_obj.proofs.Indexing.{bytes_place, no_bytes_place, placed, unplaced}
 use Rattle.cs_prim_obj.proofs.elements.byte_place.Goals as goal
 
 pub returns-then-not-is_bytes-clause-place : goal.returns-then-not-is_bytes-clause-place

@@ -1,4 +1,4 @@
-use Rattle.std.proofs.Common.{true, false, None, Some, arith, ap, refl, sym, ◌∙◌, if◌then◌else◌}
+use Rattle.std.proofs.Common.{None, Some, arith, ap, refl, sym, ◌∙◌, if◌then◌else◌}
 use Rattle.cs_acts.specs.Names.{name_of}
 use Rattle.cs_model.specs.Element.{element_place}
 use Rattle.cs_model.specs.Operation.{store_byte_of}

@@ -1,4 +1,4 @@
-use Rattle.std.proofs.Common.{arith, Some, None, sym, ap, ◌∙◌, option_map}
+use Rattle.std.proofs.Common.{arith, Some, sym, ap, ◌∙◌, option_map}
 use Rattle.cs_acts.specs.Names.{name_of}
 use Rattle.cs_model.specs.Ref as ref
 use Rattle.cs_model.specs.State.{object_of}

@@ -1,4 +1,4 @@
-use Rattle.std.proofs.Common.{Some, sym, ap, subst, arith, ◌∙◌, ◌+◌, ◌*◌, pos}
+use Rattle.std.proofs.Common.{sym, ap, subst, arith, ◌∙◌, pos}
 use Rattle.cs_acts.specs.Names.{name_of}
 use Rattle.cs_acts.specs.Names.{NamesOption}
 use Rattle.cs_model.specs.Arithmetic.{if_small}

@@ -1,4 +1,4 @@
-use Rattle.std.proofs.Common.{refl, sym, ap, subst, arith, ◌∙◌, Some, None, option_map}
+use Rattle.std.proofs.Common.{refl, sym, ap, ◌∙◌, Some, None}
 use Rattle.cs_acts.specs.Names.{name_of}
 use Rattle.cs_prim_obj.specs.Elements.{elements_of}
 use Rattle.cs_prim_obj.proofs.Indexing.{no_size, sized}

@@ -1,6 +1,5 @@
 use Rattle.std.proofs.Common.{sym, ap, ◌∙◌, arith}
 use Rattle.cs_acts.specs.Names.{name_of}
-use Rattle.cs_acts.specs.Names.{NamesOption}
 use Rattle.cs_model.specs.State.{object_of}
 use Rattle.cs_prim_obj.specs.Contents.{literals_held}
 use Rattle.cs_prim_obj.proofs.Lettering.{literal_named_by, literal_there, no_literal, past_literals}

@@ -1,4 +1,4 @@
-use Rattle.std.proofs.Common.{true, false, None, Some, arith, ap, refl, sym, ◌∙◌}
+use Rattle.std.proofs.Common.{None, Some, arith, ap, refl, sym, ◌∙◌}
 use Rattle.cs_acts.specs.Names.{name_of}
 use Rattle.cs_model.specs.Context.{is_context_ref}
 use Rattle.cs_model.specs.Operation.{store_of}
