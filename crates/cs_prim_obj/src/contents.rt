@@ -16,8 +16,9 @@ const POINTERS_END: u8 = 6;
 /// The formats from this one on are those of methods.
 const FIRST_CODE: u8 = 24;
 
-/// The formats from this one on count unused bytes, the lower ones unused units of 16 bits.
-const FIRST_BYTES: u8 = 16;
+/// The formats from this one on have units of one byte and count those that are unused; the lower ones that count any
+/// count units of 16 bits.
+pub(crate) const FIRST_BYTES: u8 = 16;
 
 /// What an object holds.
 #[derive(Clone, Copy)]

@@ -20,16 +20,13 @@ ghost use Rattle.cs_prim_obj.specs.Contents.{amount_in, contents_of};
 ghost use Rattle.cs_prim_obj.specs.Elements.{HasUnit, elements_of, end_of, fields_said, has_size_by, is_bytes_by, number_at};
 
 use crate::answering::{answer_if, argument_at};
-use crate::contents::{Contents, held_by};
+use crate::contents::{Contents, FIRST_BYTES, held_by};
 use crate::words::{character_word, count_word};
 use cs_acts::answer::{argument, receiver};
 use cs_acts::read::{class_of, is_read_only, slot, slot_if_any};
 use cs_acts::{PrimEnd, World, answer};
 use cs_heap::Heap;
 use cs_word::{Kind, Oop};
-
-/// The formats from this one on have units of one byte.
-const FIRST_BYTES: u8 = 16;
 
 /// A class has at least so many slots, and says in this one how its instances are made.
 const CLASS_SLOTS: u32 = 3;
