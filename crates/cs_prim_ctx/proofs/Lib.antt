@@ -1,3 +1,3 @@
 mod Fields
-mod Performing
+pub mod Performing
 mod Rows

@@ -25,7 +25,7 @@ use Rattle.cs_acts.specs.Primed.{EndsWithout}
 use Rattle.cs_acts.specs.Ready.{IsReady}
 use Rattle.cs_acts.specs.Targets.{field_of}
 use Rattle.cs_acts.specs.Led.{Leads}
-use Rattle.cs_prim_ctx.specs.Answered.{PerformsOnContexts}
+use Rattle.cs_prim_ctx.specs.Answered.{PerformsInPlace}
 use Rattle.cs_acts.proofs.Dropping.{words-answered}
 use Rattle.cs_prim_ctx.proofs.Fields.{field_below}
 use Rattle.cs_acts.proofs.Leading.{along}
@@ -39,8 +39,8 @@ made_none : (l : Option Layout) (s : Store) → MakesAtMost 0 l s s
 made_none None s = tt
 made_none (Some l) s = omega arith
 
-pub fails : (s : Store) (l : Option Layout) (k : Kept) (o : Out) → IsReady s k → o ≡ fail k → PerformsOnContexts s s l l k k prim.Fail o
-fails s l k o ready e = subst (PerformsOnContexts s s l l k k prim.Fail) (sym e) (record {
+pub fails : (s : Store) (l : Option Layout) (k : Kept) (o : Out) → IsReady s k → o ≡ fail k → PerformsInPlace s s l l k k prim.Fail o
+fails s l k o ready e = subst (PerformsInPlace s s l l k k prim.Fail) (sym e) (record {
   gives = (refl, refl, record { state = ready.sound.closed; ready = ready; names = same_names s });
   exact = λ none. record { objects = λ i. refl; rest = refl };
   layout = refl;
@@ -64,7 +64,7 @@ answers k args i x = go (i == 0)
     go true = record { end = refl; state = refl; objects = refl; looks_are = refl }
     go false = record { end = refl; state = refl; objects = refl; looks_are = refl }
 
-performs : (a c : Store) (l n : Option Layout) (k w : Kept) (args looks : ℕ) (x : Ref) (o : Out) → Answers k args x looks o → Leads a c l n w (push_of (drop_of k (args + 1)) x) looks → PerformsOnContexts a c l n k w prim.Answer o
+performs : (a c : Store) (l n : Option Layout) (k w : Kept) (args looks : ℕ) (x : Ref) (o : Out) → Answers k args x looks o → Leads a c l n w (push_of (drop_of k (args + 1)) x) looks → PerformsInPlace a c l n k w prim.Answer o
 performs a c l n k w args looks x o by led = record {
   gives = (by.end, record { state = subst (Keeps w) (sym by.state) led.state; ready = led.ready; names = led.names });
   exact = λ none. subst (SameKept w) (sym by.state) (led.exact none);
@@ -75,21 +75,21 @@ performs a c l n k w args looks x o by led = record {
 
 -- the field is read, and then it is answered
 pub answered : (a b c : Store) (l m n : Option Layout) (k v w : Kept) (args i : ℕ) (y : Ref) (value : Oop) → v ≡ k → Leads a b l m v k (made_by_reading i) → NamesOption b (Some value) (field_of k y i)
-    → Leads b c m n w (push_of (drop_of v (args + 1)) (name_of b value)) 0 → PerformsOnContexts a c l n k w prim.Answer (answer_field k args i (field_of k y i))
+    → Leads b c m n w (push_of (drop_of v (args + 1)) (name_of b value)) 0 → PerformsInPlace a c l n k w prim.Answer (answer_field k args i (field_of k y i))
 answered a b c l m n k v w args i y value same first names led =
     let x : Ref = name_of b value in
     let read : Leads a b l m k k (made_by_reading i) = subst (λ u. Leads a b l m u k (made_by_reading i)) same first in
     let done : Leads b c m n w (push_of (drop_of k (args + 1)) x) 0 = subst (λ u. Leads b c m n w (push_of (drop_of u (args + 1)) x) 0) same led in
     let all : Leads a c l n w (push_of (drop_of k (args + 1)) x) (made_by_reading i) =
     subst (λ n'. Leads a c l n w (push_of (drop_of k (args + 1)) x) n') (omega arith) (along a b c l m n k w (push_of (drop_of k (args + 1)) x) (made_by_reading i) 0 read done) in
-    subst (λ o. PerformsOnContexts a c l n k w prim.Answer (answer_field k args i o)) names.is (performs a c l n k w args (made_by_reading i) x (answer_field k args i (Some x)) (answers k args i x) all)
+    subst (λ o. PerformsInPlace a c l n k w prim.Answer (answer_field k args i o)) names.is (performs a c l n k w args (made_by_reading i) x (answer_field k args i (Some x)) (answers k args i x) all)
 
 -- there is no such field, so it isn't the sender
 pub missed : (a b : Store) (l m : Option Layout) (k v : Kept) (args i : ℕ) (y : Ref) → is_context_ref k y ≡ true → v ≡ k → Leads a b l m v k (made_by_reading i) → NamesOption b None (field_of k y i)
-    → PerformsOnContexts a b l m k v prim.Fail (answer_field k args i (field_of k y i))
+    → PerformsInPlace a b l m k v prim.Fail (answer_field k args i (field_of k y i))
 missed a b l m k v args i y context same led names = go (i == 0) refl
   where
-    none : Leads a b l m v k 0 → PerformsOnContexts a b l m k v prim.Fail (fail k)
+    none : Leads a b l m v k 0 → PerformsInPlace a b l m k v prim.Fail (fail k)
     none led = record {
       gives = (refl, same, record { state = led.state; ready = led.ready; names = led.names });
       exact = led.exact;
@@ -98,12 +98,12 @@ missed a b l m k v args i y context same led names = go (i == 0) refl
       contexts = led.contexts;
     }
 
-    go : (b' : Bool) → (i == 0) ≡ b' → PerformsOnContexts a b l m k v prim.Fail (answer_field k args i (field_of k y i))
+    go : (b' : Bool) → (i == 0) ≡ b' → PerformsInPlace a b l m k v prim.Fail (answer_field k args i (field_of k y i))
     go true e =
         let zero_is : i ≡ 0 = eqb-true i 0 e in
         absurd (let no : true ≡ false = field_below k y i context (omega (arith, zero_is)) ∙ ap is_some (sym names.is) in cc)
     go false e =
-        subst (λ o. PerformsOnContexts a b l m k v prim.Fail (answer_field k args i o)) names.is (none (subst (λ (c : Bool). Leads a b l m v k (if c then 1 else 0)) e led))
+        subst (λ o. PerformsInPlace a b l m k v prim.Fail (answer_field k args i o)) names.is (none (subst (λ (c : Bool). Leads a b l m v k (if c then 1 else 0)) e led))
 
 -- ---- no room
 
@@ -117,16 +117,16 @@ some_at k args i None e = absurd (cc)
 some_at k args i (Some x) e = (x, refl)
 
 pub refused : (a b : Store) (l m : Option Layout) (k v : Kept) (args i : ℕ) (y : Ref) (why : Why) → IsRunning k → is_context_ref k y ≡ true → i ≡ 0 → b.memory.limit ≡ a.memory.limit → why ≡ Heap → CausesFull b l k 0 k why
-    → PerformsOnContexts a b l m k v (prim.Full why) (answer_field k args i (field_of k y i))
+    → PerformsInPlace a b l m k v (prim.Full why) (answer_field k args i (field_of k y i))
 refused a b l m k v args i y why running context is limit heap cause =
     let found = some_at k args i (field_of k y i) (field_below k y i context (omega (arith, is))) in
     let by = answers k args i found.0 in
     let o : Out = answer_field k args i (Some found.0) in
-    let done : PerformsOnContexts a b l m k v (prim.Full why) o = record {
+    let done : PerformsInPlace a b l m k v (prim.Full why) o = record {
       gives = (subst (λ w. EndsWithout w o.end) (sym heap) (inl by.end), more_words b l k k o.state 0 o.count.objects why (sym by.objects) (sym (ap words_held by.state ∙ words-answered k (args + 1) found.0 running)) cause);
       exact = tt;
       layout = tt;
       limit = limit;
       contexts = tt;
     } in
-    subst (PerformsOnContexts a b l m k v (prim.Full why)) (sym found.1) done
+    subst (PerformsInPlace a b l m k v (prim.Full why)) (sym found.1) done

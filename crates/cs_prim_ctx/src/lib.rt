@@ -22,7 +22,7 @@ ghost use Rattle.cs_acts.specs.Primed.{PrimGives, UnlessFull};
 ghost use Rattle.cs_acts.specs.Ready.{IsReady};
 ghost use Rattle.cs_acts.specs.Targets.{field_of};
 ghost use Rattle.cs_acts.specs.Led.{Leads};
-ghost use Rattle.cs_prim_ctx.specs.Answered.{PerformsOnContexts};
+ghost use Rattle.cs_prim_ctx.specs.Answered.{PerformsInPlace};
 ghost use Rattle.cs_prim_ctx.specs.Numbers.{reads_context};
 
 use cs_acts::answer::{answer, argument, receiver};
@@ -69,7 +69,7 @@ fn slot_at<W: World>(w: &mut W, args: u32) -> PrimEnd
     requires ready { IsReady (W.stored w.old) (W.view w.old) }
     requires there { args < depth_of (W.view w.old) }
     requires context { is_context_ref (W.view w.old) (receiver (W.view w.old) args) ≡ true }
-    ensures { PerformsOnContexts (W.stored w.old) (W.stored w.new) (W.layout w.old) (W.layout w.new)
+    ensures { PerformsInPlace (W.stored w.old) (W.stored w.new) (W.layout w.old) (W.layout w.new)
         (W.view w.old) (W.view w.new) result (slot_at_prim (W.view w.old) args) }
 {
     if args != 1 {
@@ -86,7 +86,7 @@ fn slot_at<W: World>(w: &mut W, args: u32) -> PrimEnd
 fn stack_at<W: World>(w: &mut W, args: u32) -> PrimEnd
     requires ready { IsReady (W.stored w.old) (W.view w.old) }
     requires there { args < depth_of (W.view w.old) }
-    ensures { PerformsOnContexts (W.stored w.old) (W.stored w.new) (W.layout w.old) (W.layout w.new)
+    ensures { PerformsInPlace (W.stored w.old) (W.stored w.new) (W.layout w.old) (W.layout w.new)
         (W.view w.old) (W.view w.new) result (stack_at_prim (W.view w.old) args) }
 {
     if args != 1 {
@@ -106,7 +106,7 @@ fn stack_at<W: World>(w: &mut W, args: u32) -> PrimEnd
 fn stack_pointer<W: World>(w: &mut W, args: u32) -> PrimEnd
     requires ready { IsReady (W.stored w.old) (W.view w.old) }
     requires there { args < depth_of (W.view w.old) }
-    ensures { PerformsOnContexts (W.stored w.old) (W.stored w.new) (W.layout w.old) (W.layout w.new)
+    ensures { PerformsInPlace (W.stored w.old) (W.stored w.new) (W.layout w.old) (W.layout w.new)
         (W.view w.old) (W.view w.new) result (stackp_prim (W.view w.old) args) }
 {
     if args != 0 {
@@ -122,7 +122,7 @@ fn stack_pointer<W: World>(w: &mut W, args: u32) -> PrimEnd
 
 /// The index, counted from 0, that a word says by counting from 1; None exactly where it is no SmallInteger above 0.
 #[tactic(auto, using(cs_acts::proofs::Naturals::natural_name))]
-fn slot_index(word: Oop) -> Option<u32>
+pub fn slot_index(word: Oop) -> Option<u32>
     ensures value { (s : Store) → IsNamed s word → result ≡ slot_index (name_of s word) }
     ensures small { (i : ℕ) → result ≡ Some i → i < 2 ^ 30 }
 {
@@ -134,12 +134,12 @@ fn slot_index(word: Oop) -> Option<u32>
 
 /// Answers field `i` of a context, or its stack value `i` - 6, in the place of receiver and arguments. It fails where
 /// the context has no such field or value.
-fn answer_field<W: World>(w: &mut W, args: u32, ctx: Oop, i: u32) -> PrimEnd
+pub fn answer_field<W: World>(w: &mut W, args: u32, ctx: Oop, i: u32) -> PrimEnd
     requires ready { IsReady (W.stored w.old) (W.view w.old) }
     requires there { args < depth_of (W.view w.old) }
     requires named { IsNamed (W.stored w.old) ctx }
     requires context { is_context_ref (W.view w.old) (name_of (W.stored w.old) ctx) ≡ true }
-    ensures { PerformsOnContexts (W.stored w.old) (W.stored w.new) (W.layout w.old) (W.layout w.new)
+    ensures { PerformsInPlace (W.stored w.old) (W.stored w.new) (W.layout w.old) (W.layout w.new)
         (W.view w.old) (W.view w.new) result
         (answer_field (W.view w.old) args i (field_of (W.view w.old) (name_of (W.stored w.old) ctx) i)) }
 {

@@ -1,0 +1,10 @@
+mod Reading
+mod Outcomes
+mod Rows
+mod Indexing
+mod Standing
+mod Lettering
+mod Naming
+mod Depths
+mod Putting
+mod Sized

@@ -1,0 +1,4 @@
+pub mod Contents
+pub mod Elements
+pub mod Numbers
+pub mod Quick
