@@ -158,14 +158,17 @@ same_instance k index said fields n allowed = go (index == 36) refl
     SameHere b c = (object b c ≡ (if b then Ctx (new_context nil (slots b c - 6)) else in_heap (format b c) (slots b c))) × (words_of (object b c) ≡ size (slots b c))
 
     other : (c : Bool) → nat_lt said 6 ≡ c → SameHere false c
-    other true e = (sym (ap (λ (d : Bool). if d then new_pointers k index (pointer_format said) (fields + n) else Raw (new_head index (pointer_format said)) (replicate (4 * (fields + n) - unused_bytes (pointer_format said)) 0)) (still said (grind (arith, nat_tests, e)))),
-        ap words_of_slots (length-replicate (fields + n) nil))
+    other true e = (
+      sym (ap (λ (d : Bool). if d then new_pointers k index (pointer_format said) (fields + n) else Raw (new_head index (pointer_format said)) (replicate (4 * (fields + n) - unused_bytes (pointer_format said)) 0)) (still said (grind (arith, nat_tests, e)))),
+      ap words_of_slots (length-replicate (fields + n) nil),
+    )
     other false e =
         let b = bytes said (raw_cases said fields n allowed (grind (arith, nat_tests, e))) in
         let f : ℕ = raw_format said (n * unit_bytes said) in
-        let m : ℕ = (n * unit_bytes said + 3) / 4 in
-        (ap (λ j. Raw (new_head index f) (replicate j 0)) b.0 ∙ sym (ap (λ (d : Bool). if d then new_pointers k index f m else Raw (new_head index f) (replicate (4 * m - unused_bytes f) 0)) b.1),
-        ap (λ j. words_of_slots ((j + 3) / 4)) (length-replicate (n * unit_bytes said) 0))
+        let m : ℕ = (n * unit_bytes said + 3) / 4 in (
+          ap (λ j. Raw (new_head index f) (replicate j 0)) b.0 ∙ sym (ap (λ (d : Bool). if d then new_pointers k index f m else Raw (new_head index f) (replicate (4 * m - unused_bytes f) 0)) b.1),
+          ap (λ j. words_of_slots ((j + 3) / 4)) (length-replicate (n * unit_bytes said) 0),
+        )
 
     both : (b c : Bool) → nat_lt said 6 ≡ c → SameHere b c
     both true c e = (ap (λ m. Ctx (new_context nil m)) (less n), refl)

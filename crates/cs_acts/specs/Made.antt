@@ -5,9 +5,7 @@ use Rattle.cs_model.specs.Words.{unused_bytes}
 use Rattle.cs_heap.specs.Format.{format_allows, is_code, is_pointers}
 use Rattle.cs_heap.specs.Object.{Object}
 use Rattle.cs_classes.specs.Meaning.{is_heap_context}
-use Rattle.cs_model.specs.Ref.{Ref}
 use Rattle.cs_model.specs.Obj.{Obj, Raw, context_class, is_header, literal_count, new_head}
-use Rattle.cs_model.specs.Instance.{Index, IndexAt, NoIndex, NoneFree, class_index_for}
 use Rattle.cs_model.specs.State.{Kept}
 use Rattle.cs_model.specs.Operation.{new_pointers}
 use Rattle.cs_acts.specs.Layout.{Layout, first_page, new_frame_words, page_words}
@@ -58,15 +56,6 @@ contexts_in (x ∷ xs) = contexts_in xs + (if is_heap_context x then 1 else 0)
 abbrev pub MakesAtMost : ℕ → Option Layout → Store → Store → Type 0
 MakesAtMost n None old new = Unit {0}
 MakesAtMost n (Some l) old new = contexts_in new.memory.objects ≤ contexts_in old.memory.objects + n
-
--- an instance of the class of contexts is one
-abbrev pub is_context_index : Index → Bool
-is_context_index NoIndex = false
-is_context_index NoneFree = false
-is_context_index (IndexAt index) = index == context_class
-
-abbrev pub made_by_instantiating : Kept → Ref → ℕ
-made_by_instantiating k class = if is_context_index (class_index_for k class) then 1 else 0
 
 -- entering makes the context of the caller where the new frame doesn't fit on its page
 abbrev pub made_by_entering : Kept → Option Layout → ℕ

@@ -45,9 +45,9 @@ is_storable (Some (Method head header literals bytecodes)) i = nat_lt 0 i && nat
 is_storable (Some (Ctx c)) i = false
 
 -- how many bytes of an object may be written: those of raw bytes, and the bytecodes of a method
-abbrev pub byte_count : Option Obj → ℕ
-byte_count None = 0
-byte_count (Some (Ptr head slots)) = 0
-byte_count (Some (Raw head bytes)) = length bytes
-byte_count (Some (Method head header literals bytecodes)) = length bytecodes
-byte_count (Some (Ctx c)) = 0
+abbrev pub writable_bytes : Option Obj → ℕ
+writable_bytes None = 0
+writable_bytes (Some (Ptr head slots)) = 0
+writable_bytes (Some (Raw head bytes)) = length bytes
+writable_bytes (Some (Method head header literals bytecodes)) = length bytecodes
+writable_bytes (Some (Ctx c)) = 0

@@ -9,7 +9,7 @@ ghost use Rattle.cs_model.specs.Read.{active_birth, active_context, depth_of, me
 ghost use Rattle.cs_model.specs.Read.{stack_of};
 ghost use Rattle.cs_model.specs.Operation.{add_of, cut_to_of, enter_of, leave_of, next_ref, nil_of, pop_of, push_of};
 ghost use Rattle.cs_model.specs.Operation.{set_fixed_of, set_pc_of, set_stack_of, store_byte_of, store_of};
-ghost use Rattle.cs_model.specs.Instance.{behavior_hash, hash_given, hash_of, instantiate};
+ghost use Rattle.cs_model.specs.Instance.{hash_given, hash_of};
 ghost use Rattle.cs_model.specs.PrimObject.{blank_method, can_be_fixed};
 ghost use Rattle.cs_model.specs.Return.{closure_at, context_birth, has_room, is_live, sender_birth};
 ghost use Rattle.cs_model.specs.Context.{is_context_ref};
@@ -20,15 +20,14 @@ ghost use Rattle.cs_acts.specs.declared.act.Full.TheVariants as full;
 ghost use Rattle.cs_acts.specs.Full.{CausesFull};
 ghost use Rattle.cs_acts.specs.Layout.{IsLaidOut, LaidBy, Layout, cut, depth_if, entered, left};
 ghost use Rattle.cs_acts.specs.Made.{CanAllocate, CanMakeMethod, MakesAtMost, blank_of, code_words, made_by_entering};
-ghost use Rattle.cs_acts.specs.Made.{made_by_instantiating, made_by_reading};
-ghost use Rattle.cs_acts.specs.Instances.{GivesIndex, RefusesInstance, hashed_state, is_new, made_state};
+ghost use Rattle.cs_acts.specs.Made.{made_by_reading};
 ghost use Rattle.cs_acts.specs.Names.{IsNamed, KeepsNames, Names, NamesOption, Store, name_of};
-ghost use Rattle.cs_acts.specs.Ready.{IsReady, IsSound, byte_count, is_storable};
+ghost use Rattle.cs_acts.specs.Ready.{IsReady, IsSound, writable_bytes, is_storable};
 ghost use Rattle.cs_acts.specs.Targets.{CanArrive, CanCut, CanEnter, CanEnterBlock, dying_to, field_of, is_gone};
 ghost use Rattle.cs_acts.specs.Targets.{method_in, pc_in, stack_in};
 
 use crate::{Act, Full};
-use cs_classes::{Classes, NewError, Roots};
+use cs_classes::{Classes, Roots};
 use cs_heap::Heap;
 use cs_word::{MethodHeader, Oop};
 
@@ -222,7 +221,7 @@ pub trait World {
     fn store_byte(&mut self, o: Oop, i: u32, b: u8)
         requires sound { IsSound (stored self.old) (view self.old) }
         requires object { IsNamed (stored self.old) o }
-        requires there { i < byte_count (object_of (view self.old) (name_of (stored self.old) o)) }
+        requires there { i < writable_bytes (object_of (view self.old) (name_of (stored self.old) o)) }
         ensures state { (m : Kept) → Keeps (view self.old) m → Keeps (view self.new)
             (store_byte_of m (name_of (stored self.old) o) i b) }
         ensures exact { layout self.old ≡ None → SameKept (view self.new)
@@ -376,6 +375,32 @@ pub trait World {
         ensures heap_alone { IfErr result (λ why. why ≡ full.Heap) }
         ensures full { IfErr result (CausesFull (stored self.new) (layout self.old) (view self.old) (size slots)
             (add_of (view self.old) (blank_of (view self.old) class format slots))) };
+
+    /// Makes a method of this class index and header: its literals are nil, and it has `count` bytecode bytes of 0.
+    /// Behind a refusal all is as before.
+    fn new_method(&mut self, class: u32, header: MethodHeader, count: u32) -> Result<Oop, Full>
+        requires sound { IsSound (stored self.old) (view self.old) }
+        requires fits { CanMakeMethod (view self.old) class header.0 count }
+        ensures state { OnOk result ((m : Kept) → Keeps (view self.old) m
+            → Keeps (view self.new) (add_of m (blank_method m class count header.0))) }
+        ensures exact { OnOk result (layout self.old ≡ None → SameKept (view self.new)
+            (add_of (view self.old) (blank_method (view self.old) class count header.0))) }
+        ensures value { IfOk result (λ o. Names (stored self.new) o (next_ref (view self.old))) }
+        ensures layout { OnOk result (layout self.new ≡ layout self.old) }
+        ensures limit { (stored self.new).memory.limit ≡ (stored self.old).memory.limit }
+        ensures contexts { OnOk result (MakesAtMost 0 (layout self.old) (stored self.old)
+            (stored self.new)) }
+        ensures sound { OnOk result (IsSound (stored self.new) (view self.new)) }
+        ensures ready { OnOk result (IsReady (stored self.old) (view self.old)
+            → IsReady (stored self.new) (view self.new)) }
+        ensures names { OnOk result (KeepsNames (stored self.old) (stored self.new)) }
+        ensures refused_view { OnErr result (view self.new ≡ view self.old) }
+        ensures refused_stored { OnErr result (stored self.new ≡ stored self.old) }
+        ensures refused_layout { OnErr result (layout self.new ≡ layout self.old) }
+        ensures heap_alone { IfErr result (λ why. why ≡ full.Heap) }
+        ensures full { IfErr result (CausesFull (stored self.new) (layout self.old) (view self.old)
+            (size (code_words header.0 count)) (add_of (view self.old)
+            (blank_method (view self.old) class count header.0))) };
 
     /// Enters a method: receiver and arguments leave the active stack, and a new context is active, with the old one as
     /// its sender. It begins at the first pc of the method, or with `skip` behind its three bytes that name a

@@ -8,7 +8,7 @@ use Rattle.cs_heap.specs.Writes.{object_added, slot_stored}
 use Rattle.cs_heap.proofs.Writes.{slot_stored-unwatched}
 use Rattle.cs_heap.proofs.Laws.{field_of-new, length-new_words, next_address-new, next_address-set_word, slot_count_of-with_slot, with_slot-new}
 use Rattle.cs_model.specs.Obj.{literal_count}
-use Rattle.cs_classes.specs.Methods.{method_added, method_object, method_slots, nil_literals}
+use Rattle.cs_classes.specs.Methods.{method_added, coded_method, method_slots, nil_literals}
 
 count-nil : (os : List Object) (a n b : ℕ) → slot_count_of (nil_literals os a n) b ≡ slot_count_of os b
 unfolding nil_literals
@@ -85,7 +85,7 @@ method-made m k a class format header count slots birth at long form made =
     ∙ ap (λ (us : List Object). record m { objects = us }) (nil-new m.objects (set_word 0 (small_word (pos header)) y) a n (next_address-set_word m.objects y a 0 (small_word (pos header)) next))
     ∙ ap (λ (ws : List ℕ). record m { objects = m.objects ++ record y { words = nil_words ws n } ∷ [] }) (ap (λ (k : ℕ). set (replicate k 0) 0 (small_word (pos header))) many)
     ∙ ap (λ (ws : List ℕ). record m { objects = m.objects ++ record y { words = ws } ∷ [] }) (nil-words (small_word (pos header)) n c)
-    ∙ ap (λ (f : ℕ). record m { objects = m.objects ++ record (method_object class header count birth) { format = f } ∷ [] }) form
+    ∙ ap (λ (f : ℕ). record m { objects = m.objects ++ record (coded_method class header count birth) { format = f } ∷ [] }) form
   where
     sum : (n c : ℕ) → 1 + n + c ≡ suc (n + c)
     sum n c = omega arith

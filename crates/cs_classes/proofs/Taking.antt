@@ -44,13 +44,15 @@ pub class_there : (os : List Object) (a : ℕ) → has_slots os 3 a ≡ true →
 class_there os a h =
     let p = parts (is_object os a) (not (class_at os a == context_class)) (is_pointers (format_at os a)) (nat_le 3 (slot_count_of os a)) h in
     let x = object_there os a p.0 in
-    let field : (g : Object → ℕ) → part_at g os a ≡ g x.0 = λ g. ap (λ (o : Option Object). option_map_or g o 0) x.1 in
-    (x.0, record {
-      there = x.1;
-      other = unlike (x.0.class == 36) (ap (λ n. not (n == 36)) (sym (field (λ y. y.class))) ∙ p.1.0);
-      pointers = ap is_pointers (sym (field (λ y. y.format))) ∙ p.1.1.0;
-      slots = at_least (length x.0.words) (ap (nat_le 3) (sym (field (λ y. length y.words))) ∙ p.1.1.1);
-    })
+    let field : (g : Object → ℕ) → part_at g os a ≡ g x.0 = λ g. ap (λ (o : Option Object). option_map_or g o 0) x.1 in (
+      x.0,
+      record {
+        there = x.1;
+        other = unlike (x.0.class == 36) (ap (λ n. not (n == 36)) (sym (field (λ y. y.class))) ∙ p.1.0);
+        pointers = ap is_pointers (sym (field (λ y. y.format))) ∙ p.1.1.0;
+        slots = at_least (length x.0.words) (ap (nat_le 3) (sym (field (λ y. length y.words))) ∙ p.1.1.1);
+      },
+    )
   where
     unlike : (b : Bool) → not b ≡ true → b ≡ false
     unlike false h = refl
@@ -106,14 +108,14 @@ module _ {os : List Object} {table : FinMap nat_cmp ℕ} {roots : Roots} {a : �
       let does = does-first_hash (record { whole = w; there = c.there }) index none in
       record {
         whole = whole-set_entry (hash_set os a index) table roots index a does.whole (record {
-              within = omega (arith, range.1);
-              free = omega (arith, range.0);
-              there = is_object-with_hash os a index a ∙ is_object-object_at os a x c.there;
-              class = λ y e.
-                  let found : option_map (λ (z : Object). record z { hash = index }) (Some x) ≡ Some y = sym (object_at-with_object_same os a (λ (z : Object). record z { hash = index }) (λ (z : Object). refl) ∙ ap (option_map (λ (z : Object). record z { hash = index })) c.there) ∙ e in
-                  let same : record x { hash = index } ≡ y = cc in
-                  subst (IsSoundClass index) same (record { format = class_shape x.format (length x.words) c.pointers sound.plain sound.shape c.slots; other = c.other; slots = c.slots; hash = refl });
-            });
+          within = omega (arith, range.1);
+          free = omega (arith, range.0);
+          there = is_object-with_hash os a index a ∙ is_object-object_at os a x c.there;
+          class = λ y e.
+              let found : option_map (λ (z : Object). record z { hash = index }) (Some x) ≡ Some y = sym (object_at-with_object_same os a (λ (z : Object). record z { hash = index }) (λ (z : Object). refl) ∙ ap (option_map (λ (z : Object). record z { hash = index })) c.there) ∙ e in
+              let same : record x { hash = index } ≡ y = cc in
+              subst (IsSoundClass index) same (record { format = class_shape x.format (length x.words) c.pointers sound.plain sound.shape c.slots; other = c.other; slots = c.slots; hash = refl });
+        });
         kept = kept_is does;
       }
 

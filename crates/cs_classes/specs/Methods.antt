@@ -9,8 +9,8 @@ abbrev pub method_slots : ℕ → ℕ → ℕ
 method_slots header count = 1 + literal_count header + (count + 3) / 4
 
 -- a method whose literals are nil and whose bytecodes are 0
-abbrev pub method_object : ℕ → ℕ → ℕ → ℕ → Object
-method_object class header count birth = record {
+abbrev pub coded_method : ℕ → ℕ → ℕ → ℕ → Object
+coded_method class header count birth = record {
   class = class;
   flags = no_flags;
   format = 24 + (3 - (count + 3) % 4);
@@ -20,7 +20,7 @@ method_object class header count birth = record {
 }
 
 abbrev pub method_added : Memory → ℕ → ℕ → ℕ → ℕ → Memory
-method_added m class header count birth = record m { objects = m.objects ++ method_object class header count birth ∷ [] }
+method_added m class header count birth = record m { objects = m.objects ++ coded_method class header count birth ∷ [] }
 
 -- so many literals of the method at an address are nil
 unfoldable pub nil_literals : List Object → ℕ → ℕ → List Object

@@ -18,9 +18,9 @@ mod words;
 
 use cs_heap::Heap;
 use cs_word::Oop;
+pub use methods::add_method;
 use std::alloc::{AllocError, Global};
 use std::marker::Model;
-pub use methods::add_method;
 pub use words::{first_byte, has_slots, is_context, method_header};
 
 /// The class index of contexts.

@@ -35,7 +35,7 @@ use Rattle.cs_model.proofs.Making.{hash_given_moved}
 use Rattle.cs_model.proofs.Same.{same}
 use Rattle.cs_model.specs.Read.{active_birth, active_context, pc_of}
 use Rattle.cs_acts.specs.Names.{IsNamed, name_of}
-use Rattle.cs_acts.specs.Ready.{IsSound, byte_count}
+use Rattle.cs_acts.specs.Ready.{IsSound, writable_bytes}
 use Rattle.cs_acts.proofs.ContextKinds.{kinds-rest, kinds-set_fixed, kinds-set_hash, kinds-store_byte}
 use Rattle.cs_plain.specs.declared.PlainWorld.{PlainWorld}
 use Rattle.cs_plain.specs.View.{plain_stored, plain_view}
@@ -67,20 +67,22 @@ named_object w o sound named some = go (kind_of o.0) refl named some
     go (kind.Object a) e n s =
         let is : a ≡ o.0 = kind_address o.0 a e in
         let object : is_object os o.0 ≡ true = ap (is_object os) (sym is) ∙ n in
-        let x = object_there os o.0 object in
-        (x.0, record {
-          there = x.1;
-          object = object;
-          means = ap (λ k. object_of (plain_view w) (ref_of_kind os k)) e ∙ ap (λ b. state.object_at (plain_view w) (birth_at os b)) is
-              ∙ ap (state.object_at (plain_view w)) (birth_of-object_at os o.0 x.0 x.1) ∙ meaning_there w o.0 x.0 sound.holds.whole x.1;
-        })
+        let x = object_there os o.0 object in (
+          x.0,
+          record {
+            there = x.1;
+            object = object;
+            means = ap (λ k. object_of (plain_view w) (ref_of_kind os k)) e ∙ ap (λ b. state.object_at (plain_view w) (birth_at os b)) is
+                ∙ ap (state.object_at (plain_view w)) (birth_of-object_at os o.0 x.0 x.1) ∙ meaning_there w o.0 x.0 sound.holds.whole x.1;
+          },
+        )
 
 -- what may be read-only, or has bytes to be written, is there
 pub fixable : (p : Option Obj) → can_be_fixed p ≡ true → IsSome p
 fixable None h = absurd (cc)
 fixable (Some y) h = refl
 
-pub counted_object : (p : Option Obj) (i : ℕ) → i < byte_count p → IsSome p
+pub counted_object : (p : Option Obj) (i : ℕ) → i < writable_bytes p → IsSome p
 counted_object None i h = absurd (omega (arith, h))
 counted_object (Some y) i h = refl
 
@@ -123,14 +125,14 @@ module _ {w : PlainWorld} {o : Oop} {x : Object} (sound : IsSound (plain_stored 
   slot_is : (i : ℕ) → slot_of os o.0 i ≡ slice_index x.words i
   slot_is i = field (λ (y : Object). slice_index y.words i)
 
-  counted : (n : ℕ) → object_of (plain_view w) (name_of (plain_stored w) o) ≡ Some meaning → n < byte_count (object_of (plain_view w) (name_of (plain_stored w) o)) → n < byte_count (Some meaning)
-  counted n e l = subst (λ p. n < byte_count p) e l
+  counted : (n : ℕ) → object_of (plain_view w) (name_of (plain_stored w) o) ≡ Some meaning → n < writable_bytes (object_of (plain_view w) (name_of (plain_stored w) o)) → n < writable_bytes (Some meaning)
+  counted n e l = subst (λ p. n < writable_bytes p) e l
 
-  pub writable : (i b : ℕ) → b < 256 → i < byte_count (object_of (plain_view w) (name_of (plain_stored w) o)) → Writable i b
+  pub writable : (i b : ℕ) → b < 256 → i < writable_bytes (object_of (plain_view w) (name_of (plain_stored w) o)) → Writable i b
   unfolding method_meaning
   writable i b small less = go (sort_of x)
     where
-      there : i < byte_count (Some meaning)
+      there : i < writable_bytes (Some meaning)
       there = counted i at.means less
 
       form : format_at os o.0 ≡ x.format
@@ -140,12 +142,12 @@ module _ {w : PlainWorld} {o : Oop} {x : Object} (sound : IsSound (plain_stored 
       count = field (λ (y : Object). length y.words)
 
       go : Sort x → Writable i b
-      go (AContext c) = absurd (let no : i < 0 = subst (λ p. i < byte_count (Some p)) (obj_of-context (ref_of os) x c) there in omega (arith, no))
-      go (Pointers a p) = absurd (let no : i < 0 = subst (λ p. i < byte_count (Some p)) (obj_of-pointers (ref_of os) x a p) there in omega (arith, no))
+      go (AContext c) = absurd (let no : i < 0 = subst (λ p. i < writable_bytes (Some p)) (obj_of-context (ref_of os) x c) there in omega (arith, no))
+      go (Pointers a p) = absurd (let no : i < 0 = subst (λ p. i < writable_bytes (Some p)) (obj_of-pointers (ref_of os) x a p) there in omega (arith, no))
       go (AMethod a p m) =
           let l : ℕ = literal_count (method_header x.words) in
           let code : List ℕ = code_in x.words in
-          let inside : i < length (used_bytes x.format code) = subst (λ p. i < byte_count (Some p)) (obj_of-method (ref_of os) x a p m) there in
+          let inside : i < length (used_bytes x.format code) = subst (λ p. i < writable_bytes (Some p)) (obj_of-method (ref_of os) x a p m) there in
           let first : first_byte_at os o.0 ≡ 4 * (1 + l) =
           ap (λ f. if is_code f then 4 * (1 + literal_count (unwrap_or (natural_of_word (slot_of os o.0 0)) 0)) else 0) form ∙ ap (λ (c : Bool). if c then 4 * (1 + literal_count (unwrap_or (natural_of_word (slot_of os o.0 0)) 0)) else 0) m
           ∙ ap (λ v. 4 * (1 + literal_count (unwrap_or (natural_of_word v) 0))) (slot_is 0) in
@@ -157,7 +159,7 @@ module _ {w : PlainWorld} {o : Oop} {x : Object} (sound : IsSound (plain_stored 
                 (does-set_code (record { whole = sound.holds.whole; there = at.there }) i b m small);
           }
       go (Bytes a p m) =
-          let inside : i < length (used_bytes x.format x.words) = subst (λ p. i < byte_count (Some p)) (obj_of-bytes (ref_of os) x a p m) there in
+          let inside : i < length (used_bytes x.format x.words) = subst (λ p. i < writable_bytes (Some p)) (obj_of-bytes (ref_of os) x a p m) there in
           let first : first_byte_at os o.0 ≡ 0 =
           ap (λ f. if is_code f then 4 * (1 + literal_count (unwrap_or (natural_of_word (slot_of os o.0 0)) 0)) else 0) form ∙ ap (λ (c : Bool). if c then 4 * (1 + literal_count (unwrap_or (natural_of_word (slot_of os o.0 0)) 0)) else 0) m in
           record {

@@ -550,19 +550,6 @@ impl World for PlainWorld {
         unreachable!()
     }
 
-    fn instantiate(&mut self, class: Oop, size: u32) -> Result<Oop, NewError> {
-        let birth = self.roots.next_birth;
-        let object = self
-            .classes
-            .instantiate(&mut self.heap, class, size, birth)?;
-        self.roots.next_birth = birth + 1;
-        Ok(object)
-    }
-
-    fn behavior_hash(&mut self, class: Oop) -> Result<u32, NewError> {
-        self.classes.behavior_hash(&mut self.heap, class)
-    }
-
     fn enter(&mut self, method: Oop, args: u32, skip: bool) -> Result<(), Full> {
         let header = method_header(&self.heap, method);
         let fields = Fields {

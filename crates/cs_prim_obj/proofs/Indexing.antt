@@ -18,8 +18,8 @@ use Rattle.cs_prim_obj.specs.declared.contents.Contents.{Contents}
 use Rattle.cs_prim_obj.specs.declared.contents.Contents.TheVariants.{Immediate, Slots, Bytes, Code, Context}
 use Rattle.cs_word.specs.declared.Oop.{Oop}
 use Rattle.cs_acts.specs.Names.{NamesOption, Store}
-use Rattle.cs_acts.specs.Ready.{byte_count}
-use Rattle.cs_prim_obj.specs.Elements.{elements, elements_of, end_of, end_of_unit, has_size_by, is_bytes_by, number_at}
+use Rattle.cs_acts.specs.Ready.{writable_bytes}
+use Rattle.cs_prim_obj.specs.Elements.{elements, elements_of, elements_end, end_of_unit, has_size_by, is_bytes_by, element_number}
 use Rattle.cs_prim_obj.specs.declared.elements.Elements.{Elements}
 use Rattle.cs_prim_obj.specs.declared.elements.Unit.{Unit}
 use Rattle.cs_prim_obj.specs.declared.elements.Unit.TheVariants as unit
@@ -133,14 +133,14 @@ front_in Context = 0
 abbrev pub StandFrom : List Object → ℕ → ℕ → List ℕ → Type 0
 StandFrom os w from bytes = (i : ℕ) → i < length bytes → byte_of os w (from + i) ≡ get_or bytes i 0
 
-pub number_is : (os : List Object) (w from : ℕ) (bytes : List ℕ) → StandFrom os w from bytes → (n a : ℕ) → a + n ≤ length bytes → number_at os w (from + a) n ≡ number_of (take n (drop a bytes))
-unfolding number_at
+pub number_is : (os : List Object) (w from : ℕ) (bytes : List ℕ) → StandFrom os w from bytes → (n a : ℕ) → a + n ≤ length bytes → element_number os w (from + a) n ≡ number_of (take n (drop a bytes))
+unfolding element_number
 number_is os w from bytes stand zero a l = refl
 number_is os w from bytes stand (suc n) a l =
     let here = stand a (omega (arith, l)) in
     let next : from + a + 1 ≡ from + suc a = omega arith in
-    let rest : number_at os w (from + a + 1) n ≡ number_of (take n (drop (suc a) bytes)) =
-    ap (λ i. number_at os w i n) next ∙ number_is os w from bytes stand n (suc a) (omega (arith, l)) in
+    let rest : element_number os w (from + a + 1) n ≡ number_of (take n (drop (suc a) bytes)) =
+    ap (λ i. element_number os w i n) next ∙ number_is os w from bytes stand n (suc a) (omega (arith, l)) in
     ap₂ (λ (b m : ℕ). b + 256 * m) here rest ∙ sym (ap (λ (ys : List ℕ). number_of (take (suc n) ys)) (drop_next bytes a (omega (arith, l))))
 
 by_bytes : (format : ℕ) → (unit_bytes format ≡ 8) ⊎ ((unit_bytes format ≡ 4) ⊎ ((unit_bytes format ≡ 2) ⊎ (unit_bytes format ≡ 1)))
@@ -163,8 +163,8 @@ unit_within format bytes place l = go (unit_bytes format) (by_bytes format) l
     go n (inr (inr (inr e))) l = let m : place < bytes / 1 = subst (λ i. place < bytes / i) e l in subst (λ i. place * i + i ≤ bytes) (sym e) (omega (arith, m))
 
 pub byte_element : (k : Kept) (x : Ref) (os : List Object) (w first count size from place : ℕ) → held k x ≡ Some (elements first count (unit.Bytes size from)) → place < count
-    → StandFrom os w from (bytes_in (object_of k x)) → ((i : ℕ) → byte_of os w i < 256) → small_ref (if_small (pos (number_at os w (from + place * size) size))) ≡ element_at k x place
-unfolding element_at number_at
+    → StandFrom os w from (bytes_in (object_of k x)) → ((i : ℕ) → byte_of os w i < 256) → small_ref (if_small (pos (element_number os w (from + place * size) size))) ≡ element_at k x place
+unfolding element_at element_number
 byte_element k x os w first count size from place e less stand small = go (object_of k x) e stand
   where
     no_slot : (o : Option ℕ) (n : ℕ) → option_map (λ f. elements 1 (n - f) (unit.Slot f)) o ≡ Some (elements first count (unit.Bytes size from)) → ⊥
@@ -177,21 +177,21 @@ byte_element k x os w first count size from place e less stand small = go (objec
         let less : nat_lt b (2 ^ 30) ≡ true = grind (arith, nat_tests, l) in
         ap if_small (ap pos none) ∙ ap (λ (t : Bool). if t then Some (pos b) else None) less
 
-    go : (o : Option Obj) → elements_of k x (contents_of o) ≡ Some (elements first count (unit.Bytes size from)) → StandFrom os w from (bytes_in o) → small_ref (if_small (pos (number_at os w (from + place * size) size))) ≡ read_in k x place o
+    go : (o : Option Obj) → elements_of k x (contents_of o) ≡ Some (elements first count (unit.Bytes size from)) → StandFrom os w from (bytes_in o) → small_ref (if_small (pos (element_number os w (from + place * size) size))) ≡ read_in k x place o
     go None e stand = absurd (cc)
     go (Some (Ptr head slots)) e stand = absurd (no_slot (fields_within (length slots) (class_shape k x)) (length slots) e)
     go (Some (Raw head bytes)) e stand =
         let of_size : unit_bytes head.format ≡ size = ap size_in e in
         let of_count : length bytes / unit_bytes head.format ≡ count = ap count_in e in
         let within = unit_within head.format (length bytes) place (omega (arith, less, of_count)) in
-        ap (λ n. small_ref (if_small (pos (number_at os w (from + place * n) n)))) (sym of_size)
+        ap (λ n. small_ref (if_small (pos (element_number os w (from + place * n) n)))) (sym of_size)
         ∙ ap (λ n. small_ref (if_small (pos n))) (number_is os w from bytes stand (unit_bytes head.format) (place * unit_bytes head.format) within)
     go (Some (Method head header literals bytecodes)) e stand =
         let of_size : 1 ≡ size = ap size_in e in
         let of_count : length bytecodes ≡ count = ap count_in e in
         let there : place < length bytecodes = omega (arith, less, of_count) in
         let at : from + place * 1 ≡ from + place = omega arith in
-        ap (λ n. small_ref (if_small (pos (number_at os w (from + place * n) n)))) (sym of_size)
+        ap (λ n. small_ref (if_small (pos (element_number os w (from + place * n) n)))) (sym of_size)
         ∙ ap (λ i. small_ref (if_small (pos (byte_of os w i + 256 * 0)))) at
         ∙ ap small_ref (one (byte_of os w (from + place)) (small (from + place)))
         ∙ ap (λ b. Some (Small (pos b))) (stand place there)
@@ -220,7 +220,7 @@ in_slot k x e fields place is kept = slot_element k x e.first e.count fields pla
 
 pub in_bytes : (k : Kept) (x : Ref) (os : List Object) (w : ℕ) (e : Elements) (size from place : ℕ) → Some e ≡ held k x → e.unit ≡ unit.Bytes size from → place < e.count
     → ((c : Contents) → c ≡ contents_of (object_of k x) → StandFrom os w (front_in c) (bytes_in (object_of k x))) → ((i : ℕ) → byte_of os w i < 256)
-    → small_ref (if_small (pos (number_at os w (from + place * size) size))) ≡ element_at k x place
+    → small_ref (if_small (pos (element_number os w (from + place * size) size))) ≡ element_at k x place
 in_bytes k x os w e size from place is kept less stand small =
     let same = sym is ∙ ap (λ u. Some (elements e.first e.count u)) kept in
     byte_element k x os w e.first e.count size from place same less (subst (λ n. StandFrom os w n (bytes_in (object_of k x))) (front_is k x (object_of k x) e.first e.count size from same) (stand (contents_of (object_of k x)) refl)) small
@@ -293,13 +293,13 @@ pub bytes_place : (k : Kept) (x index : Ref) (c : Contents) (p : Option ℕ) →
 bytes_place k x index c p is some place = sym (ap (λ b. place_by b (element_place k x index)) (bytes_told k x c true is some) ∙ place)
 
 -- there are as many elements as bytes
-pub bytes_counted : (k : Kept) (x : Ref) (c : Contents) (e : Elements) → c ≡ contents_of (object_of k x) → is_bytes_by c ≡ true → Some e ≡ elements_of k x c → e.count ≡ byte_count (object_of k x)
+pub bytes_counted : (k : Kept) (x : Ref) (c : Contents) (e : Elements) → c ≡ contents_of (object_of k x) → is_bytes_by c ≡ true → Some e ≡ elements_of k x c → e.count ≡ writable_bytes (object_of k x)
 bytes_counted k x c e is some told = go (object_of k x) (ap is_bytes_by (sym is) ∙ some) (told ∙ ap (elements_of k x) is)
   where
     unit_one : (format : ℕ) → nat_le 16 format ≡ true → unit_bytes format ≡ 1
     unit_one format h = grind (arith, nat_tests)
 
-    go : (o : Option Obj) → is_bytes_by (contents_of o) ≡ true → Some e ≡ elements_of k x (contents_of o) → e.count ≡ byte_count o
+    go : (o : Option Obj) → is_bytes_by (contents_of o) ≡ true → Some e ≡ elements_of k x (contents_of o) → e.count ≡ writable_bytes o
     go None h t = absurd (cc)
     go (Some (Ptr head slots)) h t = absurd (cc)
     go (Some (Raw head bytes)) h t =
@@ -309,11 +309,11 @@ bytes_counted k x c e is some told = go (object_of k x) (ap is_bytes_by (sym is)
     go (Some (Method head header literals bytecodes)) h t = absurd (cc)
     go (Some (Ctx c)) h t = absurd (cc)
 
-pub byte_found : (k : Kept) (x index : Ref) (os : List Object) (w p : ℕ) → Some p ≡ (if is_bytes k x then element_place k x index else None) → p < byte_count (object_of k x)
+pub byte_found : (k : Kept) (x index : Ref) (os : List Object) (w p : ℕ) → Some p ≡ (if is_bytes k x then element_place k x index else None) → p < writable_bytes (object_of k x)
     → StandFrom os w (front_in (contents_of (object_of k x))) (bytes_in (object_of k x)) → byte_at k x index ≡ Some (byte_of os w p)
 byte_found k x index os w p place less stand = go (object_of k x) place less stand
   where
-    go : (o : Option Obj) → Some p ≡ place_by (is_some (byte_string o)) (element_place k x index) → p < byte_count o → StandFrom os w (front_in (contents_of o)) (bytes_in o) → byte_by (element_place k x index) (byte_string o) ≡ Some (byte_of os w p)
+    go : (o : Option Obj) → Some p ≡ place_by (is_some (byte_string o)) (element_place k x index) → p < writable_bytes o → StandFrom os w (front_in (contents_of o)) (bytes_in o) → byte_by (element_place k x index) (byte_string o) ≡ Some (byte_of os w p)
     go None e l stand = absurd (cc)
     go (Some (Ptr head slots)) e l stand = absurd (cc)
     go (Some (Raw head bytes)) e l stand = raw (nat_le 16 head.format) e
@@ -336,7 +336,7 @@ no_byte k x index place = go (byte_string (object_of k x)) place
 pub code_bound : (c : Contents) (literals count : ℕ) → amount_in c ≤ 268435456 → c ≡ Code literals count → 4 * (literals + 1) + count ≤ 268435456
 code_bound c literals count most is = subst (λ d. amount_in d ≤ 268435456) is most
 
-pub unit_bound : (e : Elements) (size from place most : ℕ) → end_of e ≤ most → e.unit ≡ unit.Bytes size from → place < e.count → from + place * size + size ≤ most
+pub unit_bound : (e : Elements) (size from place most : ℕ) → elements_end e ≤ most → e.unit ≡ unit.Bytes size from → place < e.count → from + place * size + size ≤ most
 unit_bound e size from place most l is less =
     let here : from + e.count * size ≤ most = subst (λ u. end_of_unit u e.count ≤ most) is l in
     let more : (place + 1) * size ≤ e.count * size = times_mono (place + 1) e.count size (omega (arith, less)) in
@@ -348,19 +348,19 @@ unit_bound e size from place most l is less =
     times_mono : (a b c : ℕ) → a ≤ b → a * c ≤ b * c
     times_mono a b c l = grind (arith, l)
 
-pub slot_bound : (e : Elements) (fields place most : ℕ) → end_of e ≤ most → e.unit ≡ unit.Slot fields → place < e.count → fields + place < most
+pub slot_bound : (e : Elements) (fields place most : ℕ) → elements_end e ≤ most → e.unit ≡ unit.Slot fields → place < e.count → fields + place < most
 slot_bound e fields place most l is less =
     let here : fields + e.count ≤ most = subst (λ u. end_of_unit u e.count ≤ most) is l in
     omega (arith, here, less)
 
 -- ---- a number from its bytes, the highest first
 
-pub number_step : (os : List Object) (w at size i n b : ℕ) → i < size → n ≡ number_at os w (at + (size - i)) i → b ≡ byte_of os w (at + (size - (i + 1)))
-    → 256 * n + b ≡ number_at os w (at + (size - (i + 1))) (i + 1)
-unfolding number_at
+pub number_step : (os : List Object) (w at size i n b : ℕ) → i < size → n ≡ element_number os w (at + (size - i)) i → b ≡ byte_of os w (at + (size - (i + 1)))
+    → 256 * n + b ≡ element_number os w (at + (size - (i + 1))) (i + 1)
+unfolding element_number
 number_step os w at size i n b less is byte =
     let next : at + (size - (i + 1)) + 1 ≡ at + (size - i) = omega (arith, less) in
     let more : i + 1 ≡ suc i = omega arith in
-    let rest : number_at os w (at + (size - (i + 1)) + 1) i ≡ n = ap (λ j. number_at os w j i) next ∙ sym is in
-    let sum : 256 * n + b ≡ byte_of os w (at + (size - (i + 1))) + 256 * number_at os w (at + (size - (i + 1)) + 1) i = omega (arith, rest, byte) in
-    sum ∙ sym (ap (number_at os w (at + (size - (i + 1)))) more)
+    let rest : element_number os w (at + (size - (i + 1)) + 1) i ≡ n = ap (λ j. element_number os w j i) next ∙ sym is in
+    let sum : 256 * n + b ≡ byte_of os w (at + (size - (i + 1))) + 256 * element_number os w (at + (size - (i + 1)) + 1) i = omega (arith, rest, byte) in
+    sum ∙ sym (ap (element_number os w (at + (size - (i + 1)))) more)

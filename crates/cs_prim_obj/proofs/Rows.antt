@@ -20,12 +20,12 @@ use Rattle.cs_prim_obj.specs.Contents.{contents_of}
 use Rattle.cs_prim_obj.specs.declared.contents.Contents.TheVariants.{Immediate}
 use Rattle.cs_prim_obj.specs.declared.numbers.Primitive.{Primitive}
 use Rattle.cs_prim_obj.specs.declared.numbers.Primitive.TheVariants.{CharAtPut, ObjectAtPut, SetReadOnly, SlotAtPut, At, Size, CharAt, ObjectAt, SlotAt, Identical, Class, IsReadOnly, Quick}
-use Rattle.cs_prim_obj.specs.Numbers.{HasNumber, is_listed, is_quick, is_about_objects, performs_on_objects, takes, wanted_by}
+use Rattle.cs_prim_obj.specs.Numbers.{HasObjectNumber, has_object_number, is_quick, is_about_objects, performs_on_objects, takes, arguments_wanted}
 use Rattle.cs_prim_obj.specs.Quick.{quick_value}
 
 -- ---- the numbers
 
-pub listed : (k : Kept) (number args : ℕ) → performs_on_objects k number args ≡ true → is_listed number ≡ true
+pub listed : (k : Kept) (number args : ℕ) → performs_on_objects k number args ≡ true → has_object_number number ≡ true
 listed k number args h = go (is_about_objects number) (number == 73) (number == 74) (not (is_context_ref k (receiver k args))) h
   where
     go : (a b c d : Bool) → (a || ((b || c) && d)) ≡ true → (a || b || c) ≡ true
@@ -95,7 +95,7 @@ count-163 : (k : Kept) (args : ℕ) → (0 == args) ≡ false → kept_prim 163 
 unfolding kept_prim read_only_prim
 count-163 k args h = counted k 0 args _ h
 
-pub uncounted : (k : Kept) (number args : ℕ) (p : Primitive) → HasNumber (Some p) number → takes p args ≡ false → kept_prim number args k ≡ fail k
+pub uncounted : (k : Kept) (number args : ℕ) (p : Primitive) → HasObjectNumber (Some p) number → takes p args ≡ false → kept_prim number args k ≡ fail k
 uncounted k number args CharAtPut is h = ap (λ n. kept_prim n args k) is ∙ count-64 k args h
 uncounted k number args ObjectAtPut is h = ap (λ n. kept_prim n args k) is ∙ count-69 k args h
 uncounted k number args SetReadOnly is h = ap (λ n. kept_prim n args k) is ∙ count-164 k args h
@@ -128,7 +128,7 @@ row_of k number args Class = class_prim k 0
 row_of k number args IsReadOnly = read_only_prim k 0
 row_of k number args Quick = quick_prim k number args
 
-pub taken : (p : Primitive) (args wanted : ℕ) → wanted_by p ≡ Some wanted → takes p args ≡ true → args ≡ wanted
+pub taken : (p : Primitive) (args wanted : ℕ) → arguments_wanted p ≡ Some wanted → takes p args ≡ true → args ≡ wanted
 taken CharAtPut args wanted e h = sym (eqb-true 2 args h) ∙ cc
 taken ObjectAtPut args wanted e h = sym (eqb-true 2 args h) ∙ cc
 taken SetReadOnly args wanted e h = sym (eqb-true 1 args h) ∙ cc
@@ -246,7 +246,7 @@ prim-quick k number args h =
       over 195 (omega arith),
     ) refl
 
-pub row_is : (k : Kept) (number args : ℕ) (p : Primitive) → HasNumber (Some p) number → takes p args ≡ true → row_of k number args p ≡ kept_prim number args k
+pub row_is : (k : Kept) (number args : ℕ) (p : Primitive) → HasObjectNumber (Some p) number → takes p args ≡ true → row_of k number args p ≡ kept_prim number args k
 row_is k number args CharAtPut is h = prim-64 k ∙ ap₂ (λ n a. kept_prim n a k) (sym is) (sym (taken CharAtPut args 2 refl h))
 row_is k number args ObjectAtPut is h = prim-69 k ∙ ap₂ (λ n a. kept_prim n a k) (sym is) (sym (taken ObjectAtPut args 2 refl h))
 row_is k number args SetReadOnly is h = prim-164 k ∙ ap₂ (λ n a. kept_prim n a k) (sym is) (sym (taken SetReadOnly args 1 refl h))

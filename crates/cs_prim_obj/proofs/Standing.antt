@@ -14,7 +14,7 @@ use Rattle.cs_model.specs.Obj.{Obj, Ptr, Raw, Method, Ctx, is_context_at, litera
 use Rattle.cs_model.specs.State.{Kept, object_of}
 use Rattle.cs_acts.specs.Names.{IsNamed, Store, name_of}
 use Rattle.cs_acts.specs.Reading.{object_named}
-use Rattle.cs_acts.specs.Ready.{Holds, byte_count}
+use Rattle.cs_acts.specs.Ready.{Holds, writable_bytes}
 use Rattle.cs_acts.proofs.Headers.{method_in}
 use Rattle.cs_acts.proofs.Held.{Says, says}
 use Rattle.cs_acts.proofs.Methods.{code_byte, get_or-bytes_of, length-literals}
@@ -102,7 +102,7 @@ pub stand_by : (s : Store) (k : Kept) (m : Memory) (o : Oop) → m ≡ s.memory 
 stand_by s k m o e holds named c is = subst (λ d. StandFrom m.objects o.0 (front_in d) (bytes_in (object_of k (name_of s o)))) (sym is) (bytes_stand s k m o e holds named)
 
 -- the bytes of an object are among what it holds
-pub bytes_within : (o : Option Obj) → byte_count o ≤ amount_in (contents_of o)
+pub bytes_within : (o : Option Obj) → writable_bytes o ≤ amount_in (contents_of o)
 bytes_within None = omega arith
 bytes_within (Some (Ptr head slots)) = omega arith
 bytes_within (Some (Raw head bytes)) = omega arith

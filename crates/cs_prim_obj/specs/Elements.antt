@@ -31,11 +31,11 @@ slots_held (Bytes format count) = 0
 slots_held (Code literals count) = 0
 slots_held Context = 0
 
-abbrev pub fields_in : Kept → Ref → Contents → Option ℕ
-fields_in k x c = fields_within (slots_held c) (class_shape k x)
+abbrev pub named_fields_of : Kept → Ref → Contents → Option ℕ
+named_fields_of k x c = fields_within (slots_held c) (class_shape k x)
 
 abbrev pub elements_of : Kept → Ref → Contents → Option Elements
-elements_of k x c = elements_in c (fields_in k x c)
+elements_of k x c = elements_in c (named_fields_of k x c)
 
 -- whether what holds this tells its size
 abbrev pub has_size_by : Contents → Bool
@@ -50,9 +50,9 @@ abbrev pub fields_said : Ref → Option ℕ
 fields_said x = option_and_then (λ shape. natural_of (floor_rem shape (pos 65536))) (small_of x)
 
 -- so many bytes from one on, as a number, the lowest first
-unfoldable pub number_at : List Object → ℕ → ℕ → ℕ → ℕ
-number_at objects word at zero = 0
-number_at objects word at (suc n) = byte_of objects word at + 256 * number_at objects word (at + 1) n
+unfoldable pub element_number : List Object → ℕ → ℕ → ℕ → ℕ
+element_number objects word at zero = 0
+element_number objects word at (suc n) = byte_of objects word at + 256 * element_number objects word (at + 1) n
 
 -- whether what holds this has raw bytes that are elements one by one
 abbrev pub is_bytes_by : Contents → Bool
@@ -67,8 +67,8 @@ abbrev pub end_of_unit : Unit → ℕ → ℕ
 end_of_unit (unit.Slot fields) count = fields + count
 end_of_unit (unit.Bytes size from) count = from + count * size
 
-abbrev pub end_of : Elements → ℕ
-end_of e = end_of_unit e.unit e.count
+abbrev pub elements_end : Elements → ℕ
+elements_end e = end_of_unit e.unit e.count
 
 -- a unit has 1, 2, 4 or 8 bytes
 abbrev pub HasUnit : Unit → Type 0

@@ -18,45 +18,45 @@ is_about_objects number = number == 60 || number == 62 || number == 63 || number
 abbrev pub performs_on_objects : Kept → ℕ → ℕ → Bool
 performs_on_objects k number args = is_about_objects number || ((number == 73 || number == 74) && not (is_context_ref k (receiver k args)))
 
-abbrev pub is_listed : ℕ → Bool
-is_listed number = is_about_objects number || number == 73 || number == 74
+abbrev pub has_object_number : ℕ → Bool
+has_object_number number = is_about_objects number || number == 73 || number == 74
 
 -- the number of each
-abbrev pub HasNumber : Option Primitive → ℕ → Type 0
-HasNumber None number = is_listed number ≡ false
-HasNumber (Some CharAtPut) number = number ≡ 64
-HasNumber (Some ObjectAtPut) number = number ≡ 69
-HasNumber (Some SetReadOnly) number = number ≡ 164
-HasNumber (Some SlotAtPut) number = number ≡ 74
-HasNumber (Some At) number = number ≡ 60
-HasNumber (Some Size) number = number ≡ 62
-HasNumber (Some CharAt) number = number ≡ 63
-HasNumber (Some ObjectAt) number = number ≡ 68
-HasNumber (Some SlotAt) number = number ≡ 73
-HasNumber (Some Identical) number = number ≡ 110
-HasNumber (Some Class) number = number ≡ 111
-HasNumber (Some IsReadOnly) number = number ≡ 163
-HasNumber (Some Quick) number = is_quick number ≡ true
+abbrev pub HasObjectNumber : Option Primitive → ℕ → Type 0
+HasObjectNumber None number = has_object_number number ≡ false
+HasObjectNumber (Some CharAtPut) number = number ≡ 64
+HasObjectNumber (Some ObjectAtPut) number = number ≡ 69
+HasObjectNumber (Some SetReadOnly) number = number ≡ 164
+HasObjectNumber (Some SlotAtPut) number = number ≡ 74
+HasObjectNumber (Some At) number = number ≡ 60
+HasObjectNumber (Some Size) number = number ≡ 62
+HasObjectNumber (Some CharAt) number = number ≡ 63
+HasObjectNumber (Some ObjectAt) number = number ≡ 68
+HasObjectNumber (Some SlotAt) number = number ≡ 73
+HasObjectNumber (Some Identical) number = number ≡ 110
+HasObjectNumber (Some Class) number = number ≡ 111
+HasObjectNumber (Some IsReadOnly) number = number ≡ 163
+HasObjectNumber (Some Quick) number = is_quick number ≡ true
 
 -- how many arguments each takes; a quick one takes any
-abbrev pub wanted_by : Primitive → Option ℕ
-wanted_by CharAtPut = Some 2
-wanted_by ObjectAtPut = Some 2
-wanted_by SetReadOnly = Some 1
-wanted_by SlotAtPut = Some 2
-wanted_by At = Some 1
-wanted_by Size = Some 0
-wanted_by CharAt = Some 1
-wanted_by ObjectAt = Some 1
-wanted_by SlotAt = Some 1
-wanted_by Identical = Some 1
-wanted_by Class = Some 0
-wanted_by IsReadOnly = Some 0
-wanted_by Quick = None
+abbrev pub arguments_wanted : Primitive → Option ℕ
+arguments_wanted CharAtPut = Some 2
+arguments_wanted ObjectAtPut = Some 2
+arguments_wanted SetReadOnly = Some 1
+arguments_wanted SlotAtPut = Some 2
+arguments_wanted At = Some 1
+arguments_wanted Size = Some 0
+arguments_wanted CharAt = Some 1
+arguments_wanted ObjectAt = Some 1
+arguments_wanted SlotAt = Some 1
+arguments_wanted Identical = Some 1
+arguments_wanted Class = Some 0
+arguments_wanted IsReadOnly = Some 0
+arguments_wanted Quick = None
 
 abbrev pub is_wanted : Option ℕ → ℕ → Bool
 is_wanted None args = true
 is_wanted (Some wanted) args = wanted == args
 
 abbrev pub takes : Primitive → ℕ → Bool
-takes primitive args = is_wanted (wanted_by primitive) args
+takes primitive args = is_wanted (arguments_wanted primitive) args

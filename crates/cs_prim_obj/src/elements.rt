@@ -14,10 +14,10 @@ ghost use Rattle.cs_model.specs.Ref as ref;
 ghost use Rattle.cs_model.specs.Ref.{small_index};
 ghost use Rattle.cs_model.specs.State.{object_of};
 ghost use Rattle.cs_acts.specs.Names.{IsNamed, NamesOption, Store, name_of};
-ghost use Rattle.cs_acts.specs.Ready.{IsReady, IsSound, byte_count};
+ghost use Rattle.cs_acts.specs.Ready.{IsReady, IsSound, writable_bytes};
 ghost use Rattle.cs_prim_ctx.specs.Answered.{PerformsInPlace};
 ghost use Rattle.cs_prim_obj.specs.Contents.{amount_in, contents_of};
-ghost use Rattle.cs_prim_obj.specs.Elements.{HasUnit, elements_of, end_of, fields_said, has_size_by, is_bytes_by, number_at};
+ghost use Rattle.cs_prim_obj.specs.Elements.{HasUnit, elements_of, elements_end, fields_said, has_size_by, is_bytes_by, element_number};
 
 use crate::answering::{answer_if, argument_at};
 use crate::contents::{Contents, FIRST_BYTES, held_by};
@@ -173,7 +173,7 @@ fn byte_place<W: World>(w: &W, o: Oop, index: Oop) -> Option<u32>
     requires index { IsNamed (W.stored w.now) index }
     ensures place { result ≡ (if is_bytes (W.view w.now) (name_of (W.stored w.now) o)
         then element_place (W.view w.now) (name_of (W.stored w.now) o) (name_of (W.stored w.now) index) else None) }
-    ensures within { IfSome result (λ place. place < byte_count (object_of (W.view w.now)
+    ensures within { IfSome result (λ place. place < writable_bytes (object_of (W.view w.now)
         (name_of (W.stored w.now) o))) }
 {
     let held = held_by(w, o);
@@ -205,7 +205,7 @@ fn elements_of<W: World>(w: &W, o: Oop, held: Contents) -> Option<Elements>
     requires held { held ≡ contents_of (object_of (W.view w.now) (name_of (W.stored w.now) o)) }
     requires most { amount_in held ≤ 268435456 }
     ensures value { result ≡ elements_of (W.view w.now) (name_of (W.stored w.now) o) held }
-    ensures within { IfSome result (λ e. end_of e ≤ amount_in held) }
+    ensures within { IfSome result (λ e. elements_end e ≤ amount_in held) }
     ensures unit { IfSome result (λ e. HasUnit e.unit) }
 {
     match held {
@@ -333,7 +333,7 @@ fn number(heap: &Heap, o: Oop, at: u32, size: u32) -> u64
     requires there { at + size ≤ 4 * slot_count_of heap.now.objects o.0 }
     requires fits { at + size < 2 ^ 32 }
     requires most { size ≤ 8 }
-    ensures { result ≡ number_at heap.now.objects o.0 at size }
+    ensures { result ≡ element_number heap.now.objects o.0 at size }
 {
     let mut number = 0;
     for i in 0..size {

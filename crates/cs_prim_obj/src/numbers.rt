@@ -1,6 +1,6 @@
 //! The numbers of the primitives of this crate.
 ghost use Rattle.std.specs.Prelude.{◌≡◌};
-ghost use Rattle.cs_prim_obj.specs.Numbers.{HasNumber, takes};
+ghost use Rattle.cs_prim_obj.specs.Numbers.{HasObjectNumber, takes};
 
 /// What a primitive of this crate does.
 #[derive(Clone, Copy)]
@@ -36,7 +36,7 @@ pub(crate) enum Primitive {
 impl Primitive {
     /// The primitive of this number; None exactly where it is none of this crate.
     pub(crate) fn from_number(number: u32) -> Option<Primitive>
-        ensures { HasNumber result number }
+        ensures { HasObjectNumber result number }
     {
         match number {
             64 => Some(Primitive::CharAtPut),

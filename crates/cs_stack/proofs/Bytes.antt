@@ -26,7 +26,7 @@ use Rattle.cs_model.specs.Obj.{Ctx, Method, Obj, Ptr, Raw, first_pc, is_context_
 use Rattle.cs_model.specs.State.{object_of}
 use Rattle.cs_model.specs.Operation.{store_byte_of, with_byte}
 use Rattle.cs_acts.specs.Names.{IsNamed, name_of}
-use Rattle.cs_acts.specs.Ready.{byte_count}
+use Rattle.cs_acts.specs.Ready.{writable_bytes}
 use Rattle.cs_acts.specs.Reading.{object_named}
 use Rattle.cs_acts.proofs.Held.{Says, says}
 use Rattle.cs_acts.proofs.Methods.{at_word}
@@ -66,7 +66,7 @@ lies_byte i b pc (Raw head bytes) = refl
 lies_byte i b pc (Method head header literals bytecodes) = ap (λ n. obj.lies_between (first_pc literals) n pc) (length-set bytecodes i b)
 lies_byte i b pc (Ctx c) = refl
 
-no_bytes : (o : Option Obj) → is_context_at o ≡ true → byte_count o ≡ 0
+no_bytes : (o : Option Obj) → is_context_at o ≡ true → writable_bytes o ≡ 0
 no_bytes None h = refl
 no_bytes (Some (Ptr head slots)) h = refl
 no_bytes (Some (Raw head bytes)) h = absurd (cc)
@@ -111,13 +111,13 @@ module _ (w : Parts) (good : IsGood w) (a i b : ℕ) (small : b < 256) (x : Obje
       ap (λ c. if c then 4 * (1 + literal_count (header_at os a)) else 0) (ap is_code (part_is (λ y. y.format)) ∙ e)
       ∙ ap (λ n. if code then 4 * (1 + literal_count (unwrap_or (natural_of_word n) 0)) else 0) (part_is (λ y. slice_index y.words 0))
 
-  by_sort : Sort x → i < byte_count (Some (obj_of (ref_of os) x)) → Writable w a i b (first_byte os a + i)
+  by_sort : Sort x → i < writable_bytes (Some (obj_of (ref_of os) x)) → Writable w a i b (first_byte os a + i)
   unfolding method_meaning
   by_sort (AContext c) l = absurd (false≢true (sym other ∙ c))
-  by_sort (Pointers c p) l = absurd (let none = ap (λ y. byte_count (Some y)) (obj_of-pointers (ref_of os) x c p) in omega (arith, l, none))
+  by_sort (Pointers c p) l = absurd (let none = ap (λ y. writable_bytes (Some y)) (obj_of-pointers (ref_of os) x c p) in omega (arith, l, none))
   by_sort (AMethod c p m) l =
       let n : ℕ = 4 * (1 + literal_count (method_header x.words)) + i in
-      let count = ap (λ y. byte_count (Some y)) (obj_of-method (ref_of os) x c p m) in
+      let count = ap (λ y. writable_bytes (Some y)) (obj_of-method (ref_of os) x c p m) in
       let taken = length-take (4 * length (code_in x.words) - unused_bytes x.format) (bytes_of_words (code_in x.words)) in
       let rest = length-drop (1 + literal_count (method_header x.words)) x.words in
       let fits = ((sound_at os a x good.whole.heap there).method m).literals in
@@ -127,7 +127,7 @@ module _ (w : Parts) (good : IsGood w) (a i b : ℕ) (small : b < 256) (x : Obje
         within = omega (arith, l, count, taken, length-bytes_of (code_in x.words), rest, fits, part_is (λ y. length y.words));
       })
   by_sort (Bytes c p m) l =
-      let count = ap (λ y. byte_count (Some y)) (obj_of-bytes (ref_of os) x c p m) in
+      let count = ap (λ y. writable_bytes (Some y)) (obj_of-bytes (ref_of os) x c p m) in
       let taken = length-take (4 * length x.words - unused_bytes x.format) (bytes_of_words x.words) in
       let none : 0 + i ≡ i = omega arith in
       subst (Writable w a i b) (sym (ap (λ k. k + i) (first_is false m) ∙ none)) (record {
@@ -136,16 +136,16 @@ module _ (w : Parts) (good : IsGood w) (a i b : ℕ) (small : b < 256) (x : Obje
         within = omega (arith, l, count, taken, length-bytes_of x.words, part_is (λ y. length y.words));
       })
 
-pub writable : (w : Parts) (good : IsGood w) (o : Oop) (i b : ℕ) → b < 256 → IsNamed (stored_of w) o → i < byte_count (object_of (view_of w) (name_of (stored_of w) o))
+pub writable : (w : Parts) (good : IsGood w) (o : Oop) (i b : ℕ) → b < 256 → IsNamed (stored_of w) o → i < writable_bytes (object_of (view_of w) (name_of (stored_of w) o))
     → Writable w o.0 i b (first_byte w.heap.objects o.0 + i)
 writable w good o i b small named l = go (spoken w good o named)
   where
     go : Spoken w.heap.objects o.0 (object_of (view_of w) (name_of (stored_of w) o)) → Writable w o.0 i b (first_byte w.heap.objects o.0 + i)
-    go (Plain x there other is) = by_sort w good o.0 i b small x there other (sort_of x) (subst (λ y. i < byte_count y) is l)
+    go (Plain x there other is) = by_sort w good o.0 i b small x there other (sort_of x) (subst (λ y. i < writable_bytes y) is l)
     go (Context x there c is) = absurd (omega (arith, l, no_bytes _ is))
-    go (Nothing is) = absurd (let none = ap byte_count is in omega (arith, l, none))
+    go (Nothing is) = absurd (let none = ap writable_bytes is in omega (arith, l, none))
 
-pub byte_written : (w : Parts) (good : IsGood w) (o : Oop) (i b n : ℕ) (h : Memory) → b < 256 → IsNamed (stored_of w) o → i < byte_count (object_of (view_of w) (name_of (stored_of w) o))
+pub byte_written : (w : Parts) (good : IsGood w) (o : Oop) (i b n : ℕ) (h : Memory) → b < 256 → IsNamed (stored_of w) o → i < writable_bytes (object_of (view_of w) (name_of (stored_of w) o))
     → n ≡ first_byte w.heap.objects o.0 + i → h ≡ byte_stored w.heap o.0 n b → Altered w (record w { heap = h }) o.0 (with_byte i b)
 byte_written w good o i b n h small named l e is =
     let can = writable w good o i b small named l in

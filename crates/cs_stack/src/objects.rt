@@ -10,7 +10,7 @@ ghost use Rattle.cs_acts.specs.declared.act.Full.TheVariants as full;
 ghost use Rattle.cs_acts.specs.Full.{CausesFull};
 ghost use Rattle.cs_acts.specs.Made.{CanMakeMethod, MakesAtMost, code_words};
 ghost use Rattle.cs_acts.specs.Names.{IsNamed, KeepsNames, Names, name_of};
-ghost use Rattle.cs_acts.specs.Ready.{byte_count};
+ghost use Rattle.cs_acts.specs.Ready.{writable_bytes};
 ghost use Rattle.cs_stack.specs.Good.{IsGood};
 ghost use Rattle.cs_stack.specs.Moved.{first_byte, headed};
 ghost use Rattle.cs_stack.specs.View.{layout_of, stored_of, view_of};
@@ -32,7 +32,7 @@ impl Parts {
     pub(crate) fn store_byte(&mut self, o: Oop, i: u32, b: u8)
         requires good { IsGood self.old }
         requires object { IsNamed (stored_of self.old) o }
-        requires there { i < byte_count (object_of (view_of self.old) (name_of (stored_of self.old) o)) }
+        requires there { i < writable_bytes (object_of (view_of self.old) (name_of (stored_of self.old) o)) }
         ensures good { IsGood self.new }
         ensures view { view_of self.new ≡ store_byte_of (view_of self.old) (name_of (stored_of self.old) o) i b }
         ensures names { KeepsNames (stored_of self.old) (stored_of self.new) }

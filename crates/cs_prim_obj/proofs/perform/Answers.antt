@@ -1,7 +1,7 @@
 use Rattle.std.proofs.Common.{Some, arith, refl, sym, subst, ap, ◌∙◌}
 use Rattle.std.proofs.lemmas.Bool.{false≢true}
 use Rattle.cs_prim_ctx.proofs.Performing.{fails}
-use Rattle.cs_prim_obj.specs.Numbers.{HasNumber, takes}
+use Rattle.cs_prim_obj.specs.Numbers.{HasObjectNumber, takes}
 use Rattle.cs_prim_obj.specs.declared.numbers.Primitive.TheVariants.{CharAtPut, ObjectAtPut, SetReadOnly, SlotAtPut, At, Size, CharAt, ObjectAt, SlotAt, Identical, Class, IsReadOnly, Quick}
 use Rattle.cs_prim_obj.proofs.Outcomes.{as_row}
 use Rattle.cs_prim_obj.proofs.Rows.{listed, other_receiver, quick_first, row_is, taken, uncounted}
@@ -23,85 +23,85 @@ pub returns-in-SlotAt : goal.returns-in-SlotAt
 returns-in-SlotAt g c =
     let s = g.W.World.stored c.args.w.now in
     let k = g.W.World.view c.args.w.now in
-    as_row (row_is k c.args.number c.args.args SlotAt (subst (λ p. HasNumber (Some p) c.args.number) c.in-SlotAt.is c.in-Some.ensures) (ap (λ p. takes p c.args.args) (sym c.in-SlotAt.is) ∙ sym c.takes.ensures ∙ c.if-not-takes.false)) c.slot_at.ensures
+    as_row (row_is k c.args.number c.args.args SlotAt (subst (λ p. HasObjectNumber (Some p) c.args.number) c.in-SlotAt.is c.in-Some.ensures) (ap (λ p. takes p c.args.args) (sym c.in-SlotAt.is) ∙ sym c.takes.ensures ∙ c.if-not-takes.false)) c.slot_at.ensures
 
 pub returns-in-Identical : goal.returns-in-Identical
 returns-in-Identical g c =
     let s = g.W.World.stored c.args.w.now in
     let k = g.W.World.view c.args.w.now in
-    as_row (row_is k c.args.number c.args.args Identical (subst (λ p. HasNumber (Some p) c.args.number) c.in-Identical.is c.in-Some.ensures) (ap (λ p. takes p c.args.args) (sym c.in-Identical.is) ∙ sym c.takes.ensures ∙ c.if-not-takes.false)) c.identical.ensures
+    as_row (row_is k c.args.number c.args.args Identical (subst (λ p. HasObjectNumber (Some p) c.args.number) c.in-Identical.is c.in-Some.ensures) (ap (λ p. takes p c.args.args) (sym c.in-Identical.is) ∙ sym c.takes.ensures ∙ c.if-not-takes.false)) c.identical.ensures
 
 pub returns-in-Class : goal.returns-in-Class
 returns-in-Class g c =
     let s = g.W.World.stored c.args.w.now in
     let k = g.W.World.view c.args.w.now in
-    as_row (row_is k c.args.number c.args.args Class (subst (λ p. HasNumber (Some p) c.args.number) c.in-Class.is c.in-Some.ensures) (ap (λ p. takes p c.args.args) (sym c.in-Class.is) ∙ sym c.takes.ensures ∙ c.if-not-takes.false)) c.class.ensures
+    as_row (row_is k c.args.number c.args.args Class (subst (λ p. HasObjectNumber (Some p) c.args.number) c.in-Class.is c.in-Some.ensures) (ap (λ p. takes p c.args.args) (sym c.in-Class.is) ∙ sym c.takes.ensures ∙ c.if-not-takes.false)) c.class.ensures
 
 pub returns-in-IsReadOnly : goal.returns-in-IsReadOnly
 returns-in-IsReadOnly g c =
     let s = g.W.World.stored c.args.w.now in
     let k = g.W.World.view c.args.w.now in
-    as_row (row_is k c.args.number c.args.args IsReadOnly (subst (λ p. HasNumber (Some p) c.args.number) c.in-IsReadOnly.is c.in-Some.ensures) (ap (λ p. takes p c.args.args) (sym c.in-IsReadOnly.is) ∙ sym c.takes.ensures ∙ c.if-not-takes.false)) c.is_unwritable_receiver.ensures
+    as_row (row_is k c.args.number c.args.args IsReadOnly (subst (λ p. HasObjectNumber (Some p) c.args.number) c.in-IsReadOnly.is c.in-Some.ensures) (ap (λ p. takes p c.args.args) (sym c.in-IsReadOnly.is) ∙ sym c.takes.ensures ∙ c.if-not-takes.false)) c.is_unwritable_receiver.ensures
 
 pub returns-in-Quick : goal.returns-in-Quick
 returns-in-Quick g c =
     let s = g.W.World.stored c.args.w.now in
     let k = g.W.World.view c.args.w.now in
-    as_row (row_is k c.args.number c.args.args Quick (subst (λ p. HasNumber (Some p) c.args.number) c.in-Quick.is c.in-Some.ensures) (ap (λ p. takes p c.args.args) (sym c.in-Quick.is) ∙ sym c.takes.ensures ∙ c.if-not-takes.false)) c.quick.ensures
+    as_row (row_is k c.args.number c.args.args Quick (subst (λ p. HasObjectNumber (Some p) c.args.number) c.in-Quick.is c.in-Some.ensures) (ap (λ p. takes p c.args.args) (sym c.in-Quick.is) ∙ sym c.takes.ensures ∙ c.if-not-takes.false)) c.quick.ensures
 
 pub returns-in-At : goal.returns-in-At
 returns-in-At g c =
     let s = g.W.World.stored c.args.w.now in
     let k = g.W.World.view c.args.w.now in
-    as_row (row_is k c.args.number c.args.args At (subst (λ p. HasNumber (Some p) c.args.number) c.in-At.is c.in-Some.ensures) (ap (λ p. takes p c.args.args) (sym c.in-At.is) ∙ sym c.takes.ensures ∙ c.if-not-takes.false)) c.at.ensures
+    as_row (row_is k c.args.number c.args.args At (subst (λ p. HasObjectNumber (Some p) c.args.number) c.in-At.is c.in-Some.ensures) (ap (λ p. takes p c.args.args) (sym c.in-At.is) ∙ sym c.takes.ensures ∙ c.if-not-takes.false)) c.at.ensures
 
 pub returns-in-Size : goal.returns-in-Size
 returns-in-Size g c =
     let s = g.W.World.stored c.args.w.now in
     let k = g.W.World.view c.args.w.now in
-    as_row (row_is k c.args.number c.args.args Size (subst (λ p. HasNumber (Some p) c.args.number) c.in-Size.is c.in-Some.ensures) (ap (λ p. takes p c.args.args) (sym c.in-Size.is) ∙ sym c.takes.ensures ∙ c.if-not-takes.false)) c.size.ensures
+    as_row (row_is k c.args.number c.args.args Size (subst (λ p. HasObjectNumber (Some p) c.args.number) c.in-Size.is c.in-Some.ensures) (ap (λ p. takes p c.args.args) (sym c.in-Size.is) ∙ sym c.takes.ensures ∙ c.if-not-takes.false)) c.size.ensures
 
 pub returns-in-CharAt : goal.returns-in-CharAt
 returns-in-CharAt g c =
     let s = g.W.World.stored c.args.w.now in
     let k = g.W.World.view c.args.w.now in
-    as_row (row_is k c.args.number c.args.args CharAt (subst (λ p. HasNumber (Some p) c.args.number) c.in-CharAt.is c.in-Some.ensures) (ap (λ p. takes p c.args.args) (sym c.in-CharAt.is) ∙ sym c.takes.ensures ∙ c.if-not-takes.false)) c.char_at.ensures
+    as_row (row_is k c.args.number c.args.args CharAt (subst (λ p. HasObjectNumber (Some p) c.args.number) c.in-CharAt.is c.in-Some.ensures) (ap (λ p. takes p c.args.args) (sym c.in-CharAt.is) ∙ sym c.takes.ensures ∙ c.if-not-takes.false)) c.char_at.ensures
 
 pub returns-in-ObjectAt : goal.returns-in-ObjectAt
 returns-in-ObjectAt g c =
     let s = g.W.World.stored c.args.w.now in
     let k = g.W.World.view c.args.w.now in
-    as_row (row_is k c.args.number c.args.args ObjectAt (subst (λ p. HasNumber (Some p) c.args.number) c.in-ObjectAt.is c.in-Some.ensures) (ap (λ p. takes p c.args.args) (sym c.in-ObjectAt.is) ∙ sym c.takes.ensures ∙ c.if-not-takes.false)) c.object_at.ensures
+    as_row (row_is k c.args.number c.args.args ObjectAt (subst (λ p. HasObjectNumber (Some p) c.args.number) c.in-ObjectAt.is c.in-Some.ensures) (ap (λ p. takes p c.args.args) (sym c.in-ObjectAt.is) ∙ sym c.takes.ensures ∙ c.if-not-takes.false)) c.object_at.ensures
 
 pub returns-in-CharAtPut : goal.returns-in-CharAtPut
 returns-in-CharAtPut g c =
     let s = g.W.World.stored c.args.w.now in
     let k = g.W.World.view c.args.w.now in
-    as_row (row_is k c.args.number c.args.args CharAtPut (subst (λ p. HasNumber (Some p) c.args.number) c.in-CharAtPut.is c.in-Some.ensures) (ap (λ p. takes p c.args.args) (sym c.in-CharAtPut.is) ∙ sym c.takes.ensures ∙ c.if-not-takes.false)) c.char_at_put.ensures
+    as_row (row_is k c.args.number c.args.args CharAtPut (subst (λ p. HasObjectNumber (Some p) c.args.number) c.in-CharAtPut.is c.in-Some.ensures) (ap (λ p. takes p c.args.args) (sym c.in-CharAtPut.is) ∙ sym c.takes.ensures ∙ c.if-not-takes.false)) c.char_at_put.ensures
 
 pub returns-in-ObjectAtPut : goal.returns-in-ObjectAtPut
 returns-in-ObjectAtPut g c =
     let s = g.W.World.stored c.args.w.now in
     let k = g.W.World.view c.args.w.now in
-    as_row (row_is k c.args.number c.args.args ObjectAtPut (subst (λ p. HasNumber (Some p) c.args.number) c.in-ObjectAtPut.is c.in-Some.ensures) (ap (λ p. takes p c.args.args) (sym c.in-ObjectAtPut.is) ∙ sym c.takes.ensures ∙ c.if-not-takes.false)) c.object_at_put.ensures
+    as_row (row_is k c.args.number c.args.args ObjectAtPut (subst (λ p. HasObjectNumber (Some p) c.args.number) c.in-ObjectAtPut.is c.in-Some.ensures) (ap (λ p. takes p c.args.args) (sym c.in-ObjectAtPut.is) ∙ sym c.takes.ensures ∙ c.if-not-takes.false)) c.object_at_put.ensures
 
 pub returns-in-SetReadOnly : goal.returns-in-SetReadOnly
 returns-in-SetReadOnly g c =
     let s = g.W.World.stored c.args.w.now in
     let k = g.W.World.view c.args.w.now in
-    as_row (row_is k c.args.number c.args.args SetReadOnly (subst (λ p. HasNumber (Some p) c.args.number) c.in-SetReadOnly.is c.in-Some.ensures) (ap (λ p. takes p c.args.args) (sym c.in-SetReadOnly.is) ∙ sym c.takes.ensures ∙ c.if-not-takes.false)) c.set_read_only.ensures
+    as_row (row_is k c.args.number c.args.args SetReadOnly (subst (λ p. HasObjectNumber (Some p) c.args.number) c.in-SetReadOnly.is c.in-Some.ensures) (ap (λ p. takes p c.args.args) (sym c.in-SetReadOnly.is) ∙ sym c.takes.ensures ∙ c.if-not-takes.false)) c.set_read_only.ensures
 
 pub returns-in-SlotAtPut : goal.returns-in-SlotAtPut
 returns-in-SlotAtPut g c =
     let s = g.W.World.stored c.args.w.now in
     let k = g.W.World.view c.args.w.now in
-    as_row (row_is k c.args.number c.args.args SlotAtPut (subst (λ p. HasNumber (Some p) c.args.number) c.in-SlotAtPut.is c.in-Some.ensures) (ap (λ p. takes p c.args.args) (sym c.in-SlotAtPut.is) ∙ sym c.takes.ensures ∙ c.if-not-takes.false)) c.slot_at_put.ensures
+    as_row (row_is k c.args.number c.args.args SlotAtPut (subst (λ p. HasObjectNumber (Some p) c.args.number) c.in-SlotAtPut.is c.in-Some.ensures) (ap (λ p. takes p c.args.args) (sym c.in-SlotAtPut.is) ∙ sym c.takes.ensures ∙ c.if-not-takes.false)) c.slot_at_put.ensures
 
 pub slot_at_put-requires-clause-other : goal.slot_at_put-requires-clause-other
 slot_at_put-requires-clause-other g c =
     let s = g.W.World.stored c.args.w.now in
     let k = g.W.World.view c.args.w.now in
-    other_receiver k c.args.number c.args.args c.requires.number (subst (λ p. HasNumber (Some p) c.args.number) c.in-SlotAtPut.is c.in-Some.ensures) (taken SlotAtPut c.args.args 2 refl (ap (λ p. takes p c.args.args) (sym c.in-SlotAtPut.is) ∙ sym c.takes.ensures ∙ c.if-not-takes.false))
+    other_receiver k c.args.number c.args.args c.requires.number (subst (λ p. HasObjectNumber (Some p) c.args.number) c.in-SlotAtPut.is c.in-Some.ensures) (taken SlotAtPut c.args.args 2 refl (ap (λ p. takes p c.args.args) (sym c.in-SlotAtPut.is) ∙ sym c.takes.ensures ∙ c.if-not-takes.false))
 
 pub char_at_put-requires-clause-there : goal.char_at_put-requires-clause-there
 char_at_put-requires-clause-there g c =
@@ -164,4 +164,4 @@ is_unwritable_receiver-requires-clause-there g c =
     omega (arith, args, c.requires.there)
 
 pub quick-requires-clause-first : goal.quick-requires-clause-first
-quick-requires-clause-first g c = quick_first c.args.number (subst (λ p. HasNumber (Some p) c.args.number) c.in-Quick.is c.in-Some.ensures)
+quick-requires-clause-first g c = quick_first c.args.number (subst (λ p. HasObjectNumber (Some p) c.args.number) c.in-Quick.is c.in-Some.ensures)

@@ -1,11 +1,11 @@
 use Rattle.std.proofs.Common.{◌≡◌, ◌∙◌, ◌+◌, ◌-◌, ap₂, arith, refl}
-use Rattle.cs_prim_obj.specs.Elements.{number_at}
+use Rattle.cs_prim_obj.specs.Elements.{element_number}
 use Rattle.cs_prim_obj.proofs.Indexing.{number_step}
 use Rattle.cs_prim_obj.proofs.Sized.{number_fits, number_grows}
 use Rattle.cs_prim_obj.proofs.elements.number.Goals as goal
 
 pub loop-i-init : goal.loop-i-init
-unfolding number_at
+unfolding element_number
 loop-i-init c = (refl, omega arith)
 
 pub overflow_add-place-in-loop-i : goal.overflow_add-place-in-loop-i
@@ -27,4 +27,4 @@ pub returns : goal.returns
 returns c =
     let end : c.loop-i.i ≡ c.args.size = omega (arith, c.loop-i-test.false, c.loop-i.auto.i-end) in
     let start : c.args.at + (c.args.size - c.loop-i.i) ≡ c.args.at = omega (arith, end) in
-    c.loop-i.invariant.0 ∙ ap₂ (number_at c.args.heap.now.objects c.args.o.0) start end
+    c.loop-i.invariant.0 ∙ ap₂ (element_number c.args.heap.now.objects c.args.o.0) start end
