@@ -251,8 +251,13 @@ module _ {w : PlainWorld} {o : Oop} {x : Object} (sound : IsSound (plain_stored 
         ready = λ ready.
             let runs = (written.ready ready).running in
             record { sound = after; running = running (plain_view (with_next_hash hash)) (active_birth (plain_view v)) (active_context (plain_view v)) (pc_of (plain_view v)) runs.known runs.found runs.live after.pcs };
-        names = written.names;
+        names = λ v h. record { sound = (written.names v h).sound; is = (written.names v h).is };
       }
+
+  pub hash_along : (h : Memory) (hash : ℕ) → h ≡ record w.heap { objects = hash_set os o.0 hash } → hash ≡ next_hash w.roots.last_hash → hash < 4194304 → hash_at os o.0 ≡ 0
+      → WritesAnyway w (record w { heap = h; roots = record w.roots { last_hash = hash } }) (λ m. hash_given m (name_of (plain_stored w) o))
+  hash_along h hash e next below none =
+      subst (λ (g : Memory). WritesAnyway w (record w { heap = g; roots = record w.roots { last_hash = hash } }) (λ m. hash_given m (name_of (plain_stored w) o))) (sym e) (writes-hash_given hash next below none)
 
   -- the world of an object that has a hash stays
   pub hash_stays : hash_at os o.0 ≢ 0 → WritesAnyway w w (λ m. hash_given m (name_of (plain_stored w) o))
