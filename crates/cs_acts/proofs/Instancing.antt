@@ -16,7 +16,8 @@ use Rattle.cs_classes.specs.declared.NewError.TheVariants as refused
 use Rattle.cs_classes.specs.Meaning.{classes_of, is_heap_context, obj_of, ref_of}
 use Rattle.cs_classes.specs.Sound.{AreSoundObjects, IsWhole, has_slots}
 use Rattle.cs_classes.proofs.Heaps.{birth_of-object_at, is_object-object_at, stands}
-use Rattle.cs_classes.proofs.Instancing.{instance_of}
+use Rattle.cs_classes.specs.Instances.{instance_of}
+use Rattle.cs_acts.specs.Instances.{made_of}
 use Rattle.cs_classes.proofs.Plans.{raw_cases}
 use Rattle.cs_classes.proofs.Refs.{ref_of-object, same_births}
 use Rattle.cs_classes.proofs.Sorts.{obj_of-pointers}
@@ -107,13 +108,6 @@ shape_read s k o holds named = nested (λ x. small_index x) (λ (slots : List Re
     go false e = sym (ap (option_and_then (λ x. small_index x)) (no_slot_names s k s.memory 3 2 o refl holds named e).is)
 
 -- ---- the instance
-
--- what a plan makes of a state
-abbrev pub made_of : Kept → Ref → Plan → Made
-made_of k x (Make index format slots) = New (add_of (take_index k x index) (instance_of k index format slots)) (next_ref k) (size slots)
-made_of k x (Refuse refused.NotInstantiable) = NotInstantiable
-made_of k x (Refuse refused.TableFull) = TableFull
-made_of k x (Refuse refused.HeapFull) = NotInstantiable
 
 -- the same object and as many words
 record SameInstance (k : Kept) (o : Obj) (index format slots : ℕ) : Type 0 where

@@ -1,5 +1,6 @@
 pub mod Arithmetic
 pub mod Full
+pub mod Instances
 pub mod Layout
 pub mod Led
 pub mod Made

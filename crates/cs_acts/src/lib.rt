@@ -7,6 +7,7 @@
 mod act;
 pub mod answer;
 pub mod arithmetic;
+mod laws;
 pub mod method;
 mod prim;
 pub mod read;

@@ -15,17 +15,11 @@ use Rattle.cs_model.specs.Operation.{new_pointers, nil_of}
 use Rattle.cs_model.specs.Instance.{Index, IndexAt, NoIndex, NoneFree, is_instance_index, is_instance_shape, new_context, pointer_format, raw_format, unit_bytes}
 use Rattle.cs_classes.specs.declared.Roots.{Roots}
 use Rattle.cs_classes.specs.declared.NewError.TheVariants as refused
-use Rattle.cs_classes.specs.Instances.{Make, Plan, Refuse, index_in_table, instance_format, instance_slots, plan_at, plan_of, plan_shaped, shape_at}
+use Rattle.cs_classes.specs.Instances.{Make, Plan, Refuse, index_in_table, instance_of, instance_format, instance_slots, plan_at, plan_of, plan_shaped, shape_at}
 use Rattle.cs_classes.specs.Sound.{IsWhole, has_slots, is_weak}
 use Rattle.cs_classes.proofs.Makings.{Makes, makes-bytes, makes-context, makes-pointers}
 use Rattle.cs_classes.proofs.Plans.{allows_planned, raw_cases}
 use Rattle.cs_classes.proofs.Wholes.{kind_of-entry}
-
--- the new object in the state
-abbrev pub instance_of : Kept → ℕ → ℕ → ℕ → Obj
-instance_of k index format slots =
-    if index == context_class then Ctx (new_context (nil_of k) (slots - context_fields)) else
-    if is_pointers format then new_pointers k index format slots else Raw (new_head index format) (replicate (4 * slots - unused_bytes format) 0)
 
 -- an instance is planned: what the class says of its instances, and its index
 pub record Planned (os : List Object) (table : FinMap nat_cmp ℕ) (a n index format slots : ℕ) : Type 0 where

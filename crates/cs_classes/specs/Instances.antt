@@ -1,13 +1,17 @@
 -- Making an instance of a class of the heap: the plan that the class, its index and the size make, and what is done of it.
-use Rattle.std.specs.Prelude.{ℕ, ◌+◌, ◌*◌, ◌/◌, ◌%◌, ◌==◌, nat_le, nat_lt, if◌then◌else◌, List, Option, Some, None, Result, Ok, Err}
+use Rattle.std.specs.Prelude.{ℕ, ◌+◌, ◌-◌, ◌*◌, ◌/◌, ◌%◌, ◌==◌, nat_le, nat_lt, if◌then◌else◌, List, replicate, Option, Some, None, Result, Ok, Err}
 use Rattle.std.specs.Ordering.{nat_cmp}
 use Rattle.std.specs.FinMap.{FinMap, get, insert}
 use Rattle.cs_word.specs.declared.Oop.{Oop}
 use Rattle.cs_word.specs.Word.{natural_of_word}
 use Rattle.cs_heap.specs.Object.{Memory, Object, hash_at, next_address, size, slot_of, used}
 use Rattle.cs_heap.specs.Writes.{hash_stored, object_added}
-use Rattle.cs_model.specs.Obj.{context_class, context_fields}
-use Rattle.cs_model.specs.Instance.{Index, IndexAt, NoIndex, NoneFree, first_free_index, free_indices, is_entry, is_instance_index, is_instance_shape, lowest_free, pointer_format, raw_format, taken, unit_bytes}
+use Rattle.cs_heap.specs.Format.{is_pointers}
+use Rattle.cs_model.specs.Words.{unused_bytes}
+use Rattle.cs_model.specs.Obj.{Ctx, Obj, Raw, context_class, context_fields, new_head}
+use Rattle.cs_model.specs.State.{Kept}
+use Rattle.cs_model.specs.Operation.{new_pointers, nil_of}
+use Rattle.cs_model.specs.Instance.{Index, IndexAt, NoIndex, NoneFree, first_free_index, free_indices, is_entry, is_instance_index, is_instance_shape, lowest_free, new_context, pointer_format, raw_format, taken, unit_bytes}
 use Rattle.cs_classes.specs.Sound.{has_slots}
 use Rattle.cs_classes.specs.declared.NewError.{NewError}
 use Rattle.cs_classes.specs.declared.NewError.TheVariants as refused
@@ -101,3 +105,11 @@ planned_table table class (Make index format slots) = insert table index class
 abbrev pub planned_answer : Memory → Plan → Result Oop NewError
 planned_answer m (Refuse why) = Err why
 planned_answer m (Make index format slots) = Ok (record { 0 = next_address m.objects slots })
+
+-- ---- in the model
+
+-- the new object as one of the model
+abbrev pub instance_of : Kept → ℕ → ℕ → ℕ → Obj
+instance_of k index format slots =
+    if index == context_class then Ctx (new_context (nil_of k) (slots - context_fields)) else
+    if is_pointers format then new_pointers k index format slots else Raw (new_head index format) (replicate (4 * slots - unused_bytes format) 0)
