@@ -1,5 +1,5 @@
 -- Writes of bytes, of hashes, and of the mark of a read-only object.
-use Rattle.std.proofs.Common.{◌≡◌, ◌≢◌, ◌∙◌, ℕ, ◌+◌, ◌*◌, ◌-◌, ◌/◌, ◌%◌, ◌<◌, ◌≤◌, Bool, true, false, refl, sym, ap, subst, Option, Some, None, IsSome, is_some, List, length, map, option_map, take, drop, length-take, length-drop, arith}
+use Rattle.std.proofs.Common.{◌≡◌, ◌≢◌, ◌∙◌, ℕ, ◌+◌, ◌*◌, ◌^◌, ◌-◌, ◌/◌, ◌%◌, ◌<◌, ◌≤◌, Bool, true, false, refl, sym, ap, subst, Option, Some, None, IsSome, is_some, List, length, map, option_map, take, drop, length-take, length-drop, arith}
 use Rattle.std.specs.Prelude.{◌==◌, if◌then◌else◌, slice_index, unwrap_or}
 use Rattle.std.specs.Option.{option_map_or}
 use Rattle.std.proofs.lemmas.Bool.{eq-eqb, false≢true, ne_eqb}
@@ -9,6 +9,7 @@ use Rattle.cs_word.specs.declared.Kind.TheVariants as kind
 use Rattle.cs_word.specs.Header.{with_immutable}
 use Rattle.cs_word.specs.Word.{kind_of, natural_of_word}
 use Rattle.cs_heap.specs.Format.{is_code}
+use Rattle.cs_heap.proofs.Laws.{object_placed}
 use Rattle.cs_heap.specs.Object.{Memory, Object, birth_at, byte_set, fixed_set, format_at, hash_at, hash_set, heap_object, is_object, set_word, slot_count_of, slot_of}
 use Rattle.cs_heap.specs.Object as heap
 use Rattle.cs_model.specs.Words.{bytes_of_words, unused_bytes}
@@ -171,6 +172,10 @@ module _ {w : PlainWorld} {o : Oop} {x : Object} (sound : IsSound (plain_stored 
         where
           plus : (n i : ℕ) → n ≡ 0 → i ≡ n + i
           plus n i e = omega (arith, e)
+
+  -- its place is a number of 32 bits, as the heap is that small
+  pub byte_few : (n : ℕ) → n < 4 * slot_count_of os o.0 → n < 2 ^ 32
+  byte_few n less = omega (arith, less, (object_placed os o.0 at.object).ends, sound.holds.within, sound.holds.most)
 
   pub writes-store_byte : (i b first : ℕ) → first ≡ first_byte_at os o.0 → Writable i b
       → WritesAnyway w (with_objects w (byte_set os o.0 (first + i) b)) (λ m. store_byte_of m (name_of (plain_stored w) o) i b)

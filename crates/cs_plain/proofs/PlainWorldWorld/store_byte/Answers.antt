@@ -1,13 +1,19 @@
-use Rattle.std.proofs.Common.{◌≡◌, ◌+◌, ap, arith, sym, ◌∙◌, is_some, Option, Some, None, IsSome, ℕ}
+use Rattle.std.proofs.Common.{◌≡◌, ◌+◌, ◌<◌, ◌^◌, ap, arith, sym, ◌∙◌, is_some, Option, Some, None, IsSome, ℕ}
 use Rattle.std.proofs.lemmas.Bool.{false≢true}
 use Rattle.cs_model.specs.Obj.{Obj}
 use Rattle.cs_model.specs.State.{object_of}
 use Rattle.cs_acts.specs.Names.{name_of}
+use Rattle.cs_classes.specs.Meaning.{first_byte_at}
 use Rattle.cs_plain.specs.View.{plain_stored, plain_view}
 use Rattle.cs_plain.proofs.Writing.{anyway_along}
 use Rattle.cs_model.specs.Operation.{store_byte_of}
-use Rattle.cs_plain.proofs.Heads.{NamedObject, Writable, counted_object, named_object, writable, writes-store_byte}
+use Rattle.cs_plain.proofs.Heads.{NamedObject, Writable, byte_few, counted_object, named_object, writable, writes-store_byte}
 use Rattle.cs_plain.proofs.PlainWorldWorld.store_byte.Goals as goal
+
+pub overflow_add-first : goal.overflow_add-first
+overflow_add-first c =
+    let few : first_byte_at c.args.self.now.heap.objects c.args.o.0 + c.args.i < 2 ^ 32 = byte_few c.requires.sound c.requires.object (named_object c.args.self.now c.args.o c.requires.sound c.requires.object (counted_object _ c.args.i c.requires.there)).1 _ (writable c.requires.sound c.requires.object (named_object c.args.self.now c.args.o c.requires.sound c.requires.object (counted_object _ c.args.i c.requires.there)).1 c.args.i c.args.b c.ranges.b.fits c.requires.there).within in
+    omega (arith, few, c.first_byte-first.ensures)
 
 pub first_byte-first-requires-clause-object : goal.first_byte-first-requires-clause-object
 first_byte-first-requires-clause-object c = (named_object c.args.self.now c.args.o c.requires.sound c.requires.object (counted_object _ c.args.i c.requires.there)).1.object
