@@ -19,5 +19,6 @@ mod Entering
 mod Block
 mod Asking
 mod Allocating
+mod MakingMethods
 mod Editing
 mod Heads

@@ -19,7 +19,7 @@ use cs_classes::slots::{
     STACK_POINTER, START_PC, SUSPENDED_CONTEXT,
 };
 use cs_classes::{
-    CONTEXT_CLASS, Classes, FIELDS_AND_INDICES, NewError, first_byte, is_context, method_header,
+    CONTEXT_CLASS, Classes, FIELDS_AND_INDICES, NewError, add_method, first_byte, is_context, method_header,
 };
 use cs_heap::{BASE, Heap};
 use cs_word::{MethodHeader, Oop};
@@ -547,7 +547,16 @@ impl World for PlainWorld {
     }
 
     fn new_method(&mut self, class: u32, header: MethodHeader, count: u32) -> Result<Oop, Full> {
-        unreachable!()
+        // for what its clauses say: no class index from there on has an entry
+        let _entries = self.classes.len();
+        let birth = self.roots.next_birth;
+        match add_method(&mut self.heap, class, header, count, birth) {
+            Ok(method) => {
+                self.roots.next_birth = birth + 1;
+                Ok(method)
+            }
+            Err(_) => Err(Full::Heap),
+        }
     }
 
     fn enter(&mut self, method: Oop, args: u32, skip: bool) -> Result<(), Full> {
