@@ -68,13 +68,15 @@ named_object w o sound named some = go (kind_of o.0) refl named some
     go (kind.Object a) e n s =
         let is : a ≡ o.0 = kind_address o.0 a e in
         let object : is_object os o.0 ≡ true = ap (is_object os) (sym is) ∙ n in
-        let x = object_there os o.0 object in
-        (x.0, record {
-          there = x.1;
-          object = object;
-          means = ap (λ k. object_of (plain_view w) (ref_of_kind os k)) e ∙ ap (λ b. state.object_at (plain_view w) (birth_at os b)) is
-              ∙ ap (state.object_at (plain_view w)) (birth_of-object_at os o.0 x.0 x.1) ∙ meaning_there w o.0 x.0 sound.holds.whole x.1;
-        })
+        let x = object_there os o.0 object in (
+          x.0,
+          record {
+            there = x.1;
+            object = object;
+            means = ap (λ k. object_of (plain_view w) (ref_of_kind os k)) e ∙ ap (λ b. state.object_at (plain_view w) (birth_at os b)) is
+                ∙ ap (state.object_at (plain_view w)) (birth_of-object_at os o.0 x.0 x.1) ∙ meaning_there w o.0 x.0 sound.holds.whole x.1;
+          },
+        )
 
 -- what may be read-only, or has bytes to be written, is there
 pub fixable : (p : Option Obj) → can_be_fixed p ≡ true → IsSome p

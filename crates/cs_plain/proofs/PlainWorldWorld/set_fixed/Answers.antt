@@ -27,4 +27,3 @@ returns-clause-ready c ready = (anyway_along c.args.self.now c.set_fixed.new.sel
 
 pub returns-clause-names : goal.returns-clause-names
 returns-clause-names c = (anyway_along c.args.self.now c.set_fixed.new.self _ (λ m. set_fixed_of m (name_of (plain_stored c.args.self.now) c.args.o) c.args.on) c.set_fixed.ensures (writes-set_fixed c.requires.sound c.requires.named (named_object c.args.self.now c.args.o c.requires.sound c.requires.named (fixable _ c.requires.object)).1 c.args.on c.requires.object)).names
-

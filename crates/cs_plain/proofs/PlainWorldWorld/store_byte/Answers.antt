@@ -38,4 +38,3 @@ returns-clause-ready c ready = (anyway_along c.args.self.now c.set_byte.new.self
 
 pub returns-clause-names : goal.returns-clause-names
 returns-clause-names c = (anyway_along c.args.self.now c.set_byte.new.self _ (λ m. store_byte_of m (name_of (plain_stored c.args.self.now) c.args.o) c.args.i c.args.b) c.set_byte.ensures (writes-store_byte c.requires.sound c.requires.object (named_object c.args.self.now c.args.o c.requires.sound c.requires.object (counted_object _ c.args.i c.requires.there)).1 c.args.i c.args.b c.first_byte-first.result c.first_byte-first.ensures (writable c.requires.sound c.requires.object (named_object c.args.self.now c.args.o c.requires.sound c.requires.object (counted_object _ c.args.i c.requires.there)).1 c.args.i c.args.b c.ranges.b.fits c.requires.there))).names
-
