@@ -19,7 +19,8 @@ use cs_classes::slots::{
     STACK_POINTER, START_PC, SUSPENDED_CONTEXT,
 };
 use cs_classes::{
-    CONTEXT_CLASS, Classes, FIELDS_AND_INDICES, NewError, add_method, first_byte, is_context, method_header,
+    CONTEXT_CLASS, Classes, FIELDS_AND_INDICES, NewError, add_method, first_byte, is_context,
+    method_header,
 };
 use cs_heap::{BASE, Heap};
 use cs_word::{MethodHeader, Oop};
