@@ -45,7 +45,7 @@ use Rattle.cs_heap.specs.Writes.{object_added}
 use Rattle.cs_model.specs.Ref.{Ref}
 use Rattle.cs_model.specs.PrimObject.{blank_method}
 use Rattle.cs_model.proofs.Reading.{nil_same}
-use Rattle.cs_classes.specs.Methods.{method_object}
+use Rattle.cs_classes.specs.Methods.{coded_method}
 use Rattle.cs_plain.proofs.Allocating.{with_made}
 use Rattle.cs_model.specs.Ref as ref
 use Rattle.cs_model.specs.State as state
@@ -78,7 +78,7 @@ zero_bytes (suc n) = ap (λ (rest : List ℕ). 0 ∷ 0 ∷ 0 ∷ 0 ∷ rest) (ze
 
 module _ (class header count birth : ℕ) (valid : is_header header ≡ true) where
   abbrev y : Object
-  y = method_object class header count birth
+  y = coded_method class header count birth
 
   abbrev lits : ℕ
   lits = literal_count header
@@ -150,7 +150,7 @@ module _ (w : PlainWorld) (class header count : ℕ) (sound : IsSound (plain_sto
   os = w.heap.objects
 
   abbrev new : Object
-  new = method_object class header count w.roots.next_birth
+  new = coded_method class header count w.roots.next_birth
 
   abbrev all : List Object
   all = os ++ new ∷ []
@@ -183,7 +183,7 @@ module _ (w : PlainWorld) (class header count : ℕ) (sound : IsSound (plain_sto
       ∙ ap (take (4 * m - unused_bytes (method_format count))) (zero_bytes m)
       ∙ take-replicate (4 * m - unused_bytes (method_format count)) (4 * m) 0 (omega arith) ∙ ap (λ n. replicate n 0) left
 
-  makes_in : (xs : List Object) → IsWhole xs w.classes w.roots → Makes xs ((method_object class header count w.roots.next_birth)) w.classes w.roots (λ k. blank_method k class count header)
+  makes_in : (xs : List Object) → IsWhole xs w.classes w.roots → Makes xs ((coded_method class header count w.roots.next_birth)) w.classes w.roots (λ k. blank_method k class count header)
   makes_in xs whole =
       let birth = w.roots.next_birth in
       let lits : ℕ = literal_count header in

@@ -1,6 +1,7 @@
 //! The elements of objects: the indexed slots of a pointer object behind its named fields, the units of raw bytes, and
 //! the bytes of a method by their pcs.
-ghost use Rattle.std.specs.Prelude.{◌≡◌, ◌<◌, ◌≤◌, ◌+◌, ◌*◌, ◌^◌, None, Some, IfSome, option_and_then, option_map, if◌then◌else◌};
+ghost use Rattle.std.specs.Prelude.{◌≡◌, ◌<◌, ◌≤◌, ◌+◌, ◌*◌, ◌^◌, None, Some, IfSome, option_and_then, option_map};
+ghost use Rattle.std.specs.Prelude.{if◌then◌else◌};
 ghost use Rattle.std.specs.Prelude.{pos};
 ghost use Rattle.cs_heap.specs.Object.{slot_count_of};
 ghost use Rattle.cs_model.specs.Arithmetic.{if_small};
@@ -17,7 +18,8 @@ ghost use Rattle.cs_acts.specs.Names.{IsNamed, NamesOption, Store, name_of};
 ghost use Rattle.cs_acts.specs.Ready.{IsReady, IsSound, writable_bytes};
 ghost use Rattle.cs_prim_ctx.specs.Answered.{PerformsInPlace};
 ghost use Rattle.cs_prim_obj.specs.Contents.{amount_in, contents_of};
-ghost use Rattle.cs_prim_obj.specs.Elements.{HasUnit, elements_of, elements_end, fields_said, has_size_by, is_bytes_by, element_number};
+ghost use Rattle.cs_prim_obj.specs.Elements.{HasUnit, elements_of, elements_end, fields_said, has_size_by};
+ghost use Rattle.cs_prim_obj.specs.Elements.{is_bytes_by, element_number};
 
 use crate::answering::{answer_if, argument_at};
 use crate::contents::{Contents, FIRST_BYTES, held_by};

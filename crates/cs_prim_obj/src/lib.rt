@@ -30,10 +30,10 @@ use numbers::Primitive;
 /// Does primitive `number` with `args` arguments.
 ///
 /// 60 answers an element, 62 how many there are, and 63 and 64 read and write bytes as Characters. 68 and 69 read and
-/// write the literals of a method, where 68 also reads its header. 73 and 74 read and write a slot of a receiver that is
-/// no context. 110 tells whether two values are the same, 111 answers the class, 163 whether the receiver is read-only,
-/// and 164 changes that. 256 to 519 answer the receiver, a constant, or a field of the receiver, which may be a context,
-/// with any number of arguments. The others fail with another number than their own.
+/// write the literals of a method, where 68 also reads its header. 73 and 74 read and write a slot of a receiver that
+/// is no context. 110 tells whether two values are the same, 111 answers the class, 163 whether the receiver is
+/// read-only, and 164 changes that. 256 to 519 answer the receiver, a constant, or a field of the receiver, which may
+/// be a context, with any number of arguments. The others fail with another number than their own.
 ///
 /// `Full` comes only where the first field of a context, its sender, was to be answered.
 pub fn primitive<W: World>(w: &mut W, number: u32, args: u32) -> PrimEnd

@@ -1,4 +1,5 @@
-//! The quick primitives, which stand for whole methods: they answer the receiver, a constant, or a field of the receiver.
+//! The quick primitives, which stand for whole methods: they answer the receiver, a constant, or a field of the
+//! receiver.
 ghost use Rattle.std.specs.Prelude.{◌<◌, ◌≤◌};
 ghost use Rattle.cs_model.specs.PrimObject.{quick_prim};
 ghost use Rattle.cs_model.specs.Read.{depth_of};

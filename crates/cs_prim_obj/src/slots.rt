@@ -33,7 +33,8 @@ pub(crate) fn answer_slot<W: World>(w: &mut W, args: u32, i: u32) -> PrimEnd
     requires ready { IsReady (W.stored w.old) (W.view w.old) }
     requires there { args < depth_of (W.view w.old) }
     ensures { PerformsInPlace (W.stored w.old) (W.stored w.new) (W.layout w.old) (W.layout w.new) (W.view w.old)
-        (W.view w.new) result (read_slot (W.view w.old) args i (object_of (W.view w.old) (receiver (W.view w.old) args))) }
+        (W.view w.new) result (read_slot (W.view w.old) args i
+        (object_of (W.view w.old) (receiver (W.view w.old) args))) }
 {
     let receiver = receiver(w, args);
     if is_context(w, receiver) {
