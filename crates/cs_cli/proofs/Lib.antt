@@ -4,6 +4,8 @@ pub mod Walking
 pub mod Turns
 pub mod Telling
 pub mod Texts
+pub mod Headings
+pub mod Generated
 pub mod Agreeing
 pub mod Parts
 pub mod Reading

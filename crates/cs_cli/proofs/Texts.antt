@@ -1,5 +1,5 @@
 -- Why a text builds no image, and how that is told.
-use Rattle.std.proofs.Common.{◌≡◌, ◌<◌, ◌≤◌, ℕ, true, List, Option, Some, None, IfSome, Err, length, refl, arith, replicate}
+use Rattle.std.proofs.Common.{◌≡◌, ◌<◌, ◌≤◌, ℕ, true, List, Option, Some, None, option_map, IfSome, Err, length, take, refl, ap, subst, sym, ◌∙◌, arith, replicate}
 use Rattle.std.specs.Option.{option_map_or}
 use Rattle.std.proofs.lemmas.Bool.Decides.{nat_tests}
 use Rattle.std.proofs.lemmas.List.{length-replicate}
@@ -10,8 +10,10 @@ use Rattle.cs_build.specs.declared.error.BuildError.{BuildError}
 use Rattle.cs_build.specs.declared.error.BuildError.TheVariants as error
 use Rattle.cs_model.specs.CommandLine.{Options}
 use Rattle.cs_cli.specs.Answer as answer
-use Rattle.cs_cli.specs.Answer.{BuildAnswered, HasTextFault, Printed, Reading, Saving, Writing, no_memory, refused_text}
+use Rattle.cs_cli.specs.Answer.{Answer, BuildAnswered, HasTextFault, Printed, Reading, Saved, Saving, Writing, no_memory, refused_text}
 use Rattle.cs_cli.specs.Building.{Builds, text_fault_by, text_refusal_answer}
+use Rattle.cs_cli.proofs.Writings.{rose_from}
+use Rattle.cs_shelf.specs.Outside.{Rose}
 use Rattle.cs_cli.specs.declared.text_refusal.TextRefusal.{TextRefusal}
 use Rattle.cs_cli.specs.declared.text_refusal.TextRefusal.TheVariants as refusal
 
@@ -54,3 +56,17 @@ pub text_refused_by : (file : List ℕ) (o : Options) (shelf : Reading) (saving 
     → Builds file shelf (Err why) → Printed (text_refusal_answer file why) out status → BuildAnswered file o shelf saving out status
 text_refused_by file o shelf saving out status refusal.Read h printed = answer.text_unread h printed
 text_refused_by file o shelf saving out status (refusal.Text e) h printed = fault_told file o shelf saving out status (text_fault_by e) h printed
+
+-- what is saved behind a first reading, which takes nothing and changes no content
+pub saved_from : (name bytes : List ℕ) (a b : Answer) (s t : Reading) (u v : Saving) (out : Writing) (status : ℕ) → a ≡ b → s.before ≤ t.before → s.behind ≡ t.behind → s.last ≡ t.last
+    → v.old ≡ u.old → v.new ≡ u.new → v.held ≡ u.held → Saved name bytes a t v out status → Saved name bytes b s u out status
+saved_from name bytes a b s t u v out status same le behind last old new held (answer.held h printed) =
+    answer.held (ap (λ (f : List ℕ → Option (List ℕ)). f name) (sym held) ∙ h ∙ ap (option_map (λ (taken : List ℕ). bytes)) old) (subst (λ x. Printed x out status) same printed)
+saved_from name bytes a b s t u v out status same le behind last old new held (answer.unsaved f) = answer.unsaved (record {
+  status_is = f.status_is;
+  rose = rose_from s.before t.before s.behind le (subst (Rose t.before) (sym behind) f.rose);
+  last = last ∙ f.last;
+  count = f.count;
+  part = sym new ∙ f.part ∙ ap (option_map (λ (taken : List ℕ). take f.count bytes)) old;
+  nothing = f.nothing;
+})

@@ -2,7 +2,7 @@ use Rattle.std.proofs.Common.{ℕ, Option, Some, subst}
 use Rattle.cs_model.specs.State.{Kept}
 use Rattle.cs_stack.specs.View.{layout_of, view_of}
 use Rattle.cs_core.specs.Deep.{most_of}
-use Rattle.cs_cli.specs.Answer.{Begun, Writing}
+use Rattle.cs_cli.specs.Answer.{BegunBehind, Writing}
 use Rattle.cs_cli.proofs.Writings.{writing}
 use Rattle.cs_cli.proofs.running.open_and_run.Goals as goal
 
@@ -20,7 +20,7 @@ returns-in-Ok g c =
     let status = c.begin.result in
     let world = c.in-Ok.world in
     let limit = c.args.loaded.heap.limit in
-    let P : Kept → Type 0 = λ k. Begun k c.args.steps (Some c.args.pages) limit out status in
-    let Q : Option ℕ → Type 0 = λ most. Begun (view_of world) c.args.steps most limit out status in
-    let R : ℕ → Type 0 = λ l. Begun (view_of world) c.args.steps (most_of (layout_of world)) l out status in
+    let P : Kept → Type 0 = λ k. BegunBehind c.args.first.now k c.args.steps (Some c.args.pages) limit out status in
+    let Q : Option ℕ → Type 0 = λ most. BegunBehind c.args.first.now (view_of world) c.args.steps most limit out status in
+    let R : ℕ → Type 0 = λ l. BegunBehind c.args.first.now (view_of world) c.args.steps (most_of (layout_of world)) l out status in
     subst P c.in-Ok.ensures.view (subst Q c.in-Ok.ensures.most (subst R c.in-Ok.ensures.limit c.begin.ensures))

@@ -1,6 +1,6 @@
 use Rattle.std.proofs.Common.{◌∙◌, ap, subst}
 use Rattle.cs_core.specs.Deep.{most_of}
-use Rattle.cs_core.specs.VmParts.{Seen, seen}
+use Rattle.cs_core.specs.VmParts.{Seen, seen_through}
 use Rattle.cs_cli.specs.Answer.{Reported}
 use Rattle.cs_cli.proofs.Breaking.{end_reported, fault_reported, heap_reported, stack_reported}
 use Rattle.cs_cli.proofs.Within.{has_ended}
@@ -9,8 +9,8 @@ use Rattle.cs_cli.proofs.running.run_and_report.Goals as goal
 
 pub returns-in-Heap : goal.returns-in-Heap
 returns-in-Heap g c =
-    let a : Seen = seen g.W.World.stored g.W.World.view g.W.World.layout c.new-machine.result in
-    let b : Seen = seen g.W.World.stored g.W.World.view g.W.World.layout c.run.new.self in
+    let a : Seen = seen_through g.W.World.stored g.W.World.view g.W.World.layout c.new-machine.result in
+    let b : Seen = seen_through g.W.World.stored g.W.World.view g.W.World.layout c.run.new.self in
     let k = g.W.World.view c.args.world in
     let gives = c.run.ensures.gives k 0 c.new-machine.ensures.phase (c.new-machine.ensures.stands k c.requires.sound.closed) in
     let limit = (g.W.World.stored c.args.world).memory.limit in
@@ -20,8 +20,8 @@ returns-in-Heap g c =
 
 pub returns-in-Full : goal.returns-in-Full
 returns-in-Full g c =
-    let a : Seen = seen g.W.World.stored g.W.World.view g.W.World.layout c.new-machine.result in
-    let b : Seen = seen g.W.World.stored g.W.World.view g.W.World.layout c.run.new.self in
+    let a : Seen = seen_through g.W.World.stored g.W.World.view g.W.World.layout c.new-machine.result in
+    let b : Seen = seen_through g.W.World.stored g.W.World.view g.W.World.layout c.run.new.self in
     let k = g.W.World.view c.args.world in
     let gives = c.run.ensures.gives k 0 c.new-machine.ensures.phase (c.new-machine.ensures.stands k c.requires.sound.closed) in
     let limit = (g.W.World.stored c.args.world).memory.limit in
@@ -31,8 +31,8 @@ returns-in-Full g c =
 
 pub returns-in-WriteFault : goal.returns-in-WriteFault
 returns-in-WriteFault g c =
-    let a : Seen = seen g.W.World.stored g.W.World.view g.W.World.layout c.new-machine.result in
-    let b : Seen = seen g.W.World.stored g.W.World.view g.W.World.layout c.run.new.self in
+    let a : Seen = seen_through g.W.World.stored g.W.World.view g.W.World.layout c.new-machine.result in
+    let b : Seen = seen_through g.W.World.stored g.W.World.view g.W.World.layout c.run.new.self in
     let k = g.W.World.view c.args.world in
     let gives = c.run.ensures.gives k 0 c.new-machine.ensures.phase (c.new-machine.ensures.stands k c.requires.sound.closed) in
     let most = most_of (g.W.World.layout c.args.world) in
@@ -40,8 +40,8 @@ returns-in-WriteFault g c =
 
 pub returns : goal.returns
 returns g c =
-    let a : Seen = seen g.W.World.stored g.W.World.view g.W.World.layout c.new-machine.result in
-    let b : Seen = seen g.W.World.stored g.W.World.view g.W.World.layout c.run.new.self in
+    let a : Seen = seen_through g.W.World.stored g.W.World.view g.W.World.layout c.new-machine.result in
+    let b : Seen = seen_through g.W.World.stored g.W.World.view g.W.World.layout c.run.new.self in
     let k = g.W.World.view c.args.world in
     let gives = c.run.ensures.gives k 0 c.new-machine.ensures.phase (c.new-machine.ensures.stands k c.requires.sound.closed) in
     let limit = (g.W.World.stored c.args.world).memory.limit in

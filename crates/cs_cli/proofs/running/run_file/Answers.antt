@@ -4,6 +4,7 @@ use Rattle.cs_classes.specs.Meaning.{loaded_kept}
 use Rattle.cs_cli.specs.Answer as answer
 use Rattle.cs_cli.specs.Answer.{Begun, Reading, Writing}
 use Rattle.cs_cli.proofs.Answering.{refused_by}
+use Rattle.cs_cli.proofs.Headings.{begun_alone}
 use Rattle.cs_cli.proofs.Writings.{writing}
 use Rattle.cs_cli.proofs.running.run_file.Goals as goal
 
@@ -15,7 +16,7 @@ returns-in-Ok-clause-answered g c =
     let options = c.args.line.now.options in
     let P : ℕ → Type 0 = λ pages. Begun (open_kept k) options.steps (Some pages) options.heap out c.open_and_run.result in
     let Q : ℕ → Type 0 = λ limit. Begun (open_kept k) options.steps (Some c.page_count.result) limit out c.open_and_run.result in
-    answer.ran k c.in-Ok.ensures.loads.image (subst P c.page_count.ensures (subst Q c.in-Ok.ensures.loads.words c.open_and_run.ensures))
+    answer.ran k c.in-Ok.ensures.loads.image (subst P c.page_count.ensures (subst Q c.in-Ok.ensures.loads.words (begun_alone (open_kept k) options.steps (Some c.page_count.result) c.in-Ok.loaded.heap.limit (g.K.Sink.taken c.args.out.now) (g.K.Sink.taken c.open_and_run.new.out) (g.K.Sink.fault_count c.args.out.now) (g.K.Sink.fault_count c.open_and_run.new.out) c.open_and_run.result c.open_and_run.ensures)))
 
 pub returns-in-Err-clause-answered : goal.returns-in-Err-clause-answered
 returns-in-Err-clause-answered g c =

@@ -8,3 +8,9 @@ returns-in-Inspect-clause-answered g c = rw c.in-Inspect.is c.inspect.ensures.an
 
 pub returns-in-Same-clause-answered : goal.returns-in-Same-clause-answered
 returns-in-Same-clause-answered g c = rw c.in-Same.is c.same.ensures.answered
+
+pub returns-in-Build-clause-answered : goal.returns-in-Build-clause-answered
+returns-in-Build-clause-answered g c = rw c.in-Build.is c.build_file.ensures.answered
+
+pub returns-in-Gen-clause-answered : goal.returns-in-Gen-clause-answered
+returns-in-Gen-clause-answered g c = rw c.in-Gen.is c.generate.ensures
