@@ -1,7 +1,7 @@
 -- The bytes of instructions, and the labels of a method.
-use Rattle.std.proofs.Common.{◌≡◌, ℕ, ◌+◌, ◌≤◌, ◌<◌, Bool, true, false, List, [], ◌∷◌, Some, None, Option, length, ap, sym, ◌∙◌, refl, arith, if◌then◌else◌}
+use Rattle.std.proofs.Common.{◌≡◌, ℕ, ◌+◌, ◌≤◌, ◌<◌, Bool, true, false, List, [], ◌∷◌, Some, None, Option, ap, sym, ◌∙◌, refl, arith, if◌then◌else◌}
 use Rattle.std.specs.Prelude.{find, option_map, option_and_then, ◌&&◌, IfSome}
-use Rattle.std.specs.Option.{option_map_or, option_or}
+use Rattle.std.specs.Option.{option_or}
 use Rattle.cs_model.specs.declared.instruction.Op.{Op}
 use Rattle.cs_model.specs.declared.instruction.Instr.{Instr}
 use Rattle.cs_model.specs.Assemble.{IsInstr, assembled, bytes_of, has_form}
@@ -33,14 +33,6 @@ form_code r len o found is = go r (has_form len o) found is
     go None false e h = refl
     go (Some i) true e h = let same : i.len ≡ len = cc in ap (λ n. Some (bytes_of n i.op)) same ∙ ap (λ p. Some (bytes_of len p)) h
     go (Some i) false e h = absurd (cc)
-
-pub plain_counted : (i : Instr) (o : Op) (n : ℕ) (bytes : List ℕ) → Some i.len ≡ find (λ len. has_form len o) (1 ∷ 2 ∷ 3 ∷ 4 ∷ [])
-    → i.op ≡ o → IsInstr i → n ≡ length bytes → bytes ≡ assembled i → n ≡ option_map_or length (first_bytes o) 0
-plain_counted i o n bytes found is form count are =
-    let formed : has_form i.len o ≡ true = ap (has_form i.len) (sym is) ∙ IsInstr-has_form i form in
-    count ∙ ap length (are ∙ ap (bytes_of i.len) is)
-    ∙ sym (ap (λ len. option_map_or length (option_and_then (λ len. form_bytes len o) len) 0) (sym found)
-    ∙ ap (λ b. option_map_or length (if b then Some (bytes_of i.len o) else None) 0) formed)
 
 -- a line more has its place
 pub label_more : (passes : text.Form → Bool) (new old : Option ℕ) (n : ℕ) (form : text.Form) (rest : List text.Form)

@@ -1,20 +1,22 @@
 -- The methods of a text.
-use Rattle.std.proofs.Common.{◌≡◌, ℕ, zero, suc, ◌≤◌, ◌<◌, ◌^◌, Bool, true, false, List, [], ◌∷◌, length, take, Some, None, Option, ap, sym, ◌∙◌, refl, arith, if◌then◌else◌}
-use Rattle.std.specs.Prelude.{find, option_map, ◌&&◌, IfSome, count_by, unwrap_or}
+use Rattle.std.proofs.Common.{◌≡◌, ℕ, zero, suc, ◌+◌, ◌≤◌, ◌<◌, ◌^◌, Bool, true, false, List, [], ◌∷◌, ◌++◌, length, take, Some, None, Option, ap, ap₂, append_assoc, sym, ◌∙◌, refl, arith, if◌then◌else◌}
+use Rattle.std.specs.Prelude.{find, is_some, option_map, ◌&&◌, IfSome, count_by, unwrap_or}
 use Rattle.std.specs.Option.{option_or}
 use Rattle.std.specs.List.{list_all, before_first, position_or_len}
 use Rattle.std.specs.Str.{bytes_eq}
 use Rattle.std.proofs.lemmas.List.{length-map, length-take}
 use Rattle.std.proofs.lemmas.Slice.Eq.{bytes_eq-Decides}
 use Rattle.cs_model.specs.BuilderText as text
-use Rattle.cs_model.specs.BuilderFault.{is_end_line, is_literal, method_fits}
-use Rattle.cs_model.specs.Builder.{all_forms, body_behind, methods_of}
+use Rattle.cs_model.specs.BuilderFault.{is_end_line, is_literal, method_fits, place_where}
+use Rattle.cs_model.specs.Builder.{all_forms, body_behind, first_class, is_method_of, methods_of, object_count}
 use Rattle.cs_build.specs.declared.numbering.Numbered.{Numbered}
 use Rattle.cs_build.specs.Counted.{body_in}
 use Rattle.cs_build.specs.Made.{IsMethodMade}
 use Rattle.cs_build.specs.Meaning.{form_by}
 use Rattle.cs_build.specs.Numbered.{method_found}
 use Rattle.cs_build.specs.Sound.{is_sound}
+use Rattle.cs_build.specs.Standing.{has_number}
+use Rattle.cs_build.proofs.Noting.{bytes_eq_self}
 use Rattle.cs_build.proofs.Sounding.{and_true}
 
 find_if : (p : text.MethodLine → Bool) (a : Bool) (line : text.MethodLine) (rest : List text.MethodLine)
@@ -123,3 +125,29 @@ own_sound forms e = e
 
 pub own_few : (forms : List text.Form) → length forms ≤ length (all_forms forms)
 own_few forms = omega arith
+
+-- ---- that there is a number
+
+place_there : (w : text.Form → ℕ) (p : text.Form → Bool) (at : ℕ) (front : List text.Form) (form : text.Form) (rest : List text.Form) → p form ≡ true
+    → is_some (place_where w p at (front ++ form ∷ rest)) ≡ true
+place_there w p at [] form rest e = ap (λ b. is_some (if b then Some at else place_where w p (at + w form) rest)) e
+place_there w p at (x ∷ front) form rest e = go (p x) (place_there w p (at + w x) front form rest e)
+  where
+    go : (b : Bool) → is_some (place_where w p (at + w x) (front ++ form ∷ rest)) ≡ true
+        → is_some (if b then Some at else place_where w p (at + w x) (front ++ form ∷ rest)) ≡ true
+    go true h = refl
+    go false h = h
+
+numbered_from : (forms front rest : List text.Form) → all_forms forms ≡ front ++ rest → list_all (has_number forms) rest ≡ true
+numbered_from forms front [] e = refl
+numbered_from forms front (form ∷ rest) e = ap₂ (λ a b. a && b) (one form e)
+    (numbered_from forms (front ++ form ∷ []) rest (e ∙ sym (append_assoc front (form ∷ []) rest)))
+  where
+    one : (x : text.Form) → all_forms forms ≡ front ++ x ∷ rest → has_number forms x ≡ true
+    one (text.Method line) e = ap (λ all. is_some (place_where object_count (is_method_of line.class line.selector) first_class all)) e
+        ∙ place_there object_count (is_method_of line.class line.selector) first_class front (text.Method line) rest
+        (ap₂ (λ a b. a && b) (bytes_eq_self line.class) (bytes_eq_self line.selector))
+    one x e = refl
+
+pub all_numbered : (forms all : List text.Form) → all ≡ all_forms forms → list_all (has_number forms) all ≡ true
+all_numbered forms all e = ap (list_all (has_number forms)) e ∙ numbered_from forms [] (all_forms forms) refl

@@ -1,5 +1,5 @@
 -- The numbers of all objects of a text, as the code keeps them.
-use Rattle.std.specs.Prelude.{◌≡◌, ℕ, ◌^◌, ◌<◌, true, List, length, map, drop, Option, option_map, position}
+use Rattle.std.specs.Prelude.{◌≡◌, ℕ, ◌^◌, ◌<◌, Bool, true, List, length, map, drop, Option, is_some, option_map, position}
 use Rattle.std.specs.List.{list_all}
 use Rattle.std.specs.Str.{bytes_eq}
 use Rattle.cs_model.specs.BuilderText as text
@@ -21,6 +21,11 @@ forms_in n = own_forms (map form_by n.forms.now)
 
 unfoldable pub symbol_names : List text.Form → List (List ℕ)
 symbol_names forms = symbols_of forms
+
+-- whether a line's object has a number, if the line begins a method
+abbrev pub has_number : List text.Form → text.Form → Bool
+has_number forms (text.Method line) = is_some (method_birth forms line.class line.selector)
+has_number forms form = true
 
 -- ---- classes
 

@@ -8,7 +8,7 @@ ghost use Rattle.std.specs.Option.{option_map_or, option_or};
 ghost use Rattle.std.specs.List.{list_all};
 ghost use Rattle.cs_model.specs.Assemble.{IsInstr, assembled};
 ghost use Rattle.cs_model.specs.BuilderText as text;
-ghost use Rattle.cs_model.specs.BuilderFault.{byte_count as byte_count_of, closure_bytes, code_from, form_bytes};
+ghost use Rattle.cs_model.specs.BuilderFault.{closure_bytes, code_from, form_bytes};
 ghost use Rattle.cs_model.specs.BuilderFault.{is_between, is_label, jump_code, label_place, line_bytes, plain_bytes};
 ghost use Rattle.cs_model.specs.Builder.{primitive_bytes};
 ghost use Rattle.cs_build.specs.Meaning.{form_by, jump_by};
@@ -16,38 +16,13 @@ ghost use Rattle.cs_build.specs.Numbered.{name_number};
 ghost use Rattle.cs_build.specs.Sound.{AreLabels, is_sound};
 
 use crate::classes::note;
-use crate::code::{first_form, of_length};
+use crate::code::{byte_count, first_form, of_length};
 use crate::form::{Form, Jump, MethodLine};
 use crate::making::natural;
 use cs_decode::assemble;
 use cs_model::{Instr, Op};
 use indexmap::IndexMap;
 use std::alloc::{AllocError, Global};
-
-/// How many bytes a line of a method makes.
-fn byte_count(form: &Form<'_>) -> u32
-    ensures count { result ≡ byte_count_of (form_by form.now) }
-    ensures few { result ≤ 4 }
-{
-    match form {
-        Form::Byte(_) => 1,
-        Form::Plain(Some(op)) => plain_length(*op),
-        Form::JumpTo { .. } => 2,
-        Form::ClosureTo { .. } => 4,
-        _ => 0,
-    }
-}
-
-/// How many bytes an instruction makes in the first form that its numbers fit.
-fn plain_length(op: Op) -> u32
-    ensures count { result ≡ byte_count_of (text.Plain (Some op)) }
-    ensures few { result ≤ 4 }
-{
-    match first_form(op) {
-        Some(instruction) => assemble(&instruction).len() as u32,
-        None => 0,
-    }
-}
 
 /// Takes up the label of a line at a place, if it is one.
 fn note_label<'a>(

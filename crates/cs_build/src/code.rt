@@ -1,11 +1,15 @@
 //! The instructions of a method's lines.
 
-ghost use Rattle.std.specs.Prelude.{◌≡◌, ◌∷◌, [], find, option_map, Some, None, IfSome, if◌then◌else◌};
+ghost use Rattle.std.specs.Prelude.{◌≡◌, ◌≤◌, ◌∷◌, [], find, option_map, Some, None, IfSome, if◌then◌else◌};
 ghost use Rattle.cs_model.specs.Assemble.{IsInstr, has_form};
+ghost use Rattle.cs_model.specs.BuilderText as text;
+ghost use Rattle.cs_model.specs.BuilderFault.{byte_count as byte_count_of};
 ghost use Rattle.cs_model.specs.BuilderText.{op_named, plain_ops, ops_of_one, ops_of_two};
+ghost use Rattle.cs_build.specs.Meaning.{form_by};
 ghost use Rattle.cs_build.specs.Narrow.{narrow_op};
 
-use cs_decode::{Instr, is_instr};
+use crate::form::Form;
+use cs_decode::{Instr, assemble, is_instr};
 use cs_model::Op;
 
 /// The first form of an instruction that its numbers fit, the shortest one.
@@ -37,6 +41,31 @@ pub(crate) fn of_length(op: Op, len: u8) -> Option<Instr>
         Some(instruction)
     } else {
         None
+    }
+}
+
+/// How many bytes of code a line makes.
+pub(crate) fn byte_count(form: &Form<'_>) -> u32
+    ensures count { result ≡ byte_count_of (form_by form.now) }
+    ensures few { result ≤ 4 }
+{
+    match form {
+        Form::Byte(_) => 1,
+        Form::Plain(Some(op)) => plain_length(*op),
+        Form::JumpTo { .. } => 2,
+        Form::ClosureTo { .. } => 4,
+        _ => 0,
+    }
+}
+
+/// How many bytes of code an instruction makes, 0 where it comes in no form.
+fn plain_length(op: Op) -> u32
+    ensures count { result ≡ byte_count_of (text.Plain (Some op)) }
+    ensures few { result ≤ 4 }
+{
+    match first_form(op) {
+        Some(instruction) => assemble(&instruction).len() as u32,
+        None => 0,
     }
 }
 

@@ -14,11 +14,11 @@ ghost use Rattle.cs_build.specs.Meaning.{class_by, form_by, jump_by, mention_by,
 ghost use Rattle.cs_build.specs.Tabled.{AreTables, IsAbove, above_by, body_by, is_misfit as is_misfit_in};
 
 use crate::above::Above;
-use crate::code::first_form;
+use crate::code::{byte_count, first_form};
 use crate::error::BuildError;
 use crate::form::{ClassLine, Form, Jump, Mention, MethodLine};
 use crate::lines::Line;
-use crate::tables::{Tables, byte_count, first_tables, note};
+use crate::tables::{Tables, first_tables, note};
 use crate::word::is_word;
 use cs_model::Op;
 use std::alloc::Global;

@@ -6,7 +6,7 @@ ghost use Rattle.std.specs.Prelude.{ℕ, List, ◌≤◌, count_by, replicate};
 ghost use Rattle.std.specs.List.{list_all};
 ghost use Rattle.std.specs.Option.{option_map_or};
 ghost use Rattle.cs_model.specs.Ref.{Small};
-ghost use Rattle.cs_model.specs.BuilderText.{Class, Form as FormOf};
+ghost use Rattle.cs_model.specs.BuilderText.{Class, Form as FormOf, Method};
 ghost use Rattle.cs_model.specs.Obj.{Ctx};
 ghost use Rattle.cs_model.specs.BuilderFault.{is_between, is_literal as is_literal_of, method_fits, most_temporaries};
 ghost use Rattle.cs_model.specs.Builder.{class_object as class_object_of, class_ref, class_slots, nil_ref};
@@ -22,7 +22,7 @@ ghost use Rattle.cs_build.specs.Readied.{AreReadied};
 ghost use Rattle.cs_build.specs.Laid.{laid, laid_by, reference_by};
 ghost use Rattle.cs_build.specs.Meaning.{class_by, form_by, mention_by, method_line_by, process_by};
 ghost use Rattle.cs_build.specs.Sound.{is_sound};
-ghost use Rattle.cs_build.specs.Standing.{NumbersStand, forms_in};
+ghost use Rattle.cs_build.specs.Standing.{NumbersStand, forms_in, has_number};
 
 use crate::bytecodes::bytecodes_of;
 use crate::form::{ClassLine, Form, Mention, MethodLine, ProcessLine};
@@ -449,11 +449,12 @@ fn put_method(
 ) -> Result<(), AllocError>
     requires stands { NumbersStand numbering.now }
     requires line { method_fits (method_line_by line.now) ≡ true }
+    requires numbered { has_number (forms_in numbering.now) (Method (method_line_by line.now)) ≡ true }
     ensures { OnOk result (map laid_by objects.new.items ≡ map laid_by objects.old.items
         ++ laid (method_object_of (forms_in numbering.now) (method_line_by line.now)) ∷ []) }
 {
     let Some(method) = numbering.method(line.class, line.selector) else {
-        return Err(AllocError);
+        unreachable!()
     };
     let object = method_object(alloc, numbering, line, &method)?;
     objects.push(object)?;
@@ -522,6 +523,7 @@ pub(crate) fn put_form(
     requires stands { NumbersStand numbering.now }
     requires ready { AreReadied (forms_in numbering.now) ready.now }
     requires sound { is_sound (form_by form.now) ≡ true }
+    requires numbered { has_number (forms_in numbering.now) (form_by form.now) ≡ true }
     ensures { OnOk result (map laid_by objects.new.items ≡ map laid_by objects.old.items
         ++ map laid (objects_in (forms_in numbering.now) (form_by form.now))) }
 {

@@ -4,18 +4,16 @@ ghost use Rattle.std.specs.Prelude.{◌≡◌, ◌+◌, ◌++◌, ◌&&◌, ◌|
 ghost use Rattle.std.specs.Prelude.{length, map, nat_eq, option_map, IfOk, OnOk, Some};
 ghost use Rattle.std.specs.Cmp.Lexicographic.{pointwise};
 ghost use Rattle.cs_model.specs.BuilderText as text;
-ghost use Rattle.cs_model.specs.BuilderFault.{byte_count as byte_count_of, is_active_line, is_twice};
+ghost use Rattle.cs_model.specs.BuilderFault.{is_active_line, is_twice};
 ghost use Rattle.cs_model.specs.BuilderFault.{kind_of_object, known};
 ghost use Rattle.cs_model.specs.BuilderFault.{known_classes as known_class_lines, open_body};
 ghost use Rattle.cs_build.specs.Lines.{forms_by};
 ghost use Rattle.cs_build.specs.Meaning.{class_by, form_by};
 ghost use Rattle.cs_build.specs.Tabled.{AreMethods, AreNames, AreTables, IsBody, entry_named, entry_at_two};
 
-use crate::code::first_form;
+use crate::code::byte_count;
 use crate::form::{ClassLine, Form, MethodLine};
 use crate::lines::{Line, is_inside};
-use cs_decode::assemble;
-use cs_model::Op;
 use indexmap::IndexMap;
 use std::alloc::{AllocError, Global};
 
@@ -259,30 +257,5 @@ fn has_active(above: bool, form: &Form<'_>) -> bool
     match form {
         Form::Active(_) => true,
         _ => above,
-    }
-}
-
-/// How many bytes of code a line makes.
-pub(crate) fn byte_count(form: &Form<'_>) -> u32
-    ensures count { result ≡ byte_count_of (form_by form.now) }
-    ensures few { result ≤ 4 }
-{
-    match form {
-        Form::Byte(_) => 1,
-        Form::Plain(Some(op)) => plain_count(*op),
-        Form::JumpTo { .. } => 2,
-        Form::ClosureTo { .. } => 4,
-        _ => 0,
-    }
-}
-
-/// How many bytes of code an instruction makes, 0 where it comes in no form.
-fn plain_count(op: Op) -> u32
-    ensures count { result ≡ byte_count_of (text.Plain (Some op)) }
-    ensures few { result ≤ 4 }
-{
-    match first_form(op) {
-        Some(instruction) => assemble(&instruction).len() as u32,
-        None => 0,
     }
 }

@@ -1,5 +1,0 @@
-use Rattle.cs_build.proofs.Coding.{plain_counted}
-use Rattle.cs_build.proofs.bytecodes.plain_length.Goals as goal
-
-pub returns-in-Some-clause-count : goal.returns-in-Some-clause-count
-returns-in-Some-clause-count c = plain_counted _ _ _ _ c.in-Some.ensures.length c.in-Some.ensures.op c.in-Some.ensures.form c.len.ensures.value c.assemble.ensures.bytes
