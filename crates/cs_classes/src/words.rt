@@ -37,8 +37,8 @@ pub fn method_header(heap: &Heap, method: Oop) -> MethodHeader
     MethodHeader(heap.slot(method, 0).natural().unwrap_or(0))
 }
 
-/// The first byte of an object that may be written: that behind the header and the literals of a method, and the first of
-/// any other object.
+/// The first byte of an object that may be written: that behind the header and the literals of a method, and the first
+/// of any other object.
 pub fn first_byte(heap: &Heap, o: Oop) -> u32
     requires object { IsTrue (is_object heap.now.objects o.0) }
     requires header { is_code (format_at heap.now.objects o.0) ≡ true → 0 < slot_count_of heap.now.objects o.0 }
